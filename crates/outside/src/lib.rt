@@ -1,0 +1,26 @@
+//! What the program sees of the world outside: sources of blocks, disks that may crash, and sinks of text; and the
+//! answers that everything above gives.
+//!
+//! A caller is generic over [`BlockSource`] where it reads, over [`Disk`] where it opens or writes, and over
+//! [`Sink`] where it prints. What a disk was asked to do is a list of calls that only contracts see, and what a
+//! crash may leave is a definition over that list; [`crash_leaves_old_or_written`] and its neighbours are the laws
+//! that callers need of it.
+#![tactic(auto)]
+
+mod answer;
+mod disk;
+mod fault;
+mod laws;
+mod refusal;
+mod rule;
+mod sink;
+mod source;
+
+pub use answer::{Answer, BtrAnswer, VolAnswer};
+pub use disk::{Access, Disk};
+pub use fault::{Fault, Memory};
+pub use laws::{crash_leaves_old_or_written, crash_leaves_settled, crash_splits_at_a_moment};
+pub use refusal::{BtrRefusal, VolumeRefusal};
+pub use rule::{BtrRule, Feature, Rule};
+pub use sink::Sink;
+pub use source::BlockSource;

@@ -1,0 +1,41 @@
+ghost use Rattle.std.specs.Prelude.{◌≡◌, ◌≤◌};
+ghost use Rattle.vol_block.specs.Format.{format, has_bytes_at};
+
+use crate::Block;
+
+/// The file system whose superblock a block may be.
+#[derive(Clone, Copy, Debug, PartialEq, Eq)]
+pub enum Format {
+    /// ReiserFS, of any of its three magics.
+    Reiser,
+    /// Btrfs.
+    Btrfs,
+    /// None that is known here.
+    Neither,
+}
+
+/// The format of a block by the magic alone: that of Btrfs at byte 64, else one of ReiserFS at byte 52.
+///
+/// Only the letters of a ReiserFS magic are compared (`ReIsErFs`, `ReIsEr2Fs` or `ReIsEr3Fs`), and not the zeros
+/// behind them.
+pub fn format_of(block: &Block) -> Format
+    ensures { result ≡ format block.now.bytes }
+{
+    if has_magic(block, 64, b"_BHRfS_M") {
+        Format::Btrfs
+    } else if has_magic(block, 52, b"ReIsErFs")
+        || has_magic(block, 52, b"ReIsEr2Fs")
+        || has_magic(block, 52, b"ReIsEr3Fs")
+    {
+        Format::Reiser
+    } else {
+        Format::Neither
+    }
+}
+
+fn has_magic(block: &Block, at: usize, magic: &[u8]) -> bool
+    requires { at ≤ 4096 }
+    ensures { result ≡ has_bytes_at block.now.bytes at magic.now }
+{
+    block.bytes[at..].starts_with(magic)
+}

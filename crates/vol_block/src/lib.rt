@@ -1,0 +1,16 @@
+//! Blocks of a volume, little-endian fields in their bytes, the magic numbers of both formats, and the blocks that
+//! stay reserved.
+//!
+//! A caller reads a [`Block`], asks [`format_of`] which file system it begins, and takes fields by [`u32_at`] and
+//! its like. Nothing here allocates or fails.
+#![tactic(auto)]
+
+mod block;
+mod fields;
+mod format;
+mod ids;
+
+pub use block::{Block, BlockNo, is_reserved, usable_end};
+pub use fields::{put_u16, put_u32, put_u64, u16_at, u32_at, u64_at};
+pub use format::{Format, format_of};
+pub use ids::Ids;
