@@ -1,0 +1,11 @@
+//! Text that goes to a sink piece by piece, so that no memory is taken for it.
+//!
+//! A caller lists what it prints as [`Piece`]s and calls [`write_pieces`]; the sink gains exactly their text, or after
+//! a fault a first part of it. [`escape`] is how a byte of a name is printed.
+#![tactic(auto)]
+
+mod escapes;
+mod piece;
+
+pub use escapes::{Spelling, escape};
+pub use piece::{Piece, write_pieces};
