@@ -1,1 +1,6 @@
+pub mod Command
+pub mod Ending
+pub mod Inspect
+pub mod Outcome
 pub mod Refusal
+pub mod Texts

@@ -1,5 +1,6 @@
 -- The words of a refusal: its number, its name, and the numbers that it keeps, in decimal.
 use Rattle.std.specs.Prelude.{ℕ, List, [], ◌∷◌, ◌++◌, codes, decimal}
+use Rattle.volume_app.specs.Texts.{words_then}
 use Rattle.outside.specs.declared.rule.Feature.{Feature}
 use Rattle.outside.specs.declared.rule.Feature.TheVariants as features
 use Rattle.outside.specs.declared.rule.Rule.{Rule}
@@ -61,10 +62,9 @@ btr_rule_number btr_rules.NameForm = 11
 btr_rule_number btr_rules.ExtentForm = 12
 btr_rule_number btr_rules.DirTwice = 13
 
--- each word after a space, and then a line feed
+-- the words to the line's end
 abbrev pub words_to_end : List (List ℕ) → List ℕ
-words_to_end [] = 10 ∷ []
-words_to_end (word ∷ words) = 32 ∷ (word ++ words_to_end words)
+words_to_end words = words_then words []
 
 abbrev pub volume_words : VolumeRefusal → List (List ℕ)
 volume_words volume.NotVolume = codes "1" ∷ codes "novolume" ∷ []

@@ -1,6 +1,16 @@
 //! The top call: it takes the words of a command line, a disk and two sinks, and answers the status.
+//!
+//! A program makes the disk and the sinks, calls [`run`] and ends with the status that it answers. The contract of
+//! [`run`] is what the whole program promises; each command has a module of its own below it.
 #![tactic(auto)]
 
+mod command;
+mod ending;
+mod inspect;
 mod refusal_line;
+mod texts;
+mod top;
 
-pub use refusal_line::write_answer;
+pub use command::{Command, read_words};
+pub use ending::Ending;
+pub use top::run;

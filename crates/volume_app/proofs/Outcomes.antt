@@ -1,0 +1,67 @@
+-- What an ending that is right for a disk comes to.
+use Rattle.std.proofs.Common.{◌≡◌, ◌⊎◌, inl, inr, ℕ, ◌+◌, ◌-◌, ◌^◌, ◌<◌, ◌≤◌, List, [], ◌∷◌, refl, sym, ◌∙◌, ap, subst, arith, Result, Ok, Err}
+use Rattle.std.specs.Prelude.{◌≢◌, Option, Some, None, Contains}
+use Rattle.vol_block.specs.declared.format.Format.TheVariants as formats
+use Rattle.outside.specs.Fault.{Rose, Takes}
+use Rattle.outside.specs.History.{Image, block_at}
+use Rattle.outside.specs.declared.fault.Fault as faults
+use Rattle.outside.specs.declared.answer.Answer.{Answer}
+use Rattle.outside.specs.declared.answer.Answer.TheVariants.{Volume, Btr, NoSpace, WrongFormat, ImageMissing, ImageMoved, ImageDamaged, ReservedUsed, Fault, Memory}
+use Rattle.outside.specs.declared.refusal.VolumeRefusal.{VolumeRefusal}
+use Rattle.reiser_super.specs.Rules.{IsCleanSuper, superblock_refusal}
+use Rattle.reiser_super.proofs.Clean.{none_from_clean}
+use Rattle.volume_app.specs.declared.ending.Ending.{Ending}
+use Rattle.volume_app.specs.declared.ending.Ending.TheVariants.{Done, Usage, Failed, OutputFault}
+use Rattle.volume_app.specs.Command.{Asked, inspect, help, version}
+use Rattle.volume_app.specs.Ending.{status}
+use Rattle.volume_app.specs.Inspect.{format_in, IsAccepted, IsRefusal}
+use Rattle.volume_app.specs.Outcome.{IsDone, InspectRefuses, EndsRight, Prints, HasFaults, ending_of}
+
+-- a text that was written is that of the ending
+pub prints_text : (text old new : List ℕ) (written : Result (Unit {0}) faults.Fault) → Takes old text written new → Prints text (ending_of written) old new
+prints_text text old new (Ok done) takes = takes
+prints_text text old new (Err fault) takes = takes
+
+-- an accepted volume is not refused
+pub not_refused : (disk : Image) (refusal : VolumeRefusal) → IsAccepted disk → IsRefusal disk refusal → ⊥
+not_refused disk refusal clean is =
+    let none = none_from_clean _ _ clean in
+    let both : None ≡ Some refusal = sym none ∙ is in
+    cc
+
+not_risen : (before now : ℕ) → now ≡ before → before < 2 ^ 64 - 1 → Rose before now → ⊥
+not_risen before now same low rose = omega (arith, same, low, rose)
+
+inspect_done : (disk : Image) (answer : Answer) (disk_old disk_new : ℕ) → format_in disk ≡ formats.Reiser → IsAccepted disk → InspectRefuses disk answer
+    → (answer ≡ Fault → Rose disk_old disk_new) → disk_new ≡ disk_old → disk_old < 2 ^ 64 - 1 → (status (Failed answer) ≡ 0) ⊎ (status (Failed answer) ≡ 4)
+inspect_done disk (Volume refusal) disk_old disk_new reiser accepted refuses device same low = absurd (not_refused disk refusal accepted refuses.1)
+inspect_done disk WrongFormat disk_old disk_new reiser accepted refuses device same low =
+    let both : formats.Reiser ≡ formats.Btrfs = sym reiser ∙ refuses in
+    cc
+inspect_done disk Fault disk_old disk_new reiser accepted refuses device same low = absurd (not_risen disk_old disk_new same low (device refl))
+inspect_done disk Memory disk_old disk_new reiser accepted refuses device same low = inr refl
+inspect_done disk (Btr refusal) disk_old disk_new reiser accepted refuses device same low = absurd refuses
+inspect_done disk (NoSpace needed free run_needed longest_run) disk_old disk_new reiser accepted refuses device same low = absurd refuses
+inspect_done disk ImageMissing disk_old disk_new reiser accepted refuses device same low = absurd refuses
+inspect_done disk (ImageMoved block) disk_old disk_new reiser accepted refuses device same low = absurd refuses
+inspect_done disk (ImageDamaged refusal) disk_old disk_new reiser accepted refuses device same low = absurd refuses
+inspect_done disk (ReservedUsed block) disk_old disk_new reiser accepted refuses device same low = absurd refuses
+
+failed_done : (asked : Option Asked) (disk : Image) (answer : Answer) (disk_old disk_new : ℕ) → IsDone asked disk → EndsRight asked disk (Failed answer)
+    → (answer ≡ Fault → Rose disk_old disk_new) → disk_new ≡ disk_old → disk_old < 2 ^ 64 - 1 → (status (Failed answer) ≡ 0) ⊎ (status (Failed answer) ≡ 4)
+failed_done None disk answer disk_old disk_new done right device same low = absurd done
+failed_done (Some (inspect path)) disk answer disk_old disk_new done right device same low = inspect_done disk answer disk_old disk_new done.0 done.1 right device same low
+failed_done (Some help) disk answer disk_old disk_new done right device same low = absurd right
+failed_done (Some version) disk answer disk_old disk_new done right device same low = absurd right
+
+-- a command that is to be done is done, where no call failed and there was memory
+pub done_or_memory : (asked : Option Asked) (disk : Image) (ending : Ending) (disk_old disk_new out_old out_new : ℕ) → IsDone asked disk → EndsRight asked disk ending
+    → HasFaults ending disk_old disk_new out_old out_new → disk_new ≡ disk_old → disk_old < 2 ^ 64 - 1 → out_new ≡ out_old → out_old < 2 ^ 64 - 1
+    → (status ending ≡ 0) ⊎ (status ending ≡ 4)
+done_or_memory asked disk Done disk_old disk_new out_old out_new done right faults same low out_same out_low = inl refl
+done_or_memory asked disk Usage disk_old disk_new out_old out_new done right faults same low out_same out_low =
+    absurd (subst (λ (a : Option Asked). IsDone a disk) right done)
+done_or_memory asked disk (Failed answer) disk_old disk_new out_old out_new done right faults same low out_same out_low =
+    failed_done asked disk answer disk_old disk_new done right (λ is. faults.device (ap (λ (a : Answer). Failed a) is)) same low
+done_or_memory asked disk OutputFault disk_old disk_new out_old out_new done right faults same low out_same out_low =
+    absurd (not_risen out_old out_new out_same out_low (faults.output refl))

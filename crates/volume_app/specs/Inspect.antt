@@ -1,0 +1,92 @@
+-- What `inspect` finds of a disk, and what it prints.
+use Rattle.std.specs.Prelude.{◌≡◌, ◌≢◌, ◌⊎◌, ℕ, ◌+◌, ◌<◌, List, [], ◌∷◌, ◌++◌, length, codes, decimal, nat_le, nat_eq, if◌then◌else◌, Contains, Option, Some, None}
+use Rattle.std.specs.List.{before_first}
+use Rattle.uuid.specs.Text.{hyphenated_text, lower}
+use Rattle.vol_block.specs.declared.format.Format.{Format}
+use Rattle.vol_block.specs.declared.format.Format.TheVariants as formats
+use Rattle.vol_block.specs.Format.{format}
+use Rattle.outside.specs.History.{Image, block_at}
+use Rattle.outside.specs.declared.answer.Answer.{Answer}
+use Rattle.outside.specs.declared.answer.Answer.TheVariants.{Volume, Btr, NoSpace, WrongFormat, ImageMissing, ImageMoved, ImageDamaged, ReservedUsed, Fault, Memory}
+use Rattle.outside.specs.declared.refusal.VolumeRefusal.{VolumeRefusal}
+use Rattle.reiser_super.specs.declared.superblock.Super.{Super}
+use Rattle.reiser_super.specs.Superblock.{super_of}
+use Rattle.reiser_super.specs.Rules.{IsCleanSuper, superblock_refusal}
+use Rattle.sink_text.specs.Escape.{escaped}
+use Rattle.volume_app.specs.Texts.{text_of_lines}
+
+-- the format of block 16; without that block it is neither
+abbrev pub format_in : Image → Format
+format_in disk = if nat_le (length disk) 16 then formats.Neither else format (block_at disk 16)
+
+-- the fields of the superblock
+abbrev pub super_in : Image → Super
+super_in disk = super_of (block_at disk 16)
+
+-- a superblock and a journal in order
+abbrev pub IsAccepted : Image → Type 0
+IsAccepted disk = IsCleanSuper (block_at disk 16) (length disk)
+
+-- the refusal is one of those of the first group of rules that is broken: the superblock's, or the journal's
+abbrev pub IsRefusal : Image → VolumeRefusal → Type 0
+IsRefusal disk refusal = superblock_refusal (block_at disk 16) (length disk) ≡ Some refusal
+
+-- the journal lies in the volume
+abbrev pub IsInside : Super → Type 0
+IsInside s = s.journal_first + s.journal_size < s.blocks
+
+-- the fields of the superblock of a volume of this format
+pub record IsSuperOf (disk : Image) (s : Super) : Type 0 where
+  pub reiser : format_in disk ≡ formats.Reiser
+  pub fields : s ≡ super_in disk
+  pub clean : IsCleanSuper (block_at disk 16) (length disk)
+
+-- how a superblock is refused
+abbrev pub SuperRefuses : Image → Answer → Type 0
+SuperRefuses disk (Volume refusal) = (format_in disk ≢ formats.Btrfs) × (superblock_refusal (block_at disk 16) (length disk) ≡ Some refusal)
+SuperRefuses disk WrongFormat = format_in disk ≡ formats.Btrfs
+SuperRefuses disk Fault = Unit {0}
+SuperRefuses disk Memory = ⊥
+SuperRefuses disk (Btr refusal) = ⊥
+SuperRefuses disk (NoSpace needed free run_needed longest_run) = ⊥
+SuperRefuses disk ImageMissing = ⊥
+SuperRefuses disk (ImageMoved block) = ⊥
+SuperRefuses disk (ImageDamaged refusal) = ⊥
+SuperRefuses disk (ReservedUsed block) = ⊥
+
+-- an answer that no device and no memory has to do with
+abbrev pub IsNoFault : Answer → Type 0
+IsNoFault (Volume refusal) = Unit {0}
+IsNoFault WrongFormat = Unit {0}
+IsNoFault Fault = ⊥
+IsNoFault Memory = ⊥
+IsNoFault (Btr refusal) = Unit {0}
+IsNoFault (NoSpace needed free run_needed longest_run) = Unit {0}
+IsNoFault ImageMissing = Unit {0}
+IsNoFault (ImageMoved block) = Unit {0}
+IsNoFault (ImageDamaged refusal) = Unit {0}
+IsNoFault (ReservedUsed block) = Unit {0}
+
+-- a label ends before its first zero byte
+abbrev pub label_of : List ℕ → List ℕ
+label_of bytes = before_first (λ c. nat_eq c 0) bytes
+
+-- a dash for an empty label, else the label with its bytes escaped
+abbrev pub label_text : List ℕ → List ℕ
+label_text [] = codes "-"
+label_text (c ∷ cs) = escaped (c ∷ cs)
+
+abbrev pub super_lines : Super → List (List ℕ × List (List ℕ))
+super_lines s =
+    (codes "format", codes "reiserfs" ∷ [])
+    ∷ (codes "blocks", decimal s.blocks ∷ [])
+    ∷ (codes "free", decimal s.free ∷ [])
+    ∷ (codes "root", decimal s.root ∷ [])
+    ∷ (codes "height", decimal s.height ∷ [])
+    ∷ (codes "journal", decimal s.journal_first ∷ decimal s.journal_size ∷ [])
+    ∷ (codes "uuid", hyphenated_text lower s.uuid ∷ [])
+    ∷ (codes "label", label_text (label_of s.label) ∷ [])
+    ∷ []
+
+abbrev pub inspect_text : Image → List ℕ
+inspect_text disk = text_of_lines (super_lines (super_in disk))

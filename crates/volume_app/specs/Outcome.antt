@@ -1,0 +1,102 @@
+-- What an ending means of the disk that was found, and what the sinks gained.
+use Rattle.std.specs.Prelude.{◌≡◌, ◌≢◌, ◌⊎◌, ℕ, ◌≤◌, List, [], ◌++◌, take, Option, Some, None, Result, Ok, Err}
+use Rattle.vol_block.specs.declared.format.Format.TheVariants as formats
+use Rattle.outside.specs.Fault.{Rose}
+use Rattle.outside.specs.History.{Image}
+use Rattle.outside.specs.declared.fault.Fault as faults
+use Rattle.outside.specs.declared.answer.Answer.{Answer}
+use Rattle.outside.specs.declared.answer.Answer.TheVariants.{Volume, Btr, NoSpace, WrongFormat, ImageMissing, ImageMoved, ImageDamaged, ReservedUsed, Fault, Memory}
+use Rattle.volume_app.specs.declared.ending.Ending.{Ending}
+use Rattle.volume_app.specs.declared.ending.Ending.TheVariants.{Done, Usage, Failed, OutputFault}
+use Rattle.volume_app.specs.Command.{Asked, inspect, help, version}
+use Rattle.volume_app.specs.Ending.{status, error_line}
+use Rattle.volume_app.specs.Inspect.{format_in, IsAccepted, IsRefusal, inspect_text}
+use Rattle.volume_app.specs.Texts.{help_text, version_text}
+
+-- a command is done on these disks
+abbrev pub IsDone : Option Asked → Image → Type 0
+IsDone None disk = ⊥
+IsDone (Some (inspect path)) disk = (format_in disk ≡ formats.Reiser) × IsAccepted disk
+IsDone (Some help) disk = Unit {0}
+IsDone (Some version) disk = Unit {0}
+
+-- a command that takes memory, of which there may be too little
+abbrev pub TakesMemory : Option Asked → Type 0
+TakesMemory None = ⊥
+TakesMemory (Some (inspect path)) = Unit {0}
+TakesMemory (Some help) = ⊥
+TakesMemory (Some version) = ⊥
+
+-- the text that a command prints of a disk
+abbrev pub text_of : Option Asked → Image → List ℕ
+text_of None disk = []
+text_of (Some (inspect path)) disk = inspect_text disk
+text_of (Some help) disk = help_text
+text_of (Some version) disk = version_text
+
+-- `inspect` may refuse a disk so; that a device failed or memory was short is said elsewhere
+abbrev pub InspectRefuses : Image → Answer → Type 0
+InspectRefuses disk (Volume refusal) = (format_in disk ≢ formats.Btrfs) × IsRefusal disk refusal
+InspectRefuses disk WrongFormat = format_in disk ≡ formats.Btrfs
+InspectRefuses disk Fault = Unit {0}
+InspectRefuses disk Memory = Unit {0}
+InspectRefuses disk (Btr refusal) = ⊥
+InspectRefuses disk (NoSpace needed free run_needed longest_run) = ⊥
+InspectRefuses disk ImageMissing = ⊥
+InspectRefuses disk (ImageMoved block) = ⊥
+InspectRefuses disk (ImageDamaged refusal) = ⊥
+InspectRefuses disk (ReservedUsed block) = ⊥
+
+-- a command may answer so on a disk
+abbrev pub Answers : Option Asked → Image → Answer → Type 0
+Answers None disk answer = ⊥
+Answers (Some (inspect path)) disk answer = InspectRefuses disk answer
+Answers (Some help) disk answer = ⊥
+Answers (Some version) disk answer = ⊥
+
+-- an ending is right for the disk that was found
+abbrev pub EndsRight : Option Asked → Image → Ending → Type 0
+EndsRight asked disk Done = IsDone asked disk
+EndsRight asked disk Usage = asked ≡ None
+EndsRight asked disk (Failed answer) = Answers asked disk answer
+EndsRight asked disk OutputFault = IsDone asked disk
+
+-- how a run ends that has printed its text
+abbrev pub ending_of : Result (Unit {0}) faults.Fault → Ending
+ending_of (Ok done) = Done
+ending_of (Err fault) = OutputFault
+
+-- what the output sink gained: the text, or after a fault a first part of it
+abbrev pub Prints : List ℕ → Ending → List ℕ → List ℕ → Type 0
+Prints text Done old new = new ≡ old ++ text
+Prints text Usage old new = new ≡ old
+Prints text (Failed answer) old new = new ≡ old
+Prints text OutputFault old new = (k : ℕ) × (new ≡ old ++ take k text)
+
+-- an ending that prints nothing
+abbrev pub IsQuiet : Ending → Type 0
+IsQuiet Done = ⊥
+IsQuiet Usage = Unit {0}
+IsQuiet (Failed answer) = Unit {0}
+IsQuiet OutputFault = ⊥
+
+-- counts never fall, and a fault is answered only where the count rose
+pub record HasFaults (ending : Ending) (disk_old disk_new out_old out_new : ℕ) : Type 0 where
+  pub disk_later : disk_old ≤ disk_new
+  pub out_later : out_old ≤ out_new
+  pub device : ending ≡ Failed Fault → Rose disk_old disk_new
+  pub output : ending ≡ OutputFault → Rose out_old out_new
+
+-- what the error sink gained: the line, or after a fault a first part of it
+abbrev pub Reports : List ℕ → ℕ → ℕ → List ℕ → List ℕ → Type 0
+Reports line faults_old faults_new old new =
+    (new ≡ old ++ line) ⊎ (Rose faults_old faults_new × ((k : ℕ) × (new ≡ old ++ take k line)))
+
+-- The status is that of an ending, with its line on the error sink. Where the disk tells its blocks, the ending is
+-- right for them, and the output sink gained its text.
+pub record Runs (asked : Option Asked) (tells : Type 0) (disk : Image) (answer : ℕ) (out_tells : Type 0) (out_old out_new : List ℕ) (err_tells : Type 0) (faults_old faults_new : ℕ) (err_old err_new : List ℕ) : Type 0 where
+  pub ending : Ending
+  pub answers : answer ≡ status ending
+  pub right : tells → EndsRight asked disk ending
+  pub printed : tells → out_tells → Prints (text_of asked disk) ending out_old out_new
+  pub reported : err_tells → Reports (error_line ending) faults_old faults_new err_old err_new

@@ -1,0 +1,58 @@
+ghost use Rattle.std.specs.Prelude.{◌≡◌, IsTrue};
+ghost use Rattle.outside.specs.Fault.{HasCause, Takes};
+ghost use Rattle.volume_app.specs.Ending.{status, error_line, answer_status};
+
+use crate::refusal_line::write_answer;
+use crate::texts::USAGE;
+use outside::{Answer, Fault, Sink};
+
+/// How a run ended.
+#[derive(Clone, Copy, Debug, PartialEq, Eq)]
+pub enum Ending {
+    /// The command was done and its text printed.
+    Done,
+    /// The words ask for nothing.
+    Usage,
+    /// The command was not done.
+    Failed(Answer),
+    /// The command was done, and its text was not printed whole.
+    OutputFault,
+}
+
+impl Ending {
+    /// The status of the program.
+    pub fn status(&self) -> u8
+        ensures { result ≡ status self.now }
+    {
+        match self {
+            Ending::Done => 0,
+            Ending::Usage => 2,
+            Ending::Failed(answer) => answer_status(answer),
+            Ending::OutputFault => 5,
+        }
+    }
+
+    /// Writes the line for the error sink.
+    pub fn write_line<E: Sink>(&self, err: &mut E) -> Result<(), Fault>
+        ensures taken { IsTrue E.tells → Takes (E.taken err.old) (error_line self.now) result (E.taken err.new) }
+        ensures cause { HasCause (E.faults err.old) (E.faults err.new) result }
+    {
+        match self {
+            Ending::Done => Ok(()),
+            Ending::Usage => err.write(USAGE),
+            Ending::Failed(answer) => write_answer(answer, err),
+            Ending::OutputFault => err.write(b"output fault\n"),
+        }
+    }
+}
+
+fn answer_status(answer: &Answer) -> u8
+    ensures { result ≡ answer_status answer.now }
+{
+    match answer {
+        Answer::Fault => 3,
+        Answer::Memory => 4,
+        Answer::NoSpace { .. } => 6,
+        _ => 1,
+    }
+}

@@ -1,0 +1,132 @@
+ghost use Rattle.std.specs.Prelude.{◌≡◌, ◌<◌, ◌≤◌, length, None, IfOk, IfErr, IsTrue};
+ghost use Rattle.outside.specs.Fault.{HasCause, HasCauseOf, Takes};
+ghost use Rattle.outside.specs.History.{Image, block_at, reads};
+ghost use Rattle.vol_block.specs.declared.format.Format.TheVariants as formats;
+ghost use Rattle.volume_app.specs.Inspect.{format_in, super_in, super_lines, label_of, label_text, IsAccepted, IsInside, IsSuperOf, SuperRefuses, IsNoFault};
+ghost use Rattle.sink_text.specs.Text.{piece_text};
+ghost use Rattle.volume_app.specs.Texts.{text_of_lines};
+ghost use Rattle.volume_app.specs.Outcome.{InspectRefuses};
+
+use outside::{Access, Answer, BlockSource, Disk, Fault, Sink, VolumeRefusal};
+use reiser_super::Super;
+use sink_text::Piece::{Decimal, Escaped, Hyphenated, Plain};
+use sink_text::{Piece, write_pieces};
+use vol_block::{Block, Format, format_of};
+
+/// The block of the superblock, of both formats.
+const SUPERBLOCK: u64 = 16;
+
+/// Opens the disk for reading, and checks the volume.
+pub fn inspect<D: Disk>(path: &str, disk: &mut D) -> Result<Super, Answer>
+    requires closed { D.opened disk.old ≡ None }
+    requires wanted { D.wants path.now Access.Read }
+    ensures unchanged { IsTrue D.tells → D.history disk.new ≡ D.history disk.old }
+    ensures cause { HasCauseOf Answer.Fault (D.faults disk.old) (D.faults disk.new) result }
+    ensures reiser { IsTrue D.tells → IfOk result (λ s. format_in (reads (D.history disk.old)) ≡ formats.Reiser) }
+    ensures accepted { IsTrue D.tells → IfOk result (λ s. IsAccepted (reads (D.history disk.old))) }
+    ensures fields { IsTrue D.tells → IfOk result (λ s. s ≡ super_in (reads (D.history disk.old))) }
+    ensures refused { IsTrue D.tells → IfErr result (InspectRefuses (reads (D.history disk.old))) }
+{
+    match disk.open(path, Access::Read) {
+        Ok(()) => check_volume(disk),
+        Err(Fault) => Err(Answer::Fault),
+    }
+}
+
+/// Checks the volume.
+fn check_volume<S: BlockSource>(source: &mut S) -> Result<Super, Answer>
+    ensures kept { S.kept source.old source.new }
+    ensures cause { HasCauseOf Answer.Fault (S.faults source.old) (S.faults source.new) result }
+    ensures reiser { IsTrue S.tells → IfOk result (λ s. format_in (S.blocks source.old) ≡ formats.Reiser) }
+    ensures accepted { IsTrue S.tells → IfOk result (λ s. IsAccepted (S.blocks source.old)) }
+    ensures fields { IsTrue S.tells → IfOk result (λ s. s ≡ super_in (S.blocks source.old)) }
+    ensures refused { IsTrue S.tells → IfErr result (InspectRefuses (S.blocks source.old)) }
+{
+    read_super(source)
+}
+
+/// Reads the superblock.
+fn read_super<S: BlockSource>(source: &mut S) -> Result<Super, Answer>
+    ensures kept { S.kept source.old source.new }
+    ensures cause { HasCauseOf Answer.Fault (S.faults source.old) (S.faults source.new) result }
+    ensures inside { IfOk result IsInside }
+    ensures device { IfOk result (λ s. s.blocks ≤ S.size source.old) }
+    ensures found { IsTrue S.tells → IfOk result (IsSuperOf (S.blocks source.old)) }
+    ensures refused { IsTrue S.tells → IfErr result (SuperRefuses (S.blocks source.old)) }
+{
+    let device = source.len();
+    if device <= SUPERBLOCK {
+        return Err(Answer::Volume(VolumeRefusal::NotVolume));
+    }
+    let mut block = Block::zero();
+    match source.read(SUPERBLOCK, &mut block) {
+        Ok(()) => read_fields(&block, device),
+        Err(Fault) => Err(Answer::Fault),
+    }
+}
+
+/// Reads the fields of block 16 of a device of so many blocks.
+fn read_fields(block: &Block, device: u64) -> Result<Super, Answer>
+    requires { SUPERBLOCK < device }
+    ensures inside { IfOk result IsInside }
+    ensures device { IfOk result (λ s. s.blocks ≤ device) }
+    ensures found { (image : Image) → block_at image 16 ≡ block.now.bytes → length image ≡ device → IfOk result (IsSuperOf image) }
+    ensures refused { (image : Image) → block_at image 16 ≡ block.now.bytes → length image ≡ device → IfErr result (SuperRefuses image) }
+    ensures no_fault { IfErr result IsNoFault }
+{
+    match format_of(block) {
+        Format::Btrfs => Err(Answer::WrongFormat),
+        _ => match Super::read(block, device) {
+            Ok(volume) => Ok(volume),
+            Err(refusal) => Err(Answer::Volume(refusal)),
+        },
+    }
+}
+
+/// Prints what the superblock says.
+pub fn print_super<O: Sink>(volume: &Super, out: &mut O) -> Result<(), Fault>
+    ensures taken { IsTrue O.tells → Takes (O.taken out.old) (text_of_lines (super_lines volume.now)) result (O.taken out.new) }
+    ensures cause { HasCause (O.faults out.old) (O.faults out.new) result }
+{
+    let pieces = [
+        Plain(b"format reiserfs\nblocks "),
+        Decimal(volume.blocks),
+        Plain(b"\nfree "),
+        Decimal(u64::from(volume.free)),
+        Plain(b"\nroot "),
+        Decimal(volume.root),
+        Plain(b"\nheight "),
+        Decimal(u64::from(volume.height)),
+        Plain(b"\njournal "),
+        Decimal(volume.journal_first),
+        Plain(b" "),
+        Decimal(volume.journal_size),
+        Plain(b"\nuuid "),
+        Hyphenated(volume.uuid),
+        Plain(b"\nlabel "),
+        label_piece(label_of(&volume.label)),
+        Plain(b"\n"),
+    ];
+    write_pieces(&pieces, out)
+}
+
+/// How a label is printed: a dash where it is empty.
+fn label_piece(label: &[u8]) -> Piece<'_>
+    ensures { piece_text result ≡ label_text label.now }
+{
+    match label {
+        [] => Plain(b"-"),
+        _ => Escaped(label),
+    }
+}
+
+/// The label without the zeros that fill it up.
+fn label_of(label: &[u8; 16]) -> &[u8]
+    ensures { result.now ≡ label_of label.now }
+{
+    let mut end = 0;
+    while end < label.len() && label[end] != 0 {
+        end += 1;
+    }
+    &label[..end]
+}
