@@ -8,13 +8,14 @@ use Rattle.outside.specs.declared.fault.Fault as faults
 use Rattle.outside.specs.declared.answer.Answer.{Answer}
 use Rattle.outside.specs.declared.answer.Answer.TheVariants.{Volume, Btr, NoSpace, WrongFormat, ImageMissing, ImageMoved, ImageDamaged, ReservedUsed, Fault, Memory}
 use Rattle.outside.specs.declared.refusal.VolumeRefusal.{VolumeRefusal}
+use Rattle.outside.specs.declared.refusal.VolumeRefusal.TheVariants.{NotVolume, Unclean, Unsupported, Short, JournalPending, Damaged, HasAttributes, PendingLinks, NameTaken, NameTooLong, HashCrowd}
 use Rattle.reiser_super.specs.Rules.{IsCleanSuper, superblock_refusal}
 use Rattle.reiser_super.proofs.Clean.{none_from_clean}
 use Rattle.volume_app.specs.declared.ending.Ending.{Ending}
 use Rattle.volume_app.specs.declared.ending.Ending.TheVariants.{Done, Usage, Failed, OutputFault}
 use Rattle.volume_app.specs.Command.{Asked, inspect, help, version}
 use Rattle.volume_app.specs.Ending.{status}
-use Rattle.volume_app.specs.Inspect.{format_in, IsAccepted, IsRefusal}
+use Rattle.volume_app.specs.Inspect.{format_in, IsAccepted, IsRefusal, IsPendingRefusal}
 use Rattle.volume_app.specs.Outcome.{IsDone, InspectRefuses, EndsRight, Prints, HasFaults, ending_of}
 
 -- a text that was written is that of the ending
@@ -22,12 +23,29 @@ pub prints_text : (text old new : List ℕ) (written : Result (Unit {0}) faults.
 prints_text text old new (Ok done) takes = takes
 prints_text text old new (Err fault) takes = takes
 
+in_none : (t : ℕ) → Contains [] t → ⊥
+in_none t is = omega (arith, is.1)
+
+no_transaction : (pending : List ℕ) (refusal : VolumeRefusal) → pending ≡ [] → IsPendingRefusal pending refusal → ⊥
+no_transaction pending (JournalPending trans) none is = in_none trans (subst (λ (ts : List ℕ). Contains ts trans) none is)
+no_transaction pending NotVolume none is = is
+no_transaction pending (Unclean state) none is = is
+no_transaction pending (Unsupported feature value) none is = is
+no_transaction pending (Short volume device) none is = is
+no_transaction pending (Damaged block rule) none is = is
+no_transaction pending (HasAttributes dir object) none is = is
+no_transaction pending (PendingLinks object) none is = is
+no_transaction pending (NameTaken dir object) none is = is
+no_transaction pending (NameTooLong dir object length) none is = is
+no_transaction pending (HashCrowd dir object hash) none is = is
+
 -- an accepted volume is not refused
 pub not_refused : (disk : Image) (refusal : VolumeRefusal) → IsAccepted disk → IsRefusal disk refusal → ⊥
-not_refused disk refusal clean is =
-    let none = none_from_clean _ _ clean in
+not_refused disk refusal clean (inl is) =
+    let none = none_from_clean _ _ clean.superblock in
     let both : None ≡ Some refusal = sym none ∙ is in
     cc
+not_refused disk refusal clean (inr is) = no_transaction _ refusal clean.journal is.1
 
 not_risen : (before now : ℕ) → now ≡ before → before < 2 ^ 64 - 1 → Rose before now → ⊥
 not_risen before now same low rose = omega (arith, same, low, rose)

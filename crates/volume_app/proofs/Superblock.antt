@@ -58,7 +58,8 @@ super_found disk bytes device s long other fields clean same size =
 
 pub super_refused : (disk : Image) (bytes : List ℕ) (device : ℕ) (refusal : VolumeRefusal) → 16 < device → format bytes ≢ formats.Btrfs → Some refusal ≡ superblock_refusal bytes device
     → block_at disk 16 ≡ bytes → length disk ≡ device → SuperRefuses disk (Volume refusal)
-super_refused disk bytes device refusal long other is same size =
-    (λ btrfs. other (ap format (sym same) ∙ sym (format_long disk (omega (arith, size, long))) ∙ btrfs),
-    subst (λ (b : List ℕ). superblock_refusal b (length disk) ≡ Some refusal) (sym same)
-    (subst (λ (n : ℕ). superblock_refusal bytes n ≡ Some refusal) (sym size) (sym is)))
+super_refused disk bytes device refusal long other is same size = (
+  λ btrfs. other (ap format (sym same) ∙ sym (format_long disk (omega (arith, size, long))) ∙ btrfs),
+  subst (λ (b : List ℕ). superblock_refusal b (length disk) ≡ Some refusal) (sym same)
+      (subst (λ (n : ℕ). superblock_refusal bytes n ≡ Some refusal) (sym size) (sym is)),
+)

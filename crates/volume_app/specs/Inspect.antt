@@ -6,12 +6,16 @@ use Rattle.vol_block.specs.declared.format.Format.{Format}
 use Rattle.vol_block.specs.declared.format.Format.TheVariants as formats
 use Rattle.vol_block.specs.Format.{format}
 use Rattle.outside.specs.History.{Image, block_at}
+use Rattle.outside.specs.declared.answer.VolAnswer.{VolAnswer}
+use Rattle.outside.specs.declared.answer.VolAnswer.TheVariants as answers
 use Rattle.outside.specs.declared.answer.Answer.{Answer}
 use Rattle.outside.specs.declared.answer.Answer.TheVariants.{Volume, Btr, NoSpace, WrongFormat, ImageMissing, ImageMoved, ImageDamaged, ReservedUsed, Fault, Memory}
 use Rattle.outside.specs.declared.refusal.VolumeRefusal.{VolumeRefusal}
 use Rattle.reiser_super.specs.declared.superblock.Super.{Super}
 use Rattle.reiser_super.specs.Superblock.{super_of}
 use Rattle.reiser_super.specs.Rules.{IsCleanSuper, superblock_refusal}
+use Rattle.reiser_super.specs.Journal.{IsClean, pending_transactions}
+use Rattle.reiser_super.specs.State.{IsPendingIn}
 use Rattle.sink_text.specs.Escape.{escaped}
 use Rattle.volume_app.specs.Texts.{text_of_lines}
 
@@ -25,11 +29,17 @@ super_in disk = super_of (block_at disk 16)
 
 -- a superblock and a journal in order
 abbrev pub IsAccepted : Image → Type 0
-IsAccepted disk = IsCleanSuper (block_at disk 16) (length disk)
+IsAccepted disk = IsClean disk
+
+-- the refusal is that of one of these transactions
+abbrev pub IsPendingRefusal : List ℕ → VolumeRefusal → Type 0
+IsPendingRefusal pending refusal = IsPendingIn pending (answers.Refused refusal)
 
 -- the refusal is one of those of the first group of rules that is broken: the superblock's, or the journal's
 abbrev pub IsRefusal : Image → VolumeRefusal → Type 0
-IsRefusal disk refusal = superblock_refusal (block_at disk 16) (length disk) ≡ Some refusal
+IsRefusal disk refusal =
+    (superblock_refusal (block_at disk 16) (length disk) ≡ Some refusal)
+    ⊎ (IsCleanSuper (block_at disk 16) (length disk) × IsPendingRefusal (pending_transactions (super_in disk) disk) refusal)
 
 -- the journal lies in the volume
 abbrev pub IsInside : Super → Type 0
@@ -66,6 +76,12 @@ IsNoFault ImageMissing = Unit {0}
 IsNoFault (ImageMoved block) = Unit {0}
 IsNoFault (ImageDamaged refusal) = Unit {0}
 IsNoFault (ReservedUsed block) = Unit {0}
+
+-- the answer of a command that a ReiserFS volume gives cause to
+abbrev pub of_volume : VolAnswer → Answer
+of_volume (answers.Refused refusal) = Volume refusal
+of_volume answers.Fault = Fault
+of_volume answers.Memory = Memory
 
 -- a label ends before its first zero byte
 abbrev pub label_of : List ℕ → List ℕ

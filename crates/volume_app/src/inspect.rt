@@ -2,13 +2,13 @@ ghost use Rattle.std.specs.Prelude.{◌≡◌, ◌<◌, ◌≤◌, length, None,
 ghost use Rattle.outside.specs.Fault.{HasCause, HasCauseOf, Takes};
 ghost use Rattle.outside.specs.History.{Image, block_at, reads};
 ghost use Rattle.vol_block.specs.declared.format.Format.TheVariants as formats;
-ghost use Rattle.volume_app.specs.Inspect.{format_in, super_in, super_lines, label_of, label_text, IsAccepted, IsInside, IsSuperOf, SuperRefuses, IsNoFault};
+ghost use Rattle.volume_app.specs.Inspect.{format_in, super_in, super_lines, label_of, label_text, IsAccepted, IsInside, IsSuperOf, SuperRefuses, IsNoFault, of_volume};
 ghost use Rattle.sink_text.specs.Text.{piece_text};
 ghost use Rattle.volume_app.specs.Texts.{text_of_lines};
 ghost use Rattle.volume_app.specs.Outcome.{InspectRefuses};
 
-use outside::{Access, Answer, BlockSource, Disk, Fault, Sink, VolumeRefusal};
-use reiser_super::Super;
+use outside::{Access, Answer, BlockSource, Disk, Fault, Sink, VolAnswer, VolumeRefusal};
+use reiser_super::{Super, journal_state};
 use sink_text::Piece::{Decimal, Escaped, Hyphenated, Plain};
 use sink_text::{Piece, write_pieces};
 use vol_block::{Block, Format, format_of};
@@ -42,7 +42,25 @@ fn check_volume<S: BlockSource>(source: &mut S) -> Result<Super, Answer>
     ensures fields { IsTrue S.tells → IfOk result (λ s. s ≡ super_in (S.blocks source.old)) }
     ensures refused { IsTrue S.tells → IfErr result (InspectRefuses (S.blocks source.old)) }
 {
-    read_super(source)
+    let volume = match read_super(source) {
+        Ok(volume) => volume,
+        Err(answer) => return Err(answer),
+    };
+    match journal_state(source, &volume) {
+        Ok(()) => Ok(volume),
+        Err(answer) => Err(of_volume(answer)),
+    }
+}
+
+/// The answer of a command that a ReiserFS volume gives cause to.
+fn of_volume(answer: VolAnswer) -> Answer
+    ensures { result ≡ of_volume answer }
+{
+    match answer {
+        VolAnswer::Refused(refusal) => Answer::Volume(refusal),
+        VolAnswer::Fault => Answer::Fault,
+        VolAnswer::Memory => Answer::Memory,
+    }
 }
 
 /// Reads the superblock.
