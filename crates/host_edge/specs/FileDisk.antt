@@ -3,6 +3,7 @@ use Rattle.std.specs.Prelude.{◌≡◌, ℕ, false, Option, Some, None, IsTrue}
 use Rattle.std.proofs.Common.{refl, ◌∙◌}
 use Rattle.outside.specs.declared.disk.Access.{Access}
 use Rattle.host_edge.specs.declared.opened.Opened.{Opened}
+use Rattle.host_edge.specs.declared.file_disk.FileDisk.{FileDisk}
 
 abbrev pub access_of : Option Opened → Option Access
 access_of None = None
@@ -30,3 +31,7 @@ closed_length (Some file) is = absurd (cc)
 
 pub tells_nothing : IsTrue false → ⊥
 tells_nothing tells = cc
+
+-- what a disk is open for
+abbrev pub opened_for : {R S : Type 0} → FileDisk R S → Option Access
+opened_for disk = access_of disk.opened

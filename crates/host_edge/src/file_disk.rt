@@ -1,7 +1,7 @@
-ghost use Rattle.std.specs.Prelude.{◌≡◌, ◌≤◌, IfOk, refl, false, []};
+ghost use Rattle.std.specs.Prelude.{◌≡◌, ◌≤◌, None, IfOk, refl, false, []};
 ghost use Rattle.outside.specs.Fault.{Rose};
 ghost use Rattle.outside.specs.History.{nothing};
-ghost use Rattle.host_edge.specs.FileDisk.{Kept, access_of, length_of, kept_refl, kept_trans, closed_length, tells_nothing};
+ghost use Rattle.host_edge.specs.FileDisk.{Kept, opened_for, length_of, kept_refl, kept_trans, closed_length, tells_nothing};
 
 use crate::opened::Opened;
 use outside::{Access, BlockSource, Disk, Fault};
@@ -22,7 +22,9 @@ pub struct FileDisk<R: Files<File = File> + Drop> {
 
 impl<R: Files<File = File> + Drop> FileDisk<R> {
     /// A disk that is not open. It will find its file by these files.
-    pub fn new(files: R) -> Self {
+    pub fn new(files: R) -> Self
+        ensures { opened_for result ≡ None }
+    {
         FileDisk {
             files,
             opened: None,
@@ -94,7 +96,7 @@ impl<R: Files<File = File> + Drop> BlockSource for FileDisk<R> {
 impl<R: Files<File = File> + Drop> Disk for FileDisk<R> {
     ghost history = { λ d. nothing };
 
-    ghost opened = { λ d. access_of d.opened };
+    ghost opened = { λ d. opened_for d };
 
     ghost wants = { λ path access. Unit {0} };
 
