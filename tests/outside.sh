@@ -1,0 +1,237 @@
+#!/usr/bin/env bash
+# Checks the program against real tools: volumes that mkfs.reiserfs makes and that Linux wrote, and what debugreiserfs
+# says of them. It installs what it needs of Debian's packages; where that can't be done it says what it skips. The last
+# line is 'N passed, M failed', and the status is 0 where M is 0.
+set -uo pipefail
+
+top=$(cd "$(dirname "$(readlink -f "${BASH_SOURCE[0]}")")/.." && pwd)
+work=$(mktemp -d)
+program=$top/crates/reiserconv/out/reiserconv
+trap 'rm -rf "$work"' EXIT
+passed=0
+failed=0
+cd "$work" || exit 1
+
+# ---- how a check is counted -----------------------------------------------------------------------------------------
+
+pass() { passed=$((passed + 1)); }
+
+fail() {
+    failed=$((failed + 1))
+    printf 'FAILED %s\n' "$1"
+}
+
+# same NAME EXPECTED FOUND: two texts are the same
+same() {
+    if [ "$2" = "$3" ]; then pass; else
+        fail "$1"
+        diff <(printf '%s\n' "$2") <(printf '%s\n' "$3") | head -10
+    fi
+}
+
+# run WORDS..: runs the program; its status is in $status, its output in $out and its error line in $err
+run() {
+    "$program" "$@" >"$work/.out" 2>"$work/.err"
+    status=$?
+    out=$(cat "$work/.out")
+    err=$(cat "$work/.err")
+}
+
+# ends NAME STATUS LINE WORDS..: the run prints nothing, and ends with this status and this line
+ends() {
+    local name=$1 want=$2 line=$3
+    shift 3
+    run "$@"
+    same "$name" "$want|$line|" "$status|$err|$out"
+}
+
+# ---- what is needed ---------------------------------------------------------------------------------------------------
+
+need() {
+    local tool=$1 package=$2
+    command -v "$tool" >/dev/null 2>&1 && return 0
+    if [ -z "${updated:-}" ]; then
+        apt-get update -qq >/dev/null 2>&1
+        updated=yes
+    fi
+    apt-get install -y -qq "$package" >/dev/null 2>&1
+    command -v "$tool" >/dev/null 2>&1
+}
+
+# ---- making and changing volumes -------------------------------------------------------------------------------------
+
+# volume FILE BLOCKS OPTIONS..: a fresh volume of mkfs.reiserfs
+volume() {
+    local file=$1 blocks=$2
+    shift 2
+    rm -f "$file"
+    truncate -s $((blocks * 4096)) "$file"
+    mkfs.reiserfs -q -f "$@" "$file" >/dev/null 2>&1
+}
+
+# put FILE BYTE TEXT: writes bytes, in printf's escapes, at a place
+put() { printf '%b' "$3" | dd of="$1" bs=1 seek="$2" conv=notrunc status=none; }
+
+super=65536
+
+# what debugreiserfs says of a superblock, in the words of `inspect`
+expected_super() {
+    local file=$1 said label
+    said=$(debugreiserfs "$file" 2>/dev/null)
+    field() { printf '%s\n' "$said" | sed -n "s/^$1//p" | head -1; }
+    label=$(field 'LABEL: ')
+    printf 'format reiserfs\n'
+    printf 'blocks %s\n' "$(field 'Count of blocks on the device: ')"
+    printf 'free %s\n' "$(printf '%s\n' "$said" | sed -n 's/^Free blocks (.*): //p')"
+    printf 'root %s\n' "$(field 'Root block: ')"
+    printf 'height %s\n' "$(field 'Tree height: ')"
+    printf 'journal %s %s\n' \
+        "$(printf '%s\n' "$said" | sed -n 's/.*(first block \([0-9]*\)).*/\1/p')" \
+        "$(printf '%s\n' "$said" | sed -n 's/.*Size \([0-9]*\) blocks.*/\1/p' | awk '{print $1 - 1}')"
+    printf 'uuid %s\n' "$(field 'UUID: ')"
+    printf 'label %s\n' "${label:--}"
+}
+
+# ---- words and statuses ----------------------------------------------------------------------------------------------
+
+usage='usage: reiserconv COMMAND [OPTIONS] PATH'
+words_and_statuses() {
+    ends 'no words' 2 "$usage"
+    ends 'an unknown word' 2 "$usage" frobnicate volume
+    ends 'a command alone' 2 "$usage" inspect
+    ends 'two paths' 2 "$usage" inspect one two
+    ends 'a path with a dash' 2 "$usage" inspect -x
+    ends 'an empty path' 2 "$usage" inspect ''
+    ends 'a path that is not there' 3 'device fault' inspect "$work/nothing"
+    ends 'a directory' 3 'device fault' inspect "$work"
+    run --version
+    same 'the version' '0|reiserconv 0.1.0|' "$status|$out|$err"
+    run --help
+    same 'the first line of the help' "0|$usage" "$status|$(head -1 "$work/.out")"
+    ends 'help with a path' 2 "$usage" --help volume
+    if [ "$(id -u)" = 0 ]; then
+        echo 'skipped: an unreadable file, since root can read each'
+    else
+        : >unreadable
+        chmod 000 unreadable
+        ends 'an unreadable file' 3 'device fault' inspect unreadable
+    fi
+    "$top/reiserconv" inspect zeros >"$work/.out" 2>"$work/.err"
+    same 'the script passes on status and streams' '3|device fault|' "$?|$(cat "$work/.err")|$(cat "$work/.out")"
+    "$top/reiserconv" --version >/dev/full 2>"$work/.err"
+    same 'a full output' '5|output fault' "$?|$(cat "$work/.err")"
+    "$top/reiserconv" --version >&- 2>"$work/.err"
+    same 'a closed output' '5|output fault' "$?|$(cat "$work/.err")"
+}
+
+# ---- what is no clean volume -----------------------------------------------------------------------------------------
+
+refusals() {
+    : >empty
+    ends 'an empty file' 1 'refused 1 novolume' inspect empty
+    truncate -s 65536 short
+    ends 'a file that ends before block 16' 1 'refused 1 novolume' inspect short
+    truncate -s 1048576 zeros
+    ends 'zeros' 1 'refused 1 novolume' inspect zeros
+    if need mkfs.ext4 e2fsprogs; then
+        truncate -s 8M ext4
+        mkfs.ext4 -q ext4
+        ends 'an ext4 volume' 1 'refused 1 novolume' inspect ext4
+    else
+        echo 'skipped: an ext4 volume, since mkfs.ext4 is not to be had'
+    fi
+    if need mkfs.btrfs btrfs-progs; then
+        truncate -s 128M btrfs
+        mkfs.btrfs -q btrfs >/dev/null 2>&1
+        ends 'a Btrfs volume' 1 'refused 16 format' inspect btrfs
+    else
+        echo 'skipped: a Btrfs volume, since mkfs.btrfs is not to be had'
+    fi
+    volume old 20000 --format 3.5
+    ends 'a volume of format 3.5' 1 'refused 3 unsupported 1 35' inspect old
+
+    volume good 20000
+    one_field() { # NAME LINE BYTE TEXT: a copy with this field is refused so
+        cp --sparse=always good changed
+        put changed $((super + $3)) "$4"
+        ends "$1" 1 "$2" inspect changed
+    }
+    one_field 'a block size of 8192' 'refused 3 unsupported 2 8192' 44 '\x00\x20'
+    one_field 'a journal on another device' 'refused 3 unsupported 3 2065' 16 '\x11\x08'
+    one_field 'a volume with marked damage' 'refused 3 unsupported 4 2' 62 '\x02'
+    one_field 'too many blocks' 'refused 3 unsupported 5 536870913' 0 '\x01\x00\x00\x20'
+    one_field 'a volume that was not unmounted' 'refused 2 unclean 2' 50 '\x02\x00'
+    one_field 'a height of 1' 'refused 6 damaged 16 1' 68 '\x01'
+    one_field 'a height of 8' 'refused 6 damaged 16 1' 68 '\x08'
+    one_field 'a root past the end' 'refused 6 damaged 16 1' 8 '\x20\x4e'
+    one_field 'a journal that begins too early' 'refused 6 damaged 16 1' 12 '\x11'
+    one_field 'a journal of no blocks' 'refused 6 damaged 16 1' 20 '\x00\x00'
+    one_field 'a longer volume than the file' 'refused 4 short 20001 20000' 0 '\x21'
+    one_field 'a magic that is none' 'refused 1 novolume' 52 'x'
+}
+
+# ---- real volumes ----------------------------------------------------------------------------------------------------
+
+fresh_volumes() {
+    local blocks name
+    for blocks in 20000 32768 32769 32770 80000; do
+        volume fresh "$blocks"
+        run inspect fresh
+        same "inspect of a fresh volume of $blocks blocks" "0||$(expected_super fresh)" "$status|$err|$(head -8 "$work/.out")"
+        name="a fresh volume of $blocks blocks is left as it was"
+        local before
+        before=$(sha256sum <fresh)
+        run inspect fresh
+        same "$name" "$before" "$(sha256sum <fresh)"
+    done
+    volume fresh 20000 -l 'My label' -u 12345678-9abc-4def-8123-456789abcdef
+    run inspect fresh
+    same 'inspect of a label and a uuid' "0||$(expected_super fresh | sed 's/My label/My\\x20label/')" "$status|$err|$(head -8 "$work/.out")"
+    volume fresh 4096 -s 513
+    run inspect fresh
+    same 'inspect of a small journal' "0||$(expected_super fresh)" "$status|$err|$(head -8 "$work/.out")"
+}
+
+# what Linux wrote, as it lies in tests/volumes
+linux_volumes() {
+    need zstd zstd || { echo 'skipped: the packed volumes, since zstd is not to be had'; return; }
+    local packed name
+    for packed in "$top"/tests/volumes/*.img.zst; do
+        name=$(basename "$packed" .img.zst)
+        zstd -dqf "$packed" -o packed
+        run inspect packed
+        same "inspect of the volume $name" "0||$(expected_super packed)" "$status|$err|$(head -8 "$work/.out")"
+    done
+}
+
+# a block device has a length of its own
+loop_device() {
+    local device
+    volume looped 20000
+    if ! device=$(losetup --find --show looped 2>/dev/null); then
+        echo 'skipped: a loop device, since this machine gives none'
+        return
+    fi
+    run inspect "$device"
+    same 'inspect of a loop device' "0||$(expected_super looped)" "$status|$err|$(head -8 "$work/.out")"
+    losetup --detach "$device"
+}
+
+# ---- all -------------------------------------------------------------------------------------------------------------
+
+if ! "$top/reiserconv" --version >/dev/null; then
+    echo 'the program could not be built'
+    echo '0 passed, 1 failed'
+    exit 1
+fi
+words_and_statuses
+if need mkfs.reiserfs reiserfsprogs && need debugreiserfs reiserfsprogs; then
+    refusals
+    fresh_volumes
+    linux_volumes
+    loop_device
+else
+    echo 'skipped: all checks on volumes, since reiserfsprogs is not to be had'
+fi
+printf '%s passed, %s failed\n' "$passed" "$failed"
+[ "$failed" = 0 ]
