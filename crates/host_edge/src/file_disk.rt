@@ -3,24 +3,27 @@ ghost use Rattle.outside.specs.Fault.{Rose};
 ghost use Rattle.outside.specs.History.{nothing};
 ghost use Rattle.host_edge.specs.FileDisk.{Kept, opened_for, length_of, kept_refl, kept_trans, closed_length, tells_nothing};
 
+use crate::mounts::is_mounted;
 use crate::opened::Opened;
 use outside::{Access, BlockSource, Disk, Fault};
 use std::fs::{File, Files, OpenOptions};
 use std::io;
+use std::io::ErrorKind;
 use vol_block::{Block, BlockNo};
 
 /// A file or a device as a disk, read and written a whole block at a time at its place.
 ///
 /// Its length is what seeking to its end gives, so that a block device has its own; a last part of less than a block
-/// is no block. Each call of the system that fails is counted, and so is a read or a write that ends early.
+/// is no block. Each call of the system that fails is counted, and so is a read or a write that ends early. What is
+/// mounted is not opened for writing: that counts as a failure too.
 #[derive(Drop)]
-pub struct FileDisk<R: Files<File = File> + Drop> {
+pub struct FileDisk<R: Files<File = File> + AllocGlobal + Drop> {
     files: R,
     opened: Option<Opened>,
     faults: u64,
 }
 
-impl<R: Files<File = File> + Drop> FileDisk<R> {
+impl<R: Files<File = File> + AllocGlobal + Drop> FileDisk<R> {
     /// A disk that is not open. It will find its file by these files.
     pub fn new(files: R) -> Self
         ensures { opened_for result ≡ None }
@@ -35,6 +38,9 @@ impl<R: Files<File = File> + Drop> FileDisk<R> {
     fn open_file(&self, path: &str, access: Access) -> io::Result<Opened>
         ensures { IfOk result (λ opened. opened.access ≡ access) }
     {
+        if access == Access::Write && is_mounted(&self.files, path)? {
+            return Err(io::Error::from(ErrorKind::ResourceBusy));
+        }
         let file = OpenOptions::new()
             .read(true)
             .write(access == Access::Write)
@@ -53,7 +59,7 @@ impl<R: Files<File = File> + Drop> FileDisk<R> {
     }
 }
 
-impl<R: Files<File = File> + Drop> BlockSource for FileDisk<R> {
+impl<R: Files<File = File> + AllocGlobal + Drop> BlockSource for FileDisk<R> {
     ghost tells = { false };
 
     ghost blocks = { λ d. [] };
@@ -93,7 +99,7 @@ impl<R: Files<File = File> + Drop> BlockSource for FileDisk<R> {
     }
 }
 
-impl<R: Files<File = File> + Drop> Disk for FileDisk<R> {
+impl<R: Files<File = File> + AllocGlobal + Drop> Disk for FileDisk<R> {
     ghost history = { λ d. nothing };
 
     ghost opened = { λ d. opened_for d };

@@ -6,8 +6,11 @@
 #![tactic(auto)]
 
 mod file_disk;
+mod mounts;
 mod opened;
 mod std_sink;
+#[cfg(test)]
+mod tests;
 
 pub use file_disk::FileDisk;
 pub use std_sink::StdSink;

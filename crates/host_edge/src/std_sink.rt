@@ -17,6 +17,11 @@ impl<W: Write + Drop> StdSink<W> {
         StdSink { stream, faults: 0 }
     }
 
+    /// The stream.
+    pub fn stream(&self) -> &W {
+        &self.stream
+    }
+
     /// Counts a failure.
     fn fail(&mut self) -> Fault
         ensures rose { Rose self.old.faults self.new.faults }
