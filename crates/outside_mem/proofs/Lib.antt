@@ -1,0 +1,4 @@
+pub mod Choices
+pub mod Images
+pub mod Keys
+pub mod Waiting
