@@ -1,8 +1,8 @@
 -- Images made of maps, and the record of what was done to them.
-use Rattle.std.proofs.Common.{◌≡◌, ◌≢◌, ◌⊎◌, inl, inr, ⊎_elim, ℕ, zero, suc, ◌+◌, ◌-◌, ◌<◌, ◌≤◌, Bool, true, false, if◌then◌else◌, not, nat_eq, filter, is_some, Option, Some, None, List, [], ◌∷◌, ◌++◌, length, set, get_or, take, map, replicate, refl, sym, ◌∙◌, ap, subst, arith, get_or-set_same, get_or-set_other}
+use Rattle.std.proofs.Common.{◌≡◌, ◌≢◌, ◌⊎◌, inl, inr, ⊎_elim, ℕ, zero, suc, ◌+◌, ◌-◌, ◌<◌, ◌≤◌, Bool, true, false, if◌then◌else◌, not, nat_eq, filter, is_some, Option, Some, None, List, [], ◌∷◌, ◌++◌, length, set, get_or, map, replicate, refl, sym, ◌∙◌, ap, subst, arith, get_or-set_same, get_or-set_other}
 use Rattle.std.proofs.lemmas.Bool.{cases_eq, both_ways}
 use Rattle.std.proofs.lemmas.Bool.Decides.{eqb_tells}
-use Rattle.std.proofs.lemmas.List.{length-set, set-set, set_comm, take_more}
+use Rattle.std.proofs.lemmas.List.{length-set, set-set, set_comm}
 use Rattle.std.proofs.lemmas.List.FromFn.{length-map-range_with_len, get_or-map-range_with_len, fill_by_all}
 use Rattle.std.specs.List.{range_with_len}
 use Rattle.vol_block.specs.Volume.{zeros}
@@ -101,6 +101,16 @@ module _ (n : ℕ) (start start' : ℕ → List ℕ) (same : (q : ℕ) → start
       in_range = λ q waits. holds.in_range q (ap (λ (ds : List Done). is_waiting (calls_of ds) q) (sym same_dones) ∙ waits);
     }
 
+-- a disk to which nothing was done
+pub blank_holds : (n : ℕ) (present started unsynced : ℕ → List ℕ) (kept : ℕ → Bool) (dones : List Done) → ((q : ℕ) → started q ≡ present q) → ((q : ℕ) → unsynced q ≡ present q)
+    → ((q : ℕ) → kept q ≡ false) → dones ≡ [] → IsConsistent n present started unsynced kept (calls_of dones)
+blank_holds n present started unsynced kept dones start_is synced_is none_kept none = record {
+  reads_are = image_same n present started (λ q. sym (start_is q)) ∙ ap (λ (ds : List Done). reads_from (image_of n started) (calls_of ds)) (sym none);
+  synced_are = image_same n unsynced started (λ q. synced_is q ∙ sym (start_is q)) ∙ ap (λ (ds : List Done). synced_from (image_of n started) (calls_of ds)) (sym none);
+  kept_are = λ q. none_kept q ∙ ap (λ (ds : List Done). is_waiting (calls_of ds) q) (sym none);
+  in_range = λ q waits. absurd (both_ways false refl (ap (λ (ds : List Done). is_waiting (calls_of ds) q) (sym none) ∙ waits));
+}
+
 -- what reads give where it is open
 pub length_open : (n : ℕ) (start : ℕ → List ℕ) (calls : List Call) (o : Option Access) → is_some o ≡ true → n ≡ length (if is_some o then reads_from (image_of n start) calls else [])
 length_open n start calls None is = absurd (cc)
@@ -111,6 +121,10 @@ pub block_open : (n : ℕ) (present start : ℕ → List ℕ) (calls : List Call
 block_open n present start calls holds None k below = absurd (omega arith)
 block_open n present start calls holds (Some access) k below =
     sym (block_at-image_of n present k (omega (arith, below, length-reads_from (image_of n start) calls, length-image_of n start))) ∙ ap (λ (image : Image). block_at image k) holds
+
+pub count_open : (n : ℕ) (start : ℕ → List ℕ) (calls : List Call) (o : Option Access) (k : ℕ) → k < length (if is_some o then reads_from (image_of n start) calls else []) → k < n
+count_open n start calls None k below = absurd (omega arith)
+count_open n start calls (Some access) k below = omega (arith, below, length-reads_from (image_of n start) calls, length-image_of n start)
 
 pub block_there : (n : ℕ) (present start : ℕ → List ℕ) (calls : List Call) → image_of n present ≡ reads_from (image_of n start) calls → (k : ℕ)
     → k < length (image_of n start) → present k ≡ block_at (reads_from (image_of n start) calls) k
@@ -189,13 +203,3 @@ module _ (count n : ℕ) (start start' : ℕ → List ℕ) (bytes : List ℕ) (h
         kept_are = λ q. kept_less n (calls_of dones) kept kept' holds.kept_are kept_here kept_others q ∙ ap (λ (calls : List Call). is_waiting calls q) (sym calls_are);
         in_range = λ q waits. in_range_less n (calls_of dones) count holds.in_range q (ap (λ (calls : List Call). is_waiting calls q) (sym calls_are) ∙ waits);
       }
-
--- one call more of the record, counted from its front
-pub take_call : (dones : List Done) (k : ℕ) (d done : Done) → 0 < k → k ≤ length dones → get_or dones (k - 1) d ≡ done → calls_of (take k dones) ≡ call_of done ∷ calls_of (take (k - 1) dones)
-take_call dones k d done some within is =
-    let back : k ≡ k - 1 + 1 = omega arith in
-    let below : k - 1 < length dones = omega arith in
-    ap (λ (m : ℕ). calls_of (take m dones)) back
-    ∙ ap calls_of (take_more dones (k - 1) d below)
-    ∙ newest-push (take (k - 1) dones) (get_or dones (k - 1) d) []
-    ∙ ap (λ (done : Done). call_of done ∷ calls_of (take (k - 1) dones)) is

@@ -60,6 +60,11 @@ count_none n (k ∷ ks) all =
     let no : tally (nat_lt k n) ≡ 0 = ap tally (le-ltb k n (omega (arith, all.0))) in
     omega (arith, count_cons n k ks, no, count_none n ks all.1)
 
+pub count_before_first : (k : ℕ) (ks : List ℕ) → AllAbove k ks → count_by (λ a. nat_lt a k) (k ∷ ks) ≡ 0
+count_before_first k ks all =
+    let no : tally (nat_lt k k) ≡ 0 = ap tally (le-ltb k k (omega arith)) in
+    omega (arith, count_cons k k ks, no, count_none k ks all)
+
 pub count_first : (n q : ℕ) (ks : List ℕ) → n < q → count_by (λ a. nat_lt a q) (n ∷ ks) ≡ 1 + count_by (λ a. nat_lt a q) ks
 count_first n q ks below =
     let yes : tally (nat_lt n q) ≡ 1 = ap tally (lt-ltb n q below) in
@@ -78,9 +83,7 @@ above_from_found n q es x all found = ⊎_elim (λ below. below)
 -- in ascending order as many keys are below a key as its place says
 pub count_before : (ks : List ℕ) (i : ℕ) → IsStrictlySortedBy nat_cmp ks → i < length ks → count_by (λ a. nat_lt a (get_or ks i 0)) ks ≡ i
 count_before [] i ordered below = absurd (omega (arith, below))
-count_before (k ∷ ks) zero ordered below =
-    let no : tally (nat_lt k k) ≡ 0 = ap tally (le-ltb k k (omega arith)) in
-    omega (arith, count_cons k k ks, no, count_none k ks (head_below k ks ordered))
+count_before (k ∷ ks) zero ordered below = count_before_first k ks (head_below k ks ordered)
 count_before (k ∷ ks) (suc i) ordered below =
     let later : k < get_or ks i 0 = below_from_sorted (k ∷ ks) 0 (suc i) 0 ordered (omega arith) below in
     omega (arith, count_first k (get_or ks i 0) ks later, count_before ks i (sorted_tail nat_cmp k ks ordered) (omega (arith, below)))

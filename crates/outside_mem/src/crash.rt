@@ -1,7 +1,7 @@
 // What a crash leaves of the blocks that wait for a sync.
-ghost use Rattle.std.specs.Prelude.{◌≡◌, ◌≢◌, ◌<◌, ◌-◌, ℕ, [], ◌∷◌, length, slice_index_or, OnOk};
+ghost use Rattle.std.specs.Prelude.{◌≡◌, ◌≢◌, ◌<◌, ◌≤◌, ◌-◌, ℕ, [], ◌∷◌, length, slice_index_or, OnOk};
 ghost use Rattle.std.specs.Ordering.{nat_cmp};
-ghost use Rattle.std.specs.BTreeMap.{get, keys};
+ghost use Rattle.std.specs.BTreeMap.{get, keys, IsOrdered};
 ghost use Rattle.outside_mem.specs.Choice.{written, by_number, number_for};
 ghost use Rattle.outside_mem.specs.Done.{calls_of};
 ghost use Rattle.outside_mem.specs.Store.{bytes_at, chosen_or};
@@ -18,8 +18,9 @@ pub fn choose(
     calls: &[Done],
     choice: &[u32],
 ) -> Result<(), Memory>
-    ensures { OnOk result ((q : ℕ) → bytes_at blocks.new q
+    ensures chosen { OnOk result ((q : ℕ) → bytes_at blocks.new q
         ≡ chosen_or (bytes_at blocks.old q) (written (calls_of calls.now) q) (number_for (keys undo.now) choice.now q) (get nat_cmp undo.now q)) }
+    ensures ordered { OnOk result (IsOrdered nat_cmp undo.now) }
 {
     let mut numbers = choice.iter();
     for (n, synced) in undo {
@@ -43,7 +44,8 @@ fn chosen(synced: &Block, calls: &[Done], n: BlockNo, number: u32) -> Block
 
 /// How often a block was written since the last sync.
 fn count_written(calls: &[Done], n: BlockNo) -> u64
-    ensures { result ≡ length (written (calls_of calls.now) n) }
+    ensures count { result ≡ length (written (calls_of calls.now) n) }
+    ensures few { result ≤ length calls.now }
 {
     let mut count = 0;
     let mut k = calls.len();
@@ -72,10 +74,10 @@ fn nth_newest(calls: &[Done], n: BlockNo, newer: u64) -> Block
         k -= 1;
         match &calls[k] {
             Done::Wrote(at, block) => {
-                if *at == n && left == 0 {
-                    return *block;
-                }
                 if *at == n {
+                    if left == 0 {
+                        return *block;
+                    }
                     left -= 1;
                 }
             }

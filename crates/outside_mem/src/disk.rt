@@ -261,6 +261,8 @@ impl Disk for MemDisk {
 
     /// Fails exactly where it is listed or stopped, or finds no memory; it then changes no block.
     fn write(&mut self, n: BlockNo, from: &Block) -> Result<(), Fault>
+        requires open { self.old.opened ≡ Some Access.Write }
+        requires in_range { n < readable_len self.old }
         ensures open { self.new.opened ≡ self.old.opened }
         ensures size { readable_len self.new ≡ readable_len self.old }
         ensures effect { IsTrue true → WritesBlock self.old.history n from.now.bytes result self.new.history }
@@ -296,6 +298,7 @@ impl Disk for MemDisk {
 
     /// Fails exactly where it is listed or stopped, or finds no memory; it then settles nothing.
     fn sync(&mut self) -> Result<(), Fault>
+        requires { self.old.opened ≡ Some Access.Write }
         ensures open { self.new.opened ≡ self.old.opened }
         ensures size { readable_len self.new ≡ readable_len self.old }
         ensures effect { IsTrue true → Syncs self.old.history result self.new.history }

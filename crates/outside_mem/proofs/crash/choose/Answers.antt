@@ -1,0 +1,17 @@
+use Rattle.std.proofs.Common.{ℕ, Option, ◌∙◌, ap}
+use Rattle.std.specs.Option.{unwrap_or}
+use Rattle.outside_mem.specs.Done.{calls_of}
+use Rattle.outside_mem.proofs.Undo.{rest_ordered, choose_more, next_number}
+use Rattle.outside_mem.proofs.crash.choose.Goals as goal
+
+pub loop-n-preserved : goal.loop-n-preserved
+loop-n-preserved c =
+    let before = c.loop-n.invariant in
+    let number = next_number c.loop-n.numbers c.next-in-loop-n.new.self (λ i. i.rest.now) c.next-in-loop-n.result c.next-in-loop-n.ensures.steps in
+    record {
+      all_ordered = before.all_ordered;
+      ordered = rest_ordered c.in-Some.n.now c.in-Some.synced.now _ _ c.in-Some.ensures.steps before.ordered;
+      same = choose_more c.in-Some.n.now c.in-Some.synced.now _ _ c.in-Some.ensures.steps before.ordered (calls_of c.args.calls.now)
+          c.loop-n.blocks c.insert.new.self c.chosen.result c.loop-n.numbers.rest.now c.next-in-loop-n.new.self.rest.now c.unwrap_or-number.result
+          c.in_ok-insert.ensures.updates c.chosen.ensures (c.unwrap_or-number.ensures ∙ ap (λ (o : Option ℕ). unwrap_or o 0) c.copied.ensures ∙ number.0) number.1 _ before.same;
+    }
