@@ -1,9 +1,9 @@
 -- Walking the record from its newest call.
-use Rattle.std.proofs.Common.{◌≡◌, ◌≢◌, ℕ, ◌+◌, ◌-◌, ◌<◌, ◌≤◌, true, List, [], ◌∷◌, ◌++◌, length, get_or, take, refl, sym, ◌∙◌, ap, arith, length-append}
+use Rattle.std.proofs.Common.{◌≡◌, ◌≢◌, ℕ, ◌+◌, ◌-◌, ◌<◌, ◌≤◌, true, List, [], ◌∷◌, ◌++◌, length, get_or, take, sym, ◌∙◌, ap, arith, length-append}
 use Rattle.std.proofs.lemmas.Bool.{eq-eqb, ne_eqb}
 use Rattle.std.proofs.lemmas.List.{take_more, get_or_push, get_or_append_left}
 use Rattle.vol_block.specs.declared.block.Block.{Block}
-use Rattle.outside.specs.History.{Call, wrote}
+use Rattle.outside.specs.History.{Call}
 use Rattle.outside_mem.specs.declared.store.Done.{Done}
 use Rattle.outside_mem.specs.declared.store.Done.TheVariants.{Wrote, Synced}
 use Rattle.outside_mem.specs.Choice.{written}

@@ -1,9 +1,8 @@
 -- What a call makes of a disk's state, from what it made of each part.
-use Rattle.std.proofs.Common.{◌≡◌, ℕ, Option, None, List, [], true, refl, ◌∙◌, ap}
-use Rattle.outside.specs.declared.disk.Access.{Access}
-use Rattle.outside.specs.History.{Image, History, wrote, synced, after}
-use Rattle.outside_mem.specs.Failures.{Failures, no_failures, counted, passed_write, one_more}
-use Rattle.outside_mem.specs.Disk.{State, fresh, after_write, after_sync, after_refusal}
+use Rattle.std.proofs.Common.{◌≡◌, ℕ, List, true, ◌∙◌, ap}
+use Rattle.outside.specs.History.{History, wrote, synced, after}
+use Rattle.outside_mem.specs.Failures.{Failures, counted, passed_write, one_more}
+use Rattle.outside_mem.specs.Disk.{State, after_write, after_sync, after_refusal}
 use Rattle.outside_mem.specs.Done.{with_block}
 
 module _ (v d : State) (is : v ≡ d) where

@@ -1,19 +1,18 @@
 -- One block after the other takes the value that a choice has for it.
-use Rattle.std.proofs.Common.{◌≡◌, ◌≢◌, ⊎_elim, ℕ, ◌+◌, ◌<◌, Bool, cond, nat_lt, Option, Some, None, List, [], ◌∷◌, length, get_or, drop, Bor, refl, sym, ◌∙◌, ap, subst, arith}
+use Rattle.std.proofs.Common.{◌≡◌, ◌≢◌, ⊎_elim, ℕ, ◌<◌, Bool, cond, nat_lt, Option, Some, None, List, ◌∷◌, length, get_or, drop, Bor, refl, sym, ◌∙◌, ap, subst, arith}
 use Rattle.std.proofs.lemmas.Bool.{cases_eq}
 use Rattle.std.proofs.lemmas.List.{get_or-drop, get_or_past, nil_from_length, drop_all}
 use Rattle.std.proofs.lemmas.Map.Keys.{sorted_tail}
 use Rattle.std.specs.Option.{MatchOption, unwrap_or, option_copied}
 use Rattle.std.specs.Ordering.{nat_cmp}
-use Rattle.std.specs.BTreeMap.{BTreeMap, is_at, Updates}
+use Rattle.std.specs.BTreeMap.{is_at}
 use Rattle.std.specs.Map.{lookup, keys_of}
 use Rattle.std.specs.List.{count_by}
 use Rattle.std.specs.List.Sorted.{IsStrictlySortedBy}
 use Rattle.vol_block.specs.declared.block.Block.{Block}
-use Rattle.vol_block.specs.Volume.{zeros}
 use Rattle.outside.specs.History.{Call}
 use Rattle.outside_mem.specs.Choice.{written, by_number, number_for}
-use Rattle.outside_mem.specs.Store.{bytes_or, bytes_at, chosen_or}
+use Rattle.outside_mem.specs.Store.{chosen_or}
 use Rattle.outside_mem.proofs.Keys.{here_eq, apart_eq, head_below, none_below, above_from_found, count_before_first, count_first}
 
 module _ (n : ℕ) (synced : Block) (rest es : List (ℕ × Block)) (is : es ≡ (n, synced) ∷ rest) (ordered : IsStrictlySortedBy nat_cmp (keys_of es)) where
@@ -25,13 +24,13 @@ module _ (n : ℕ) (synced : Block) (rest es : List (ℕ × Block)) (is : es ≡
 
   module _ (calls : List Call) where
     -- a block, once those of some entries have taken their values
-    abbrev taken : List (ℕ × Block) → BTreeMap ℕ Block → List ℕ → ℕ → List ℕ
-    taken left blocks numbers q = chosen_or (bytes_at blocks q) (written calls q) (number_for (keys_of left) numbers q) (lookup (is_at (nat_cmp q)) left)
+    abbrev taken : List (ℕ × Block) → (ℕ → List ℕ) → List ℕ → ℕ → List ℕ
+    taken left blocks numbers q = chosen_or (blocks q) (written calls q) (number_for (keys_of left) numbers q) (lookup (is_at (nat_cmp q)) left)
 
-    pub choose_more : (blocks blocks' : BTreeMap ℕ Block) (value : Block) (numbers numbers' : List ℕ) (number : ℕ) → Updates nat_cmp blocks blocks' n (Some value)
-        → value.bytes ≡ by_number (synced.bytes ∷ written calls n) number → number ≡ get_or numbers 0 0 → numbers' ≡ drop 1 numbers
+    pub choose_more : (blocks blocks' : ℕ → List ℕ) (numbers numbers' : List ℕ) (number : ℕ) → blocks' n ≡ by_number (synced.bytes ∷ written calls n) number
+        → ((q : ℕ) → q ≢ n → blocks' q ≡ blocks q) → number ≡ get_or numbers 0 0 → numbers' ≡ drop 1 numbers
         → (before : ℕ → List ℕ) → ((q : ℕ) → taken es blocks numbers q ≡ before q) → (q : ℕ) → taken rest blocks' numbers' q ≡ before q
-    choose_more blocks blocks' value numbers numbers' number updates value_is number_is numbers_are before so_far q = ⊎_elim here there (cases_eq q n)
+    choose_more blocks blocks' numbers numbers' number value_is others number_is numbers_are before so_far q = ⊎_elim here there (cases_eq q n)
       where
         was : taken ((n, synced) ∷ rest) blocks numbers q ≡ before q
         was = ap (λ (l : List (ℕ × Block)). taken l blocks numbers q) (sym is) ∙ so_far q
@@ -42,17 +41,16 @@ module _ (n : ℕ) (synced : Block) (rest es : List (ℕ × Block)) (is : es ≡
         here : q ≡ n → taken rest blocks' numbers' q ≡ before q
         here same =
             ap (λ (k : ℕ). taken rest blocks' numbers' k) same
-            ∙ ap (λ (o : Option Block). chosen_or (bytes_at blocks' n) (written calls n) (number_for (keys_of rest) numbers' n) o) (none_below n n (omega arith) rest (head_below n (keys_of rest) front))
-            ∙ ap (λ (o : Option Block). bytes_or zeros o) updates.1
+            ∙ ap (λ (o : Option Block). chosen_or (blocks' n) (written calls n) (number_for (keys_of rest) numbers' n) o) (none_below n n (omega arith) rest (head_below n (keys_of rest) front))
             ∙ value_is
             ∙ ap (λ (k : ℕ). by_number (synced.bytes ∷ written calls n) k) (number_is ∙ sym first_number)
-            ∙ ap (λ (t : Bool). chosen_or (bytes_at blocks n) (written calls n) (number_for (n ∷ keys_of rest) numbers n) (cond t (Some synced) (lookup (is_at (nat_cmp n)) rest))) (sym (here_eq n))
+            ∙ ap (λ (t : Bool). chosen_or (blocks n) (written calls n) (number_for (n ∷ keys_of rest) numbers n) (cond t (Some synced) (lookup (is_at (nat_cmp n)) rest))) (sym (here_eq n))
             ∙ ap (λ (k : ℕ). taken ((n, synced) ∷ rest) blocks numbers k) (sym same)
             ∙ was
 
         at : q ≢ n → (o : Option Block) → lookup (is_at (nat_cmp q)) rest ≡ o
-            → chosen_or (bytes_at blocks' q) (written calls q) (number_for (keys_of rest) numbers' q) o ≡ chosen_or (bytes_at blocks q) (written calls q) (number_for (n ∷ keys_of rest) numbers q) o
-        at other None found = ap (λ (o : Option Block). bytes_or zeros o) (updates.2 q (apart_eq n q other))
+            → chosen_or (blocks' q) (written calls q) (number_for (keys_of rest) numbers' q) o ≡ chosen_or (blocks q) (written calls q) (number_for (n ∷ keys_of rest) numbers q) o
+        at other None found = others q other
         at other (Some block) found =
             let below : n < q = above_from_found n q rest block (head_below n (keys_of rest) front) found in
             ap (λ (k : ℕ). by_number (block.bytes ∷ written calls q) k)
@@ -63,7 +61,7 @@ module _ (n : ℕ) (synced : Block) (rest es : List (ℕ × Block)) (is : es ≡
         there : q ≢ n → taken rest blocks' numbers' q ≡ before q
         there other =
             at other (lookup (is_at (nat_cmp q)) rest) refl
-            ∙ ap (λ (t : Bool). chosen_or (bytes_at blocks q) (written calls q) (number_for (n ∷ keys_of rest) numbers q) (cond t (Some synced) (lookup (is_at (nat_cmp q)) rest))) (sym (apart_eq q n (λ eq. other (sym eq))))
+            ∙ ap (λ (t : Bool). chosen_or (blocks q) (written calls q) (number_for (n ∷ keys_of rest) numbers q) (cond t (Some synced) (lookup (is_at (nat_cmp q)) rest))) (sym (apart_eq q n (λ eq. other (sym eq))))
             ∙ was
 
 -- the next number of a choice, or 0 where there is none

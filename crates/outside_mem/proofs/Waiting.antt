@@ -1,9 +1,8 @@
 -- Which blocks wait, and with which values.
-use Rattle.std.proofs.Common.{◌≡◌, ◌≢◌, ◌⊎◌, inl, inr, ⊎_elim, ℕ, ◌+◌, ◌<◌, Bool, true, false, if◌then◌else◌, nat_eq, nat_lt, List, [], ◌∷◌, ◌++◌, length, get_or, refl, sym, ◌∙◌, ap, subst, arith, length-append}
-use Rattle.std.proofs.lemmas.Bool.{lt-ltb, ltb-true, ltb-false, eqb-true, eqb-false, ne_eqb, eq-eqb, cases_eq, both_ways}
-use Rattle.std.proofs.lemmas.Bool.Decides.{eqb_tells}
+use Rattle.std.proofs.Common.{◌≡◌, ◌≢◌, inl, inr, ⊎_elim, ℕ, ◌<◌, Bool, true, false, if◌then◌else◌, nat_eq, nat_lt, List, [], ◌∷◌, ◌++◌, length, get_or, refl, sym, ◌∙◌, ap, subst, arith, length-append}
+use Rattle.std.proofs.lemmas.Bool.{lt-ltb, ltb-false, eqb-true, ne_eqb, eq-eqb, cases_eq, both_ways}
 use Rattle.std.proofs.lemmas.List.{get_or_push, get_or_append_left, nil_from_length}
-use Rattle.outside.specs.History.{Image, Call, wrote, synced, Waits}
+use Rattle.outside.specs.History.{Call, wrote, synced, Waits}
 use Rattle.outside_mem.specs.Choice.{written, is_waiting}
 use Rattle.outside_mem.specs.Done.{drop_writes}
 

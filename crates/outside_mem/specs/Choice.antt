@@ -1,5 +1,5 @@
 -- Which of the images that a crash may leave comes for a choice of numbers.
-use Rattle.std.specs.Prelude.{◌≡◌, ℕ, ◌%◌, Bool, nat_eq, nat_lt, if◌then◌else◌, List, [], ◌∷◌, ◌++◌, length, map, filter, count_by, slice_index_or}
+use Rattle.std.specs.Prelude.{ℕ, ◌%◌, Bool, nat_eq, nat_lt, if◌then◌else◌, List, [], ◌∷◌, ◌++◌, length, map, filter, count_by, slice_index_or}
 use Rattle.std.specs.List.{range_with_len}
 use Rattle.outside.specs.History.{Image, Call, wrote, synced, History, block_at, synced_from}
 

@@ -1,5 +1,5 @@
 -- Laws of a disk in memory, and of the choices of a crash.
-use Rattle.std.specs.Prelude.{◌≡◌, ◌≢◌, ℕ, ◌<◌, ◌≤◌, ◌^◌, false, List, [], All, length, slice_index_or, Option, Some, None, is_some, if◌then◌else◌}
+use Rattle.std.specs.Prelude.{◌≡◌, ℕ, ◌<◌, ◌≤◌, ◌^◌, false, List, [], All, length, slice_index_or, Option, Some, None, is_some, if◌then◌else◌}
 use Rattle.std.proofs.Common.{refl, ◌∙◌, ap}
 use Rattle.outside.specs.declared.disk.Access.{Access}
 use Rattle.outside.specs.History.{Image, History, block_at, reads, synced_from, MayLeave}

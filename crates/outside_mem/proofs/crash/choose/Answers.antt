@@ -1,7 +1,11 @@
 use Rattle.std.proofs.Common.{ℕ, Option, ◌∙◌, ap}
 use Rattle.std.specs.Option.{unwrap_or}
+use Rattle.vol_block.specs.declared.block.Block.{Block}
+use Rattle.vol_block.specs.Volume.{zeros}
 use Rattle.outside_mem.specs.Done.{calls_of}
+use Rattle.outside_mem.specs.Store.{bytes_or}
 use Rattle.outside_mem.proofs.Undo.{rest_ordered, choose_more, next_number}
+use Rattle.outside_mem.proofs.Keys.{apart_eq}
 use Rattle.outside_mem.proofs.crash.choose.Goals as goal
 
 pub loop-n-preserved : goal.loop-n-preserved
@@ -12,6 +16,8 @@ loop-n-preserved c =
       all_ordered = before.all_ordered;
       ordered = rest_ordered c.in-Some.n.now c.in-Some.synced.now _ _ c.in-Some.ensures.steps before.ordered;
       same = choose_more c.in-Some.n.now c.in-Some.synced.now _ _ c.in-Some.ensures.steps before.ordered (calls_of c.args.calls.now)
-          c.loop-n.blocks c.insert.new.self c.chosen.result c.loop-n.numbers.rest.now c.next-in-loop-n.new.self.rest.now c.unwrap_or-number.result
-          c.in_ok-insert.ensures.updates c.chosen.ensures (c.unwrap_or-number.ensures ∙ ap (λ (o : Option ℕ). unwrap_or o 0) c.copied.ensures ∙ number.0) number.1 _ before.same;
+          _ _ c.loop-n.numbers.rest.now c.next-in-loop-n.new.self.rest.now c.unwrap_or-number.result
+          (ap (λ (o : Option Block). bytes_or zeros o) c.in_ok-insert.ensures.updates.1 ∙ c.chosen.ensures)
+          (λ q other. ap (λ (o : Option Block). bytes_or zeros o) (c.in_ok-insert.ensures.updates.2 q (apart_eq c.in-Some.n.now q other)))
+          (c.unwrap_or-number.ensures ∙ ap (λ (o : Option ℕ). unwrap_or o 0) c.copied.ensures ∙ number.0) number.1 _ before.same;
     }

@@ -1,4 +1,4 @@
-use Rattle.std.proofs.Common.{◌≡◌, ◌-◌, ◌++◌, ◌∷◌, [], ℕ, List, length, take, ap, arith, length-append}
+use Rattle.std.proofs.Common.{◌-◌, ◌∷◌, [], ℕ, List, length, take, ap, arith, length-append}
 use Rattle.outside_mem.specs.Choice.{written}
 use Rattle.outside_mem.specs.Done.{calls_of}
 use Rattle.outside_mem.proofs.Newest.{newest_here, newest_elsewhere, newest_synced}

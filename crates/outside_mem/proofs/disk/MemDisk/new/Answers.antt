@@ -4,7 +4,6 @@ use Rattle.std.specs.BTreeMap.{is_at}
 use Rattle.std.specs.Map.{lookup}
 use Rattle.vol_block.specs.declared.block.Block.{Block}
 use Rattle.vol_block.specs.Volume.{zeros}
-use Rattle.outside.specs.History.{Image}
 use Rattle.outside_mem.specs.Store.{bytes_or, bytes_at, undone_at, image_of}
 use Rattle.outside_mem.specs.Done.{calls_of}
 use Rattle.outside_mem.proofs.Images.{image_zeros, length-image_of}
