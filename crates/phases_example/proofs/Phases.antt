@@ -1,15 +1,16 @@
 -- What a crash leaves in each phase of the switch.
-use Rattle.std.proofs.Common.{◌≡◌, ◌≢◌, ◌⊎◌, inl, inr, ⊎_elim, ℕ, ◌<◌, List, [], length, set, get_or, sym, ◌∙◌, ap, subst, arith, Result, Ok, Err, OnOk, get_or-set_same, get_or-set_other}
-use Rattle.outside.specs.History.{Image, History, block_at, reads, clock, IsSettled, LeftSince, WritesOnly}
-use Rattle.outside.proofs.Crash.{left_each, left_goes_on, writes_later, writes_length, reads_only}
-use Rattle.phases_example.specs.declared.steps.Placed.{Placed}
-use Rattle.phases_example.specs.Pieces.{IsPlace, IsBlock, HasPieces}
-use Rattle.phases_example.specs.Switch.{IsBefore, IsAfter}
+use Rattle.std.proofs.Common.{◌≡◌, ◌≢◌, ◌⊎◌, inl, inr, ⊎_elim, ℕ, ◌<◌, List, [], length, set, get_or, sym, ◌∙◌, ap, subst, arith, get_or-set_same, get_or-set_other}
 use Rattle.std.proofs.lemmas.List.{length-set}
+use Rattle.outside.specs.History.{Image, History, block_at, reads, clock, IsSettled, IsBlock, LeftSince, WritesOnly}
+use Rattle.outside.proofs.Crash.{left_each, writes_length, writes_then, writes_weaker, reads_only}
+use Rattle.outside.proofs.Phases.{left_outside, left_then, only_not, reads_outside}
+use Rattle.phases_example.specs.declared.steps.Placed.{Placed}
+use Rattle.phases_example.specs.Pieces.{IsPlace, HasPieces}
+use Rattle.phases_example.specs.Switch.{IsPart, IsBefore, IsAfter}
 use Rattle.phases_example.proofs.PieceLemmas.{is_place}
 
-abbrev Pieces : List Placed → ℕ → List ℕ → Type 0
-Pieces pieces b bytes = IsPlace pieces b
+abbrev WritesPieces : List Placed → History → History → Type 0
+WritesPieces pieces = WritesOnly (λ b _. IsPlace pieces b)
 
 module _ (pieces : List Placed) (superblock : List ℕ) (old : Image) where
   -- what differs from the new volume in the mirror's block alone is the new volume
@@ -34,28 +35,25 @@ module _ (pieces : List Placed) (superblock : List ℕ) (old : Image) where
     others = λ b outside not_superblock not_mirror. same b not_superblock ∙ before.others b outside;
   }
 
-only_not : (n : ℕ) (bytes : List ℕ) (image mid : Image) → ((b : ℕ) → (block_at image b ≡ block_at mid b) ⊎ IsBlock n bytes b (block_at image b)) → (b : ℕ) → b ≢ n → block_at image b ≡ block_at mid b
-only_not n bytes image mid each b not = ⊎_elim (λ same. same) (λ is. absurd (not is.0)) (each b)
-
-pub reads_before : (pieces : List Placed) (h₀ h₁ : History) → WritesOnly (Pieces pieces) h₀ h₁ → IsBefore pieces (reads h₀) (reads h₁)
+pub reads_before : (pieces : List Placed) (h₀ h₁ : History) → WritesPieces pieces h₀ h₁ → IsBefore pieces (reads h₀) (reads h₁)
 reads_before pieces h₀ h₁ only = record {
-  size = writes_length (Pieces pieces) h₀ h₁ only;
-  others = λ b outside. ⊎_elim (λ same. same) (λ is. absurd (outside is)) (reads_only (Pieces pieces) h₀ h₁ only b);
+  size = writes_length (λ b _. IsPlace pieces b) h₀ h₁ only;
+  others = reads_outside (IsPlace pieces) h₀ h₁ only;
 }
 
 -- while the pieces wait
-pub pieces_crash : (pieces : List Placed) (h₀ h₁ : History) → IsSettled h₀ → WritesOnly (Pieces pieces) h₀ h₁ → (image : Image) → LeftSince (clock h₀) h₁ image → IsBefore pieces (reads h₀) image
+pub pieces_crash : (pieces : List Placed) (h₀ h₁ : History) → IsSettled h₀ → WritesPieces pieces h₀ h₁ → (image : Image) → LeftSince (clock h₀) h₁ image → IsBefore pieces (reads h₀) image
 pieces_crash pieces h₀ h₁ settled only image left =
-    let each = left_each (Pieces pieces) h₀ h₁ settled only image left in
-    record { size = each.0; others = λ b outside. ⊎_elim (λ same. same) (λ is. absurd (outside is)) (each.1 b) }
+    let outside = left_outside (IsPlace pieces) h₀ h₁ only settled image left in
+    record { size = outside.0; others = outside.1 }
 
 -- while the superblock waits, over the pieces
-pub superblock_crash : (pieces : List Placed) (superblock : List ℕ) (h₀ h₁ h₂ : History) → ¬ IsPlace pieces 16 → IsSettled h₀ → WritesOnly (Pieces pieces) h₀ h₁
+pub superblock_crash : (pieces : List Placed) (superblock : List ℕ) (h₀ h₁ h₂ : History) → ¬ IsPlace pieces 16 → IsSettled h₀ → WritesPieces pieces h₀ h₁
     → IsSettled h₁ → HasPieces pieces (reads h₁) → WritesOnly (IsBlock 16 superblock) h₁ h₂
     → (image : Image) → LeftSince (clock h₀) h₂ image → IsBefore pieces (reads h₀) image ⊎ IsAfter pieces superblock (reads h₀) image
 superblock_crash pieces superblock h₀ h₁ h₂ apart settled₀ only₁ settled₁ stand only₂ image left =
     ⊎_elim (λ early. inl (pieces_crash pieces h₀ h₁ settled₀ only₁ image early)) late
-    (left_goes_on (IsBlock 16 superblock) (clock h₀) h₁ h₂ (writes_later (Pieces pieces) h₀ h₁ only₁) only₂ image left)
+    (left_then (λ b _. IsPlace pieces b) (IsBlock 16 superblock) h₀ h₁ h₂ only₁ only₂ image left)
   where
     before : IsBefore pieces (reads h₀) (reads h₁)
     before = reads_before pieces h₀ h₁ only₁
@@ -73,7 +71,7 @@ superblock_crash pieces superblock h₀ h₁ h₂ apart settled₀ only₁ settl
         (each.1 16)
 
 -- the superblock stands over the pieces
-pub superblock_stands : (pieces : List Placed) (superblock : List ℕ) (h₀ h₁ h₂ : History) → ¬ IsPlace pieces 16 → WritesOnly (Pieces pieces) h₀ h₁
+pub superblock_stands : (pieces : List Placed) (superblock : List ℕ) (h₀ h₁ h₂ : History) → ¬ IsPlace pieces 16 → WritesPieces pieces h₀ h₁
     → HasPieces pieces (reads h₁) → 16 < length (reads h₁) → reads h₂ ≡ set (reads h₁) 16 superblock → IsAfter pieces superblock (reads h₀) (reads h₂)
 superblock_stands pieces superblock h₀ h₁ h₂ apart only₁ stand long is =
     superblock_after pieces superblock (reads h₀) (reads h₁) (reads h₂) apart (reads_before pieces h₀ h₁ only₁) stand
@@ -95,11 +93,18 @@ mirror_stands pieces superblock mirror old h₂ h₃ apart is only₃ =
     after_stays pieces superblock old (reads h₃) (reads h₂) apart is (writes_length (IsBlock 16384 mirror) h₂ h₃ only₃)
     (only_not 16384 mirror (reads h₃) (reads h₂) (reads_only (IsBlock 16384 mirror) h₂ h₃ only₃))
 
-pub on_ok : {T E : Type 0} (result : Result T E) (P : Type 0) → P → OnOk result P
-on_ok (Ok x) P is = is
-on_ok (Err e) P is = tt
+-- what each phase writes is part of what the switch writes
+module _ (pieces : List Placed) (superblock mirror : List ℕ) where
+  abbrev Parts : History → History → Type 0
+  Parts = WritesOnly (IsPart pieces superblock mirror)
 
--- a block that was written stands there
-pub set_stands : {T E : Type 0} (result : Result T E) (old new : Image) (n : ℕ) (bytes : List ℕ) → n < length old → OnOk result (new ≡ set old n bytes) → OnOk result (block_at new n ≡ bytes)
-set_stands (Ok x) old new n bytes fits is = ap (λ (image : Image). block_at image n) is ∙ get_or-set_same old n bytes [] fits
-set_stands (Err e) old new n bytes fits is = tt
+  pub pieces_parts : (h₀ h₁ : History) → WritesPieces pieces h₀ h₁ → Parts h₀ h₁
+  pieces_parts h₀ h₁ = writes_weaker (λ b _. IsPlace pieces b) (IsPart pieces superblock mirror) (λ b bytes is. inl is) h₀ h₁
+
+  pub superblock_parts : (h₀ h₁ h₂ : History) → Parts h₀ h₁ → WritesOnly (IsBlock 16 superblock) h₁ h₂ → Parts h₀ h₂
+  superblock_parts h₀ h₁ h₂ before only =
+      writes_then (IsPart pieces superblock mirror) h₀ h₁ h₂ before (writes_weaker (IsBlock 16 superblock) (IsPart pieces superblock mirror) (λ b bytes is. inr (inl is)) h₁ h₂ only)
+
+  pub mirror_parts : (h₀ h₂ h₃ : History) → Parts h₀ h₂ → WritesOnly (IsBlock 16384 mirror) h₂ h₃ → Parts h₀ h₃
+  mirror_parts h₀ h₂ h₃ before only =
+      writes_then (IsPart pieces superblock mirror) h₀ h₂ h₃ before (writes_weaker (IsBlock 16384 mirror) (IsPart pieces superblock mirror) (λ b bytes is. inr (inr is)) h₂ h₃ only)

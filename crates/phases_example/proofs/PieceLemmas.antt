@@ -1,9 +1,9 @@
 -- Pieces that are written one after the other.
-use Rattle.std.proofs.Common.{◌≡◌, ◌≢◌, ℕ, ◌+◌, ◌<◌, List, [], length, take, set, get_or, refl, sym, ◌∙◌, ap, subst, arith, Result, Ok, Err, OnOk, get_or-set_same, get_or-set_other}
+use Rattle.std.proofs.Common.{◌≡◌, ◌≢◌, ℕ, ◌+◌, ◌<◌, List, [], length, take, set, get_or, refl, sym, ◌∙◌, ap, arith, get_or-set_same, get_or-set_other}
 use Rattle.std.specs.Prelude.{All}
 use Rattle.std.proofs.lemmas.List.{get_or-take, get_or_default, length-take}
 use Rattle.std.proofs.lemmas.List.Elements.{All-more}
-use Rattle.outside.specs.History.{Image, History, block_at, reads, Syncs}
+use Rattle.outside.specs.History.{Image, block_at}
 use Rattle.phases_example.specs.declared.steps.Placed.{Placed}
 use Rattle.phases_example.specs.Pieces.{IsPlace, AreApart, HasPieces}
 
@@ -30,8 +30,3 @@ module _ (pieces : List Placed) (i : ℕ) (d : Placed) (image : Image) (in_range
   pub pieces_more : All (λ q. q.at < length image) pieces → HasPieces (take i pieces) image → HasPieces (take (i + 1) pieces) (set image piece.at piece.block.bytes)
   pieces_more fits has =
       All-more Stands pieces i d in_range (earlier has) (get_or-set_same image piece.at piece.block.bytes [] (fits i d in_range))
-
--- a sync that succeeds leaves the pieces where they are
-pub sync_keeps : {T E : Type 0} (old new : History) (result : Result T E) (pieces : List Placed) → Syncs old result new → HasPieces pieces (reads old) → OnOk result (HasPieces pieces (reads new))
-sync_keeps old new (Ok x) pieces did has = subst (λ (h : History). HasPieces pieces (reads h)) (sym did) has
-sync_keeps old new (Err e) pieces same has = tt

@@ -14,7 +14,3 @@ AreApart pieces = AllPairs (λ p q. p.at ≢ q.at) pieces
 -- each piece stands in its place
 abbrev pub HasPieces : List Placed → Image → Type 0
 HasPieces pieces image = All (λ p. block_at image p.at ≡ p.block.bytes) pieces
-
--- these are block n and its bytes
-abbrev pub IsBlock : ℕ → List ℕ → ℕ → List ℕ → Type 0
-IsBlock n bytes b other = (b ≡ n) × (other ≡ bytes)

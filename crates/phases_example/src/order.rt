@@ -1,8 +1,9 @@
-ghost use Rattle.std.specs.Prelude.{◌≡◌, ◌≢◌, ◌<◌, ◌⊎◌, ℕ, List, All, Some, IsTrue, OnOk};
+// The switch.
+ghost use Rattle.std.specs.Prelude.{◌≡◌, ◌<◌, ◌⊎◌, All, Some, IsTrue, OnOk};
 ghost use Rattle.outside.specs.Fault.{HasCause};
-ghost use Rattle.outside.specs.History.{Image, block_at, reads, clock, IsSettled, LeftSince};
-ghost use Rattle.phases_example.specs.Pieces.{IsPlace, HasPieces, AreApart};
-ghost use Rattle.phases_example.specs.Switch.{IsBefore, IsAfter};
+ghost use Rattle.outside.specs.History.{Image, block_at, reads, clock, IsSettled, LeftSince, WritesOnly};
+ghost use Rattle.phases_example.specs.Pieces.{IsPlace, AreApart};
+ghost use Rattle.phases_example.specs.Switch.{IsPart, IsBefore, IsAfter};
 
 use crate::Placed;
 use crate::steps::{write_pieces, write_through};
@@ -13,7 +14,10 @@ const SUPERBLOCK: BlockNo = 16;
 
 const MIRROR: BlockNo = 16384;
 
-/// Writes the pieces, then the superblock, then its mirror, each on the disk before the next.
+/// Writes the pieces, then the superblock to block 16, then its mirror to block 16384, each on the disk before the
+/// next is written.
+///
+/// The pieces go to places of their own, apart from these two blocks.
 pub fn switch<D: Disk>(
     disk: &mut D,
     pieces: &[Placed],
@@ -33,7 +37,10 @@ pub fn switch<D: Disk>(
         → IsBefore pieces.now (reads (D.history disk.old)) image
         ⊎ IsAfter pieces.now superblock.now.bytes (reads (D.history disk.old)) image }
 
-    ensures done { IsTrue D.tells → OnOk result (IsAfter pieces.now superblock.now.bytes (reads (D.history disk.old)) (reads (D.history disk.new))) }
+    ensures open { D.opened disk.new ≡ D.opened disk.old }
+    ensures size { D.size disk.new ≡ D.size disk.old }
+    ensures only { IsTrue D.tells → WritesOnly (IsPart pieces.now superblock.now.bytes mirror.now.bytes) (D.history disk.old) (D.history disk.new) }
+    ensures written { IsTrue D.tells → OnOk result (IsAfter pieces.now superblock.now.bytes (reads (D.history disk.old)) (reads (D.history disk.new))) }
     ensures mirror { IsTrue D.tells → OnOk result (block_at (reads (D.history disk.new)) 16384 ≡ mirror.now.bytes) }
     ensures settled { IsTrue D.tells → OnOk result (IsSettled (D.history disk.new)) }
     ensures cause { HasCause (D.faults disk.old) (D.faults disk.new) result }

@@ -1,15 +1,18 @@
 // The two steps that the switch is made of.
-ghost use Rattle.std.specs.Prelude.{◌≡◌, ◌≢◌, ◌<◌, ℕ, List, All, AllPairs, slice_set, Some, IsTrue, OnOk};
+ghost use Rattle.std.specs.Prelude.{◌≡◌, ◌<◌, All, slice_set, Some, IsTrue, OnOk};
 ghost use Rattle.outside.specs.Fault.{HasCause};
-ghost use Rattle.outside.specs.History.{reads, IsSettled, WritesOnly};
-ghost use Rattle.phases_example.specs.Pieces.{IsPlace, HasPieces, IsBlock, AreApart};
+ghost use Rattle.outside.specs.History.{reads, IsSettled, IsBlock, WritesOnly};
+ghost use Rattle.phases_example.specs.Pieces.{IsPlace, HasPieces, AreApart};
 
 use outside::{Access, Disk, Fault};
 use vol_block::{Block, BlockNo};
 
-/// A block, and where it goes.
+/// A block, and the number of the block that it goes to.
+#[derive(Clone, Copy, Debug, PartialEq, Eq)]
 pub struct Placed {
+    /// Where it goes.
     pub at: BlockNo,
+    /// What is written there.
     pub block: Block,
 }
 

@@ -1,4 +1,5 @@
-use Rattle.std.proofs.Common.{◌≤◌}
+use Rattle.std.proofs.Common.{◌≡◌, ◌≤◌, take, IsTrue}
+use Rattle.phases_example.specs.Zeros.{zero_blocks}
 use Rattle.phases_example.proofs.count.count_zeros.Given as goal
 
 abbrev pub invariant-loop-n : goal.invariant-loop-n
@@ -6,4 +7,5 @@ invariant-loop-n g l = record {
   kept : g.S.BlockSource.kept l.initial.source l.source;
   faults : g.S.BlockSource.faults l.initial.source ≤ g.S.BlockSource.faults l.source;
   few : l.count ≤ l.n;
+  count : IsTrue g.S.BlockSource.tells → l.count ≡ zero_blocks (take l.n (g.S.BlockSource.blocks l.initial.source));
 }

@@ -1,8 +1,9 @@
 use Rattle.std.proofs.Common.{◌≡◌, ◌<◌, inl, inr, ⊎_elim, length, ◌∙◌, arith}
-use Rattle.outside.specs.History.{reads, clock}
-use Rattle.phases_example.specs.Pieces.{IsBlock}
-use Rattle.outside.proofs.Crash.{left_goes_on, writes_later}
-use Rattle.phases_example.proofs.Phases.{pieces_crash, superblock_crash, superblock_stands, mirror_crash, mirror_stands, on_ok, set_stands}
+use Rattle.outside.specs.History.{reads, clock, IsBlock}
+use Rattle.outside.proofs.Crash.{writes_then}
+use Rattle.outside.proofs.Phases.{left_then, on_ok, set_stands}
+use Rattle.phases_example.specs.Switch.{IsPart}
+use Rattle.phases_example.proofs.Phases.{pieces_crash, superblock_crash, superblock_stands, mirror_crash, mirror_stands, pieces_parts, superblock_parts, mirror_parts}
 use Rattle.phases_example.proofs.order.switch.Goals as goal
 
 pub returns-in_err-write_pieces-clause-crash : goal.returns-in_err-write_pieces-clause-crash
@@ -25,12 +26,30 @@ returns-clause-crash g c = λ tells settled image left.
     (λ early. superblock_crash c.args.pieces.now c.args.superblock.now.bytes _ _ _ c.requires.superblock_apart settled (c.write_pieces.ensures.only tells)
     (c.in_ok-write_pieces.ensures.settled tells) (c.in_ok-write_pieces.ensures.written tells) (c.write_through.ensures.only tells) image early)
     (λ late. inr (mirror_crash c.args.pieces.now c.args.superblock.now.bytes c.args.mirror.now.bytes _ _ _ c.requires.mirror_apart (c.in_ok-write_through.ensures.settled tells) stands (c.write_through-2.ensures.only tells) image late))
-    (left_goes_on (IsBlock 16384 c.args.mirror.now.bytes) (clock (g.D.Disk.history c.args.disk.now)) (g.D.Disk.history c.write_through.new.disk) (g.D.Disk.history c.write_through-2.new.disk)
-    (omega (arith, writes_later _ _ _ (c.write_pieces.ensures.only tells), writes_later _ _ _ (c.write_through.ensures.only tells)))
+    (left_then (IsPart c.args.pieces.now c.args.superblock.now.bytes c.args.mirror.now.bytes) (IsBlock 16384 c.args.mirror.now.bytes)
+    (g.D.Disk.history c.args.disk.now) (g.D.Disk.history c.write_through.new.disk) (g.D.Disk.history c.write_through-2.new.disk)
+    (superblock_parts c.args.pieces.now c.args.superblock.now.bytes c.args.mirror.now.bytes _ _ _
+    (pieces_parts c.args.pieces.now c.args.superblock.now.bytes c.args.mirror.now.bytes _ _ (c.write_pieces.ensures.only tells)) (c.write_through.ensures.only tells))
     (c.write_through-2.ensures.only tells) image left)
 
-pub returns-clause-done : goal.returns-clause-done
-returns-clause-done g c = λ tells.
+pub returns-in_err-write_pieces-clause-only : goal.returns-in_err-write_pieces-clause-only
+returns-in_err-write_pieces-clause-only g c = λ tells.
+    pieces_parts c.args.pieces.now c.args.superblock.now.bytes c.args.mirror.now.bytes _ _ (c.write_pieces.ensures.only tells)
+
+pub returns-in_err-write_through-clause-only : goal.returns-in_err-write_through-clause-only
+returns-in_err-write_through-clause-only g c = λ tells.
+    superblock_parts c.args.pieces.now c.args.superblock.now.bytes c.args.mirror.now.bytes _ _ _
+    (pieces_parts c.args.pieces.now c.args.superblock.now.bytes c.args.mirror.now.bytes _ _ (c.write_pieces.ensures.only tells)) (c.write_through.ensures.only tells)
+
+pub returns-clause-only : goal.returns-clause-only
+returns-clause-only g c = λ tells.
+    mirror_parts c.args.pieces.now c.args.superblock.now.bytes c.args.mirror.now.bytes _ _ _
+    (superblock_parts c.args.pieces.now c.args.superblock.now.bytes c.args.mirror.now.bytes _ _ _
+    (pieces_parts c.args.pieces.now c.args.superblock.now.bytes c.args.mirror.now.bytes _ _ (c.write_pieces.ensures.only tells)) (c.write_through.ensures.only tells))
+    (c.write_through-2.ensures.only tells)
+
+pub returns-clause-written : goal.returns-clause-written
+returns-clause-written g c = λ tells.
     let sizes : g.D.BlockSource.size c.write_pieces.new.disk ≡ length (reads (g.D.Disk.history c.write_pieces.new.disk)) =
     g.met.D.Disk.open_size c.write_pieces.new.disk _ tells (c.write_pieces.ensures.open ∙ c.requires.open) in
     let long : 16 < length (reads (g.D.Disk.history c.write_pieces.new.disk)) = omega (arith, sizes, c.write_pieces.ensures.size, c.requires.long) in

@@ -3,7 +3,8 @@ use Rattle.std.proofs.lemmas.List.{take_all}
 use Rattle.outside.specs.History.{reads}
 use Rattle.phases_example.specs.Pieces.{IsPlace, HasPieces}
 use Rattle.outside.proofs.Crash.{write_only, sync_only, writes_then}
-use Rattle.phases_example.proofs.PieceLemmas.{is_place, pieces_more, sync_keeps}
+use Rattle.outside.proofs.Phases.{on_ok, sync_reads}
+use Rattle.phases_example.proofs.PieceLemmas.{is_place, pieces_more}
 use Rattle.phases_example.proofs.steps.write_pieces.Goals as goal
 
 pub returns-in_err-write-clause-only : goal.returns-in_err-write-clause-only
@@ -37,5 +38,6 @@ loop-piece-preserved g c =
 
 pub returns-clause-written : goal.returns-clause-written
 returns-clause-written g c = λ tells.
-    sync_keeps (g.D.Disk.history c.loop-piece.disk) _ _ c.args.pieces.now (c.sync.ensures.effect tells)
-    (subst (λ ps. HasPieces ps (reads (g.D.Disk.history c.loop-piece.disk))) (take_all c.loop-piece.piece-index c.args.pieces.now c.loop-piece-test.false) (c.loop-piece.invariant.written tells))
+    on_ok c.sync.result _
+    (subst (HasPieces c.args.pieces.now) (sym (sync_reads (g.D.Disk.history c.loop-piece.disk) _ _ (c.sync.ensures.effect tells)))
+    (subst (λ ps. HasPieces ps (reads (g.D.Disk.history c.loop-piece.disk))) (take_all c.loop-piece.piece-index c.args.pieces.now c.loop-piece-test.false) (c.loop-piece.invariant.written tells)))

@@ -1,5 +1,5 @@
 use Rattle.std.proofs.Common.{refl}
-use Rattle.phases_example.specs.Pieces.{IsBlock}
+use Rattle.outside.specs.History.{IsBlock}
 use Rattle.outside.proofs.Crash.{write_only, sync_only, writes_then}
 use Rattle.phases_example.proofs.steps.write_through.Goals as goal
 
