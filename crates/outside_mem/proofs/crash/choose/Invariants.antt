@@ -1,0 +1,17 @@
+use Rattle.std.proofs.Common.{◌≡◌, ℕ}
+use Rattle.std.specs.Ordering.{nat_cmp}
+use Rattle.std.specs.BTreeMap.{is_at, get, keys}
+use Rattle.std.specs.Map.{lookup, keys_of}
+use Rattle.std.specs.List.Sorted.{IsStrictlySortedBy}
+use Rattle.outside_mem.specs.Choice.{written, number_for}
+use Rattle.outside_mem.specs.Done.{calls_of}
+use Rattle.outside_mem.specs.Store.{bytes_at, chosen_or}
+use Rattle.outside_mem.proofs.crash.choose.Given as goal
+
+abbrev pub invariant-loop-n : goal.invariant-loop-n
+invariant-loop-n l = record {
+  all_ordered : IsStrictlySortedBy nat_cmp (keys l.undo);
+  ordered : IsStrictlySortedBy nat_cmp (keys_of l.n-iterator);
+  same : (q : ℕ) → chosen_or (bytes_at l.blocks q) (written (calls_of l.calls) q) (number_for (keys_of l.n-iterator) l.numbers.rest.now q) (lookup (is_at (nat_cmp q)) l.n-iterator)
+      ≡ chosen_or (bytes_at l.initial.blocks q) (written (calls_of l.calls) q) (number_for (keys l.undo) l.choice q) (get nat_cmp l.undo q);
+}

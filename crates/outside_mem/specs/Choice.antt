@@ -1,0 +1,34 @@
+-- Which of the images that a crash may leave comes for a choice of numbers.
+use Rattle.std.specs.Prelude.{ℕ, ◌%◌, Bool, nat_eq, nat_lt, if◌then◌else◌, List, [], ◌∷◌, ◌++◌, length, map, filter, count_by, slice_index_or}
+use Rattle.std.specs.List.{range_with_len}
+use Rattle.outside.specs.History.{Image, Call, wrote, synced, History, block_at, synced_from}
+
+-- the bytes that were written to a block since the last sync, in their order
+abbrev pub written : List Call → ℕ → List (List ℕ)
+written [] b = []
+written (wrote c bytes landed ∷ calls) b = if nat_eq c b then written calls b ++ bytes ∷ [] else written calls b
+written (synced ∷ calls) b = []
+
+-- the values of a block that a crash may leave: the one at the last sync, and then those written since
+abbrev pub values : History → ℕ → List (List ℕ)
+values h b = block_at (synced_from h.start h.calls) b ∷ written h.calls b
+
+abbrev pub is_waiting : List Call → ℕ → Bool
+is_waiting calls b = nat_lt 0 (length (written calls b))
+
+-- the blocks that were written since the last sync, ascending
+abbrev pub waiting_blocks : History → List ℕ
+waiting_blocks h = filter (λ b. is_waiting h.calls b) (range_with_len 0 (length h.start))
+
+-- the value of that number, modulo how many there are
+abbrev pub by_number : List (List ℕ) → ℕ → List ℕ
+by_number values number = slice_index_or values (number % length values) []
+
+-- the number for one of these ascending blocks: the i-th has the i-th number of the choice, and 0 where there is none
+abbrev pub number_for : List ℕ → List ℕ → ℕ → ℕ
+number_for blocks choice b = slice_index_or choice (count_by (λ a. nat_lt a b) blocks) 0
+
+-- what a crash leaves by a choice of numbers for the blocks that wait
+abbrev pub crash_image : History → List ℕ → Image
+crash_image h choice =
+    map (λ b. by_number (values h b) (number_for (waiting_blocks h) choice b)) (range_with_len 0 (length h.start))

@@ -1,0 +1,7 @@
+pub mod Choice
+pub mod Disk
+pub mod Done
+pub mod Failures
+pub mod Laws
+pub mod Sink
+pub mod Store

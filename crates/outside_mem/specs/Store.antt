@@ -1,0 +1,41 @@
+-- What maps of blocks stand for.
+use Rattle.std.specs.Prelude.{◌≡◌, ℕ, ◌<◌, Bool, true, List, ◌∷◌, map, is_some, Option, Some, None}
+use Rattle.std.specs.Ordering.{nat_cmp}
+use Rattle.std.specs.BTreeMap.{BTreeMap, get}
+use Rattle.std.specs.List.{range_with_len}
+use Rattle.vol_block.specs.declared.block.Block.{Block}
+use Rattle.vol_block.specs.Volume.{zeros}
+use Rattle.outside.specs.History.{Call, reads_from, synced_from}
+use Rattle.outside_mem.specs.Choice.{by_number, is_waiting}
+
+abbrev pub bytes_or : List ℕ → Option Block → List ℕ
+bytes_or other None = other
+bytes_or other (Some block) = block.bytes
+
+-- the bytes of a block, zeros where the map has none
+abbrev pub bytes_at : BTreeMap ℕ Block → ℕ → List ℕ
+bytes_at now n = bytes_or zeros (get nat_cmp now n)
+
+-- the bytes of a block before its writes, which an undo map keeps for each block that was written
+abbrev pub undone_at : BTreeMap ℕ Block → BTreeMap ℕ Block → ℕ → List ℕ
+undone_at undo now n = bytes_or (bytes_at now n) (get nat_cmp undo n)
+
+abbrev pub has_key : BTreeMap ℕ Block → ℕ → Bool
+has_key blocks n = is_some (get nat_cmp blocks n)
+
+-- of a block that an undo map keeps, the value of that number; else the bytes as they are
+abbrev pub chosen_or : List ℕ → List (List ℕ) → ℕ → Option Block → List ℕ
+chosen_or other written number None = other
+chosen_or other written number (Some synced) = by_number (synced.bytes ∷ written) number
+
+-- n blocks
+abbrev pub image_of : ℕ → (ℕ → List ℕ) → List (List ℕ)
+image_of n block = map block (range_with_len 0 n)
+
+-- The blocks that are present are what reads give after the calls, from those at the start. The others are what reads
+-- gave at the last sync, and are kept for exactly the blocks that were written since.
+pub record IsConsistent (n : ℕ) (present started unsynced : ℕ → List ℕ) (kept : ℕ → Bool) (calls : List Call) : Type 0 where
+  pub reads_are : image_of n present ≡ reads_from (image_of n started) calls
+  pub synced_are : image_of n unsynced ≡ synced_from (image_of n started) calls
+  pub kept_are : (q : ℕ) → kept q ≡ is_waiting calls q
+  pub in_range : (q : ℕ) → is_waiting calls q ≡ true → q < n
