@@ -17,8 +17,9 @@ clean_journal disk s found none = record {
 }
 
 pub journal_refuses : (disk : Image) (s : Super) (answer : VolAnswer) → IsSuperOf disk s → IsPendingIn (pending_transactions s disk) answer → InspectRefuses disk (of_volume answer)
-journal_refuses disk s (Refused refusal) found pending =
-    (λ is. let both : formats.Reiser ≡ formats.Btrfs = sym found.reiser ∙ is in let never : Unit {0} ≡ ⊥ = cc in subst (λ (T : Type 0). T) never tt,
-    inr (found.clean, subst (λ (t : Super). IsPendingIn (pending_transactions t disk) (Refused refusal)) found.fields pending))
+journal_refuses disk s (Refused refusal) found pending = (
+  λ is. let both : formats.Reiser ≡ formats.Btrfs = sym found.reiser ∙ is in let never : Unit {0} ≡ ⊥ = cc in subst (λ (T : Type 0). T) never tt,
+  inr (found.clean, subst (λ (t : Super). IsPendingIn (pending_transactions t disk) (Refused refusal)) found.fields pending),
+)
 journal_refuses disk s Fault found pending = tt
 journal_refuses disk s Memory found pending = tt

@@ -8,6 +8,8 @@ mod command;
 mod ending;
 mod inspect;
 mod refusal_line;
+#[cfg(test)]
+mod tests;
 mod texts;
 mod top;
 

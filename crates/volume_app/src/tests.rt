@@ -1,0 +1,224 @@
+// Runs of the top call over a disk in memory.
+ghost use Rattle.std.specs.Prelude.{◌≡◌, ◌≤◌, None, IfOk, length};
+
+mod sample;
+
+use crate::run;
+use outside::Memory;
+use outside_mem::{MemDisk, MemSink};
+use sample::{change, changed, sample};
+use std::alloc::Global;
+use std::process::Abort;
+use std::test::Fail;
+use vol_block::Ids;
+
+const IDS: Ids = Ids {
+    fsid: [0x11; 16],
+    device: [0x22; 16],
+    chunk_tree: [0x33; 16],
+    subvolume: [0x44; 16],
+};
+
+/// What a run answered, and what the sinks took.
+#[derive(Drop)]
+struct Run {
+    status: u8,
+    out: MemSink,
+    err: MemSink,
+}
+
+/// Runs the words over a disk, with an output sink whose call of this number fails, if one is to.
+fn run_on(
+    alloc: Global,
+    words: &[&str],
+    disk: &mut MemDisk,
+    failing: Option<u64>,
+) -> Result<Run, Memory>
+    requires { disk.old.opened ≡ None }
+{
+    let mut owned = Vec::new(alloc);
+    for word in words {
+        owned.push(String::from_str(alloc, word)?)?;
+    }
+    let mut out = MemSink::new(alloc);
+    let mut err = MemSink::new(alloc);
+    if let Some(call) = failing {
+        out.fail_call(call)?;
+    }
+    let status = run(alloc, &owned, IDS, 1, disk, &mut out, &mut err);
+    Ok(Run { status, out, err })
+}
+
+/// A run over a disk ends so.
+fn ends(
+    rt: &(impl Abort + AllocGlobal),
+    words: &[&str],
+    disk: &mut MemDisk,
+    status: u8,
+    out: &str,
+    err: &str,
+) -> Result<(), Fail>
+    requires { disk.old.opened ≡ None }
+{
+    let ended = run_on(rt.alloc(), words, disk, None)?;
+    assert!(rt; ended.out.bytes() == out.as_bytes());
+    assert!(rt; ended.err.bytes() == err.as_bytes());
+    assert_eq!(rt; ended.status, status);
+    Ok(())
+}
+
+const USAGE: &str = "usage: reiserconv COMMAND [OPTIONS] PATH\n";
+
+/// The words ask for nothing.
+fn is_usage(rt: &(impl Abort + AllocGlobal), words: &[&str]) -> Result<(), Fail> {
+    let mut disk = MemDisk::new(rt.alloc(), 0)?;
+    ends(rt, words, &mut disk, 2, "", USAGE)
+}
+
+#[test]
+fn words_that_ask_for_nothing(rt: HostRuntime) -> Result<(), Fail> {
+    is_usage(&rt, &[])?;
+    is_usage(&rt, &["inspect"])?;
+    is_usage(&rt, &["inspect", "-x"])?;
+    is_usage(&rt, &["inspect", ""])?;
+    is_usage(&rt, &["inspect", "a", "b"])?;
+    is_usage(&rt, &["mount", "a"])?;
+    is_usage(&rt, &["--help", "a"])
+}
+
+#[test]
+fn help_and_version_open_nothing(rt: HostRuntime) -> Result<(), Fail> {
+    let mut disk = MemDisk::new(rt.alloc(), 0)?;
+    disk.fail_call(0)?;
+    ends(&rt, &["--version"], &mut disk, 0, "reiserconv 0.1.0\n", "")?;
+    let mut disk = MemDisk::new(rt.alloc(), 0)?;
+    disk.fail_call(0)?;
+    let ended = run_on(rt.alloc(), &["--help"], &mut disk, None)?;
+    assert_eq!(rt; ended.status, 0);
+    assert!(rt; ended.out.bytes().starts_with(USAGE.as_bytes()));
+    Ok(())
+}
+
+const SAMPLE: &str =
+    "format reiserfs\nblocks 2048\nfree 1996\nroot 51\nheight 2\njournal 18 32\nuuid 00000000-0000-0000-0000-000000000000\nlabel -\n";
+
+#[test]
+fn inspect_prints_the_superblock(rt: HostRuntime) -> Result<(), Fail> {
+    let mut disk = sample(rt.alloc(), 2048)?;
+    ends(&rt, &["inspect", "x"], &mut disk, 0, SAMPLE, "")
+}
+
+#[test]
+fn a_label_is_escaped_and_cut(rt: HostRuntime) -> Result<(), Fail> {
+    for (label, line) in [
+        (b"my disk\0\0x".as_slice(), "label my\\x20disk\n"),
+        (
+            b"\x7f\\\xff~!456789abcde".as_slice(),
+            "label \\x7f\\x5c\\xff~!456789abcde\n",
+        ),
+    ] {
+        let mut disk = changed(rt.alloc(), 16, 100, label)?;
+        let ended = run_on(rt.alloc(), &["inspect", "x"], &mut disk, None)?;
+        assert!(rt; ended.out.bytes().ends_with(line.as_bytes()));
+    }
+    Ok(())
+}
+
+/// The volume in memory is refused so, and nothing is printed.
+fn refused(rt: &(impl Abort + AllocGlobal), disk: &mut MemDisk, line: &str) -> Result<(), Fail>
+    requires { disk.old.opened ≡ None }
+{
+    ends(rt, &["inspect", "x"], disk, 1, "", line)
+}
+
+#[test]
+fn what_is_no_volume(rt: HostRuntime) -> Result<(), Fail> {
+    for blocks in [0, 16, 17, 2048] {
+        let mut disk = MemDisk::new(rt.alloc(), blocks)?;
+        refused(&rt, &mut disk, "refused 1 novolume\n")?;
+    }
+    let mut disk = changed(rt.alloc(), 16, 64, b"_BHRfS_M")?;
+    refused(&rt, &mut disk, "refused 16 format\n")
+}
+
+#[test]
+fn superblocks_are_refused_by_the_first_rule(rt: HostRuntime) -> Result<(), Fail> {
+    for (at, bytes, line) in [
+        (52, b"ReIsErFs\0".as_slice(), "refused 3 unsupported 1 35\n"),
+        (44, b"\0\x20".as_slice(), "refused 3 unsupported 2 8192\n"),
+        (16, b"\x07".as_slice(), "refused 3 unsupported 3 7\n"),
+        (62, b"\x02".as_slice(), "refused 3 unsupported 4 2\n"),
+        (
+            0,
+            b"\x01\0\0\x20".as_slice(),
+            "refused 3 unsupported 5 536870913\n",
+        ),
+        (50, b"\x02".as_slice(), "refused 2 unclean 2\n"),
+        (68, b"\x08".as_slice(), "refused 6 damaged 16 1\n"),
+        (0, b"\x01\x08".as_slice(), "refused 4 short 2049 2048\n"),
+        // Two rules are broken: the one that is tried first answers.
+        (
+            44,
+            b"\0\x20\0\0\0\0\x02".as_slice(),
+            "refused 3 unsupported 2 8192\n",
+        ),
+    ] {
+        let mut disk = changed(rt.alloc(), 16, at, bytes)?;
+        refused(&rt, &mut disk, line)?;
+    }
+    Ok(())
+}
+
+/// The sample with a header of the journal that names this last flushed transaction and place 0, a descriptor block of
+/// length 3 there, and the beginning of the block where its commit block belongs.
+fn with_journal(alloc: Global, flushed: u8, trans: u8, commit: &[u8]) -> Result<MemDisk, Memory>
+    requires { length commit.now ≤ 4096 }
+    ensures { IfOk result (λ d. d.opened ≡ None) }
+{
+    let mut disk = sample(alloc, 2048)?;
+    change(&mut disk, 50, 0, &[flushed])?;
+    change(&mut disk, 18, 0, &[trans, 0, 0, 0, 3])?;
+    change(&mut disk, 18, 4084, b"ReIsErLB")?;
+    change(&mut disk, 22, 0, commit)?;
+    Ok(disk)
+}
+
+#[test]
+fn a_journal_waits_only_with_a_whole_transaction(rt: HostRuntime) -> Result<(), Fail> {
+    let whole = [8, 0, 0, 0, 3];
+    let mut disk = with_journal(rt.alloc(), 7, 8, &whole)?;
+    refused(&rt, &mut disk, "refused 5 journal 8\n")?;
+    // Without a last flushed transaction each descriptor counts.
+    let mut disk = with_journal(rt.alloc(), 0, 7, &[])?;
+    refused(&rt, &mut disk, "refused 5 journal 7\n")
+}
+
+#[test]
+fn a_journal_without_a_whole_newer_transaction_is_empty(rt: HostRuntime) -> Result<(), Fail> {
+    // No commit block, one of another transaction, one of another length, and a transaction that was flushed.
+    let mut disk = with_journal(rt.alloc(), 7, 8, &[])?;
+    ends(&rt, &["inspect", "x"], &mut disk, 0, SAMPLE, "")?;
+    let mut disk = with_journal(rt.alloc(), 7, 8, &[9, 0, 0, 0, 3])?;
+    ends(&rt, &["inspect", "x"], &mut disk, 0, SAMPLE, "")?;
+    let mut disk = with_journal(rt.alloc(), 7, 8, &[8, 0, 0, 0, 4])?;
+    ends(&rt, &["inspect", "x"], &mut disk, 0, SAMPLE, "")?;
+    let mut disk = with_journal(rt.alloc(), 7, 7, &[7, 0, 0, 0, 3])?;
+    ends(&rt, &["inspect", "x"], &mut disk, 0, SAMPLE, "")
+}
+
+#[test]
+fn failed_calls_end_the_run(rt: HostRuntime) -> Result<(), Fail> {
+    for call in 0..4 {
+        let mut disk = sample(rt.alloc(), 2048)?;
+        disk.fail_call(call)?;
+        ends(&rt, &["inspect", "x"], &mut disk, 3, "", "device fault\n")?;
+    }
+    for call in 0..17 {
+        let mut disk = sample(rt.alloc(), 2048)?;
+        let ended = run_on(rt.alloc(), &["inspect", "x"], &mut disk, Some(call))?;
+        assert_eq!(rt; ended.status, 5);
+        assert!(rt; SAMPLE.as_bytes().starts_with(ended.out.bytes()));
+        assert!(rt; ended.err.bytes() == b"output fault\n".as_slice());
+    }
+    Ok(())
+}
