@@ -1,5 +1,5 @@
 -- Blocks as lists of bytes, their fields, and the blocks that Btrfs keeps for itself.
-use Rattle.std.specs.Prelude.{◌⊎◌, ℕ, ◌*◌, ◌/◌, ◌≤◌, ◌<◌, List, ◌++◌, take, drop, replicate}
+use Rattle.std.specs.Prelude.{◌⊎◌, ℕ, ◌*◌, ◌/◌, ◌≤◌, ◌<◌, nat_lt, nat_le, Bool, ◌&&◌, ◌||◌, List, ◌++◌, take, drop, replicate}
 use Rattle.byteorder.specs.Endian.{little_number, little_bytes}
 
 -- a block of zeros
@@ -19,3 +19,8 @@ put_field n bytes at x = take at bytes ++ (little_bytes n x ++ drop n (drop at b
 abbrev pub IsReserved : ℕ → ℕ → Type 0
 IsReserved b blocks =
     (b < 256) ⊎ ((16384 ≤ b) × (b < 16400)) ⊎ ((67108864 ≤ b) × (b < 67108880)) ⊎ ((16 * (blocks / 16) ≤ b) × (b < blocks))
+
+-- the same as a test
+abbrev pub is_reserved : ℕ → ℕ → Bool
+is_reserved b blocks =
+    nat_lt b 256 || ((nat_le 16384 b && nat_lt b 16400) || ((nat_le 67108864 b && nat_lt b 67108880) || (nat_le (16 * (blocks / 16)) b && nat_lt b blocks)))

@@ -1,5 +1,5 @@
 ghost use Rattle.std.specs.Prelude.{◌≡◌, ◌↔◌, ◌*◌, ◌/◌, IsTrue};
-ghost use Rattle.vol_block.specs.Volume.{zeros, IsReserved};
+ghost use Rattle.vol_block.specs.Volume.{zeros, IsReserved, is_reserved};
 
 /// The number of a block in its volume: block b is bytes 4096·b to 4096·b + 4095.
 pub type BlockNo = u64;
@@ -41,7 +41,8 @@ pub fn usable_end(blocks: u64) -> u64
 /// Reserved are the first MiB and 64 KiB at each place of a copy of the Btrfs superblock (at 64 MiB and at
 /// 256 GiB), as `btrfs-convert` keeps them, and the blocks from the usable end to `blocks`.
 pub fn is_reserved(block: BlockNo, blocks: u64) -> bool
-    ensures { IsTrue result ↔ IsReserved block blocks }
+    ensures fact { IsTrue result ↔ IsReserved block blocks }
+    ensures test { result ≡ is_reserved block blocks }
 {
     block < 256
         || (16384..16400).contains(&block)

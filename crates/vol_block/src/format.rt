@@ -1,5 +1,5 @@
 ghost use Rattle.std.specs.Prelude.{◌≡◌, ◌≤◌};
-ghost use Rattle.vol_block.specs.Format.{format, has_bytes_at};
+ghost use Rattle.vol_block.specs.Format.{format, has_bytes_at, has_reiser_magic};
 
 use crate::Block;
 
@@ -23,17 +23,24 @@ pub fn format_of(block: &Block) -> Format
 {
     if has_magic(block, 64, b"_BHRfS_M") {
         Format::Btrfs
-    } else if has_magic(block, 52, b"ReIsErFs")
-        || has_magic(block, 52, b"ReIsEr2Fs")
-        || has_magic(block, 52, b"ReIsEr3Fs")
-    {
+    } else if has_reiser_magic(block) {
         Format::Reiser
     } else {
         Format::Neither
     }
 }
 
-fn has_magic(block: &Block, at: usize, magic: &[u8]) -> bool
+/// Whether one of the three magics of a ReiserFS superblock stands at byte 52.
+pub fn has_reiser_magic(block: &Block) -> bool
+    ensures { result ≡ has_reiser_magic block.now.bytes }
+{
+    has_magic(block, 52, b"ReIsErFs")
+        || has_magic(block, 52, b"ReIsEr2Fs")
+        || has_magic(block, 52, b"ReIsEr3Fs")
+}
+
+/// Whether these bytes stand from byte `at` of the block on.
+pub fn has_magic(block: &Block, at: usize, magic: &[u8]) -> bool
     requires { at ≤ 4096 }
     ensures { result ≡ has_bytes_at block.now.bytes at magic.now }
 {
