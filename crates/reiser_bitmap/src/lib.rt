@@ -1,13 +1,14 @@
-// A library with one function.
+//! The bitmap of a ReiserFS volume: which blocks are in use, and which runs of units of 1 MiB are free.
+//!
+//! A caller loads the [`Bitmap`] of a volume whose superblock it has read, lets [`Bitmap::system_used`] see that the
+//! volume keeps its own blocks, and asks for blocks, units and [`Runs`] of free units. [`Bitmap::new`] and
+//! [`Bitmap::insert`] make sets of blocks of one's own.
 #![tactic(auto)]
 
-ghost use Rattle.std.specs.Prelude.{◌≡◌};
-ghost use Rattle.reiser_bitmap.specs.Echo.{echo_of};
+mod bitmap;
+mod layout;
+mod runs;
 
-// The `ensures` clause is the contract: what `echo` returns is `echo_of` of its argument, a definition
-// in `specs/Echo.antt`, which a caller's clause can cite too.
-pub fn echo(x: usize) -> usize
-    ensures { result ≡ echo_of x }
-{
-    x
-}
+pub use bitmap::Bitmap;
+pub use layout::{bitmap_block, is_system};
+pub use runs::{Run, Runs};
