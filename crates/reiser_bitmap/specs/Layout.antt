@@ -1,5 +1,5 @@
--- Where ReiserFS 3.6 keeps the bitmap of a volume, and which blocks it keeps for itself.
-use Rattle.std.specs.Prelude.{ℕ, ◌+◌, ◌*◌, ◌/◌, ◌%◌, ◌==◌, nat_le, Bool, ◌&&◌, ◌||◌, List, ◌∷◌, ◌++◌, map, filter, if◌then◌else◌}
+-- Where ReiserFS 3.6 keeps the bitmap of a volume.
+use Rattle.std.specs.Prelude.{ℕ, ◌*◌, ◌/◌, ◌%◌, ◌==◌, Bool, List, map, if◌then◌else◌}
 use Rattle.std.specs.List.{range_with_len}
 use Rattle.outside.specs.History.{Image, block_at}
 use Rattle.reiser_bitmap.specs.Bits.{bit_of}
@@ -15,17 +15,3 @@ is_marked image b = bit_of (block_at image (bitmap_block (b / 32768))) (b % 3276
 -- the bitmap of the first n blocks; bits past them are ignored
 abbrev pub bitmap_of : ℕ → Image → List Bool
 bitmap_of n image = map (is_marked image) (range_with_len 0 n)
-
--- a bitmap block is the one that holds its own bit
-abbrev pub is_bitmap_block : ℕ → Bool
-is_bitmap_block b = b == bitmap_block (b / 32768)
-
--- a block of the superblock, of the bitmaps, or of a journal with its header behind the log
-abbrev pub is_system : ℕ → ℕ → ℕ → Bool
-is_system journal_first journal_size b =
-    (b == 16) || (is_bitmap_block b || (nat_le journal_first b && nat_le b (journal_first + journal_size)))
-
--- the system blocks of a volume of n blocks: the superblock, the bitmap blocks, the log and the header
-unfoldable pub system_blocks : ℕ → ℕ → ℕ → List ℕ
-system_blocks n journal_first journal_size =
-    16 ∷ (filter is_bitmap_block (range_with_len 0 n) ++ range_with_len journal_first (journal_size + 1))

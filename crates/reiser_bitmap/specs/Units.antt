@@ -4,11 +4,8 @@ use Rattle.std.specs.List.{range_with_len, list_all}
 use Rattle.vol_block.specs.Volume.{IsReserved, is_reserved}
 use Rattle.reiser_bitmap.specs.Bits.{has}
 
--- unit u is blocks 256·u to 256·u + 255
-abbrev pub unit_blocks : ℕ → List ℕ
-unit_blocks u = range_with_len (256 * u) 256
-
--- A unit is free where all of its blocks lie in the volume, and each is unused and not reserved.
+-- Unit u is blocks 256·u to 256·u + 255. It is free where all of them lie in the volume, and each is unused and not
+-- reserved.
 pub record IsFreeUnit (used : List Bool) (u : ℕ) : Type 0 where
   pub inside : 256 * u + 256 ≤ length used
   pub unused : (b : ℕ) → b / 256 ≡ u → has used b ≡ false
@@ -18,8 +15,11 @@ pub record IsFreeUnit (used : List Bool) (u : ℕ) : Type 0 where
 abbrev pub is_free_block : List Bool → ℕ → Bool
 is_free_block used b = nat_lt b (length used) && (not (has used b) && not (is_reserved b (length used)))
 
+unfoldable pub are_free_blocks : List Bool → ℕ → ℕ → Bool
+are_free_blocks used first count = list_all (is_free_block used) (range_with_len first count)
+
 unfoldable pub is_free_unit : List Bool → ℕ → Bool
-is_free_unit used u = list_all (is_free_block used) (unit_blocks u)
+is_free_unit used u = are_free_blocks used (256 * u) 256
 
 -- how many whole units there are
 abbrev pub unit_count : List Bool → ℕ

@@ -1,5 +1,6 @@
 ghost use Rattle.std.specs.Prelude.{◌≡◌, ◌<◌, ◌*◌, ◌^◌};
-ghost use Rattle.reiser_bitmap.specs.Layout.{bitmap_block, is_system};
+ghost use Rattle.reiser_bitmap.specs.Layout.{bitmap_block};
+ghost use Rattle.reiser_bitmap.specs.System.{is_system};
 
 use vol_block::BlockNo;
 

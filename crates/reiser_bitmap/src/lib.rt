@@ -8,6 +8,8 @@
 mod bitmap;
 mod layout;
 mod runs;
+mod system;
+mod units;
 
 pub use bitmap::Bitmap;
 pub use layout::{bitmap_block, is_system};
