@@ -70,3 +70,8 @@ no_bits_from_free n u bytes free = λ i h.
     let is : b / 256 ≡ u = omega arith in
     let within : b < n = omega (arith, free.inside, length-bits n bytes) in
     sym (has-bits n bytes b within) ∙ free.unused b is
+
+-- past the end no unit is free
+pub past_units : (used : List Bool) (u : ℕ) → length used / 256 ≤ u → is_free_unit used u ≡ false
+past_units used u past =
+    ⊎_elim (λ t. absurd (omega (arith, ((decides_free_unit used u).0 t).inside))) (λ f. f) (cases_Bool (is_free_unit used u))

@@ -1,4 +1,4 @@
-ghost use Rattle.std.specs.Prelude.{◌≡◌, ◌↔◌, ◌+◌, ◌*◌, ◌≤◌, length, IsTrue, IfOk};
+ghost use Rattle.std.specs.Prelude.{◌≡◌, ◌↔◌, ◌+◌, ◌-◌, ◌*◌, ◌≤◌, nat_lt, ◌++◌, ◌∷◌, [], length, IsTrue, OnOk, IfOk, if◌then◌else◌};
 ghost use Rattle.reiser_bitmap.specs.Units.{IsFreeUnit, is_free_unit, free_units};
 ghost use Rattle.reiser_bitmap.specs.Zeros.{AreZeros, HasNoBits};
 ghost use Rattle.reiser_bitmap.specs.Runs.{free_runs};
@@ -47,18 +47,28 @@ impl Bitmap {
         let mut runs = Runs::new(*self.bytes.allocator());
         let mut first = 0;
         for u in 0..self.len() / BLOCKS_IN_UNIT + 1 {
-            if !self.unit_is_free(u) {
-                if first < u {
-                    runs.add(Run {
-                        first,
-                        count: u - first,
-                    })?;
-                }
-                first = u + 1;
+            if self.unit_is_free(u) {
+                continue;
             }
+            add_units(&mut runs, first, u)?;
+            first = u + 1;
         }
         Ok(runs)
     }
+}
+
+/// Appends the units from `first` to before `end` as a run, if there are any.
+fn add_units(runs: &mut Runs, first: u64, end: u64) -> Result<(), Memory>
+    requires { first ≤ end }
+    ensures { OnOk result (runs.new ≡ (if nat_lt first end then runs.old ++ record { first = first; count = end - first } ∷ [] else runs.old)) }
+{
+    if first < end {
+        runs.add(Run {
+            first,
+            count: end - first,
+        })?;
+    }
+    Ok(())
 }
 
 /// Whether the 32 bytes from byte `at` on, those of a unit, have no bit.
