@@ -1,5 +1,5 @@
 -- Bits of bytes, the low bit first.
-use Rattle.std.specs.Prelude.{ℕ, ◌/◌, ◌%◌, ◌==◌, Bool, false, List, slice_index, slice_index_or, map, filter, length}
+use Rattle.std.specs.Prelude.{ℕ, ◌*◌, ◌/◌, ◌%◌, ◌==◌, Bool, false, List, slice_index, slice_index_or, map, filter, length}
 use Rattle.std.specs.Int.{bit_at}
 use Rattle.std.specs.List.{range_with_len}
 
@@ -18,3 +18,7 @@ has set b = slice_index_or set b false
 -- the blocks of a set, ascending
 unfoldable pub used_blocks : List Bool → List ℕ
 used_blocks set = filter (has set) (range_with_len 0 (length set))
+
+-- how many bits of the bytes are 1
+unfoldable pub bit_count : List ℕ → ℕ
+bit_count bytes = length (filter (bit_of bytes) (range_with_len 0 (8 * length bytes)))

@@ -6,7 +6,9 @@
 #![tactic(auto)]
 
 mod bitmap;
+mod count;
 mod layout;
+mod load;
 mod runs;
 mod system;
 mod units;

@@ -14,6 +14,7 @@ invariant_of-self c =
     record {
       room = rw length-set c.self.invariant.room;
       tail = tail-set c.self.inside.blocks c.self.inside.bytes.items c.args.b c.index_mut.result.now within c.self.invariant.room was c.self.invariant.tail;
+      small = c.self.invariant.small;
     }
 
 pub returns : goal.returns
