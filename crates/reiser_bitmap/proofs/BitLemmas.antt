@@ -14,7 +14,7 @@ length-bits n bytes = length-map-range_with_len (bit_of bytes) 0 n
 pub has-bits : (n : ℕ) (bytes : List ℕ) (b : ℕ) → b < n → has (bits n bytes) b ≡ bit_of bytes b
 has-bits n bytes b h = get_or-map-range_with_len (bit_of bytes) 0 n b b false h (omega arith)
 
-mask : (k : ℕ) → k < 8 → 1 * 2 ^ k % 256 ≡ 2 ^ k
+pub mask : (k : ℕ) → k < 8 → 1 * 2 ^ k % 256 ≡ 2 ^ k
 mask zero h = refl
 mask (suc zero) h = refl
 mask (suc (suc zero)) h = refl

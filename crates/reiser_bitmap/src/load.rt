@@ -1,4 +1,4 @@
-ghost use Rattle.std.specs.Prelude.{◌≡◌, ◌+◌, ◌*◌, ◌/◌, ◌^◌, ◌<◌, ◌≤◌, ◌++◌, [], ℕ, length, IsTrue, IfOk, IfErr, OnOk};
+ghost use Rattle.std.specs.Prelude.{◌≡◌, ◌+◌, ◌*◌, ◌/◌, ◌^◌, ◌<◌, ◌≤◌, ◌++◌, [], ℕ, length, take, IsTrue, IfOk, IfErr, OnOk};
 ghost use Rattle.outside.specs.Fault.{HasCauseOf};
 ghost use Rattle.outside.specs.History.{Image};
 ghost use Rattle.reiser_bitmap.specs.Answers.{IsNoRefusal};
@@ -68,7 +68,7 @@ fn read_bytes<S: BlockSource>(
     for k in 0..blocks.div_ceil(BITS_IN_BLOCK) {
         src.read(bitmap_block(k), &mut block)?;
         let count = BLOCK_SIZE.min(size - bytes.len());
-        append(&mut bytes, &block.bytes[..count])?;
+        append(&mut bytes, &block, count)?;
     }
     Ok(bytes)
 }
@@ -92,9 +92,12 @@ fn with_room(alloc: Global, size: usize) -> Result<Vec<u8>, Memory>
     Ok(Vec::with_capacity(alloc, size)?)
 }
 
-fn append(bytes: &mut Vec<u8>, part: &[u8]) -> Result<(), Memory>
-    ensures { OnOk result (bytes.new.items ≡ bytes.old.items ++ part.now) }
+/// Appends the first `count` bytes of a block.
+fn append(bytes: &mut Vec<u8>, block: &Block, count: usize) -> Result<(), Memory>
+    requires { count ≤ 4096 }
+    ensures items { OnOk result (bytes.new.items ≡ bytes.old.items ++ take count block.now.bytes) }
+    ensures size { OnOk result (length bytes.new.items ≡ length bytes.old.items + count) }
 {
-    bytes.extend_from_slice(part)?;
+    bytes.extend_from_slice(&block.bytes[..count])?;
     Ok(())
 }
