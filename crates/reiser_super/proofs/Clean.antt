@@ -17,23 +17,24 @@ goes_on true o e h k = k
 goes_on false o e h k = cc
 
 decides_bounds : (s : Super) → Decides (is_in_bounds s) (IsInBounds s)
-decides_bounds s =
-    (λ h. let height = and_parts _ _ (and_parts _ _ h).0 in
-    let root = and_parts _ _ (and_parts _ _ h).1 in
-    let first = and_parts _ _ root.1 in
-    let size = and_parts _ _ first.1 in
-    let end = and_parts _ _ size.1 in
-    record {
-      height_low = leb-true _ _ height.0;
-      height_high = leb-true _ _ height.1;
-      root = ltb-true _ _ root.0;
-      journal_first = leb-true _ _ first.0;
-      journal_size = leb-true _ _ size.0;
-      journal_end = ltb-true _ _ end.0;
-      blocks = leb-true _ _ end.1;
-    }
-    , λ b. and_from _ _ (and_from _ _ (le-leb _ _ b.height_low) (le-leb _ _ b.height_high))
-    (and_from _ _ (lt-ltb _ _ b.root) (and_from _ _ (le-leb _ _ b.journal_first) (and_from _ _ (le-leb _ _ b.journal_size) (and_from _ _ (lt-ltb _ _ b.journal_end) (le-leb _ _ b.blocks))))))
+decides_bounds s = (
+  λ h. let height = and_parts _ _ (and_parts _ _ h).0 in
+      let root = and_parts _ _ (and_parts _ _ h).1 in
+      let first = and_parts _ _ root.1 in
+      let size = and_parts _ _ first.1 in
+      let end = and_parts _ _ size.1 in
+      record {
+        height_low = leb-true _ _ height.0;
+        height_high = leb-true _ _ height.1;
+        root = ltb-true _ _ root.0;
+        journal_first = leb-true _ _ first.0;
+        journal_size = leb-true _ _ size.0;
+        journal_end = ltb-true _ _ end.0;
+        blocks = leb-true _ _ end.1;
+      },
+  λ b. and_from _ _ (and_from _ _ (le-leb _ _ b.height_low) (le-leb _ _ b.height_high))
+      (and_from _ _ (lt-ltb _ _ b.root) (and_from _ _ (le-leb _ _ b.journal_first) (and_from _ _ (le-leb _ _ b.journal_size) (and_from _ _ (lt-ltb _ _ b.journal_end) (le-leb _ _ b.blocks))))),
+)
 
 pub clean_from_none : (bytes : List ℕ) (device : ℕ) → superblock_refusal bytes device ≡ None → IsCleanSuper bytes device
 clean_from_none bytes device h =

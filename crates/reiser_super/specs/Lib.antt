@@ -1,4 +1,5 @@
 pub mod Journal
+pub mod Laws
 pub mod Rules
 pub mod State
 pub mod Superblock

@@ -1,5 +1,5 @@
 -- Which superblocks are those of a clean volume, and how each other one is refused.
-use Rattle.std.specs.Prelude.{◌≡◌, ℕ, ◌+◌, ◌-◌, ◌^◌, ◌<◌, ◌≤◌, ◌==◌, nat_lt, nat_le, Bool, true, false, not, ◌&&◌, List, [], ◌∷◌, codes, Option, Some, None, if◌then◌else◌}
+use Rattle.std.specs.Prelude.{◌≡◌, ℕ, ◌+◌, ◌^◌, ◌<◌, ◌≤◌, ◌==◌, nat_lt, nat_le, Bool, true, false, not, ◌&&◌, List, [], ◌∷◌, codes, Option, Some, None, if◌then◌else◌}
 use Rattle.outside.specs.declared.refusal.VolumeRefusal.{VolumeRefusal}
 use Rattle.outside.specs.declared.refusal.VolumeRefusal.TheVariants.{NotVolume, Unsupported, Unclean, Damaged, Short}
 use Rattle.outside.specs.declared.rule.Feature.TheVariants.{OldMagic, BlockSize, JournalDevice, FsState, BlockCount}

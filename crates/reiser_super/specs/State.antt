@@ -1,8 +1,7 @@
 -- What a look at a journal answers.
-use Rattle.std.specs.Prelude.{◌≡◌, ℕ, List, [], Contains, Result, Ok, Err}
+use Rattle.std.specs.Prelude.{ℕ, List, Contains}
 use Rattle.outside.specs.declared.answer.VolAnswer.{VolAnswer}
 use Rattle.outside.specs.declared.answer.VolAnswer.TheVariants.{Refused, Fault, Memory}
-use Rattle.outside.specs.declared.refusal.VolumeRefusal.{VolumeRefusal}
 use Rattle.outside.specs.declared.refusal.VolumeRefusal.TheVariants.{JournalPending}
 
 -- the only refusal is that of a transaction that waits, and no memory is taken

@@ -144,10 +144,7 @@ fn is_newer(block: &Block, flushed: u32, size: u64) -> bool
     ensures fits { IsTrue result → transaction_length block.now.bytes < size }
 {
     let length = transaction_length(block) as u64;
-    is_descriptor(block)
-        && flushed < transaction(block)
-        && 1 <= length
-        && length < size
+    is_descriptor(block) && flushed < transaction(block) && 1 <= length && length < size
 }
 
 /// Whether a block begins as the commit block of a transaction.

@@ -72,7 +72,10 @@ impl Super {
         let checker_state = u16_at(&block.bytes, 62) as u64;
         let state = u16_at(&block.bytes, 50);
         let is_old = has_magic(block, 52, b"ReIsErFs");
-        check(device > 16 && has_reiser_magic(block), VolumeRefusal::NotVolume)?;
+        check(
+            device > 16 && has_reiser_magic(block),
+            VolumeRefusal::NotVolume,
+        )?;
         check_feature(!is_old, Feature::OldMagic, 35)?;
         check_feature(block_size == 4096, Feature::BlockSize, block_size)?;
         check_feature(journal_device == 0, Feature::JournalDevice, journal_device)?;
@@ -80,7 +83,13 @@ impl Super {
         check_feature(blocks <= MAX_BLOCKS, Feature::BlockCount, blocks)?;
         check(state == 1, VolumeRefusal::Unclean { state })?;
         check(self.is_in_bounds(), OUT_OF_BOUNDS)?;
-        check(blocks <= device, VolumeRefusal::Short { volume: blocks, device })
+        check(
+            blocks <= device,
+            VolumeRefusal::Short {
+                volume: blocks,
+                device,
+            },
+        )
     }
 
     /// The fields, whatever they say.

@@ -1,6 +1,6 @@
-use Rattle.std.proofs.Common.{◌≡◌, ◌+◌, ◌∙◌, sym, ap, subst, arith, true, false, List, ℕ}
+use Rattle.std.proofs.Common.{◌≡◌, ◌+◌, ◌∙◌, ap}
 use Rattle.outside.specs.History.{Image, block_at}
-use Rattle.reiser_super.specs.Journal.{log_block, commit_place, transaction_length}
+use Rattle.reiser_super.specs.Journal.{log_block}
 use Rattle.reiser_super.proofs.Waiting.{not_newer, not_committed, committed}
 use Rattle.reiser_super.proofs.journal.look_at_place.Goals as goal
 

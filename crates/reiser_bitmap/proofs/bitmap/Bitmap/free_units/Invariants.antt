@@ -1,0 +1,11 @@
+use Rattle.std.proofs.Common.{◌≡◌, ◌≤◌, length}
+use Rattle.std.specs.Prelude.{filter}
+use Rattle.std.specs.List.{range_with_len}
+use Rattle.reiser_bitmap.specs.Units.{is_free_unit}
+use Rattle.reiser_bitmap.proofs.bitmap.Bitmap.free_units.Given as goal
+
+abbrev pub invariant-loop-u : goal.invariant-loop-u
+invariant-loop-u l = record {
+  counted : l.count ≡ length (filter (is_free_unit l.self) (range_with_len 0 l.u));
+  few : l.count ≤ l.u;
+}

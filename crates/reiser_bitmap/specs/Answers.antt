@@ -1,0 +1,10 @@
+-- Answers of a call that reads and takes memory.
+use Rattle.outside.specs.declared.answer.VolAnswer.{VolAnswer}
+use Rattle.outside.specs.declared.answer.VolAnswer.TheVariants.{Refused, Fault, Memory}
+use Rattle.outside.specs.declared.refusal.VolumeRefusal.{VolumeRefusal}
+
+-- the volume is not refused
+abbrev pub IsNoRefusal : VolAnswer → Type 0
+IsNoRefusal (Refused refusal) = ⊥
+IsNoRefusal Fault = Unit {0}
+IsNoRefusal Memory = Unit {0}

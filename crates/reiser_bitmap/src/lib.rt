@@ -1,0 +1,18 @@
+//! The bitmap of a ReiserFS volume: which blocks are in use, and which runs of units of 1 MiB are free.
+//!
+//! A caller loads the [`Bitmap`] of a volume whose superblock it has read, lets [`Bitmap::system_used`] see that the
+//! volume keeps its own blocks, and asks for blocks, units and [`Runs`] of free units. [`Bitmap::new`] and
+//! [`Bitmap::insert`] make sets of blocks of one's own.
+#![tactic(auto)]
+
+mod bitmap;
+mod count;
+mod layout;
+mod load;
+mod runs;
+mod system;
+mod units;
+
+pub use bitmap::Bitmap;
+pub use layout::{bitmap_block, is_system};
+pub use runs::{Run, Runs};
