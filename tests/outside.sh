@@ -92,6 +92,12 @@ expected_super() {
     printf 'label %s\n' "${label:--}"
 }
 
+# the numbers of blocks, free and used, of the last output; "adds up" where used is the rest of the blocks
+used_adds_up() {
+    awk '$1 == "blocks" { b = $2 } $1 == "free" { f = $2 } $1 == "used" { u = $2 }
+        END { print (u == b - f ? "adds up" : b " " f " " u) }' "$work/.out"
+}
+
 # ---- words and statuses ----------------------------------------------------------------------------------------------
 
 usage='usage: reiserconv COMMAND [OPTIONS] PATH'
@@ -178,11 +184,15 @@ fresh_volumes() {
         volume fresh "$blocks"
         run inspect fresh
         same "inspect of a fresh volume of $blocks blocks" "0||$(expected_super fresh)" "$status|$err|$(head -8 "$work/.out")"
+        same "used blocks of a fresh volume of $blocks blocks" 'adds up' "$(used_adds_up)"
         name="a fresh volume of $blocks blocks is left as it was"
         local before
         before=$(sha256sum <fresh)
         run inspect fresh
         same "$name" "$before" "$(sha256sum <fresh)"
+        # the first bit of the bitmap's third byte is that of block 16
+        put fresh $((17 * 4096 + 2)) '\xfe'
+        ends "a system block marked free, of $blocks blocks" 1 'refused 6 damaged 16 2' inspect fresh
     done
     volume fresh 20000 -l 'My label' -u 12345678-9abc-4def-8123-456789abcdef
     run inspect fresh
@@ -201,6 +211,7 @@ linux_volumes() {
         zstd -dqf "$packed" -o packed
         run inspect packed
         same "inspect of the volume $name" "0||$(expected_super packed)" "$status|$err|$(head -8 "$work/.out")"
+        same "used blocks of the volume $name" 'adds up' "$(used_adds_up)"
     done
 }
 

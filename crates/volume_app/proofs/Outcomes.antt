@@ -1,6 +1,7 @@
 -- What an ending that is right for a disk comes to.
-use Rattle.std.proofs.Common.{◌≡◌, ◌⊎◌, inl, inr, ℕ, ◌+◌, ◌-◌, ◌^◌, ◌<◌, ◌≤◌, List, [], ◌∷◌, refl, sym, ◌∙◌, ap, subst, arith, Result, Ok, Err}
+use Rattle.std.proofs.Common.{◌≡◌, ◌⊎◌, inl, inr, ℕ, ◌+◌, ◌-◌, ◌^◌, ◌<◌, ◌≤◌, Bool, true, false, All, List, [], ◌∷◌, refl, sym, ◌∙◌, ap, subst, arith, Result, Ok, Err}
 use Rattle.std.specs.Prelude.{◌≢◌, Option, Some, None, Contains}
+use Rattle.std.proofs.lemmas.List.Elements.{All-contains}
 use Rattle.vol_block.specs.declared.format.Format.TheVariants as formats
 use Rattle.outside.specs.Fault.{Rose, Takes}
 use Rattle.outside.specs.History.{Image, block_at}
@@ -10,6 +11,7 @@ use Rattle.outside.specs.declared.answer.Answer.TheVariants.{Volume, Btr, NoSpac
 use Rattle.outside.specs.declared.refusal.VolumeRefusal.{VolumeRefusal}
 use Rattle.outside.specs.declared.refusal.VolumeRefusal.TheVariants.{NotVolume, Unclean, Unsupported, Short, JournalPending, Damaged, HasAttributes, PendingLinks, NameTaken, NameTooLong, HashCrowd}
 use Rattle.reiser_super.specs.Rules.{IsCleanSuper, superblock_refusal}
+use Rattle.reiser_bitmap.specs.Bits.{has}
 use Rattle.reiser_super.proofs.Clean.{none_from_clean}
 use Rattle.volume_app.specs.declared.ending.Ending.{Ending}
 use Rattle.volume_app.specs.declared.ending.Ending.TheVariants.{Done, Usage, Failed, OutputFault}
@@ -39,13 +41,20 @@ no_transaction pending (NameTaken dir object) none is = is
 no_transaction pending (NameTooLong dir object length) none is = is
 no_transaction pending (HashCrowd dir object hash) none is = is
 
+has_none : (used : List Bool) (blocks : List ℕ) (b : ℕ) → All (λ c. has used c ≡ true) blocks → Contains blocks b → has used b ≡ false → ⊥
+has_none used blocks b all there free =
+    let both : true ≡ false = sym (All-contains (λ c. has used c ≡ true) blocks b all there) ∙ free in
+    let never : Unit {0} ≡ ⊥ = cc in
+    subst (λ (T : Type 0). T) never tt
+
 -- an accepted volume is not refused
 pub not_refused : (disk : Image) (refusal : VolumeRefusal) → IsAccepted disk → IsRefusal disk refusal → ⊥
-not_refused disk refusal clean (inl is) =
-    let none = none_from_clean _ _ clean.superblock in
+not_refused disk refusal accepted (inl is) =
+    let none = none_from_clean _ _ accepted.clean.superblock in
     let both : None ≡ Some refusal = sym none ∙ is in
     cc
-not_refused disk refusal clean (inr is) = no_transaction _ refusal clean.journal is.1
+not_refused disk refusal accepted (inr (inl is)) = no_transaction _ refusal accepted.clean.journal is.1
+not_refused disk refusal accepted (inr (inr is)) = has_none _ _ is.1.0 accepted.system is.1.2 is.1.3
 
 not_risen : (before now : ℕ) → now ≡ before → before < 2 ^ 64 - 1 → Rose before now → ⊥
 not_risen before now same low rose = omega (arith, same, low, rose)

@@ -1,5 +1,5 @@
 -- What `inspect` finds of a disk, and what it prints.
-use Rattle.std.specs.Prelude.{◌≡◌, ◌≢◌, ◌⊎◌, ℕ, ◌+◌, ◌<◌, List, [], ◌∷◌, ◌++◌, length, codes, decimal, nat_le, nat_eq, if◌then◌else◌, Contains, Option, Some, None}
+use Rattle.std.specs.Prelude.{◌≡◌, ◌≢◌, ◌⊎◌, ℕ, ◌+◌, ◌<◌, ◌≤◌, Bool, true, All, List, [], ◌∷◌, ◌++◌, length, codes, decimal, nat_le, nat_eq, if◌then◌else◌, Contains, Option, Some, None}
 use Rattle.std.specs.List.{before_first}
 use Rattle.uuid.specs.Text.{hyphenated_text, lower}
 use Rattle.vol_block.specs.declared.format.Format.{Format}
@@ -16,6 +16,11 @@ use Rattle.reiser_super.specs.Superblock.{super_of}
 use Rattle.reiser_super.specs.Rules.{IsCleanSuper, superblock_refusal}
 use Rattle.reiser_super.specs.Journal.{IsClean, pending_transactions}
 use Rattle.reiser_super.specs.State.{IsPendingIn}
+use Rattle.reiser_bitmap.specs.Bits.{has, used_blocks}
+use Rattle.reiser_bitmap.specs.Layout.{bitmap_of}
+use Rattle.reiser_bitmap.specs.System.{system_blocks, NamesFreeBlock}
+use Rattle.reiser_bitmap.specs.Units.{free_units}
+use Rattle.volume_app.specs.declared.inspect.Inspected.{Inspected}
 use Rattle.sink_text.specs.Escape.{escaped}
 use Rattle.volume_app.specs.Texts.{text_of_lines}
 
@@ -27,23 +32,41 @@ format_in disk = if nat_le (length disk) 16 then formats.Neither else format (bl
 abbrev pub super_in : Image → Super
 super_in disk = super_of (block_at disk 16)
 
--- a superblock and a journal in order
-abbrev pub IsAccepted : Image → Type 0
-IsAccepted disk = IsClean disk
+-- the bits of the bitmap, by the superblock
+abbrev pub bits_by : Super → Image → List Bool
+bits_by s disk = bitmap_of s.blocks disk
+
+-- the volume's own blocks are marked as used
+abbrev pub HasSystemBlocks : Super → Image → Type 0
+HasSystemBlocks s disk = All (λ b. has (bits_by s disk) b ≡ true) (system_blocks (length (bits_by s disk)) s.journal_first s.journal_size)
+
+-- a superblock, a journal and a bitmap in order
+pub record IsAccepted (disk : Image) : Type 0 where
+  pub clean : IsClean disk
+  pub system : HasSystemBlocks (super_in disk) disk
+
+-- what `inspect` prints, by the superblock
+abbrev pub inspected_by : Super → Image → Inspected
+inspected_by s disk = record { superblock = s; used = length (used_blocks (bits_by s disk)); units = length (free_units (bits_by s disk)) }
+
+abbrev pub inspected : Image → Inspected
+inspected disk = inspected_by (super_in disk) disk
 
 -- the refusal is that of one of these transactions
 abbrev pub IsPendingRefusal : List ℕ → VolumeRefusal → Type 0
 IsPendingRefusal pending refusal = IsPendingIn pending (answers.Refused refusal)
 
--- the refusal is one of those of the first group of rules that is broken: the superblock's, or the journal's
+-- the refusal is one of those of the first group of rules that is broken: the superblock's, the journal's, or the bitmap's
 abbrev pub IsRefusal : Image → VolumeRefusal → Type 0
 IsRefusal disk refusal =
     (superblock_refusal (block_at disk 16) (length disk) ≡ Some refusal)
     ⊎ (IsCleanSuper (block_at disk 16) (length disk) × IsPendingRefusal (pending_transactions (super_in disk) disk) refusal)
+    ⊎ (IsClean disk × NamesFreeBlock (bits_by (super_in disk) disk) (super_in disk).journal_first (super_in disk).journal_size refusal)
 
--- the journal lies in the volume
-abbrev pub IsInside : Super → Type 0
-IsInside s = s.journal_first + s.journal_size < s.blocks
+-- the volume has its first bitmap block, and the journal lies in it
+pub record IsInside (s : Super) : Type 0 where
+  pub low : 18 ≤ s.blocks
+  pub journal : s.journal_first + s.journal_size < s.blocks
 
 -- the fields of the superblock of a volume of this format
 pub record IsSuperOf (disk : Image) (s : Super) : Type 0 where
@@ -63,6 +86,19 @@ SuperRefuses disk ImageMissing = ⊥
 SuperRefuses disk (ImageMoved block) = ⊥
 SuperRefuses disk (ImageDamaged refusal) = ⊥
 SuperRefuses disk (ReservedUsed block) = ⊥
+
+-- how a volume is refused by its bitmap
+abbrev pub BitmapRefuses : Super → Image → Answer → Type 0
+BitmapRefuses s disk (Volume refusal) = NamesFreeBlock (bits_by s disk) s.journal_first s.journal_size refusal
+BitmapRefuses s disk WrongFormat = ⊥
+BitmapRefuses s disk Fault = Unit {0}
+BitmapRefuses s disk Memory = Unit {0}
+BitmapRefuses s disk (Btr refusal) = ⊥
+BitmapRefuses s disk (NoSpace needed free run_needed longest_run) = ⊥
+BitmapRefuses s disk ImageMissing = ⊥
+BitmapRefuses s disk (ImageMoved block) = ⊥
+BitmapRefuses s disk (ImageDamaged refusal) = ⊥
+BitmapRefuses s disk (ReservedUsed block) = ⊥
 
 -- an answer that no device and no memory has to do with
 abbrev pub IsNoFault : Answer → Type 0
@@ -92,8 +128,9 @@ abbrev pub label_text : List ℕ → List ℕ
 label_text [] = codes "-"
 label_text (c ∷ cs) = escaped (c ∷ cs)
 
-abbrev pub super_lines : Super → List (List ℕ × List (List ℕ))
-super_lines s =
+abbrev pub inspect_lines : Inspected → List (List ℕ × List (List ℕ))
+inspect_lines i =
+    let s = i.superblock in
     (codes "format", codes "reiserfs" ∷ [])
     ∷ (codes "blocks", decimal s.blocks ∷ [])
     ∷ (codes "free", decimal s.free ∷ [])
@@ -102,7 +139,9 @@ super_lines s =
     ∷ (codes "journal", decimal s.journal_first ∷ decimal s.journal_size ∷ [])
     ∷ (codes "uuid", hyphenated_text lower s.uuid ∷ [])
     ∷ (codes "label", label_text (label_of s.label) ∷ [])
+    ∷ (codes "used", decimal i.used ∷ [])
+    ∷ (codes "units", decimal i.units ∷ [])
     ∷ []
 
 abbrev pub inspect_text : Image → List ℕ
-inspect_text disk = text_of_lines (super_lines (super_in disk))
+inspect_text disk = text_of_lines (inspect_lines (inspected disk))

@@ -2,44 +2,57 @@ ghost use Rattle.std.specs.Prelude.{◌≡◌, ◌<◌, ◌≤◌, length, None,
 ghost use Rattle.outside.specs.Fault.{HasCause, HasCauseOf, Takes};
 ghost use Rattle.outside.specs.History.{Image, block_at, reads};
 ghost use Rattle.vol_block.specs.declared.format.Format.TheVariants as formats;
-ghost use Rattle.volume_app.specs.Inspect.{format_in, super_in, super_lines, label_of, label_text, IsAccepted, IsInside, IsSuperOf, SuperRefuses, IsNoFault, of_volume};
+ghost use Rattle.volume_app.specs.Inspect.{format_in, inspected, inspected_by, inspect_lines, label_of, label_text, IsAccepted, IsInside, IsSuperOf, SuperRefuses, HasSystemBlocks, BitmapRefuses, IsNoFault, of_volume};
 ghost use Rattle.sink_text.specs.Text.{piece_text};
 ghost use Rattle.volume_app.specs.Texts.{text_of_lines};
 ghost use Rattle.volume_app.specs.Outcome.{InspectRefuses};
 
 use outside::{Access, Answer, BlockSource, Disk, Fault, Sink, VolAnswer, VolumeRefusal};
+use reiser_bitmap::Bitmap;
 use reiser_super::{Super, journal_state};
 use sink_text::Piece::{Decimal, Escaped, Hyphenated, Plain};
 use sink_text::{Piece, write_pieces};
+use std::alloc::Global;
 use vol_block::{Block, Format, format_of};
 
 /// The block of the superblock, of both formats.
 const SUPERBLOCK: u64 = 16;
 
+/// What `inspect` prints of a volume.
+#[derive(Clone, Copy, Debug)]
+pub struct Inspected {
+    /// The fields of the superblock.
+    pub superblock: Super,
+    /// The number of blocks that the bitmap marks as used.
+    pub used: u64,
+    /// The number of free units of 256 blocks.
+    pub units: u64,
+}
+
 /// Opens the disk for reading, and checks the volume.
-pub fn inspect<D: Disk>(path: &str, disk: &mut D) -> Result<Super, Answer>
+pub fn inspect<D: Disk>(alloc: Global, path: &str, disk: &mut D) -> Result<Inspected, Answer>
     requires closed { D.opened disk.old ≡ None }
     requires wanted { D.wants path.now Access.Read }
     ensures unchanged { IsTrue D.tells → D.history disk.new ≡ D.history disk.old }
     ensures cause { HasCauseOf Answer.Fault (D.faults disk.old) (D.faults disk.new) result }
     ensures reiser { IsTrue D.tells → IfOk result (λ s. format_in (reads (D.history disk.old)) ≡ formats.Reiser) }
     ensures accepted { IsTrue D.tells → IfOk result (λ s. IsAccepted (reads (D.history disk.old))) }
-    ensures fields { IsTrue D.tells → IfOk result (λ s. s ≡ super_in (reads (D.history disk.old))) }
+    ensures found { IsTrue D.tells → IfOk result (λ i. i ≡ inspected (reads (D.history disk.old))) }
     ensures refused { IsTrue D.tells → IfErr result (InspectRefuses (reads (D.history disk.old))) }
 {
     match disk.open(path, Access::Read) {
-        Ok(()) => check_volume(disk),
+        Ok(()) => check_volume(alloc, disk),
         Err(Fault) => Err(Answer::Fault),
     }
 }
 
 /// Checks the volume.
-fn check_volume<S: BlockSource>(source: &mut S) -> Result<Super, Answer>
+fn check_volume<S: BlockSource>(alloc: Global, source: &mut S) -> Result<Inspected, Answer>
     ensures kept { S.kept source.old source.new }
     ensures cause { HasCauseOf Answer.Fault (S.faults source.old) (S.faults source.new) result }
     ensures reiser { IsTrue S.tells → IfOk result (λ s. format_in (S.blocks source.old) ≡ formats.Reiser) }
     ensures accepted { IsTrue S.tells → IfOk result (λ s. IsAccepted (S.blocks source.old)) }
-    ensures fields { IsTrue S.tells → IfOk result (λ s. s ≡ super_in (S.blocks source.old)) }
+    ensures found { IsTrue S.tells → IfOk result (λ i. i ≡ inspected (S.blocks source.old)) }
     ensures refused { IsTrue S.tells → IfErr result (InspectRefuses (S.blocks source.old)) }
 {
     let volume = match read_super(source) {
@@ -47,8 +60,36 @@ fn check_volume<S: BlockSource>(source: &mut S) -> Result<Super, Answer>
         Err(answer) => return Err(answer),
     };
     match journal_state(source, &volume) {
-        Ok(()) => Ok(volume),
+        Ok(()) => check_bitmap(alloc, source, volume),
         Err(answer) => Err(of_volume(answer)),
+    }
+}
+
+/// Loads the bitmap and checks that it marks the volume's own blocks.
+fn check_bitmap<S: BlockSource>(
+    alloc: Global,
+    source: &mut S,
+    superblock: Super,
+) -> Result<Inspected, Answer>
+    requires inside { IsInside superblock }
+    requires device { superblock.blocks ≤ S.size source.old }
+    ensures kept { S.kept source.old source.new }
+    ensures cause { HasCauseOf Answer.Fault (S.faults source.old) (S.faults source.new) result }
+    ensures used { IsTrue S.tells → (image : Image) → S.blocks source.old ≡ image → IfOk result (λ i. HasSystemBlocks superblock image) }
+    ensures found { IsTrue S.tells → (image : Image) → S.blocks source.old ≡ image → IfOk result (λ i. i ≡ inspected_by superblock image) }
+    ensures refused { IsTrue S.tells → (image : Image) → S.blocks source.old ≡ image → IfErr result (BitmapRefuses superblock image) }
+{
+    let map = match Bitmap::load(alloc, source, superblock.blocks) {
+        Ok(map) => map,
+        Err(answer) => return Err(of_volume(answer)),
+    };
+    match map.system_used(superblock.journal_first, superblock.journal_size) {
+        Ok(()) => Ok(Inspected {
+            superblock,
+            used: map.used(),
+            units: map.free_units(),
+        }),
+        Err(refusal) => Err(Answer::Volume(refusal)),
     }
 }
 
@@ -101,11 +142,12 @@ fn read_fields(block: &Block, device: u64) -> Result<Super, Answer>
     }
 }
 
-/// Prints what the superblock says.
-pub fn print_super<O: Sink>(volume: &Super, out: &mut O) -> Result<(), Fault>
-    ensures taken { IsTrue O.tells → Takes (O.taken out.old) (text_of_lines (super_lines volume.now)) result (O.taken out.new) }
+/// Prints what was found.
+pub fn print_inspected<O: Sink>(found: &Inspected, out: &mut O) -> Result<(), Fault>
+    ensures taken { IsTrue O.tells → Takes (O.taken out.old) (text_of_lines (inspect_lines found.now)) result (O.taken out.new) }
     ensures cause { HasCause (O.faults out.old) (O.faults out.new) result }
 {
+    let volume = &found.superblock;
     let pieces = [
         Plain(b"format reiserfs\nblocks "),
         Decimal(volume.blocks),
@@ -123,6 +165,10 @@ pub fn print_super<O: Sink>(volume: &Super, out: &mut O) -> Result<(), Fault>
         Hyphenated(volume.uuid),
         Plain(b"\nlabel "),
         label_piece(label_of(&volume.label)),
+        Plain(b"\nused "),
+        Decimal(found.used),
+        Plain(b"\nunits "),
+        Decimal(found.units),
         Plain(b"\n"),
     ];
     write_pieces(&pieces, out)

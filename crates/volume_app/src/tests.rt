@@ -100,7 +100,7 @@ fn help_and_version_open_nothing(rt: HostRuntime) -> Result<(), Fail> {
 }
 
 const SAMPLE: &str =
-    "format reiserfs\nblocks 2048\nfree 1996\nroot 51\nheight 2\njournal 18 32\nuuid 00000000-0000-0000-0000-000000000000\nlabel -\n";
+    "format reiserfs\nblocks 2048\nfree 1996\nroot 51\nheight 2\njournal 18 32\nuuid 00000000-0000-0000-0000-000000000000\nlabel -\nused 52\nunits 7\n";
 
 #[test]
 fn inspect_prints_the_superblock(rt: HostRuntime) -> Result<(), Fail> {
@@ -111,10 +111,13 @@ fn inspect_prints_the_superblock(rt: HostRuntime) -> Result<(), Fail> {
 #[test]
 fn a_label_is_escaped_and_cut(rt: HostRuntime) -> Result<(), Fail> {
     for (label, line) in [
-        (b"my disk\0\0x".as_slice(), "label my\\x20disk\n"),
+        (
+            b"my disk\0\0x".as_slice(),
+            "label my\\x20disk\nused 52\nunits 7\n",
+        ),
         (
             b"\x7f\\\xff~!456789abcde".as_slice(),
-            "label \\x7f\\x5c\\xff~!456789abcde\n",
+            "label \\x7f\\x5c\\xff~!456789abcde\nused 52\nunits 7\n",
         ),
     ] {
         let mut disk = changed(rt.alloc(), 16, 100, label)?;
@@ -207,13 +210,28 @@ fn a_journal_without_a_whole_newer_transaction_is_empty(rt: HostRuntime) -> Resu
 }
 
 #[test]
+fn the_bitmap_marks_the_volumes_own_blocks(rt: HostRuntime) -> Result<(), Fail> {
+    for (at, bits, line) in [
+        (2, 0xfe, "refused 6 damaged 16 2\n"),
+        (2, 0xfd, "refused 6 damaged 17 2\n"),
+        (2, 0xfb, "refused 6 damaged 18 2\n"),
+        // The header of the journal is block 50.
+        (6, 0x0b, "refused 6 damaged 50 2\n"),
+    ] {
+        let mut disk = changed(rt.alloc(), 17, at, &[bits])?;
+        refused(&rt, &mut disk, line)?;
+    }
+    Ok(())
+}
+
+#[test]
 fn failed_calls_end_the_run(rt: HostRuntime) -> Result<(), Fail> {
     for call in 0..4 {
         let mut disk = sample(rt.alloc(), 2048)?;
         disk.fail_call(call)?;
         ends(&rt, &["inspect", "x"], &mut disk, 3, "", "device fault\n")?;
     }
-    for call in 0..17 {
+    for call in 0..21 {
         let mut disk = sample(rt.alloc(), 2048)?;
         let ended = run_on(rt.alloc(), &["inspect", "x"], &mut disk, Some(call))?;
         assert_eq!(rt; ended.status, 5);

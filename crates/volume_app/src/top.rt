@@ -6,7 +6,7 @@ ghost use Rattle.volume_app.specs.Outcome.{text_of, Prints, Reports, IsDone, End
 
 use crate::Ending;
 use crate::command::{Command, read_words};
-use crate::inspect::{inspect, print_super};
+use crate::inspect::{inspect, print_inspected};
 use crate::texts::{HELP, VERSION};
 use outside::{Answer, Disk, Fault, Sink};
 use std::alloc::Global;
@@ -49,13 +49,13 @@ pub fn run<D: Disk, O: Sink, E: Sink>(
         → D.faults disk.new ≡ D.faults disk.old → D.faults disk.old < 2 ^ 64 - 1
         → O.faults out.new ≡ O.faults out.old → O.faults out.old < 2 ^ 64 - 1 → (result ≡ 0) ⊎ (result ≡ 4) }
 {
-    let ending = perform(words, disk, out);
+    let ending = perform(alloc, words, disk, out);
     let _ = ending.write_line(err);
     ending.status()
 }
 
 /// Does what the words ask for.
-fn perform<D: Disk, O: Sink>(words: &[String], disk: &mut D, out: &mut O) -> Ending
+fn perform<D: Disk, O: Sink>(alloc: Global, words: &[String], disk: &mut D, out: &mut O) -> Ending
     requires closed { D.opened disk.old ≡ None }
     requires wanted { IfSome (option_and_then opens (command (map string_bytes words.now))) (λ o. D.wants o.0 o.1) }
     ensures usage { (result ≡ Ending.Usage) ↔ (command (map string_bytes words.now) ≡ None) }
@@ -68,8 +68,8 @@ fn perform<D: Disk, O: Sink>(words: &[String], disk: &mut D, out: &mut O) -> End
 {
     match read_words(words) {
         None => Ending::Usage,
-        Some(Command::Inspect(path)) => match inspect(path, disk) {
-            Ok(volume) => printed(print_super(&volume, out)),
+        Some(Command::Inspect(path)) => match inspect(alloc, path, disk) {
+            Ok(found) => printed(print_inspected(&found, out)),
             Err(answer) => Ending::Failed(answer),
         },
         Some(Command::Help) => printed(out.write(HELP)),

@@ -1,7 +1,7 @@
 use Rattle.std.proofs.Common.{◌≡◌, ◌∙◌, ap, subst, IfOk, IfErr, IsTrue}
 use Rattle.vol_block.specs.declared.format.Format.TheVariants as formats
 use Rattle.outside.specs.History.{Image, History, reads}
-use Rattle.volume_app.specs.Inspect.{format_in, super_in, IsAccepted}
+use Rattle.volume_app.specs.Inspect.{format_in, inspected, IsAccepted}
 use Rattle.volume_app.specs.Outcome.{InspectRefuses}
 use Rattle.volume_app.proofs.inspect.inspect.Goals as goal
 
@@ -17,11 +17,11 @@ returns-in-Ok-clause-accepted g c = λ tells.
     g.met.D.Disk.open_blocks c.open.new.self _ tells c.in-Ok.ensures.opened ∙ ap (λ (h : History). reads h) (c.open.ensures.unchanged tells) in
     subst (λ (image : Image). IfOk c.check_volume.result (λ s. IsAccepted image)) same (c.check_volume.ensures.accepted tells)
 
-pub returns-in-Ok-clause-fields : goal.returns-in-Ok-clause-fields
-returns-in-Ok-clause-fields g c = λ tells.
+pub returns-in-Ok-clause-found : goal.returns-in-Ok-clause-found
+returns-in-Ok-clause-found g c = λ tells.
     let same : g.D.BlockSource.blocks c.open.new.self ≡ reads (g.D.Disk.history c.args.disk.now) =
     g.met.D.Disk.open_blocks c.open.new.self _ tells c.in-Ok.ensures.opened ∙ ap (λ (h : History). reads h) (c.open.ensures.unchanged tells) in
-    subst (λ (image : Image). IfOk c.check_volume.result (λ s. s ≡ super_in image)) same (c.check_volume.ensures.fields tells)
+    subst (λ (image : Image). IfOk c.check_volume.result (λ i. i ≡ inspected image)) same (c.check_volume.ensures.found tells)
 
 pub returns-in-Ok-clause-refused : goal.returns-in-Ok-clause-refused
 returns-in-Ok-clause-refused g c = λ tells.

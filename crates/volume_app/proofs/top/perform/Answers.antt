@@ -1,11 +1,11 @@
 use Rattle.std.proofs.Common.{◌≡◌, ◌∙◌, List, ℕ, sym, ap, subst, map, string_bytes, Some}
 use Rattle.std.specs.Prelude.{Option}
 use Rattle.outside.specs.History.{Image, reads}
-use Rattle.reiser_super.specs.declared.superblock.Super.{Super}
+use Rattle.volume_app.specs.declared.inspect.Inspected.{Inspected}
 use Rattle.volume_app.specs.declared.command.Command.{Command}
 use Rattle.volume_app.specs.declared.ending.Ending.{Ending}
 use Rattle.volume_app.specs.Command.{Asked, command, inspect, version, seen}
-use Rattle.volume_app.specs.Inspect.{super_lines}
+use Rattle.volume_app.specs.Inspect.{inspect_lines}
 use Rattle.volume_app.specs.Texts.{text_of_lines, version_text}
 use Rattle.volume_app.specs.Outcome.{Prints, text_of}
 use Rattle.volume_app.proofs.Outcomes.{prints_text}
@@ -16,11 +16,11 @@ returns-in-Ok-clause-printed g c = λ tells out_tells.
     let disk : Image = reads (g.D.Disk.history c.args.disk.now) in
     let asked : command (map string_bytes c.args.words.now) ≡ Some (inspect c.in-Some-Inspect.path.now) =
     sym c.in-Some-Inspect.ensures ∙ ap (λ (k : Command). Some (seen k)) c.in-Some-Inspect.field-0-is in
-    let text : text_of_lines (super_lines c.in-Ok.volume) ≡ text_of (command (map string_bytes c.args.words.now)) disk =
-    ap (λ (s : Super). text_of_lines (super_lines s)) (c.in-Ok.ensures.fields tells) ∙ ap (λ (a : Option Asked). text_of a disk) (sym asked) in
-    subst (λ (t : List ℕ). Prints t c.printed.result (g.O.Sink.taken c.args.out.now) (g.O.Sink.taken c.print_super.new.out)) text
-    (subst (λ (e : Ending). Prints (text_of_lines (super_lines c.in-Ok.volume)) e (g.O.Sink.taken c.args.out.now) (g.O.Sink.taken c.print_super.new.out)) (sym c.printed.ensures)
-    (prints_text _ _ _ c.print_super.result (c.print_super.ensures.taken out_tells)))
+    let text : text_of_lines (inspect_lines c.in-Ok.found) ≡ text_of (command (map string_bytes c.args.words.now)) disk =
+    ap (λ (i : Inspected). text_of_lines (inspect_lines i)) (c.in-Ok.ensures.found tells) ∙ ap (λ (a : Option Asked). text_of a disk) (sym asked) in
+    subst (λ (t : List ℕ). Prints t c.printed.result (g.O.Sink.taken c.args.out.now) (g.O.Sink.taken c.print_inspected.new.out)) text
+    (subst (λ (e : Ending). Prints (text_of_lines (inspect_lines c.in-Ok.found)) e (g.O.Sink.taken c.args.out.now) (g.O.Sink.taken c.print_inspected.new.out)) (sym c.printed.ensures)
+    (prints_text _ _ _ c.print_inspected.result (c.print_inspected.ensures.taken out_tells)))
 
 pub returns-in-Some-Version-clause-printed : goal.returns-in-Some-Version-clause-printed
 returns-in-Some-Version-clause-printed g c = λ tells out_tells.
