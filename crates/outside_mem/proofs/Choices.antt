@@ -86,8 +86,8 @@ module _ (h : History) where
     number_in b = ⊎_elim
         (λ same. (0, omega arith, sym same))
         (λ waits_on.
-          let place = place_of h.calls b (block_at image b) waits_on in
-          (suc place.0, omega (arith, place.1), place.2))
+        let place = place_of h.calls b (block_at image b) waits_on in
+        (suc place.0, omega (arith, place.1), place.2))
         (may.each b)
 
     abbrev numbers : ℕ → ℕ
@@ -126,6 +126,6 @@ module _ (h : History) where
             ∙ ⊎_elim
             (λ same. sym same)
             (λ waits_on.
-              let place = place_of h.calls b (block_at image b) waits_on in
-              absurd (omega (arith, place.1, ap (λ (ws : List (List ℕ)). length ws) (nothing_written h.calls b is))))
+            let place = place_of h.calls b (block_at image b) waits_on in
+            absurd (omega (arith, place.1, ap (λ (ws : List (List ℕ)). length ws) (nothing_written h.calls b is))))
             (may.each b)

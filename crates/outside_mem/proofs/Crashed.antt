@@ -45,5 +45,5 @@ module _ (n : ℕ) (present unsynced : BTreeMap ℕ Block) (started : ℕ → Li
       → ((q : ℕ) → f q ≡ chosen_or (bytes_at present q) (written calls q) (number_for (keys unsynced) choice q) (get nat_cmp unsynced q)) → image_of n f ≡ crash_image h choice
   crash_blocks choice ordered f is = sym (fill_by_all f (crash_image h choice) n [] (length-crash_image h choice ∙ length-image_of n started)
       (λ q below.
-        block_at-crash_image h choice q (omega (arith, below, length-image_of n started))
-        ∙ sym (is q ∙ value_is choice (keys_wait ordered) q below)))
+      block_at-crash_image h choice q (omega (arith, below, length-image_of n started))
+      ∙ sym (is q ∙ value_is choice (keys_wait ordered) q below)))

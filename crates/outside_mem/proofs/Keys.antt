@@ -116,18 +116,18 @@ module _ (w : ℕ → Bool) (n : ℕ) (fits : (q : ℕ) → w q ≡ true → q <
       ∙ ap (λ (t : Bool). cond t (a ∷ filter w (range_with_len (a + 1) m)) (filter w (range_with_len (a + 1) m))) (same a (omega arith))
   keys_from (suc m) a end (k ∷ ks) ordered from same = ⊎_elim
       (λ here.
-        let rest : ks ≡ filter w (range_with_len (a + 1) m) =
-        keys_from m (a + 1) (omega (arith, end)) ks (sorted_tail nat_cmp k ks ordered) (from_above (a + 1) k (omega (arith, here)) ks (head_below k ks ordered))
-        (λ q late. ap (λ (t : Bool). t || has q ks) (sym (apart_eq q k (λ at. omega (arith, here, late, at)))) ∙ same q (omega (arith, late))) in
-        let yes : true ≡ w a = sym (ap (λ (j : ℕ). has j (k ∷ ks)) (sym here) ∙ has_head k ks) ∙ same a (omega arith) in
-        ap (λ (j : ℕ). j ∷ ks) here
-        ∙ ap (λ (l : List ℕ). a ∷ l) rest
-        ∙ ap (λ (t : Bool). cond t (a ∷ filter w (range_with_len (a + 1) m)) (filter w (range_with_len (a + 1) m))) yes)
+      let rest : ks ≡ filter w (range_with_len (a + 1) m) =
+      keys_from m (a + 1) (omega (arith, end)) ks (sorted_tail nat_cmp k ks ordered) (from_above (a + 1) k (omega (arith, here)) ks (head_below k ks ordered))
+      (λ q late. ap (λ (t : Bool). t || has q ks) (sym (apart_eq q k (λ at. omega (arith, here, late, at)))) ∙ same q (omega (arith, late))) in
+      let yes : true ≡ w a = sym (ap (λ (j : ℕ). has j (k ∷ ks)) (sym here) ∙ has_head k ks) ∙ same a (omega arith) in
+      ap (λ (j : ℕ). j ∷ ks) here
+      ∙ ap (λ (l : List ℕ). a ∷ l) rest
+      ∙ ap (λ (t : Bool). cond t (a ∷ filter w (range_with_len (a + 1) m)) (filter w (range_with_len (a + 1) m))) yes)
       (λ other.
-        let above : a < k = omega (arith, from.0, other) in
-        let no : false ≡ w a = sym (or_from (is_at (nat_cmp a) k) (has a ks) (apart_eq a k other) (has_none k a from.0 ks (head_below k ks ordered))) ∙ same a (omega arith) in
-        keys_from m (a + 1) (omega (arith, end)) (k ∷ ks) ordered (omega (arith, above), from_above (a + 1) k (omega (arith, above)) ks (head_below k ks ordered)) (λ q late. same q (omega (arith, late)))
-        ∙ ap (λ (t : Bool). cond t (a ∷ filter w (range_with_len (a + 1) m)) (filter w (range_with_len (a + 1) m))) no)
+      let above : a < k = omega (arith, from.0, other) in
+      let no : false ≡ w a = sym (or_from (is_at (nat_cmp a) k) (has a ks) (apart_eq a k other) (has_none k a from.0 ks (head_below k ks ordered))) ∙ same a (omega arith) in
+      keys_from m (a + 1) (omega (arith, end)) (k ∷ ks) ordered (omega (arith, above), from_above (a + 1) k (omega (arith, above)) ks (head_below k ks ordered)) (λ q late. same q (omega (arith, late)))
+      ∙ ap (λ (t : Bool). cond t (a ∷ filter w (range_with_len (a + 1) m)) (filter w (range_with_len (a + 1) m))) no)
       (cases_eq k a)
 
   -- the keys of entries in order, where a look-up finds exactly what passes the test
@@ -147,8 +147,8 @@ module _ (w : ℕ → Bool) (n : ℕ) where
   passing_ordered =
       IsStrictlySortedBy-filter nat_cmp w (range_with_len 0 n) (sorted_from_strictly_increasing (range_with_len 0 n)
       (λ k below.
-        let within : k + 1 < n = omega (arith, below, length-range_with_len 0 n) in
-        omega (arith, get_or-range_with_len 0 n k 0 (omega (arith, within)), get_or-range_with_len 0 n (k + 1) 0 within)))
+      let within : k + 1 < n = omega (arith, below, length-range_with_len 0 n) in
+      omega (arith, get_or-range_with_len 0 n k 0 (omega (arith, within)), get_or-range_with_len 0 n (k + 1) 0 within)))
 
   pub passing_below : All (λ q. q < n) passing
   passing_below = All-filter w (λ q. q < n) (range_with_len 0 n) (λ k d below.
@@ -163,9 +163,9 @@ pub passing_place : (w : ℕ → Bool) (m a q : ℕ) → a ≤ q → q < a + m �
 passing_place w zero a q from below is = absurd (omega (arith, from, below))
 passing_place w (suc m) a q from below is = ⊎_elim
     (λ here.
-      let F = filter w (range_with_len (a + 1) m) in
-      let whole : cond (w a) (a ∷ F) F ≡ a ∷ F = ap (λ (t : Bool). cond t (a ∷ F) F) (ap w (sym here) ∙ is) in
-      (0, subst (λ (l : List ℕ). 0 < length l) (sym whole) (omega arith), ap (λ (l : List ℕ). get_or l 0 0) whole ∙ sym here))
+    let F = filter w (range_with_len (a + 1) m) in
+    let whole : cond (w a) (a ∷ F) F ≡ a ∷ F = ap (λ (t : Bool). cond t (a ∷ F) F) (ap w (sym here) ∙ is) in
+    (0, subst (λ (l : List ℕ). 0 < length l) (sym whole) (omega arith), ap (λ (l : List ℕ). get_or l 0 0) whole ∙ sym here))
     (λ other. at (passing_place w m (a + 1) q (omega (arith, from, other)) (omega (arith, below)) is) (w a))
     (cases_eq q a)
   where

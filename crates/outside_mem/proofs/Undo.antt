@@ -67,7 +67,8 @@ module _ (n : ℕ) (synced : Block) (rest es : List (ℕ × Block)) (is : es ≡
 -- the next number of a choice, or 0 where there is none
 pub next_number : {I : Type 0} (old new : I) (rest : I → List ℕ) (o : Option (Bor ℕ)) → MatchOption o ((length (rest old) ≡ 0) × (new ≡ old)) (λ x. rest old ≡ x.now ∷ rest new)
     → (unwrap_or (option_copied o) 0 ≡ get_or (rest old) 0 0) × (rest new ≡ drop 1 (rest old))
-next_number old new rest None steps =
-    (sym (get_or_past (rest old) 0 0 (omega (arith, steps.0))),
-    ap rest steps.1 ∙ nil_from_length (rest old) steps.0 ∙ sym (drop_all 1 (rest old) (omega (arith, steps.0))))
+next_number old new rest None steps = (
+  sym (get_or_past (rest old) 0 0 (omega (arith, steps.0))),
+  ap rest steps.1 ∙ nil_from_length (rest old) steps.0 ∙ sym (drop_all 1 (rest old) (omega (arith, steps.0))),
+)
 next_number old new rest (Some x) steps = (ap (λ (l : List ℕ). get_or l 0 0) (sym steps), ap (λ (l : List ℕ). drop 1 l) (sym steps))

@@ -93,8 +93,8 @@ waits_from_place (wrote c bytes landed ∷ calls) b j below = at (λ early. wait
         (⊎_elim
         (λ last. inl (sym (eqb-true c b is), get_or_push (written calls b) bytes [] j (sym last)))
         (λ other.
-          let early : j < length (written calls b) = omega (arith, other, below, ap (λ (ws : List (List ℕ)). length ws) more, length-append (written calls b) (bytes ∷ [])) in
-          inr (subst (λ (x : List ℕ). Waits calls b x) (sym (get_or_append_left (written calls b) (bytes ∷ []) [] j early)) (older early)))
+        let early : j < length (written calls b) = omega (arith, other, below, ap (λ (ws : List (List ℕ)). length ws) more, length-append (written calls b) (bytes ∷ [])) in
+        inr (subst (λ (x : List ℕ). Waits calls b x) (sym (get_or_append_left (written calls b) (bytes ∷ []) [] j early)) (older early)))
         (cases_eq j (length (written calls b))))
     at older false is =
         let same : written (wrote c bytes landed ∷ calls) b ≡ written calls b = written_elsewhere calls c bytes landed b is in
@@ -105,19 +105,21 @@ waits_from_place (synced ∷ calls) b j below = absurd (omega (arith, below))
 pub place_of : (calls : List Call) (b : ℕ) (bytes : List ℕ) → Waits calls b bytes → (j : ℕ) × (j < length (written calls b)) × (get_or (written calls b) j [] ≡ bytes)
 place_of [] b bytes waits = absurd waits
 place_of (wrote c other landed ∷ calls) b bytes (inl both) =
-    let more : written (wrote c other landed ∷ calls) b ≡ written calls b ++ other ∷ [] = written_here calls c other landed b (eq-eqb c b (sym both.0)) in
-    (length (written calls b),
-    omega (arith, ap (λ (ws : List (List ℕ)). length ws) more, length-append (written calls b) (other ∷ [])),
-    ap (λ (ws : List (List ℕ)). get_or ws (length (written calls b)) []) more ∙ get_or_push (written calls b) other [] (length (written calls b)) refl ∙ sym both.1)
+    let more : written (wrote c other landed ∷ calls) b ≡ written calls b ++ other ∷ [] = written_here calls c other landed b (eq-eqb c b (sym both.0)) in (
+      length (written calls b),
+      omega (arith, ap (λ (ws : List (List ℕ)). length ws) more, length-append (written calls b) (other ∷ [])),
+      ap (λ (ws : List (List ℕ)). get_or ws (length (written calls b)) []) more ∙ get_or_push (written calls b) other [] (length (written calls b)) refl ∙ sym both.1,
+    )
 place_of (wrote c other landed ∷ calls) b bytes (inr waits) = at (place_of calls b bytes waits) (nat_eq c b) refl
   where
     at : (j : ℕ) × (j < length (written calls b)) × (get_or (written calls b) j [] ≡ bytes) → (t : Bool) → nat_eq c b ≡ t
         → (j : ℕ) × (j < length (written (wrote c other landed ∷ calls) b)) × (get_or (written (wrote c other landed ∷ calls) b) j [] ≡ bytes)
     at early true is =
-        let more : written (wrote c other landed ∷ calls) b ≡ written calls b ++ other ∷ [] = written_here calls c other landed b is in
-        (early.0,
-        omega (arith, early.1, ap (λ (ws : List (List ℕ)). length ws) more, length-append (written calls b) (other ∷ [])),
-        ap (λ (ws : List (List ℕ)). get_or ws early.0 []) more ∙ get_or_append_left (written calls b) (other ∷ []) [] early.0 early.1 ∙ early.2)
+        let more : written (wrote c other landed ∷ calls) b ≡ written calls b ++ other ∷ [] = written_here calls c other landed b is in (
+          early.0,
+          omega (arith, early.1, ap (λ (ws : List (List ℕ)). length ws) more, length-append (written calls b) (other ∷ [])),
+          ap (λ (ws : List (List ℕ)). get_or ws early.0 []) more ∙ get_or_append_left (written calls b) (other ∷ []) [] early.0 early.1 ∙ early.2,
+        )
     at early false is =
         let same : written (wrote c other landed ∷ calls) b ≡ written calls b = written_elsewhere calls c other landed b is in
         (early.0, subst (λ (ws : List (List ℕ)). early.0 < length ws) (sym same) early.1, ap (λ (ws : List (List ℕ)). get_or ws early.0 []) same ∙ early.2)

@@ -210,6 +210,7 @@ impl BlockSource for MemDisk {
         ensures kept { Kept self.old self.new }
         ensures block { IsTrue true → OnOk result (into.new.bytes ≡ block_at (readable self.old) n) }
         ensures cause { HasCause self.old.faults self.new.faults result }
+        ensures start { length self.new.history.start ≡ length self.old.history.start }
         ensures fails { is_err result ≡ fails_next self.old.failures }
         ensures ok { OnOk result (self.new ≡ after_call self.old) }
         ensures err { OnErr result (self.new ≡ after_failure self.old) }
@@ -247,6 +248,7 @@ impl Disk for MemDisk {
         ensures failed { OnErr result (self.new.opened ≡ None) }
         ensures unchanged { IsTrue true → self.new.history ≡ self.old.history }
         ensures cause { HasCause self.old.faults self.new.faults result }
+        ensures start { length self.new.history.start ≡ length self.old.history.start }
         ensures fails { is_err result ≡ fails_next self.old.failures }
         ensures ok { OnOk result (self.new ≡ record (after_call self.old) { opened = Some access }) }
         ensures err { OnErr result (self.new ≡ after_failure self.old) }
@@ -267,6 +269,7 @@ impl Disk for MemDisk {
         ensures size { readable_len self.new ≡ readable_len self.old }
         ensures effect { IsTrue true → WritesBlock self.old.history n from.now.bytes result self.new.history }
         ensures cause { HasCause self.old.faults self.new.faults result }
+        ensures start { length self.new.history.start ≡ length self.old.history.start }
         ensures passes { OnOk result (fails_next self.old.failures ≡ false) }
         ensures ok { OnOk result (self.new ≡ after_write self.old n from.now.bytes) }
         ensures fails { OnErr result (Fails self.old self.new) }
@@ -303,6 +306,7 @@ impl Disk for MemDisk {
         ensures size { readable_len self.new ≡ readable_len self.old }
         ensures effect { IsTrue true → Syncs self.old.history result self.new.history }
         ensures cause { HasCause self.old.faults self.new.faults result }
+        ensures start { length self.new.history.start ≡ length self.old.history.start }
         ensures passes { OnOk result (fails_next self.old.failures ≡ false) }
         ensures ok { OnOk result (self.new ≡ after_sync self.old) }
         ensures fails { OnErr result (Fails self.old self.new) }

@@ -4,7 +4,7 @@ use Rattle.std.proofs.lemmas.List.{length-set}
 use Rattle.outside.specs.History.{Image, History, block_at, reads, clock, IsSettled, IsBlock, LeftSince, WritesOnly}
 use Rattle.outside.proofs.Crash.{left_each, writes_length, writes_then, writes_weaker, reads_only}
 use Rattle.outside.proofs.Phases.{left_outside, left_then, only_not, reads_outside}
-use Rattle.phases_example.specs.declared.steps.Placed.{Placed}
+use Rattle.phases_example.specs.declared.pieces.Placed.{Placed}
 use Rattle.phases_example.specs.Pieces.{IsPlace, HasPieces}
 use Rattle.phases_example.specs.Switch.{IsPart, IsBefore, IsAfter}
 use Rattle.phases_example.proofs.PieceLemmas.{is_place}

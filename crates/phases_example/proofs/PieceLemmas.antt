@@ -4,7 +4,7 @@ use Rattle.std.specs.Prelude.{All}
 use Rattle.std.proofs.lemmas.List.{get_or-take, get_or_default, length-take}
 use Rattle.std.proofs.lemmas.List.Elements.{All-more}
 use Rattle.outside.specs.History.{Image, block_at}
-use Rattle.phases_example.specs.declared.steps.Placed.{Placed}
+use Rattle.phases_example.specs.declared.pieces.Placed.{Placed}
 use Rattle.phases_example.specs.Pieces.{IsPlace, AreApart, HasPieces}
 
 pub is_place : (pieces : List Placed) (i : ℕ) (d : Placed) → i < length pieces → IsPlace pieces (get_or pieces i d).at

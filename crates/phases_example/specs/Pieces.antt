@@ -1,7 +1,7 @@
 -- Blocks and their places.
 use Rattle.std.specs.Prelude.{◌≡◌, ◌≢◌, ℕ, List, All, Any, AllPairs}
 use Rattle.outside.specs.History.{Image, block_at}
-use Rattle.phases_example.specs.declared.steps.Placed.{Placed}
+use Rattle.phases_example.specs.declared.pieces.Placed.{Placed}
 
 -- a piece goes to block b
 abbrev pub IsPlace : List Placed → ℕ → Type 0

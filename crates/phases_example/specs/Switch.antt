@@ -1,7 +1,7 @@
 -- The states that a crash in the middle of a switch may leave.
 use Rattle.std.specs.Prelude.{◌≡◌, ◌≢◌, ◌⊎◌, ℕ, List, length}
 use Rattle.outside.specs.History.{Image, block_at, IsBlock}
-use Rattle.phases_example.specs.declared.steps.Placed.{Placed}
+use Rattle.phases_example.specs.declared.pieces.Placed.{Placed}
 use Rattle.phases_example.specs.Pieces.{IsPlace, HasPieces}
 
 -- what a switch writes: the pieces to their places, the superblock to block 16 and the mirror to block 16384

@@ -1,5 +1,5 @@
 -- Blocks of zeros.
-use Rattle.std.specs.Prelude.{ℕ, Bool, List, count_by}
+use Rattle.std.specs.Prelude.{ℕ, count_by}
 use Rattle.std.specs.Str.{bytes_eq}
 use Rattle.vol_block.specs.Volume.{zeros}
 use Rattle.outside.specs.History.{Image}

@@ -5,8 +5,8 @@ ghost use Rattle.outside.specs.History.{Image, block_at, reads, clock, IsSettled
 ghost use Rattle.phases_example.specs.Pieces.{IsPlace, AreApart};
 ghost use Rattle.phases_example.specs.Switch.{IsPart, IsBefore, IsAfter};
 
-use crate::Placed;
-use crate::steps::{write_pieces, write_through};
+use crate::pieces::{Placed, write_pieces};
+use crate::through::write_through;
 use outside::{Access, Disk, Fault};
 use vol_block::{Block, BlockNo};
 

@@ -1,5 +1,3 @@
-ghost use Rattle.std.specs.Prelude.{◌≡◌, ◌<◌, length, IfOk};
-
 use crate::{Placed, count_zeros, switch};
 use outside::{Access, BlockSource, Disk};
 use outside_mem::MemDisk;
@@ -13,21 +11,12 @@ fn filled(byte: u8) -> Block {
     }
 }
 
-fn block_of(disk: &MemDisk, n: BlockNo) -> Block
-    requires { n < length disk.now.history.start }
-{
-    let mut block = Block::zero();
-    disk.block(n, &mut block);
-    block
-}
-
-/// What a crash by this choice leaves of a switch whose disk stops after so many writes, and whether it ended well.
+/// What a crash by this choice leaves of a switch whose disk stops after so many writes, opened for reading; and
+/// whether the switch succeeded.
 ///
-/// The old volume has ones in block 16 and zeros elsewhere. The new one has the pieces 2 and 3 in blocks 300 and 17,
-/// the superblock 4 and the mirror 5.
-fn crashed(alloc: Global, writes: u64, choice: &[u32]) -> Result<(MemDisk, bool), Fail>
-    ensures { IfOk result (λ r. length r.0.history.start ≡ 16400) }
-{
+/// The old volume has ones in block 16 and zeros elsewhere. The new one has twos in block 300 and threes in block 17,
+/// the superblock is fours, and the mirror fives.
+fn crashed(alloc: Global, writes: u64, choice: &[u32]) -> Result<(MemDisk, bool), Fail> {
     let mut disk = MemDisk::new(alloc, 16400)?;
     disk.set_block(16, &filled(1))?;
     disk.open("", Access::Write)?;
@@ -43,32 +32,37 @@ fn crashed(alloc: Global, writes: u64, choice: &[u32]) -> Result<(MemDisk, bool)
         },
     ];
     let done = switch(&mut disk, &pieces, &filled(4), &filled(5)).is_ok();
-    Ok((disk.after_crash(choice)?, done))
+    let mut left = disk.after_crash(choice)?;
+    left.open("", Access::Read)?;
+    Ok((left, done))
 }
 
-fn is_old(disk: &MemDisk) -> bool
-    requires { length disk.now.history.start ≡ 16400 }
-{
-    block_of(disk, 16) == filled(1) && block_of(disk, 16384).is_zero() && block_of(disk, 5).is_zero()
+fn has(disk: &mut MemDisk, n: BlockNo, byte: u8) -> Result<bool, Fail> {
+    let mut block = Block::zero();
+    if n >= disk.len() {
+        return Ok(false);
+    }
+    disk.read(n, &mut block)?;
+    Ok(block == filled(byte))
 }
 
-fn is_new(disk: &MemDisk) -> bool
-    requires { length disk.now.history.start ≡ 16400 }
-{
-    block_of(disk, 16) == filled(4)
-        && block_of(disk, 300) == filled(2)
-        && block_of(disk, 17) == filled(3)
-        && block_of(disk, 5).is_zero()
+fn is_old(disk: &mut MemDisk) -> Result<bool, Fail> {
+    Ok(has(disk, 16, 1)? && has(disk, 5, 0)? && has(disk, 16384, 0)?)
+}
+
+fn is_new(disk: &mut MemDisk) -> Result<bool, Fail> {
+    Ok(has(disk, 16, 4)? && has(disk, 5, 0)? && has(disk, 300, 2)? && has(disk, 17, 3)?)
 }
 
 #[test]
 fn a_crash_of_a_switch_leaves_the_old_volume_or_the_new_one(rt: HostRuntime) -> Result<(), Fail> {
     for writes in 0..6 {
         for choice in [[0, 0], [1, 0], [0, 1], [1, 1]] {
-            let (left, done) = crashed(rt.alloc(), writes, &choice)?;
+            let (mut left, done) = crashed(rt.alloc(), writes, &choice)?;
             assert_eq!(rt; done, writes == 5);
-            assert!(rt; is_old(&left) || is_new(&left));
-            assert!(rt; !done || is_new(&left) && block_of(&left, 16384) == filled(5));
+            let new = is_new(&mut left)?;
+            assert!(rt; new || is_old(&mut left)?);
+            assert!(rt; !done || new && has(&mut left, 16384, 5)?);
         }
     }
     Ok(())
@@ -76,10 +70,10 @@ fn a_crash_of_a_switch_leaves_the_old_volume_or_the_new_one(rt: HostRuntime) -> 
 
 #[test]
 fn the_superblock_alone_decides_between_the_volumes(rt: HostRuntime) -> Result<(), Fail> {
-    let (left, _) = crashed(rt.alloc(), 3, &[0])?;
-    assert!(rt; is_old(&left));
-    let (left, _) = crashed(rt.alloc(), 3, &[1])?;
-    assert!(rt; is_new(&left));
+    let (mut left, _) = crashed(rt.alloc(), 3, &[0])?;
+    assert!(rt; is_old(&mut left)?);
+    let (mut left, _) = crashed(rt.alloc(), 3, &[1])?;
+    assert!(rt; is_new(&mut left)?);
     Ok(())
 }
 

@@ -1,7 +1,6 @@
-use Rattle.std.proofs.Common.{◌≡◌, ◌+◌, ◌<◌, length, take, sym, ◌∙◌, ap, arith}
+use Rattle.std.proofs.Common.{◌≡◌, ◌<◌, length, ◌∙◌, ap, arith}
 use Rattle.std.proofs.lemmas.Bool.{both_ways}
 use Rattle.outside.specs.History.{block_at}
-use Rattle.phases_example.specs.Zeros.{zero_blocks}
 use Rattle.phases_example.proofs.ZeroLemmas.{one_zero_more, no_zero_more}
 use Rattle.phases_example.proofs.count.count_zeros.Goals.{then-is_zero, else-is_zero}
 use Rattle.phases_example.proofs.count.count_zeros.Goals as goal

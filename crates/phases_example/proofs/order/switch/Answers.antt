@@ -1,6 +1,5 @@
 use Rattle.std.proofs.Common.{◌≡◌, ◌<◌, inl, inr, ⊎_elim, length, ◌∙◌, arith}
-use Rattle.outside.specs.History.{reads, clock, IsBlock}
-use Rattle.outside.proofs.Crash.{writes_then}
+use Rattle.outside.specs.History.{reads, IsBlock}
 use Rattle.outside.proofs.Phases.{left_then, on_ok, set_stands}
 use Rattle.phases_example.specs.Switch.{IsPart}
 use Rattle.phases_example.proofs.Phases.{pieces_crash, superblock_crash, superblock_stands, mirror_crash, mirror_stands, pieces_parts, superblock_parts, mirror_parts}

@@ -53,8 +53,10 @@ returns-in-Ok-clause-ok c =
 
 pub returns-in-Err-clause-fails : goal.returns-in-Err-clause-fails
 returns-in-Err-clause-fails c =
-    inr (sym (ap (λ (s : State). fails_next s.failures) c.self.view_is) ∙ sym c.next_fails.ensures.fails ∙ c.if-next_fails.false,
-    state_after_refusal _ c.args.self.now c.self.view_is _ c.next_fails.new.self _ _
-    (history_stays c.self.inside.count (undone_at c.self.inside.first c.self.inside.present) (undone_at c.put_recorded.new.first c.put_recorded.new.present) c.put_recorded.ensures.started
-    c.self.inside.calls.items c.put_recorded.new.calls.items c.in-Err.ensures.not_recorded c.args.self.now.history (ap (λ (s : State). s.history) c.self.view_is))
-    c.next_fails.ensures.counted c.saturating_add-self-inside-in-Err.ensures c.saturating_add-self-inside-in-Err-2.ensures)
+    inr (
+      sym (ap (λ (s : State). fails_next s.failures) c.self.view_is) ∙ sym c.next_fails.ensures.fails ∙ c.if-next_fails.false,
+      state_after_refusal _ c.args.self.now c.self.view_is _ c.next_fails.new.self _ _
+          (history_stays c.self.inside.count (undone_at c.self.inside.first c.self.inside.present) (undone_at c.put_recorded.new.first c.put_recorded.new.present) c.put_recorded.ensures.started
+          c.self.inside.calls.items c.put_recorded.new.calls.items c.in-Err.ensures.not_recorded c.args.self.now.history (ap (λ (s : State). s.history) c.self.view_is))
+          c.next_fails.ensures.counted c.saturating_add-self-inside-in-Err.ensures c.saturating_add-self-inside-in-Err-2.ensures,
+    )

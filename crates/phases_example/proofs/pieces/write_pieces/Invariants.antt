@@ -1,7 +1,7 @@
 use Rattle.std.proofs.Common.{◌≡◌, ◌≤◌, take, IsTrue}
 use Rattle.outside.specs.History.{reads, WritesOnly}
 use Rattle.phases_example.specs.Pieces.{IsPlace, HasPieces}
-use Rattle.phases_example.proofs.steps.write_pieces.Given as goal
+use Rattle.phases_example.proofs.pieces.write_pieces.Given as goal
 
 abbrev pub invariant-loop-piece : goal.invariant-loop-piece
 invariant-loop-piece g l = record {

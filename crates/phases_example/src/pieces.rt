@@ -1,7 +1,7 @@
-// The two steps that the switch is made of.
-ghost use Rattle.std.specs.Prelude.{◌≡◌, ◌<◌, All, slice_set, Some, IsTrue, OnOk};
+// The first phase of the switch: some blocks, each to a place of its own.
+ghost use Rattle.std.specs.Prelude.{◌≡◌, ◌<◌, All, Some, IsTrue, OnOk};
 ghost use Rattle.outside.specs.Fault.{HasCause};
-ghost use Rattle.outside.specs.History.{reads, IsSettled, IsBlock, WritesOnly};
+ghost use Rattle.outside.specs.History.{reads, IsSettled, WritesOnly};
 ghost use Rattle.phases_example.specs.Pieces.{IsPlace, HasPieces, AreApart};
 
 use outside::{Access, Disk, Fault};
@@ -31,20 +31,5 @@ pub fn write_pieces<D: Disk>(disk: &mut D, pieces: &[Placed]) -> Result<(), Faul
     for piece in pieces {
         disk.write(piece.at, &piece.block)?;
     }
-    disk.sync()
-}
-
-/// Writes one block, and syncs.
-pub fn write_through<D: Disk>(disk: &mut D, n: BlockNo, block: &Block) -> Result<(), Fault>
-    requires open { D.opened disk.old ≡ Some Access.Write }
-    requires in_range { n < D.size disk.old }
-    ensures open { D.opened disk.new ≡ D.opened disk.old }
-    ensures size { D.size disk.new ≡ D.size disk.old }
-    ensures only { IsTrue D.tells → WritesOnly (IsBlock n block.now.bytes) (D.history disk.old) (D.history disk.new) }
-    ensures written { IsTrue D.tells → OnOk result (reads (D.history disk.new) ≡ slice_set (reads (D.history disk.old)) n block.now.bytes) }
-    ensures settled { IsTrue D.tells → OnOk result (IsSettled (D.history disk.new)) }
-    ensures cause { HasCause (D.faults disk.old) (D.faults disk.new) result }
-{
-    disk.write(n, block)?;
     disk.sync()
 }

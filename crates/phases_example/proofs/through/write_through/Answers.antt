@@ -1,7 +1,7 @@
 use Rattle.std.proofs.Common.{refl}
 use Rattle.outside.specs.History.{IsBlock}
 use Rattle.outside.proofs.Crash.{write_only, sync_only, writes_then}
-use Rattle.phases_example.proofs.steps.write_through.Goals as goal
+use Rattle.phases_example.proofs.through.write_through.Goals as goal
 
 pub returns-in_err-write-clause-only : goal.returns-in_err-write-clause-only
 returns-in_err-write-clause-only g c = λ tells. write_only (IsBlock c.args.n c.args.block.now.bytes) _ _ _ _ _ (refl, refl) (c.write.ensures.effect tells)

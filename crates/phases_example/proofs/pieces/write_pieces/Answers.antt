@@ -5,7 +5,7 @@ use Rattle.phases_example.specs.Pieces.{IsPlace, HasPieces}
 use Rattle.outside.proofs.Crash.{write_only, sync_only, writes_then}
 use Rattle.outside.proofs.Phases.{on_ok, sync_reads}
 use Rattle.phases_example.proofs.PieceLemmas.{is_place, pieces_more}
-use Rattle.phases_example.proofs.steps.write_pieces.Goals as goal
+use Rattle.phases_example.proofs.pieces.write_pieces.Goals as goal
 
 pub returns-in_err-write-clause-only : goal.returns-in_err-write-clause-only
 returns-in_err-write-clause-only g c = λ tells.
