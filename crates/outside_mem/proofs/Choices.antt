@@ -96,12 +96,12 @@ module _ (h : History) where
     pub choice_of : List ℕ
     choice_of = map numbers (waiting_blocks h)
 
-    pub choice_small : ((b : ℕ) → length (values h b) ≤ 2 ^ 32) → All (λ number. number < 2 ^ 32) choice_of
+    pub choice_small : ((b : ℕ) → b < n → length (values h b) ≤ 2 ^ 32) → All (λ number. number < 2 ^ 32) choice_of
     unfolding choice_of
     choice_small few i d below =
         let within : i < length (waiting_blocks h) = omega (arith, below, length-map (waiting_blocks h) numbers) in
         let b : ℕ = get_or (waiting_blocks h) i 0 in
-        omega (arith, get_or-map numbers (waiting_blocks h) i 0 d within, (number_in b).1, few b)
+        omega (arith, get_or-map numbers (waiting_blocks h) i 0 d within, (number_in b).1, few b (passing_below waits n i 0 within))
 
     pub choice_gives : crash_image h choice_of ≡ image
     unfolding choice_of
