@@ -14,7 +14,7 @@ use Rattle.reiser_bitmap.specs.Stored.{IsStored}
 use Rattle.reiser_bitmap.proofs.BitLemmas.{mask}
 
 -- two tests that agree below n give the same list
-same_tests : (p q : ℕ → Bool) (n : ℕ) → ((b : ℕ) → b < n → p b ≡ q b) → map p (range_with_len 0 n) ≡ map q (range_with_len 0 n)
+pub same_tests : (p q : ℕ → Bool) (n : ℕ) → ((b : ℕ) → b < n → p b ≡ q b) → map p (range_with_len 0 n) ≡ map q (range_with_len 0 n)
 same_tests p q n same =
     ext_get_or false _ _ (length-map-range_with_len p 0 n ∙ sym (length-map-range_with_len q 0 n))
     (λ i h. let inside : i < n = omega (arith, length-map-range_with_len p 0 n) in
