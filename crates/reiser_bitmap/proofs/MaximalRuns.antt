@@ -1,6 +1,6 @@
 -- The runs that are listed are the maximal ones.
-use Rattle.std.proofs.Common.{◌≡◌, ◌⊎◌, ℕ, zero, suc, ◌+◌, ◌-◌, ◌<◌, ◌≤◌, ◌&&◌, ltb, Bool, true, false, not, List, [], ◌∷◌, length, map, cond, get_or, inl, inr, refl, sym, ◌∙◌, ap, arith, subst, ⊎_elim}
-use Rattle.std.specs.Prelude.{filter, take_while, Contains, All, AllPairs, Any}
+use Rattle.std.proofs.Common.{◌≡◌, ℕ, zero, suc, ◌+◌, ◌-◌, ◌<◌, ◌≤◌, ◌&&◌, ltb, Bool, true, false, List, ◌∷◌, length, map, cond, get_or, refl, sym, ◌∙◌, ap, arith, subst, ⊎_elim}
+use Rattle.std.specs.Prelude.{filter, take_while, Any}
 use Rattle.std.specs.List.{range_with_len}
 use Rattle.std.proofs.lemmas.Bool.{and_parts, both_ways, not-true, and_cases, lt-ltb, cases_Bool, cases_lt, cases_eq}
 use Rattle.std.proofs.lemmas.List.{get_or-map, length-map}
@@ -70,7 +70,7 @@ starts_ascend p a zero i j d below inside = absurd (omega arith)
 starts_ascend p a (suc m) i j d below inside =
     let rest : List ℕ = filter p (range_with_len (a + 1) m) in
     (elim (p a) as (λ b. j < length (cond b (a ∷ rest) rest) → get_or (cond b (a ∷ rest) rest) i d < get_or (cond b (a ∷ rest) rest) j d) [
-      true ↦ λ within. here a rest i j d below within
+      | true ↦ λ within. here a rest i j d below within
           (λ k l. let kept = filter_contains p (range_with_len (a + 1) m) (get_or rest k d) (Contains-get_or rest k d l) in
           let place = range_contains (a + 1) m (get_or rest k d) kept.0 in omega (arith, place.0))
           (λ k l lower within'. starts_ascend p (a + 1) m k l d lower within')
@@ -108,11 +108,14 @@ find_start : (p : ℕ → Bool) (u : ℕ) → p u ≡ true → (start : ℕ) × 
 find_start p zero t = (zero, start_here p zero t (λ k next. absurd (omega arith)))
 find_start p (suc u) t =
     ⊎_elim
-    (λ (before : p u ≡ true). let lower = find_start p u before in (lower.0, record {
-      below = omega (arith, lower.1.below);
-      begins = lower.1.begins;
-      all = λ k low high. ⊎_elim (λ (same : k ≡ suc u). ap p same ∙ t) (λ (other : k ≡ suc u → ⊥). lower.1.all k low (omega arith)) (cases_eq k (suc u));
-    }))
+    (λ (before : p u ≡ true). let lower = find_start p u before in (
+      lower.0,
+      record {
+        below = omega (arith, lower.1.below);
+        begins = lower.1.begins;
+        all = λ k low high. ⊎_elim (λ (same : k ≡ suc u). ap p same ∙ t) (λ (other : k ≡ suc u → ⊥). lower.1.all k low (omega arith)) (cases_eq k (suc u));
+      },
+    ))
     (λ (gap : p u ≡ false). (suc u, start_here p (suc u) t (λ k next. ap p (let e : k ≡ u = omega arith in e) ∙ gap)))
     (cases_Bool (p u))
 
