@@ -1,5 +1,4 @@
-ghost use Rattle.std.specs.Prelude.{◌≡◌, ◌+◌, ◌^◌, ◌≤◌, ◌↔◌, length, true, false, List, slice_range, IsTrue, IsOk, IfOk};
-ghost use Rattle.std.specs.Bool.{MatchBool};
+ghost use Rattle.std.specs.Prelude.{◌≡◌, ◌+◌, ◌^◌, ◌≤◌, ◌↔◌, true, false, slice_range, IsOk, IfOk};
 ghost use Rattle.std.specs.Result.{MatchResult, result_err};
 
 use outside::{Feature, Rule, VolumeRefusal};
