@@ -1,12 +1,11 @@
 -- When a unit is free.
-use Rattle.std.proofs.Common.{◌≡◌, ◌⊎◌, ℕ, ◌+◌, ◌-◌, ◌*◌, ◌/◌, ◌<◌, ◌≤◌, ◌&&◌, ltb, Bool, true, false, not, List, length, inl, inr, refl, sym, ◌∙◌, ap, arith, subst, ⊎_elim}
-use Rattle.std.specs.Prelude.{All, Contains, IsTrue, ◌↔◌}
+use Rattle.std.proofs.Common.{◌≡◌, ℕ, ◌+◌, ◌-◌, ◌*◌, ◌/◌, ◌<◌, ◌≤◌, Bool, false, List, length, inl, inr, refl, sym, ◌∙◌, arith, subst, ⊎_elim}
 use Rattle.std.specs.Bool.{Decides}
 use Rattle.std.specs.List.{range_with_len, list_all}
 use Rattle.std.proofs.lemmas.Bool.{not-true, not_from_false, cases_Bool}
-use Rattle.std.proofs.lemmas.Bool.Decides.{Decides-and, Decides-not, Decides-ltb, Decides-like, Decides-by_and, same_from_decides}
+use Rattle.std.proofs.lemmas.Bool.Decides.{Decides-and, Decides-not, Decides-ltb, Decides-like, Decides-by_and}
 use Rattle.std.proofs.lemmas.List.Elements.{All-contains}
-use Rattle.vol_block.specs.Volume.{IsReserved, is_reserved}
+use Rattle.vol_block.specs.Volume.{IsReserved}
 use Rattle.vol_block.proofs.Reserved.{decides_reserved}
 use Rattle.reiser_bitmap.specs.Bits.{bit_of, bits, has}
 use Rattle.reiser_bitmap.specs.Units.{IsFreeUnit, is_free_block, are_free_blocks, is_free_unit}

@@ -1,5 +1,5 @@
 -- The bytes of a bitmap as they are read, and the end of the last one.
-use Rattle.std.proofs.Common.{◌≡◌, ◌≢◌, ℕ, zero, suc, ◌+◌, ◌-◌, ◌*◌, ◌/◌, ◌%◌, ◌^◌, ◌<◌, ◌≤◌, ◌==◌, min, Bool, true, false, List, [], ◌∷◌, ◌++◌, length, take, set, get_or, map, bit_and, refl, sym, ◌∙◌, ap, arith, subst, ⊎_elim}
+use Rattle.std.proofs.Common.{◌≡◌, ◌≢◌, ℕ, ◌+◌, ◌-◌, ◌*◌, ◌/◌, ◌%◌, ◌^◌, ◌<◌, ◌≤◌, Bool, false, List, [], ◌++◌, length, take, set, get_or, map, bit_and, refl, sym, ◌∙◌, ap, arith, ⊎_elim}
 use Rattle.std.specs.Prelude.{slice_index}
 use Rattle.std.specs.Int.{bit_at}
 use Rattle.std.specs.List.{range_with_len}
@@ -14,7 +14,7 @@ use Rattle.reiser_bitmap.specs.Stored.{IsStored}
 use Rattle.reiser_bitmap.proofs.BitLemmas.{mask}
 
 -- two tests that agree below n give the same list
-same_tests : (p q : ℕ → Bool) (n : ℕ) → ((b : ℕ) → b < n → p b ≡ q b) → map p (range_with_len 0 n) ≡ map q (range_with_len 0 n)
+pub same_tests : (p q : ℕ → Bool) (n : ℕ) → ((b : ℕ) → b < n → p b ≡ q b) → map p (range_with_len 0 n) ≡ map q (range_with_len 0 n)
 same_tests p q n same =
     ext_get_or false _ _ (length-map-range_with_len p 0 n ∙ sym (length-map-range_with_len q 0 n))
     (λ i h. let inside : i < n = omega (arith, length-map-range_with_len p 0 n) in

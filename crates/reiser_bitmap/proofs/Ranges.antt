@@ -44,7 +44,7 @@ pub filter_contains : {X : Type 0} (p : X → Bool) (xs : List X) (x : X) → Co
 filter_contains p [] x h = absurd (omega (arith, h.1))
 filter_contains {X} p (y ∷ xs) x h =
     (elim (p y) as (λ b. p y ≡ b → Contains (cond b (y ∷ filter p xs) (filter p xs)) x → Contains (y ∷ xs) x × (p x ≡ true)) [
-      true ↦ λ is inside.
+      | true ↦ λ is inside.
           ⊎_elim
           (λ same. (subst (λ (z : X). Contains (y ∷ xs) z) same (contains_head y xs), subst (λ (z : X). p z ≡ true) same is))
           (λ later. let rest = filter_contains p xs x later in (contains_tail x y xs rest.0, rest.1))

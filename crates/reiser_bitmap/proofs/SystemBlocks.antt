@@ -1,5 +1,5 @@
 -- Which blocks are system blocks.
-use Rattle.std.proofs.Common.{◌≡◌, ◌⊎◌, ℕ, zero, suc, ◌+◌, ◌*◌, ◌/◌, ◌%◌, ◌<◌, ◌≤◌, ◌==◌, ◌&&◌, ◌||◌, Bool, true, false, List, [], ◌∷◌, ◌++◌, length, cond, inl, inr, refl, sym, ◌∙◌, ap, arith, subst, ⊎_elim}
+use Rattle.std.proofs.Common.{◌≡◌, ◌⊎◌, ℕ, zero, suc, ◌+◌, ◌*◌, ◌/◌, ◌<◌, ◌≤◌, ◌==◌, Bool, true, false, List, length, inl, inr, refl, sym, ap, arith, subst, ⊎_elim}
 use Rattle.std.specs.Prelude.{filter, Contains, All}
 use Rattle.std.specs.List.{range_with_len}
 use Rattle.std.proofs.lemmas.Bool.{ne_eqb, eq-eqb, eqb-true}
@@ -9,7 +9,7 @@ use Rattle.outside.specs.declared.refusal.VolumeRefusal.TheVariants.{Damaged}
 use Rattle.outside.specs.declared.rule.Rule.TheVariants.{SystemFree}
 use Rattle.reiser_bitmap.specs.Bits.{has}
 use Rattle.reiser_bitmap.specs.Layout.{bitmap_block}
-use Rattle.reiser_bitmap.specs.System.{is_bitmap_block, is_system, system_blocks, NamesFreeBlock}
+use Rattle.reiser_bitmap.specs.System.{is_bitmap_block, system_blocks, NamesFreeBlock}
 use Rattle.reiser_bitmap.proofs.Ranges.{contains_head, contains_tail, contains_cases, contains_range, range_contains, contains_filter, filter_contains, all_from_contains}
 
 pub bitmap_block-zero : bitmap_block 0 ≡ 17

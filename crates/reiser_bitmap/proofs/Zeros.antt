@@ -1,5 +1,5 @@
 -- Zero bytes have no bits.
-use Rattle.std.proofs.Common.{◌≡◌, ℕ, zero, suc, ◌+◌, ◌-◌, ◌*◌, ◌/◌, ◌%◌, ◌^◌, ◌<◌, ◌≤◌, ◌==◌, false, List, length, get_or, refl, sym, ◌∙◌, ap, arith, subst, ⊎_elim}
+use Rattle.std.proofs.Common.{◌≡◌, ℕ, ◌+◌, ◌-◌, ◌*◌, ◌/◌, ◌%◌, ◌<◌, ◌==◌, false, List, get_or, refl, sym, ◌∙◌, ap, arith, subst, ⊎_elim}
 use Rattle.std.specs.Prelude.{slice_index}
 use Rattle.std.specs.Int.{bit_at}
 use Rattle.std.proofs.lemmas.Bool.{cases_lt, eqb-false}

@@ -7,6 +7,7 @@
 
 mod bitmap;
 mod count;
+mod laws;
 mod layout;
 mod load;
 mod runs;
@@ -14,5 +15,12 @@ mod system;
 mod units;
 
 pub use bitmap::Bitmap;
+pub use laws::{
+    bitmap_blocks_decide, free_runs_are_maximal, free_units_pass, system_blocks_pass,
+    used_blocks_are_had,
+};
 pub use layout::{bitmap_block, is_system};
 pub use runs::{Run, Runs};
+
+#[cfg(test)]
+mod tests;

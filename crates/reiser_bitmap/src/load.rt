@@ -1,4 +1,4 @@
-ghost use Rattle.std.specs.Prelude.{◌≡◌, ◌+◌, ◌*◌, ◌/◌, ◌^◌, ◌<◌, ◌≤◌, ◌++◌, [], ℕ, length, take, IsTrue, IfOk, IfErr, OnOk};
+ghost use Rattle.std.specs.Prelude.{◌≡◌, ◌+◌, ◌/◌, ◌≤◌, ◌++◌, [], length, take, IsTrue, IfOk, IfErr, OnOk};
 ghost use Rattle.outside.specs.Fault.{HasCauseOf};
 ghost use Rattle.outside.specs.History.{Image};
 ghost use Rattle.reiser_bitmap.specs.Answers.{IsNoRefusal};
@@ -49,11 +49,7 @@ impl Bitmap {
 }
 
 /// Reads the bytes of the bitmap, to the one that has the last bit.
-fn read_bytes<S: BlockSource>(
-    alloc: Global,
-    src: &mut S,
-    blocks: u64,
-) -> Result<Vec<u8>, VolAnswer>
+fn read_bytes<S: BlockSource>(alloc: Global, src: &mut S, blocks: u64) -> Result<Vec<u8>, VolAnswer>
     requires low { 18 ≤ blocks }
     requires inside { blocks ≤ S.size src.old }
     ensures kept { S.kept src.old src.new }

@@ -1,4 +1,4 @@
-ghost use Rattle.std.specs.Prelude.{◌≡◌, ◌+◌, ◌%◌, ◌<◌, ◌≤◌, ℕ, [], IsTrue, OnOk, IfErr};
+ghost use Rattle.std.specs.Prelude.{◌≡◌, ◌+◌, ◌%◌, ◌<◌, ◌≤◌, [], IsTrue, OnOk, IfErr};
 ghost use Rattle.outside.specs.Fault.{HasCauseOf};
 ghost use Rattle.outside.specs.History.{Image};
 ghost use Rattle.reiser_super.specs.Journal.{pending_transactions, waiting_at, all_transactions, commits, is_descriptor, is_newer, last_flushed, names_place, next_place, transaction, transaction_length};

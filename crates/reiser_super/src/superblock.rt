@@ -1,5 +1,4 @@
-ghost use Rattle.std.specs.Prelude.{◌≡◌, ◌+◌, ◌≤◌, ◌↔◌, length, true, false, List, slice_range, IsTrue, IsOk, IfOk};
-ghost use Rattle.std.specs.Bool.{MatchBool};
+ghost use Rattle.std.specs.Prelude.{◌≡◌, ◌+◌, ◌^◌, ◌≤◌, ◌↔◌, true, false, slice_range, IsOk, IfOk};
 ghost use Rattle.std.specs.Result.{MatchResult, result_err};
 
 use outside::{Feature, Rule, VolumeRefusal};
@@ -38,7 +37,7 @@ pub struct Super {
 
 impl Super {
     ghost use Rattle.reiser_super.specs.Superblock.{super_of};
-    ghost use Rattle.reiser_super.specs.Rules.{IsCleanSuper, is_in_bounds, superblock_refusal};
+    ghost use Rattle.reiser_super.specs.Rules.{IsCleanSuper, IsInBounds, is_in_bounds, superblock_refusal};
 
     /// Reads the superblock, which is block 16 of a device of `device` blocks. Of a shorter device it may be any block.
     ///
@@ -53,6 +52,9 @@ impl Super {
         ensures fields { IfOk result (λ s. s ≡ super_of block.now.bytes) }
         ensures refusal { result_err result ≡ superblock_refusal block.now.bytes device }
         ensures clean { IsOk result ↔ IsCleanSuper block.now.bytes device }
+        ensures bounds { IfOk result IsInBounds }
+        ensures few { IfOk result (λ s. s.blocks ≤ 2 ^ 29) }
+        ensures fits { IfOk result (λ s. s.blocks ≤ device) }
     {
         let found = Super::fields_of(block);
         match found.check_rules(block, device) {

@@ -1,4 +1,4 @@
-ghost use Rattle.std.specs.Prelude.{◌≡◌, ◌≤◌, ◌^◌, ◌<◌, length};
+ghost use Rattle.std.specs.Prelude.{◌≤◌};
 
 use crate::{Super, journal_state};
 use outside::{BlockSource, Fault, Feature, Memory, Rule, VolAnswer, VolumeRefusal};

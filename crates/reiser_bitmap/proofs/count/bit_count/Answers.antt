@@ -1,15 +1,19 @@
-use Rattle.std.proofs.Common.{◌≡◌, ◌+◌, ◌<◌, ◌≤◌, ℕ, List, length, take, refl, sym, ◌∙◌, ap, arith}
+use Rattle.std.proofs.Common.{◌+◌, ◌∙◌, ap, arith}
 use Rattle.std.specs.Prelude.{sum_by, count_ones}
 use Rattle.std.proofs.lemmas.List.{take_all}
 use Rattle.std.proofs.lemmas.List.Sums.{sum_by-take-le}
-use Rattle.reiser_bitmap.specs.Bits.{bit_count}
 use Rattle.reiser_bitmap.proofs.CountLemmas.{ones_are_bits, ones_more}
 use Rattle.reiser_bitmap.proofs.count.bit_count.Goals as goal
 
 pub overflow_add-count : goal.overflow_add-count
 overflow_add-count c =
-    omega (arith, c.loop-byte.invariant, ones_more c.args.bytes.now c.loop-byte.byte-index c.loop-byte-test.true, sum_by-take-le count_ones c.args.bytes.now (c.loop-byte.byte-index + 1),
-    ones_are_bits c.args.bytes.now (λ i. omega (arith, c.type_inv.bytes i)))
+    omega (
+      arith,
+      c.loop-byte.invariant,
+      ones_more c.args.bytes.now c.loop-byte.byte-index c.loop-byte-test.true,
+      sum_by-take-le count_ones c.args.bytes.now (c.loop-byte.byte-index + 1),
+      ones_are_bits c.args.bytes.now (λ i. omega (arith, c.type_inv.bytes i)),
+    )
 
 pub returns : goal.returns
 returns c =

@@ -1,8 +1,6 @@
-use Rattle.std.proofs.Common.{rules, ◌≡◌, ◌+◌, ◌-◌, ◌*◌, ◌/◌, ◌<◌, ◌≤◌, ◌++◌, min, ℕ, List, length, take, refl, sym, ◌∙◌, ap, subst, arith}
-use Rattle.std.proofs.lemmas.List.{length-append, length-take}
+use Rattle.std.proofs.Common.{◌≡◌, ◌-◌, ◌*◌, ◌≤◌, min, ℕ, List, length, sym, ◌∙◌, ap, subst, arith}
 use Rattle.outside.specs.History.{Image, block_at}
-use Rattle.reiser_bitmap.specs.Bits.{bits}
-use Rattle.reiser_bitmap.specs.Layout.{bitmap_block, bitmap_of}
+use Rattle.reiser_bitmap.specs.Layout.{bitmap_block}
 use Rattle.reiser_bitmap.proofs.LoadLemmas.{HasBitsOf, none_read, more_read, all_read}
 use Rattle.reiser_bitmap.proofs.load.read_bytes.Goals as goal
 

@@ -1,5 +1,4 @@
-use Rattle.std.proofs.Common.{◌≡◌, ◌*◌, ◌<◌, false, true, refl, sym, ◌∙◌, subst, arith}
-use Rattle.reiser_bitmap.specs.Zeros.{AreZeros, HasNoBits}
+use Rattle.std.proofs.Common.{refl, arith}
 use Rattle.reiser_bitmap.proofs.Zeros.{zeros_more, zeros_part, no_bits_from_zeros, zeros_from_no_bits}
 use Rattle.reiser_bitmap.proofs.units.has_no_bits.Goals as goal
 

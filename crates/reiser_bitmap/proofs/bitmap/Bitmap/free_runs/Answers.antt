@@ -1,4 +1,4 @@
-use Rattle.std.proofs.Common.{◌≡◌, ◌+◌, ◌/◌, ◌<◌, ◌≤◌, false, length, refl, sym, ◌∙◌, arith}
+use Rattle.std.proofs.Common.{◌≡◌, ◌+◌, ◌/◌, ◌≤◌, length, sym, arith}
 use Rattle.reiser_bitmap.specs.Runs.{free_runs}
 use Rattle.reiser_bitmap.specs.Units.{is_free_unit}
 use Rattle.reiser_bitmap.proofs.FreeUnits.{past_units}

@@ -1,4 +1,4 @@
-use Rattle.std.proofs.Common.{◌≡◌, ◌+◌, ◌≤◌, ◌/◌, length, refl, sym, ◌∙◌, ap, arith, ℕ}
+use Rattle.std.proofs.Common.{◌≡◌, ◌/◌, length, sym, ◌∙◌, ap, arith, ℕ}
 use Rattle.std.specs.Prelude.{filter}
 use Rattle.std.specs.List.{range_with_len}
 use Rattle.reiser_bitmap.specs.Units.{is_free_unit, free_units}
@@ -9,7 +9,7 @@ use Rattle.reiser_bitmap.proofs.bitmap.Bitmap.free_units.Goals.{then-unit_is_fre
 pub loop-u-preserved : goal.loop-u-preserved
 loop-u-preserved c =
     elim c.if-unit_is_free.branch [
-      then-unit_is_free w ↦
+      | then-unit_is_free w ↦
           let more = count_more_yes (is_free_unit c.args.self.now) c.loop-u.u (sym c.unit_is_free.ensures.test ∙ w.if-unit_is_free.true) in
           record { counted = omega (arith, more, w.count-is, c.loop-u.invariant.counted); few = omega (arith, w.count-is, c.loop-u.invariant.few) }
       | else-unit_is_free w ↦

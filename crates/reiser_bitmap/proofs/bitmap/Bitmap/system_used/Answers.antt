@@ -1,4 +1,4 @@
-use Rattle.std.proofs.Common.{◌≡◌, ◌+◌, ◌<◌, ◌≤◌, ◌/◌, ℕ, length, true, sym, ◌∙◌, ap, subst, arith}
+use Rattle.std.proofs.Common.{◌≡◌, ◌+◌, ◌<◌, ◌≤◌, ◌/◌, ℕ, length, true, sym, ◌∙◌, ap, arith}
 use Rattle.outside.specs.declared.refusal.VolumeRefusal.TheVariants.{Damaged}
 use Rattle.outside.specs.declared.rule.Rule.TheVariants.{SystemFree}
 use Rattle.reiser_bitmap.specs.Bits.{has}

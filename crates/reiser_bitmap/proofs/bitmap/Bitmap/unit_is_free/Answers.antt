@@ -1,7 +1,7 @@
-use Rattle.std.proofs.Common.{◌≡◌, ◌*◌, ◌≤◌, true, false, Bool, List, length, refl, sym, ◌∙◌, ap, subst, arith, ℕ}
+use Rattle.std.proofs.Common.{◌≡◌, ◌*◌, false, Bool, List, length, refl, sym, ◌∙◌, ap, subst, arith, ℕ}
 use Rattle.std.proofs.lemmas.Bool.Decides.{same_from_decides}
 use Rattle.vol_block.specs.Volume.{IsReserved}
-use Rattle.reiser_bitmap.specs.Units.{IsFreeUnit, is_free_unit}
+use Rattle.reiser_bitmap.specs.Units.{IsFreeUnit}
 use Rattle.reiser_bitmap.specs.Zeros.{HasNoBits}
 use Rattle.reiser_bitmap.proofs.BitLemmas.{length-bits}
 use Rattle.reiser_bitmap.proofs.FreeUnits.{decides_free_unit, free_from_no_bits, no_bits_from_free}
@@ -24,12 +24,13 @@ returns-then-is_reserved-clause-test c = same_from_decides false _ (returns-then
 
 pub returns-clause-fact : goal.returns-clause-fact
 returns-clause-fact c =
-    let unreserved : IsReserved (256 * c.args.u) c.self.inside.blocks → ⊥ = λ r. let t = c.if-is_reserved.ensures.fact.1 r in absurd (cc) in
-    (λ none. subst (λ (used : List Bool). IsFreeUnit used c.args.u) c.self.view_is
-    (free_from_no_bits c.self.inside.blocks c.args.u c.self.inside.bytes.items c.if-u-self.false unreserved
-    (subst (λ (bytes : List ℕ). HasNoBits bytes (8 * (32 * c.args.u)) 256) c.deref.ensures.value (c.has_no_bits.ensures.0 none))),
-    λ free. c.has_no_bits.ensures.1 (subst (λ (bytes : List ℕ). HasNoBits bytes (8 * (32 * c.args.u)) 256) (sym c.deref.ensures.value)
-    (no_bits_from_free c.self.inside.blocks c.args.u c.self.inside.bytes.items (subst (λ (used : List Bool). IsFreeUnit used c.args.u) (sym c.self.view_is) free))))
+    let unreserved : IsReserved (256 * c.args.u) c.self.inside.blocks → ⊥ = λ r. let t = c.if-is_reserved.ensures.fact.1 r in absurd (cc) in (
+      λ none. subst (λ (used : List Bool). IsFreeUnit used c.args.u) c.self.view_is
+          (free_from_no_bits c.self.inside.blocks c.args.u c.self.inside.bytes.items c.if-u-self.false unreserved
+          (subst (λ (bytes : List ℕ). HasNoBits bytes (8 * (32 * c.args.u)) 256) c.deref.ensures.value (c.has_no_bits.ensures.0 none))),
+      λ free. c.has_no_bits.ensures.1 (subst (λ (bytes : List ℕ). HasNoBits bytes (8 * (32 * c.args.u)) 256) (sym c.deref.ensures.value)
+          (no_bits_from_free c.self.inside.blocks c.args.u c.self.inside.bytes.items (subst (λ (used : List Bool). IsFreeUnit used c.args.u) (sym c.self.view_is) free))),
+    )
 
 pub returns-clause-test : goal.returns-clause-test
 returns-clause-test c = same_from_decides c.has_no_bits.result _ (returns-clause-fact c) (decides_free_unit c.args.self.now c.args.u)
