@@ -1,6 +1,7 @@
-ghost use Rattle.std.specs.Prelude.{◌≡◌, ◌+◌, ◌≤◌, ◌↔◌, length, IsSome, IfSome};
-ghost use Rattle.btr_keys.specs.Key.{key_at};
+ghost use Rattle.std.specs.Prelude.{◌≡◌, ◌+◌, ◌≤◌, ◌↔◌, length, IsTrue};
+ghost use Rattle.btr_keys.specs.Key.{key_at, key_of, key_bytes, IsBefore};
 
+use crate::field::{Field, put_fields};
 use vol_block::u64_at;
 
 /// The key of an item in a Btrfs tree: 17 bytes, as the Btrfs on-disk format documentation has it.
@@ -34,13 +35,34 @@ impl Key {
 
     /// The key that is the whole body; None exactly where the body has another length than 17 bytes.
     pub fn read(body: &[u8]) -> Option<Key>
-        ensures grammar { IsSome result ↔ (length body.now ≡ 17) }
-        ensures value { IfSome result (λ key. key ≡ key_at body.now 0) }
+        ensures { result ≡ key_of body.now }
     {
         if body.len() == Key::SIZE {
             Some(Key::at(body, 0))
         } else {
             None
         }
+    }
+
+    /// Writes the key into the 17 bytes of a slice.
+    pub fn write(&self, into: &mut [u8])
+        requires { length into.old ≡ 17 }
+        ensures { into.new ≡ key_bytes self.now }
+    {
+        put_fields(
+            into,
+            &[
+                Field::U64(self.objectid),
+                Field::U8(self.kind),
+                Field::U64(self.offset),
+            ],
+        );
+    }
+
+    /// Whether this key stands before another: by objectid, then by kind, then by offset.
+    pub fn is_before(&self, other: &Key) -> bool
+        ensures { IsTrue result ↔ IsBefore self.now other.now }
+    {
+        self < other
     }
 }

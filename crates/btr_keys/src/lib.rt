@@ -5,6 +5,8 @@
 //! the body. Nothing here allocates or fails otherwise.
 #![tactic(auto)]
 
+mod field;
 mod key;
 
+pub use field::{Field, put_fields};
 pub use key::Key;
