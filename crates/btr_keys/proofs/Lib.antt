@@ -1,3 +1,4 @@
 pub mod Fronts
 pub mod Layouts
 pub mod Records
+pub mod Starts

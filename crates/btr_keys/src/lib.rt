@@ -5,14 +5,21 @@
 //! the body. Nothing here allocates or fails otherwise.
 #![tactic(auto)]
 
+mod dir_entry;
+mod extref;
 mod field;
 mod inode;
+mod inode_ref;
 mod key;
 mod laws;
+mod named;
 mod stamp;
 
+pub use dir_entry::{DirEntry, DirItems};
+pub use extref::{Extref, Extrefs};
 pub use field::{Field, put_fields};
 pub use inode::Inode;
+pub use inode_ref::{InodeRef, InodeRefs};
 pub use key::Key;
 pub use laws::{inodes_read_back, keys_read_back, stamps_read_back};
 pub use stamp::Stamp;
