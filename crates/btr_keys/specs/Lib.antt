@@ -7,4 +7,5 @@ pub mod Repeated
 pub mod InodeRef
 pub mod Extref
 pub mod DirEntry
+pub mod FileExtent
 pub mod Laws

@@ -8,6 +8,7 @@
 mod dir_entry;
 mod extref;
 mod field;
+mod file_extent;
 mod inode;
 mod inode_ref;
 mod key;
@@ -18,6 +19,7 @@ mod stamp;
 pub use dir_entry::{DirEntry, DirItems};
 pub use extref::{Extref, Extrefs};
 pub use field::{Field, put_fields};
+pub use file_extent::{DiskRange, ExtentContent, FileExtent};
 pub use inode::Inode;
 pub use inode_ref::{InodeRef, InodeRefs};
 pub use key::Key;
