@@ -2,3 +2,4 @@ pub mod Fronts
 pub mod Layouts
 pub mod Records
 pub mod Starts
+pub mod Repeats

@@ -32,14 +32,14 @@ starts_enough behind shrinks (suc n) zero (x ∷ xs) a b = absurd (omega arith)
 starts_enough behind shrinks (suc n) (suc m) (x ∷ xs) a b =
     let bytes : List ℕ = x ∷ xs in
     let same : (o : Option (List ℕ)) → behind bytes ≡ o
-        → option_and_then (λ rest. with_start bytes (starts_within behind n rest)) o ≡ option_and_then (λ rest. with_start bytes (starts_within behind m rest)) o
-      = λ o. elim o as (λ o. behind bytes ≡ o
-        → option_and_then (λ rest. with_start bytes (starts_within behind n rest)) o ≡ option_and_then (λ rest. with_start bytes (starts_within behind m rest)) o) [
-          | None ↦ λ e. refl
-          | Some rest ↦ λ e.
-              let shorter = shrinks bytes rest e in
-              ap (with_start bytes) (starts_enough behind shrinks n m rest (omega arith) (omega arith))
-        ] in
+    → option_and_then (λ rest. with_start bytes (starts_within behind n rest)) o ≡ option_and_then (λ rest. with_start bytes (starts_within behind m rest)) o
+    = λ o. elim o as (λ o. behind bytes ≡ o
+    → option_and_then (λ rest. with_start bytes (starts_within behind n rest)) o ≡ option_and_then (λ rest. with_start bytes (starts_within behind m rest)) o) [
+      | None ↦ λ e. refl
+      | Some rest ↦ λ e.
+          let shorter = shrinks bytes rest e in
+          ap (with_start bytes) (starts_enough behind shrinks n m rest (omega arith) (omega arith))
+    ] in
     same (behind bytes) refl
 
 -- the first record, and those behind it
@@ -100,10 +100,10 @@ pub counted_more : (behind : List ℕ → Option (List ℕ)) → Shrinks behind 
 counted_more behind shrinks body rest after count some e so_far =
     let step = starts_step behind shrinks rest after some e in
     let moved : (o : Option (List (List ℕ))) → option_map (λ n. count + n) (option_map length (with_start rest o)) ≡ option_map (λ n. count + 1 + n) (option_map length o)
-      = λ o. elim o as (λ o. option_map (λ n. count + n) (option_map length (with_start rest o)) ≡ option_map (λ n. count + 1 + n) (option_map length o)) [
-          | None ↦ refl
-          | Some all ↦ let k : count + suc (length all) ≡ count + 1 + length all = omega arith in ap Some k
-        ] in
+    = λ o. elim o as (λ o. option_map (λ n. count + n) (option_map length (with_start rest o)) ≡ option_map (λ n. count + 1 + n) (option_map length o)) [
+      | None ↦ refl
+      | Some all ↦ let k : count + suc (length all) ≡ count + 1 + length all = omega arith in ap Some k
+    ] in
     so_far ∙ ap (λ (o : Option (List (List ℕ))). option_map (λ n. count + n) (option_map length o)) step ∙ moved (starts behind after)
 
 -- no whole record, so no count
@@ -129,23 +129,23 @@ starts_take_first behind shrinks [] start others e = absurd cc
 starts_take_first behind shrinks (x ∷ xs) start others e =
     let bytes : List ℕ = x ∷ xs in
     let inner : (rest : List ℕ) (o : Option (List (List ℕ))) → behind bytes ≡ Some rest → starts_within behind (length xs) rest ≡ o → with_start bytes o ≡ Some (start ∷ others)
-        → (bytes ≡ start) × (rest : List ℕ) × (behind bytes ≡ Some rest) × (starts behind rest ≡ Some others)
-      = λ rest o. elim o as (λ o. behind bytes ≡ Some rest → starts_within behind (length xs) rest ≡ o → with_start bytes o ≡ Some (start ∷ others)
-        → (bytes ≡ start) × (rest : List ℕ) × (behind bytes ≡ Some rest) × (starts behind rest ≡ Some others)) [
-          | None ↦ λ b s h. absurd cc
-          | Some all ↦ λ b s h.
-              let shorter = shrinks bytes rest b in
-              let is_start : bytes ≡ start = cc in
-              let is_others : all ≡ others = cc in
-              (is_start, rest, b, starts_enough behind shrinks (length rest) (length xs) rest (omega arith) (omega arith) ∙ s ∙ ap Some is_others)
-        ] in
+    → (bytes ≡ start) × (rest : List ℕ) × (behind bytes ≡ Some rest) × (starts behind rest ≡ Some others)
+    = λ rest o. elim o as (λ o. behind bytes ≡ Some rest → starts_within behind (length xs) rest ≡ o → with_start bytes o ≡ Some (start ∷ others)
+    → (bytes ≡ start) × (rest : List ℕ) × (behind bytes ≡ Some rest) × (starts behind rest ≡ Some others)) [
+      | None ↦ λ b s h. absurd cc
+      | Some all ↦ λ b s h.
+          let shorter = shrinks bytes rest b in
+          let is_start : bytes ≡ start = cc in
+          let is_others : all ≡ others = cc in
+          (is_start, rest, b, starts_enough behind shrinks (length rest) (length xs) rest (omega arith) (omega arith) ∙ s ∙ ap Some is_others)
+    ] in
     let outer : (o : Option (List ℕ)) → behind bytes ≡ o → option_and_then (λ rest. with_start bytes (starts_within behind (length xs) rest)) o ≡ Some (start ∷ others)
-        → (bytes ≡ start) × (rest : List ℕ) × (behind bytes ≡ Some rest) × (starts behind rest ≡ Some others)
-      = λ o. elim o as (λ o. behind bytes ≡ o → option_and_then (λ rest. with_start bytes (starts_within behind (length xs) rest)) o ≡ Some (start ∷ others)
-        → (bytes ≡ start) × (rest : List ℕ) × (behind bytes ≡ Some rest) × (starts behind rest ≡ Some others)) [
-          | None ↦ λ b h. absurd cc
-          | Some rest ↦ λ b h. inner rest (starts_within behind (length xs) rest) b refl h
-        ] in
+    → (bytes ≡ start) × (rest : List ℕ) × (behind bytes ≡ Some rest) × (starts behind rest ≡ Some others)
+    = λ o. elim o as (λ o. behind bytes ≡ o → option_and_then (λ rest. with_start bytes (starts_within behind (length xs) rest)) o ≡ Some (start ∷ others)
+    → (bytes ≡ start) × (rest : List ℕ) × (behind bytes ≡ Some rest) × (starts behind rest ≡ Some others)) [
+      | None ↦ λ b h. absurd cc
+      | Some rest ↦ λ b h. inner rest (starts_within behind (length xs) rest) b refl h
+    ] in
     outer (behind bytes) refl e
 
 -- one record on
@@ -202,10 +202,10 @@ pub records_there : {R : Type 0} (behind : List ℕ → Option (List ℕ)) (fron
     → (begins : List (List ℕ)) × (starts behind body ≡ Some begins) × (map front begins ≡ all)
 records_there {R} behind front body all e =
     let step : (o : Option (List (List ℕ))) → starts behind body ≡ o → at_least_one (option_map (map front) o) ≡ Some all → (begins : List (List ℕ)) × (starts behind body ≡ Some begins) × (map front begins ≡ all)
-      = λ o. elim o as (λ o. starts behind body ≡ o → at_least_one (option_map (map front) o) ≡ Some all → (begins : List (List ℕ)) × (starts behind body ≡ Some begins) × (map front begins ≡ all)) [
-          | None ↦ λ s h. absurd cc
-          | Some begins ↦ λ s h. (begins, s, some_list (map front begins) all h)
-        ] in
+    = λ o. elim o as (λ o. starts behind body ≡ o → at_least_one (option_map (map front) o) ≡ Some all → (begins : List (List ℕ)) × (starts behind body ≡ Some begins) × (map front begins ≡ all)) [
+      | None ↦ λ s h. absurd cc
+      | Some begins ↦ λ s h. (begins, s, some_list (map front begins) all h)
+    ] in
     step (starts behind body) refl e
 
 -- record i is what stands at start i

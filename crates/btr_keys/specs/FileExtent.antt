@@ -56,6 +56,12 @@ content_bytes (Inline bytes) = bytes
 content_bytes (Regular range) = disk_range_bytes range
 content_bytes (Prealloc range) = disk_range_bytes range
 
+-- a range's numbers fit; any bytes may be inline
+abbrev pub FitsContent : ContentValue → Type 0
+FitsContent (Inline bytes) = Unit {0}
+FitsContent (Regular range) = disk_range_layout.fits range
+FitsContent (Prealloc range) = disk_range_layout.fits range
+
 -- an extent without where inline bytes lie in memory
 pub record FileExtentValue : Type 0 where
   pub generation : ℕ
@@ -72,8 +78,8 @@ file_extent_value e =
 abbrev pub make_file_extent : ℕ → ℕ → ℕ → ℕ → ℕ → ℕ → List ℕ → Option FileExtentValue
 make_file_extent generation ram_bytes compression encryption other kind behind =
     option_map
-      (λ content. record { generation = generation; ram_bytes = ram_bytes; compression = compression; encryption = encryption; other = other; content = content })
-      (content_of kind behind)
+    (λ content. record { generation = generation; ram_bytes = ram_bytes; compression = compression; encryption = encryption; other = other; content = content })
+    (content_of kind behind)
 
 -- what stands before the contents
 unfoldable pub file_extent_head : Layout FileExtentValue (List ℕ → Option FileExtentValue)

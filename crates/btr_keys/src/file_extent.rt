@@ -1,8 +1,16 @@
 ghost use Rattle.std.specs.Prelude.{◌≡◌, ◌+◌, ◌≤◌, length};
 ghost use Rattle.std.specs.Option.{option_map};
 ghost use Rattle.btr_keys.specs.FileExtent.{
-    disk_range_of, disk_range_bytes, content_value, content_of, content_kind, content_bytes, file_extent_value, file_extent_of, file_extent_bytes,
-    file_extent_size
+  disk_range_of,
+  disk_range_bytes,
+  content_value,
+  content_of,
+  content_kind,
+  content_bytes,
+  file_extent_value,
+  file_extent_of,
+  file_extent_bytes,
+  file_extent_size,
 };
 
 use crate::field::{Field, put_fields};

@@ -23,5 +23,8 @@ pub use file_extent::{DiskRange, ExtentContent, FileExtent};
 pub use inode::Inode;
 pub use inode_ref::{InodeRef, InodeRefs};
 pub use key::Key;
-pub use laws::{inodes_read_back, keys_read_back, stamps_read_back};
+pub use laws::{
+    dir_items_read_back, disk_ranges_read_back, extrefs_read_back, file_extents_read_back,
+    inode_refs_read_back, inodes_read_back, keys_read_back, stamps_read_back,
+};
 pub use stamp::Stamp;

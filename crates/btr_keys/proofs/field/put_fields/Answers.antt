@@ -9,6 +9,6 @@ put_field-at-requires c = omega (arith, room_for_field c.args.fields.now c.loop-
 
 pub loop-field-preserved : goal.loop-field-preserved
 loop-field-preserved c = record {
-    place = omega (arith, fields_width_more c.args.fields.now c.loop-field.field-index (U8 0) c.loop-field-test.true);
-    front = let more = fields_bytes_more c.args.fields.now c.loop-field.field-index (U8 0) c.loop-field-test.true in cc (c.put_field-at.ensures.front);
-  }
+  place = omega (arith, fields_width_more c.args.fields.now c.loop-field.field-index (U8 0) c.loop-field-test.true);
+  front = let more = fields_bytes_more c.args.fields.now c.loop-field.field-index (U8 0) c.loop-field-test.true in cc (c.put_field-at.ensures.front);
+}

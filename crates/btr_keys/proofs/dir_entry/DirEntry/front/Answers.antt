@@ -8,9 +8,9 @@ unfolding dir_entry_head key_layout
 returns c =
     let width : 30 + c.u16_at.result - 30 ≡ c.u16_at.result = omega arith in
     λ i. record {
-    location = c.at.ensures i;
-    transid = c.u64_at.ensures i;
-    data_length = c.u16_at-2.ensures i;
-    kind = sym (get_or-drop 29 c.args.bytes.now 0 0) i;
-    name = (ap (λ (n : ℕ). take n (drop 30 c.args.bytes.now)) (width ∙ c.u16_at.ensures)) i;
-  }
+      location = c.at.ensures i;
+      transid = c.u64_at.ensures i;
+      data_length = c.u16_at-2.ensures i;
+      kind = sym (get_or-drop 29 c.args.bytes.now 0 0) i;
+      name = (ap (λ (n : ℕ). take n (drop 30 c.args.bytes.now)) (width ∙ c.u16_at.ensures)) i;
+    }

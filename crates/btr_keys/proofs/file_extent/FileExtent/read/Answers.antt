@@ -12,9 +12,9 @@ returns c =
     let behind = drop 21 body in
     let made = make_file_extent c.u64_at.result c.u64_at-2.result (slice_index_or body 16 0) (slice_index_or body 17 0) c.u16_at.result in
     let read : made (slice_index_or body 20 0) behind ≡ file_extent_head.read body behind = λ i.
-      make_file_extent (c.u64_at.ensures i) (c.u64_at-2.ensures i) (sym (get_or-drop 16 body 0 0) i) (sym (get_or-drop 17 body 0 0) i) (c.u16_at.ensures i) (sym (get_or-drop 20 body 0 0) i) behind in
+    make_file_extent (c.u64_at.ensures i) (c.u64_at-2.ensures i) (sym (get_or-drop 16 body 0 0) i) (sym (get_or-drop 17 body 0 0) i) (c.u16_at.ensures i) (sym (get_or-drop 20 body 0 0) i) behind in
     let long : file_extent_of body ≡ file_extent_head.read body behind = ap (λ (b : Bool). cond b None (file_extent_head.read body behind)) (le-ltb _ _ c.if-body-lt21.false) in
     ap
-      (option_map (λ content. record { generation = c.u64_at.result; ram_bytes = c.u64_at-2.result; compression = slice_index_or body 16 0; encryption = slice_index_or body 17 0; other = c.u16_at.result; content = content }))
-      c.in_ok-content.ensures
+    (option_map (λ content. record { generation = c.u64_at.result; ram_bytes = c.u64_at-2.result; compression = slice_index_or body 16 0; encryption = slice_index_or body 17 0; other = c.u16_at.result; content = content }))
+    c.in_ok-content.ensures
     ∙ ap (made (slice_index_or body 20 0)) (take_rest body 21) ∙ read ∙ sym long
