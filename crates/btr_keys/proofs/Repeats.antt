@@ -1,15 +1,14 @@
 -- Records that end with a name, written one after the other, read as these records.
-use Rattle.std.proofs.Common.{◌≡◌, ◌<◌, ◌≤◌, ℕ, zero, suc, ◌+◌, List, [], ◌∷◌, ◌++◌, length, take, drop, map, Option, Some, None, cond, ltb, Bool, false, refl, ap, sym, ◌∙◌, arith, append_assoc, length-append}
+use Rattle.std.proofs.Common.{◌≡◌, ◌<◌, ℕ, ◌+◌, List, [], ◌∷◌, ◌++◌, length, drop, map, Option, Some, None, cond, ltb, Bool, false, refl, ap, sym, ◌∙◌, arith, append_assoc, length-append}
 use Rattle.std.proofs.lemmas.Bool.{le-ltb}
-use Rattle.std.proofs.lemmas.List.{take_at, drop_at, append-nil}
+use Rattle.std.proofs.lemmas.List.{drop_at}
 use Rattle.std.specs.Option.{option_map}
 use Rattle.std.specs.List.{flat_map, AllByRecursion}
-use Rattle.byteorder.specs.Numbers.{little_number-reads_back}
 use Rattle.vol_block.specs.Volume.{field}
 use Rattle.btr_keys.specs.Layout.{Layout}
 use Rattle.btr_keys.specs.Repeated.{behind_named, starts, records, at_least_one, RecordsReadBack}
 use Rattle.btr_keys.proofs.Layouts.{Reads}
-use Rattle.btr_keys.proofs.Starts.{Shrinks, starts_step, starts_end, named_shrinks}
+use Rattle.btr_keys.proofs.Starts.{starts_step, starts_end, named_shrinks}
 
 -- a kind of record: its head of n bytes reads back, the name's length stands at a place in it, and the name behind it
 pub record IsNamed {R : Type 0} (n at : ℕ) (head : Layout R (List ℕ → R)) (name : R → List ℕ) : Type 1 where

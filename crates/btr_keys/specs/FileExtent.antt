@@ -100,6 +100,12 @@ file_extent_of body = if nat_lt (length body) 21 then None else file_extent_head
 abbrev pub file_extent_bytes : FileExtentValue → List ℕ
 file_extent_bytes e = file_extent_head.spell e (content_bytes e.content)
 
--- how many these are
+-- how many bytes the contents take
+abbrev pub content_size : ContentValue → ℕ
+content_size (Inline bytes) = length bytes
+content_size (Regular range) = 32
+content_size (Prealloc range) = 32
+
+-- how many bytes an extent takes
 abbrev pub file_extent_size : FileExtentValue → ℕ
-file_extent_size e = 21 + length (content_bytes e.content)
+file_extent_size e = 21 + content_size e.content

@@ -106,7 +106,6 @@ pub struct FileExtent<'a> {
 }
 
 impl<'a> FileExtent<'a> {
-    #[tactic(auto, unfolding(crate::specs::FileExtent::file_extent_head))]
     /// The extent that is the whole body. None exactly where the body has fewer than 21 bytes, its kind is none of 0, 1
     /// and 2, or it is regular or preallocated and has another length than 53 bytes.
     pub fn read(body: &'a [u8]) -> Option<FileExtent<'a>>

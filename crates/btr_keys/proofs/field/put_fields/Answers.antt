@@ -1,6 +1,5 @@
-use Rattle.std.proofs.Common.{◌≡◌, ◌∙◌, ap, ◌++◌, List, ℕ, arith}
+use Rattle.std.proofs.Common.{arith}
 use Rattle.btr_keys.specs.declared.field.Field.TheVariants.{U8}
-use Rattle.btr_keys.specs.Field.{field_bytes}
 use Rattle.btr_keys.proofs.Fronts.{fields_bytes_more, fields_width_more, room_for_field}
 use Rattle.btr_keys.proofs.field.put_fields.Goals as goal
 

@@ -1,4 +1,4 @@
-use Rattle.std.proofs.Common.{◌≡◌, ◌≤◌, ◌+◌, ℕ, length}
+use Rattle.std.proofs.Common.{◌≡◌, ◌≤◌, ◌+◌, length}
 use Rattle.std.specs.Option.{option_map}
 use Rattle.btr_keys.specs.Repeated.{behind_named, starts}
 use Rattle.btr_keys.proofs.named.record_count.Given as goal
