@@ -18,7 +18,7 @@ mod stamp;
 
 pub use dir_entry::{DirEntry, DirItems};
 pub use extref::{Extref, Extrefs};
-pub use field::{Field, put_fields};
+pub use field::{Field, array_at, put_fields};
 pub use file_extent::{DiskRange, ExtentContent, FileExtent};
 pub use inode::Inode;
 pub use inode_ref::{InodeRef, InodeRefs};
