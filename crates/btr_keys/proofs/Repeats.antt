@@ -19,7 +19,7 @@ pub record IsNamed {R : Type 0} (n at : ℕ) (head : Layout R (List ℕ → R)) 
   pub name_length : (r : R) (rest : List ℕ) → head.fits r → field 2 (head.spell r rest) at ≡ length (name r)
   pub whole : (r : R) (rest : List ℕ) → make r (name r ++ rest) ≡ r
 
-front_of : {R : Type 0} {n at : ℕ} {head : Layout R (List ℕ → R)} {name : R → List ℕ} → IsNamed n at head name → (r : R) (rest : List ℕ) → head.fits r
+pub front_of : {R : Type 0} {n at : ℕ} {head : Layout R (List ℕ → R)} {name : R → List ℕ} → IsNamed n at head name → (r : R) (rest : List ℕ) → head.fits r
     → (λ (bytes : List ℕ). head.read bytes (drop n bytes)) (head.spell r (name r ++ rest)) ≡ r
 front_of {n = n} {head = head} {name = name} named r rest fits =
     let behind = name r ++ rest in

@@ -8,7 +8,7 @@ make_block_group used chunk_objectid flags =
     record {
       used = used;
       chunk_objectid = chunk_objectid;
-      flags = flags
+      flags = flags;
     }
 
 unfoldable pub block_group_layout : Layout BlockGroup BlockGroup

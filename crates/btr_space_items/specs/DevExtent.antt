@@ -10,7 +10,7 @@ make_dev_extent chunk_tree chunk_objectid chunk_offset length chunk_tree_uuid =
       chunk_objectid = chunk_objectid;
       chunk_offset = chunk_offset;
       length = length;
-      chunk_tree_uuid = chunk_tree_uuid
+      chunk_tree_uuid = chunk_tree_uuid;
     }
 
 unfoldable pub dev_extent_layout : Layout DevExtent DevExtent

@@ -19,7 +19,7 @@ make_device devid total_bytes bytes_used io_align io_width sector_size kind gene
       seek_speed = seek_speed;
       bandwidth = bandwidth;
       uuid = uuid;
-      fsid = fsid
+      fsid = fsid;
     }
 
 unfoldable pub device_layout : Layout Device Device

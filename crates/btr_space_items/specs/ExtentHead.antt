@@ -8,7 +8,7 @@ make_extent_head refs generation flags =
     record {
       refs = refs;
       generation = generation;
-      flags = flags
+      flags = flags;
     }
 
 unfoldable pub extent_head_layout : Layout ExtentHead ExtentHead

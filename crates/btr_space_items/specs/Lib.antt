@@ -3,3 +3,8 @@ pub mod DevExtent
 pub mod Device
 pub mod Stripe
 pub mod ExtentHead
+pub mod Chunk
+pub mod RootItem
+pub mod RootRef
+pub mod InlineRef
+pub mod Laws

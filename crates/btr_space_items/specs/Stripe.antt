@@ -8,7 +8,7 @@ make_stripe devid offset device_uuid =
     record {
       devid = devid;
       offset = offset;
-      device_uuid = device_uuid
+      device_uuid = device_uuid;
     }
 
 unfoldable pub stripe_layout : Layout Stripe Stripe
