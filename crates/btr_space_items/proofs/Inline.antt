@@ -1,5 +1,5 @@
 -- Steps over the references of an extent.
-use Rattle.std.proofs.Common.{◌≡◌, ◌<◌, ◌≤◌, ℕ, List, length, drop, Option, Some, None, cond, ltb, ◌==◌, Bool, true, false, refl, ap, sym, ◌∙◌, arith, subst, length-drop, slice_index_or}
+use Rattle.std.proofs.Common.{◌≡◌, ◌<◌, ◌≤◌, ℕ, List, length, drop, Some, None, cond, ltb, ◌==◌, Bool, true, false, refl, arith, subst, length-drop, slice_index_or}
 use Rattle.std.proofs.lemmas.Bool.{ltb-false}
 use Rattle.btr_keys.proofs.Starts.{Shrinks}
 use Rattle.btr_space_items.specs.InlineRef.{behind_inline, rest_of}
