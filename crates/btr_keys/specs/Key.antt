@@ -6,9 +6,12 @@ use Rattle.std.specs.Ordering.{nat_cmp, ordering_then}
 use Rattle.btr_keys.specs.Layout.{Layout, made_by, ◌▸◌, u8, u64, whole, spelling}
 use Rattle.btr_keys.specs.declared.key.Key.{Key}
 
-abbrev pub key_layout : Layout Key Key
+abbrev pub make_key : ℕ → ℕ → ℕ → Key
+make_key objectid kind offset = record { objectid = objectid; kind = kind; offset = offset }
+
+unfoldable pub key_layout : Layout Key Key
 key_layout =
-    made_by (λ objectid kind offset. record { objectid = objectid; kind = kind; offset = offset })
+    made_by make_key
     ▸ u64 (λ k. k.objectid)
     ▸ u8 (λ k. k.kind)
     ▸ u64 (λ k. k.offset)
@@ -19,7 +22,7 @@ key_at bytes at = key_layout.read (drop at bytes)
 
 -- the key that is the whole body
 abbrev pub key_of : List ℕ → Option Key
-key_of body = whole key_layout body
+key_of body = whole 17 key_layout body
 
 -- the 17 bytes of a key
 abbrev pub key_bytes : Key → List ℕ

@@ -1,3 +1,6 @@
 pub mod Layout
 pub mod Field
 pub mod Key
+pub mod Stamp
+pub mod Inode
+pub mod Laws

@@ -22,6 +22,7 @@ impl Key {
     pub const SIZE: usize = 17;
 
     /// The key in the 17 bytes from byte `at` on.
+    #[tactic(auto, unfolding(crate::specs::Key::key_layout))]
     pub fn at(bytes: &[u8], at: usize) -> Key
         requires { at + 17 ≤ length bytes.now }
         ensures { result ≡ key_at bytes.now at }
@@ -45,6 +46,7 @@ impl Key {
     }
 
     /// Writes the key into the 17 bytes of a slice.
+    #[tactic(auto, unfolding(crate::specs::Key::key_layout))]
     pub fn write(&self, into: &mut [u8])
         requires { length into.old ≡ 17 }
         ensures { into.new ≡ key_bytes self.now }

@@ -6,7 +6,13 @@
 #![tactic(auto)]
 
 mod field;
+mod inode;
 mod key;
+mod laws;
+mod stamp;
 
 pub use field::{Field, put_fields};
+pub use inode::Inode;
 pub use key::Key;
+pub use laws::{inodes_read_back, keys_read_back, stamps_read_back};
+pub use stamp::Stamp;
