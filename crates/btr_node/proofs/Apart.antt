@@ -1,0 +1,2 @@
+-- Areas of data.
+use Rattle.std.proofs.Common.{refl}

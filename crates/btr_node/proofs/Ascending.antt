@@ -1,0 +1,2 @@
+-- Keys in order.
+use Rattle.std.proofs.Common.{refl}

@@ -1,0 +1,9 @@
+pub mod Areas
+pub mod Head
+pub mod Inner
+pub mod Leaf
+pub mod NodeSize
+pub mod Order
+pub mod Records
+pub mod Rules
+pub mod Sum
