@@ -1,5 +1,5 @@
 -- Inner nodes, as the Btrfs on-disk format documentation has them: children behind the node's head.
-use Rattle.std.specs.Prelude.{◌≡◌, ℕ, ◌*◌, ◌≤◌, nat_lt, nat_le, Bool, ◌&&◌, List, length, map}
+use Rattle.std.specs.Prelude.{◌≡◌, ℕ, ◌+◌, ◌*◌, ◌≤◌, nat_lt, nat_le, Bool, ◌&&◌, List, length, map}
 use Rattle.btr_keys.specs.Layout.{Layout, made_by, ◌▸◌, part, u64}
 use Rattle.btr_keys.specs.Key.{key_layout}
 use Rattle.btr_keys.specs.declared.key.Key.{Key}
@@ -29,7 +29,7 @@ first_keys children = map (λ child. child.key) children
 
 -- the children lie in the node
 abbrev pub HasInnerLayout : List ℕ → Type 0
-HasInnerLayout bytes = 33 * count bytes ≤ length (behind_head bytes)
+HasInnerLayout bytes = 101 + 33 * count bytes ≤ length bytes
 
 -- an inner node of which a parent says this
 pub record IsInner (want : Expect) (bytes : List ℕ) : Type 0 where
@@ -45,7 +45,7 @@ abbrev pub has_inner_head : Expect → List ℕ → Bool
 has_inner_head want bytes = nat_lt 0 want.level && (nat_lt 0 (count bytes) && has_head want bytes)
 
 abbrev pub has_inner_layout : List ℕ → Bool
-has_inner_layout bytes = nat_le (33 * count bytes) (length (behind_head bytes))
+has_inner_layout bytes = nat_le (101 + 33 * count bytes) (length bytes)
 
 abbrev pub has_inner_order : List ℕ → Bool
 has_inner_order bytes = ascends (first_keys (children_in bytes))

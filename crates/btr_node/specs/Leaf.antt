@@ -1,6 +1,6 @@
 -- Leaves, as the Btrfs on-disk format documentation has them: heads of items behind the node's head, and their data
 -- anywhere behind these.
-use Rattle.std.specs.Prelude.{◌≡◌, ℕ, ◌+◌, ◌*◌, ◌≤◌, ◌==◌, nat_le, Bool, ◌&&◌, List, length, map, slice_range}
+use Rattle.std.specs.Prelude.{◌≡◌, ℕ, ◌+◌, ◌*◌, ◌≤◌, ◌==◌, nat_le, Bool, ◌&&◌, List, length, drop, map, slice_range}
 use Rattle.btr_keys.specs.Layout.{Layout, made_by, ◌▸◌, part, u32}
 use Rattle.btr_keys.specs.Key.{key_layout}
 use Rattle.btr_keys.specs.declared.key.Key.{Key}
@@ -26,6 +26,10 @@ item_layout =
 unfoldable pub heads_in : List ℕ → List ItemHead
 heads_in bytes = records_in 25 item_layout (count bytes) (behind_head bytes)
 
+-- the head of item i
+abbrev pub head_at : List ℕ → ℕ → ItemHead
+head_at bytes i = item_layout.read (drop (25 * i) (behind_head bytes))
+
 -- an item: its key and its data
 abbrev pub Item : Type 0
 Item = Key × List ℕ
@@ -42,7 +46,7 @@ keys_of items = map (λ item. item.0) items
 
 -- the heads lie in the node, and the data where it may
 pub record HasLeafLayout (bytes : List ℕ) : Type 0 where
-  pub heads : 25 * count bytes ≤ length (behind_head bytes)
+  pub heads : 101 + 25 * count bytes ≤ length bytes
   pub areas : HasAreas (25 * count bytes) (length (behind_head bytes)) (heads_in bytes)
 
 -- a leaf of which a parent says this
@@ -59,7 +63,7 @@ has_leaf_head want bytes = (want.level == 0) && has_head want bytes
 
 unfoldable pub has_leaf_layout : List ℕ → Bool
 has_leaf_layout bytes =
-    nat_le (25 * count bytes) (length (behind_head bytes)) && has_areas (25 * count bytes) (length (behind_head bytes)) (heads_in bytes)
+    nat_le (101 + 25 * count bytes) (length bytes) && has_areas (25 * count bytes) (length (behind_head bytes)) (heads_in bytes)
 
 abbrev pub has_leaf_order : List ℕ → Bool
 has_leaf_order bytes = ascends (keys_of (items_in bytes))

@@ -29,14 +29,14 @@ abbrev pub broken : Bool → BtrRule → List BtrRule
 broken true rule = []
 broken false rule = rule ∷ []
 
+-- the rules that do not hold, where these tests say which do: of the checksum, the head, the layout and the keys
+abbrev pub damages_of : Bool → Bool → Bool → Bool → List BtrRule
+damages_of sum head layout order = broken sum NodeCsum ++ (broken head NodeHead ++ (broken layout NodeLayout ++ broken order KeyOrder))
+
 -- the rules that a leaf breaks
 unfoldable pub leaf_damages : Expect → List ℕ → List BtrRule
-leaf_damages want bytes =
-    broken (has_sum want.sums bytes) NodeCsum
-    ++ (broken (has_leaf_head want bytes) NodeHead ++ (broken (has_leaf_layout bytes) NodeLayout ++ broken (has_leaf_order bytes) KeyOrder))
+leaf_damages want bytes = damages_of (has_sum want.sums bytes) (has_leaf_head want bytes) (has_leaf_layout bytes) (has_leaf_order bytes)
 
 -- the rules that an inner node breaks
 unfoldable pub inner_damages : Expect → List ℕ → List BtrRule
-inner_damages want bytes =
-    broken (has_sum want.sums bytes) NodeCsum
-    ++ (broken (has_inner_head want bytes) NodeHead ++ (broken (has_inner_layout bytes) NodeLayout ++ broken (has_inner_order bytes) KeyOrder))
+inner_damages want bytes = damages_of (has_sum want.sums bytes) (has_inner_head want bytes) (has_inner_layout bytes) (has_inner_order bytes)

@@ -1,5 +1,5 @@
-ghost use Rattle.std.specs.Prelude.{◌≡◌, ◌≤◌, ◌↔◌, length, IsTrue};
-ghost use Rattle.btr_node.specs.Head.{head_layout, head_in, expected};
+ghost use Rattle.std.specs.Prelude.{◌≡◌, ◌≤◌, length};
+ghost use Rattle.btr_node.specs.Head.{head_layout, head_in, behind_head, expected, has_head};
 
 use crate::expect::Expect;
 use csum_kinds::SumKind;
@@ -73,4 +73,20 @@ impl Head {
             sums,
         }
     }
+}
+
+/// Whether the head of a node says what its parent says.
+pub fn has_head(bytes: &[u8], want: &Expect) -> bool
+    requires { 101 ≤ length bytes.now }
+    ensures { result ≡ has_head want.now bytes.now }
+{
+    Head::of(bytes).expected(want.sums) == *want
+}
+
+/// What stands behind the head of a node.
+pub fn behind_head(bytes: &[u8]) -> &[u8]
+    requires { 101 ≤ length bytes.now }
+    ensures { result.now ≡ behind_head bytes.now }
+{
+    &bytes[101..]
 }

@@ -11,9 +11,12 @@ mod child;
 mod expect;
 mod head;
 mod item;
+mod leaf;
 mod order;
+mod sum;
 
 pub use child::Child;
 pub use expect::Expect;
 pub use head::Head;
 pub use item::ItemHead;
+pub use leaf::LeafView;
