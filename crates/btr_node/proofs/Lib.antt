@@ -1,5 +1,6 @@
 pub mod Apart
 pub mod Ascending
 pub mod Breaks
+pub mod Inners
 pub mod Leaves
 pub mod Rows

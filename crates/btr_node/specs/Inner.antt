@@ -1,5 +1,5 @@
 -- Inner nodes, as the Btrfs on-disk format documentation has them: children behind the node's head.
-use Rattle.std.specs.Prelude.{◌≡◌, ℕ, ◌+◌, ◌*◌, ◌≤◌, nat_lt, nat_le, Bool, ◌&&◌, List, length, map}
+use Rattle.std.specs.Prelude.{◌≡◌, ℕ, ◌+◌, ◌*◌, ◌≤◌, nat_lt, nat_le, Bool, ◌&&◌, List, length, drop, map}
 use Rattle.btr_keys.specs.Layout.{Layout, made_by, ◌▸◌, part, u64}
 use Rattle.btr_keys.specs.Key.{key_layout}
 use Rattle.btr_keys.specs.declared.key.Key.{Key}
@@ -23,6 +23,10 @@ child_layout =
 -- the children of an inner node
 unfoldable pub children_in : List ℕ → List Child
 children_in bytes = records_in 33 child_layout (count bytes) (behind_head bytes)
+
+-- child i
+abbrev pub child_at : List ℕ → ℕ → Child
+child_at bytes i = child_layout.read (drop (33 * i) (behind_head bytes))
 
 abbrev pub first_keys : List Child → List Key
 first_keys children = map (λ child. child.key) children
