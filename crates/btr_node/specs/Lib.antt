@@ -1,4 +1,5 @@
 pub mod Areas
+pub mod Draft
 pub mod Head
 pub mod Inner
 pub mod Leaf

@@ -1,7 +1,9 @@
 ghost use Rattle.std.specs.Prelude.{◌≡◌, ◌≤◌, length};
+ghost use Rattle.btr_keys.specs.Layout.{spelling};
 ghost use Rattle.btr_node.specs.Head.{head_layout, head_in, behind_head, expected, has_head};
 
 use crate::expect::Expect;
+use btr_keys::{Field, put_fields};
 use csum_kinds::SumKind;
 use vol_block::{u32_at, u64_at};
 
@@ -58,6 +60,28 @@ impl Head {
             count: u32_at(bytes, 64),
             level: bytes[68],
         }
+    }
+
+    /// Writes the head into 69 bytes.
+    #[tactic(auto, unfolding(crate::specs::Head::head_layout))]
+    pub fn write(&self, into: &mut [u8])
+        requires { length into.old ≡ 69 }
+        ensures { into.new ≡ spelling head_layout self.now }
+    {
+        put_fields(
+            into,
+            &[
+                Field::Bytes(&self.fsid),
+                Field::U64(self.address),
+                Field::Bytes(&self.flags),
+                Field::U8(self.revision),
+                Field::Bytes(&self.chunk_tree),
+                Field::U64(self.generation),
+                Field::U64(self.owner),
+                Field::U32(self.count),
+                Field::U8(self.level),
+            ],
+        );
     }
 
     /// What a parent would say of the node.

@@ -14,6 +14,7 @@ mod inner;
 mod item;
 mod leaf;
 mod order;
+mod put;
 mod sum;
 
 pub use child::Child;
