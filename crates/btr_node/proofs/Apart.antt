@@ -13,7 +13,7 @@ both : (a b : Bool) → (a && b) ≡ true → (a ≡ true) × (b ≡ true)
 both true b h = (refl, h)
 both false b h = (cc)
 
-joined : (a b : Bool) → a ≡ true → b ≡ true → (a && b) ≡ true
+pub joined : (a b : Bool) → a ≡ true → b ≡ true → (a && b) ≡ true
 joined true b h k = k
 joined false b h k = h
 
@@ -22,7 +22,7 @@ within_tells low high head h =
     let parts = both (nat_le low head.offset) (nat_le (head.offset + head.size) high) h in
     (grind (arith, nat_tests), grind (arith, nat_tests))
 
-within_test : (low high : ℕ) (head : ItemHead) → low ≤ head.offset → head.offset + head.size ≤ high → is_within low high head ≡ true
+pub within_test : (low high : ℕ) (head : ItemHead) → low ≤ head.offset → head.offset + head.size ≤ high → is_within low high head ≡ true
 within_test low high head h k = joined (nat_le low head.offset) (nat_le (head.offset + head.size) high) (grind (arith, nat_tests)) (grind (arith, nat_tests))
 
 -- the four ways in which two areas share no byte

@@ -3,6 +3,8 @@ pub mod Ascending
 pub mod Breaks
 pub mod Inners
 pub mod Leaves
+pub mod NodeBack
 pub mod Putting
+pub mod ReadBack
 pub mod Rows
 pub mod Spelled

@@ -26,7 +26,7 @@ put_is at len s A M B new is a m =
 abbrev pub zeros : ℕ → List ℕ
 zeros n = replicate n 0
 
-length-zeros : (n : ℕ) → length (zeros n) ≡ n
+pub length-zeros : (n : ℕ) → length (zeros n) ≡ n
 length-zeros n = length-replicate {A = ℕ} n 0
 
 zeros_apart : (n a b : ℕ) → n ≡ a + b → zeros n ≡ zeros a ++ zeros b

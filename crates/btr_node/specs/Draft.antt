@@ -1,13 +1,15 @@
 -- A node that is being written, and the bytes of it. A leaf has items and no children, an inner node children and no
 -- items.
-use Rattle.std.specs.Prelude.{◌≡◌, ℕ, ◌+◌, ◌-◌, ◌*◌, ◌^◌, ◌<◌, ◌≤◌, Bool, List, [], ◌∷◌, ◌++◌, length, replicate, sum_by, IsTrue}
-use Rattle.std.specs.List.{AllByRecursion, flat_map}
+use Rattle.std.specs.Prelude.{◌≡◌, ℕ, ◌+◌, ◌-◌, ◌*◌, ◌≤◌, Bool, true, false, List, [], ◌∷◌, ◌++◌, length, replicate, sum_by}
+use Rattle.std.specs.List.{All, flat_map}
+use Rattle.btr_keys.specs.Key.{key_layout}
 use Rattle.btr_keys.specs.Layout.{spelling}
 use Rattle.csum_kinds.specs.declared.kind.SumKind.{SumKind}
 use Rattle.csum_kinds.specs.Kind.{kind_sum}
 use Rattle.btr_node.specs.Head.{head_layout}
 use Rattle.btr_node.specs.Inner.{child_layout, first_keys}
 use Rattle.btr_node.specs.Leaf.{Item, item_layout, keys_of}
+use Rattle.btr_node.specs.NodeSize.{IsNodeSize}
 use Rattle.btr_node.specs.Order.{Ascends}
 use Rattle.btr_node.specs.declared.child.Child.{Child}
 use Rattle.btr_node.specs.declared.expect.Expect.{Expect}
@@ -74,3 +76,27 @@ sealed sums bytes = kind_sum sums bytes ++ bytes
 -- the bytes of the node
 unfoldable pub node_bytes : Draft → List ℕ
 node_bytes draft = sealed draft.want.sums (spelling head_layout (head_of draft) ++ contents (draft.nodesize - 101) draft.items draft.children)
+
+-- nothing is started yet
+pub record IsBlank (nodesize : ℕ) (draft : Draft) : Type 0 where
+  pub size : draft.nodesize ≡ nodesize
+  pub idle : draft.started ≡ false
+  pub no_items : draft.items ≡ []
+  pub no_children : draft.children ≡ []
+
+-- an empty node of which its parent will say this
+abbrev pub started_for : ℕ → Expect → List ℕ → Draft
+started_for nodesize want chunk_tree =
+    record { nodesize = nodesize; started = true; want = want; chunk_tree = chunk_tree; items = []; children = [] }
+
+-- A node that can be written: what it holds fits and ascends, and its numbers have a spelling.
+pub record IsDraft (draft : Draft) : Type 0 where
+  pub nodesize : IsNodeSize draft.nodesize
+  pub fits : 101 + bytes_of draft.items + 33 * length draft.children ≤ draft.nodesize
+  pub head : head_layout.fits (head_of draft)
+  pub keys : All (λ item. key_layout.fits item.0) draft.items
+  pub links : All (λ child. child_layout.fits child) draft.children
+  pub leaf : draft.want.level ≡ 0 → draft.children ≡ []
+  pub inner : 1 ≤ draft.want.level → draft.items ≡ []
+  pub item_order : Ascends (keys_of draft.items)
+  pub child_order : Ascends (first_keys draft.children)

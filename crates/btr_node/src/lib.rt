@@ -16,6 +16,7 @@ mod leaf;
 mod order;
 mod put;
 mod sum;
+mod writer;
 
 pub use child::Child;
 pub use expect::Expect;
@@ -23,3 +24,4 @@ pub use head::Head;
 pub use inner::InnerView;
 pub use item::ItemHead;
 pub use leaf::LeafView;
+pub use writer::{Full, NodeWriter};
