@@ -85,7 +85,7 @@ heads_of-append end (first ∷ items) item =
     (heads_of-append (end - length first.1) items item
       ∙ ap (λ e. heads_of (end - length first.1) items ++ head_below e item ∷ []) below)
 
-data_of-append : (items : List Item) (item : Item) → data_of (items ++ item ∷ []) ≡ item.1 ++ data_of items
+pub data_of-append : (items : List Item) (item : Item) → data_of (items ++ item ∷ []) ≡ item.1 ++ data_of items
 data_of-append [] item = sym (append-nil item.1)
 data_of-append (first ∷ items) item = ap (λ z. z ++ first.1) (data_of-append items item) ∙ append_assoc item.1 (data_of items) first.1
 

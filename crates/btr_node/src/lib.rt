@@ -7,6 +7,7 @@
 #![tactic(auto)]
 
 mod areas;
+mod buffer;
 mod child;
 mod expect;
 mod head;

@@ -1,4 +1,4 @@
-ghost use Rattle.std.specs.Prelude.{◌≡◌, ◌≤◌, ◌<◌, ◌+◌, ◌↔◌, ◌++◌, ◌∷◌, [], length, replicate, IfOk, IsErr, OnOk, OnErr, IsTrue};
+ghost use Rattle.std.specs.Prelude.{◌≡◌, ◌≤◌, ◌<◌, ◌+◌, ◌↔◌, ◌++◌, ◌∷◌, [], length, IfOk, IsErr, OnOk, OnErr, IsTrue};
 ghost use Rattle.std.specs.Borrow.{sem};
 ghost use Rattle.std.specs.Io.BufRead.{Rests};
 ghost use Rattle.btr_node.specs.Draft.{room, node_bytes, IsBlank, started_for};
@@ -8,10 +8,10 @@ ghost use Rattle.btr_node.specs.NodeSize.{IsNodeSize};
 ghost use Rattle.btr_node.specs.Order.{Ascends};
 ghost use Rattle.btr_node.specs.contracts.writer.NodeWriter.{the_row};
 
+use crate::buffer::{add_child, add_item, clear, seal, zeroed};
 use crate::child::Child;
 use crate::expect::Expect;
 use crate::head::Head;
-use crate::put::{put_child, put_head, put_item};
 use btr_keys::Key;
 use csum_kinds::SumKind;
 use outside::Memory;
@@ -75,7 +75,7 @@ impl NodeWriter {
     pub fn start(&mut self, want: &Expect, chunk_tree: [u8; 16])
         ensures { self.new ≡ started_for self.old.nodesize want.now chunk_tree }
     {
-        clear(self.buffer.as_mut_slice());
+        clear(&mut self.buffer);
         self.started = true;
         self.want = *want;
         self.chunk_tree = chunk_tree;
@@ -104,8 +104,7 @@ impl NodeWriter {
         if self.room() < 25 + body.len() {
             return Err(Full);
         }
-        let bytes = self.buffer.as_mut_slice();
-        put_item(&mut bytes[101..], self.items, self.low, key, body);
+        add_item(&mut self.buffer, self.items, self.low, key, body);
         self.items += 1;
         self.low -= body.len();
         Ok(())
@@ -124,8 +123,7 @@ impl NodeWriter {
         if self.room() < 33 {
             return Err(Full);
         }
-        let bytes = self.buffer.as_mut_slice();
-        put_child(&mut bytes[101..], self.children, &child);
+        add_child(&mut self.buffer, self.children, &child);
         self.children += 1;
         Ok(())
     }
@@ -153,24 +151,7 @@ impl NodeWriter {
             count: (self.items + self.children) as u32,
             level: self.want.level,
         };
-        let bytes = self.buffer.as_mut_slice();
-        put_head(bytes, &head, self.want.sums);
+        seal(&mut self.buffer, &head, self.want.sums);
         self.buffer.as_slice()
     }
-}
-
-/// So many zeros.
-fn zeroed(alloc: Global, n: usize) -> Result<Vec<u8>, Memory>
-    ensures { IfOk result (λ bytes. bytes.items ≡ replicate n 0) }
-{
-    let mut bytes = Vec::new(alloc);
-    bytes.resize(n, 0)?;
-    Ok(bytes)
-}
-
-/// Writes zeros over all bytes.
-fn clear(bytes: &mut [u8])
-    ensures { bytes.new ≡ replicate (length bytes.old) 0 }
-{
-    bytes.fill(0);
 }
