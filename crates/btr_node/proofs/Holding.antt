@@ -248,3 +248,24 @@ start_steps bytes n low started want chunk_tree is right placed fits =
         placed = omega (arith, size, placed);
       })
     size refl refl
+
+-- a head whose numbers fit has a spelling
+pub head_spelled : (nodesize : ℕ) (started : Bool) (want : Expect) (chunk_tree : List ℕ) → length want.fsid ≡ 16 → want.address < 2 ^ 64 → length chunk_tree ≡ 16
+    → want.generation < 2 ^ 64 → want.owner < 2 ^ 64 → want.level < 2 ^ 8
+    → head_layout.fits (head_of (record { nodesize = nodesize; started = started; want = want; chunk_tree = chunk_tree; items = []; children = [] }))
+unfolding head_layout
+head_spelled nodesize started want chunk_tree fsid address tree generation owner level =
+    (((((((((tt, fsid), address), refl), omega arith), tree), generation), owner), omega arith), level)
+
+-- what stands in a buffer that was sealed
+pub sealed_is : (bytes new : List ℕ) (low : ℕ) (started : Bool) (want : Expect) (chunk_tree : List ℕ) (items children : ℕ)
+    → Holds bytes low (held bytes started want chunk_tree items children)
+    → new ≡ sealed want.sums (spelling head_layout (record (head_of (held bytes started want chunk_tree items children)) { count = items + children }) ++ drop 101 bytes)
+    → new ≡ node_bytes (held bytes started want chunk_tree items children)
+unfolding node_bytes
+sealed_is bytes new low started want chunk_tree items children holds is =
+    let draft : Draft = held bytes started want chunk_tree items children in
+    let counted : items + children ≡ length draft.items + length draft.children = omega (arith, length-stored_items bytes items, length-stored_children bytes children) in
+    is
+    ∙ ap (λ n. sealed want.sums (spelling head_layout (record (head_of draft) { count = n }) ++ drop 101 bytes)) counted
+    ∙ ap (λ z. sealed want.sums (spelling head_layout (head_of draft) ++ z)) holds.filled

@@ -4,6 +4,7 @@ use Rattle.std.proofs.Math.Nat.{mul-suc}
 use Rattle.std.specs.List.{flat_map}
 use Rattle.std.proofs.lemmas.List.{length-replicate}
 use Rattle.btr_keys.specs.Key.{key_layout}
+use Rattle.btr_keys.specs.declared.key.Key.{Key}
 use Rattle.btr_keys.specs.Layout.{spelling}
 use Rattle.btr_keys.proofs.Layouts.{Reads, start, ◌▹◌, array_reads, u8_reads, u32_reads, u64_reads, part_reads}
 use Rattle.btr_keys.proofs.Records.{key_reads}
@@ -46,3 +47,12 @@ pub length-records : {X : Type 0} (f : X → List ℕ) (width : ℕ) → ((x : X
 length-records f width each [] = omega arith
 length-records f width each (x ∷ xs) =
     omega (arith, length-append (f x) (flat_map f xs), each x, length-records f width each xs, mul-suc width (length xs))
+
+-- what fits in its fields has a spelling
+pub key_spelled : (key : Key) → key.objectid < 2 ^ 64 → key.kind < 2 ^ 8 → key.offset < 2 ^ 64 → key_layout.fits key
+unfolding key_layout
+key_spelled key a b c = (((tt, a), b), c)
+
+pub child_spelled : (child : Child) → key_layout.fits child.key → child.address < 2 ^ 64 → child.generation < 2 ^ 64 → child_layout.fits child
+unfolding child_layout
+child_spelled child a b c = (((tt, a), b), c)

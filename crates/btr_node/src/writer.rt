@@ -75,9 +75,15 @@ impl NodeWriter {
     pub fn start(&mut self, want: &Expect, chunk_tree: [u8; 16])
         ensures { self.new ≡ started_for self.old.nodesize want.now chunk_tree }
     {
+        self.begin(*want, chunk_tree);
+    }
+
+    fn begin(&mut self, want: Expect, chunk_tree: [u8; 16])
+        ensures { self.new ≡ started_for self.old.nodesize want chunk_tree }
+    {
         clear(&mut self.buffer);
         self.started = true;
-        self.want = *want;
+        self.want = want;
         self.chunk_tree = chunk_tree;
         self.items = 0;
         self.children = 0;
