@@ -177,10 +177,10 @@ push_steps bytes new low started want chunk_tree items children key body holds l
     let known = room_of bytes low started want chunk_tree items children holds in
     steps new (low - length body) (items + 1) children more
     (record {
-        right = item_is_right draft key body holds.right leaf fits spelled order;
-        filled = filled ∙ ap (λ cs. contents (length bytes - 101) more.items cs) (sym none) ∙ ap (λ k. contents (k - 101) more.items draft.children) (sym size);
-        placed = omega (arith, holds.placed, size, known.room_is, fits, ap length (data_of-append draft.items (key, body)), length-append body (data_of draft.items));
-      })
+      right = item_is_right draft key body holds.right leaf fits spelled order;
+      filled = filled ∙ ap (λ cs. contents (length bytes - 101) more.items cs) (sym none) ∙ ap (λ k. contents (k - 101) more.items draft.children) (sym size);
+      placed = omega (arith, holds.placed, size, known.room_is, fits, ap length (data_of-append draft.items (key, body)), length-append body (data_of draft.items));
+    })
     size (omega (arith, length-append draft.items ((key, body) ∷ []), length-stored_items bytes items)) (length-stored_children bytes children)
 
 -- a child more
@@ -196,10 +196,10 @@ push_child_steps bytes new low started want chunk_tree items children child hold
     let none : draft.items ≡ [] = holds.right.inner inner in
     steps new low items (children + 1) more
     (record {
-        right = child_is_right draft child holds.right inner fits spelled order;
-        filled = filled ∙ ap (λ is. contents (length bytes - 101) is more.children) (sym none) ∙ ap (λ k. contents (k - 101) draft.items more.children) (sym size);
-        placed = holds.placed ∙ sym size;
-      })
+      right = child_is_right draft child holds.right inner fits spelled order;
+      filled = filled ∙ ap (λ is. contents (length bytes - 101) is more.children) (sym none) ∙ ap (λ k. contents (k - 101) draft.items more.children) (sym size);
+      placed = holds.placed ∙ sym size;
+    })
     size (length-stored_items bytes items) (omega (arith, length-append draft.children (child ∷ []), length-stored_children bytes children))
 
 -- a head and a checksum, which change nothing behind them
@@ -212,10 +212,10 @@ finish_steps bytes new low started want chunk_tree items children holds is =
     let size : length new ≡ length bytes = ap length is ∙ length-node_bytes draft holds.right in
     steps new low items children draft
     (record {
-        right = holds.right;
-        filled = ap behind_head is ∙ node_behind_head draft holds.right ∙ ap (λ k. contents (k - 101) draft.items draft.children) (sym size);
-        placed = holds.placed ∙ sym size;
-      })
+      right = holds.right;
+      filled = ap behind_head is ∙ node_behind_head draft holds.right ∙ ap (λ k. contents (k - 101) draft.items draft.children) (sym size);
+      placed = holds.placed ∙ sym size;
+    })
     size (length-stored_items bytes items) (length-stored_children bytes children)
 
 empty_contents : (n size : ℕ) → size ≡ n → behind_head (zeros n) ≡ contents (size - 101) [] []
@@ -233,20 +233,20 @@ start_steps bytes n low started want chunk_tree is right placed fits =
     let size : length bytes ≡ n = ap length is ∙ length-zeros n in
     steps bytes low 0 0 (record { nodesize = n; started = started; want = want; chunk_tree = chunk_tree; items = []; children = [] })
     (record {
-        right = record {
-          nodesize = right;
-          fits = omega (arith, within.0);
-          head = fits;
-          keys = All-nil (λ (i : Item). key_layout.fits i.0);
-          links = All-nil child_layout.fits;
-          leaf = λ leaf. refl;
-          inner = λ inner. refl;
-          item_order = refl;
-          child_order = refl;
-        };
-        filled = ap behind_head is ∙ empty_contents n (length bytes) size;
-        placed = omega (arith, size, placed);
-      })
+      right = record {
+        nodesize = right;
+        fits = omega (arith, within.0);
+        head = fits;
+        keys = All-nil (λ (i : Item). key_layout.fits i.0);
+        links = All-nil child_layout.fits;
+        leaf = λ leaf. refl;
+        inner = λ inner. refl;
+        item_order = refl;
+        child_order = refl;
+      };
+      filled = ap behind_head is ∙ empty_contents n (length bytes) size;
+      placed = omega (arith, size, placed);
+    })
     size refl refl
 
 -- a head whose numbers fit has a spelling

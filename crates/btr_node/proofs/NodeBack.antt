@@ -98,7 +98,7 @@ leaf_layout draft right leaf =
     record {
       heads = omega (arith, counted, length-node_bytes draft right, right.fits, bytes_of-parts draft.items);
       areas = areas_along _ (25 * length draft.items) _ n _ (heads_of n draft.items) (ap (λ k. 25 * k) counted) long heads
-        (heads_have_areas (25 * length draft.items) n draft.items (omega (arith, fits, bytes_of-parts draft.items)));
+          (heads_have_areas (25 * length draft.items) n draft.items (omega (arith, fits, bytes_of-parts draft.items)));
     }
 
 pub leaf_back : (draft : Draft) → IsDraft draft → draft.want.level ≡ 0 → IsLeaf draft.want (node_bytes draft)

@@ -83,7 +83,7 @@ heads_of-append end (first ∷ items) item =
     let below : end - length first.1 - length (data_of items) ≡ end - length (data_of items ++ first.1) = omega (arith, length-append (data_of items) first.1) in
     ap (λ heads. head_below end first ∷ heads)
     (heads_of-append (end - length first.1) items item
-      ∙ ap (λ e. heads_of (end - length first.1) items ++ head_below e item ∷ []) below)
+    ∙ ap (λ e. heads_of (end - length first.1) items ++ head_below e item ∷ []) below)
 
 pub data_of-append : (items : List Item) (item : Item) → data_of (items ++ item ∷ []) ≡ item.1 ++ data_of items
 data_of-append [] item = sym (append-nil item.1)

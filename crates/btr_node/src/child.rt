@@ -49,7 +49,11 @@ impl Child {
         self.key.write(&mut key);
         put_fields(
             into,
-            &[Field::Bytes(&key), Field::U64(self.address), Field::U64(self.generation)],
+            &[
+                Field::Bytes(&key),
+                Field::U64(self.address),
+                Field::U64(self.generation),
+            ],
         );
     }
 }

@@ -49,7 +49,11 @@ impl ItemHead {
         self.key.write(&mut key);
         put_fields(
             into,
-            &[Field::Bytes(&key), Field::U32(self.offset), Field::U32(self.size)],
+            &[
+                Field::Bytes(&key),
+                Field::U32(self.offset),
+                Field::U32(self.size),
+            ],
         );
     }
 }

@@ -28,3 +28,6 @@ pub use item::ItemHead;
 pub use laws::{inner_nodes_read_back, leaves_read_back};
 pub use leaf::LeafView;
 pub use writer::{Full, NodeWriter};
+
+#[cfg(test)]
+mod tests;

@@ -31,15 +31,17 @@ returns-then-not-has_order-clause-damages c =
 
 pub returns-clause-grammar : goal.returns-clause-grammar
 returns-clause-grammar c =
-    let head = (inner_head_decides c.args.want.now c.args.bytes.now).0 (sym c.if-not-has_inner_head.ensures) in
-    (λ h. record {
-      sum = (sum_decides c.args.want.now.sums c.args.bytes.now).0 (sym c.if-not-has_sum.ensures);
-      level = head.0;
-      some = head.1;
-      head = head.2;
-      layout = (inner_layout_decides c.args.bytes.now).0 (sym c.if-not-has_layout.ensures);
-      order = sym c.if-not-has_order.ensures;
-    }, λ node. refl)
+    let head = (inner_head_decides c.args.want.now c.args.bytes.now).0 (sym c.if-not-has_inner_head.ensures) in (
+      λ h. record {
+        sum = (sum_decides c.args.want.now.sums c.args.bytes.now).0 (sym c.if-not-has_sum.ensures);
+        level = head.0;
+        some = head.1;
+        head = head.2;
+        layout = (inner_layout_decides c.args.bytes.now).0 (sym c.if-not-has_layout.ensures);
+        order = sym c.if-not-has_order.ensures;
+      },
+      λ node. refl,
+    )
 
 pub returns-clause-damages : goal.returns-clause-damages
 unfolding inner_damages

@@ -45,14 +45,16 @@ invariant_of-result c = (leaf_layout_decides c.args.bytes.now).0 (sym c.if-not-h
 
 pub returns-clause-grammar : goal.returns-clause-grammar
 returns-clause-grammar c =
-    let head = (leaf_head_decides c.args.want.now c.args.bytes.now).0 (sym c.if-not-has_leaf_head.ensures) in
-    (λ h. record {
-      sum = (sum_decides c.args.want.now.sums c.args.bytes.now).0 (sym c.if-not-has_sum.ensures);
-      level = head.0;
-      head = head.1;
-      layout = (leaf_layout_decides c.args.bytes.now).0 (sym c.if-not-has_layout.ensures);
-      order = sym c.if-not-has_order.ensures;
-    }, λ leaf. refl)
+    let head = (leaf_head_decides c.args.want.now c.args.bytes.now).0 (sym c.if-not-has_leaf_head.ensures) in (
+      λ h. record {
+        sum = (sum_decides c.args.want.now.sums c.args.bytes.now).0 (sym c.if-not-has_sum.ensures);
+        level = head.0;
+        head = head.1;
+        layout = (leaf_layout_decides c.args.bytes.now).0 (sym c.if-not-has_layout.ensures);
+        order = sym c.if-not-has_order.ensures;
+      },
+      λ leaf. refl,
+    )
 
 pub returns-clause-damages : goal.returns-clause-damages
 unfolding leaf_damages
