@@ -1,21 +1,13 @@
 -- Areas of data: that what descends lies apart, and that the tests say what the facts say.
-use Rattle.std.proofs.Common.{◌≡◌, ◌≤◌, ◌<◌, ℕ, zero, suc, ◌+◌, ◌==◌, ◌⊎◌, inl, inr, max, Bool, true, false, ◌&&◌, ◌||◌, List, [], ◌∷◌, length, get_or, refl, sym, ap, ◌∙◌, arith}
+use Rattle.std.proofs.Common.{◌≡◌, ◌≤◌, ℕ, suc, ◌+◌, ◌⊎◌, inl, inr, max, Bool, true, false, List, [], ◌∷◌, refl, arith}
 use Rattle.std.specs.Prelude.{nat_le}
 use Rattle.std.specs.Bool.{Decides}
 use Rattle.std.specs.List.{All, AllPairs, list_all}
-use Rattle.std.proofs.lemmas.Bool.Decides.{nat_tests, Decides-and, Decides-or, Decides-eqb, Decides-like, not_from_Decides, Decides-by_and, leb_tells, eqb_tells}
+use Rattle.std.proofs.lemmas.Bool.Decides.{nat_tests, Decides-and, Decides-or, Decides-eqb, Decides-like, not_from_Decides, Decides-by_and}
 use Rattle.std.proofs.lemmas.List.Kept.{AllPairs-cons}
 use Rattle.btr_node.specs.declared.item.ItemHead.{ItemHead}
-use Rattle.btr_node.specs.Areas.{IsWithin, Covers, AreApart, HasAreas, is_within, are_apart, all_apart, has_areas, descends}
-
--- both parts of a test, and a test by its parts
-both : (a b : Bool) → (a && b) ≡ true → (a ≡ true) × (b ≡ true)
-both true b h = (refl, h)
-both false b h = (cc)
-
-pub joined : (a b : Bool) → a ≡ true → b ≡ true → (a && b) ≡ true
-joined true b h k = k
-joined false b h k = h
+use Rattle.btr_node.proofs.Rows.{both, joined}
+use Rattle.btr_node.specs.Areas.{IsWithin, AreApart, HasAreas, is_within, are_apart, all_apart, has_areas, descends}
 
 within_tells : (low high : ℕ) (head : ItemHead) → is_within low high head ≡ true → (low ≤ head.offset) × (head.offset + head.size ≤ high)
 within_tells low high head h =

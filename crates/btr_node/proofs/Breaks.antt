@@ -1,11 +1,11 @@
 -- The rules as facts and as tests.
-use Rattle.std.proofs.Common.{◌≡◌, ◌≤◌, ◌<◌, ℕ, zero, suc, Bool, true, false, ◌&&◌, ◌==◌, List, [], ◌∷◌, length, drop, Contains, refl, sym, ap, ◌∙◌, arith}
+use Rattle.std.proofs.Common.{◌≡◌, ℕ, Bool, true, false, List, [], Contains, refl, ap, arith}
 use Rattle.std.specs.Bool.{Decides}
 use Rattle.std.proofs.lemmas.Bool.Decides.{Decides-and, Decides-eqb, Decides-like}
 use Rattle.std.proofs.lemmas.Slice.Eq.{bytes_eq-Decides}
 use Rattle.csum_kinds.specs.declared.kind.SumKind.{SumKind}
 use Rattle.outside.specs.declared.rule.BtrRule.TheVariants.{NodeCsum, NodeHead, NodeLayout, KeyOrder}
-use Rattle.btr_node.specs.Head.{HasHead, has_head, head_in, expected}
+use Rattle.btr_node.specs.Head.{HasHead, has_head, head_in}
 use Rattle.btr_node.specs.Sum.{HasSum, has_sum}
 use Rattle.btr_node.specs.Leaf.{has_leaf_head}
 use Rattle.btr_node.specs.Rules.{damages_of}
@@ -44,3 +44,11 @@ breaks_none sum head layout order s h l o = rw (s, h, l, o) refl
 
 pub leaf_head_decides : (want : Expect) (bytes : List ℕ) → Decides (has_leaf_head want bytes) ((want.level ≡ 0) × HasHead want bytes)
 leaf_head_decides want bytes = Decides-and _ _ (Decides-eqb want.level 0) (head_decides want bytes)
+
+-- where no rule is broken, each test passed
+pub none_broken : (sum head layout order : Bool) → damages_of sum head layout order ≡ [] → (sum ≡ true) × (head ≡ true) × (layout ≡ true) × (order ≡ true)
+none_broken true true true true h = (refl, refl, refl, refl)
+none_broken true true true false h = (cc)
+none_broken true true false order h = (cc)
+none_broken true false layout order h = (cc)
+none_broken false head layout order h = (cc)

@@ -1,13 +1,12 @@
 -- What a writer holds, from step to step.
-use Rattle.std.proofs.Common.{◌≡◌, ◌≤◌, ◌<◌, ◌^◌, ◌⊎◌, inl, inr, zero, suc, ℕ, ◌+◌, ◌-◌, ◌*◌, Bool, true, false, List, [], ◌∷◌, ◌++◌, length, take, drop, map, refl, sym, ap, ◌∙◌, subst, arith, length-append}
-use Rattle.std.specs.List.{All}
-use Rattle.std.proofs.lemmas.List.{append-nil, drop-replicate, length-replicate, length-map, map-append}
+use Rattle.std.proofs.Common.{◌≡◌, ◌≤◌, ◌<◌, ◌^◌, ◌⊎◌, inl, inr, zero, suc, ℕ, ◌+◌, ◌-◌, ◌*◌, Bool, List, [], ◌∷◌, ◌++◌, length, drop, refl, sym, ap, ◌∙◌, arith, length-append}
+use Rattle.std.proofs.lemmas.List.{append-nil, drop-replicate, length-map, map-append}
 use Rattle.std.proofs.lemmas.List.Elements.{All-nil, All-push}
 use Rattle.std.proofs.lemmas.List.Sums.{sum_by_push}
 use Rattle.btr_keys.specs.Key.{key_layout}
 use Rattle.btr_keys.specs.Layout.{spelling}
 use Rattle.btr_keys.specs.declared.key.Key.{Key}
-use Rattle.btr_node.specs.Draft.{Draft, IsDraft, IsBlank, bytes_of, room_in, room, contents, data_of, head_of, sealed, node_bytes, started_for}
+use Rattle.btr_node.specs.Draft.{Draft, IsDraft, room, contents, data_of, head_of, sealed, node_bytes}
 use Rattle.btr_node.specs.Head.{head_layout, behind_head}
 use Rattle.btr_node.specs.Inner.{child_layout, first_keys}
 use Rattle.btr_node.specs.Leaf.{Item, item_layout, item_of, keys_of}

@@ -1,5 +1,5 @@
 -- What stands in a leaf.
-use Rattle.std.proofs.Common.{◌≡◌, ◌≤◌, ◌<◌, ℕ, zero, suc, ◌+◌, ◌*◌, Bool, true, false, ◌&&◌, List, [], ◌∷◌, length, drop, get_or, map, refl, sym, ap, ◌∙◌, arith, length-drop}
+use Rattle.std.proofs.Common.{◌≡◌, ◌≤◌, ◌<◌, ℕ, zero, suc, ◌+◌, ◌*◌, Bool, true, false, ◌&&◌, List, ◌∷◌, length, drop, get_or, map, refl, sym, ap, ◌∙◌, arith, length-drop}
 use Rattle.std.specs.Bool.{Decides}
 use Rattle.std.specs.Prelude.{nat_le}
 use Rattle.std.proofs.lemmas.Bool.Decides.{nat_tests, Decides-and, Decides-like}
@@ -10,7 +10,6 @@ use Rattle.btr_node.specs.Areas.{IsWithin, has_areas}
 use Rattle.btr_node.specs.Head.{count, behind_head}
 use Rattle.btr_node.specs.Leaf.{Item, item_layout, item_of, head_at, heads_in, items_in, keys_of, HasLeafLayout, has_leaf_layout}
 use Rattle.btr_node.specs.Records.{records_in}
-use Rattle.btr_node.specs.declared.item.ItemHead.{ItemHead}
 use Rattle.btr_node.proofs.Apart.{areas_decide, le_decides}
 use Rattle.btr_node.proofs.Rows.{length-records_in, record_at}
 

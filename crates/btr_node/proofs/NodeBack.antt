@@ -1,15 +1,15 @@
 -- The bytes of a node that was written are on the grammar, and read as what was put in.
-use Rattle.std.proofs.Common.{◌≡◌, ◌≤◌, ◌<◌, ◌^◌, ◌⊎◌, inl, inr, ℕ, ◌+◌, ◌-◌, ◌*◌, List, [], ◌∷◌, ◌++◌, length, take, drop, refl, sym, ap, ◌∙◌, subst, arith, length-append, IsTrue}
+use Rattle.std.proofs.Common.{◌≡◌, ◌≤◌, inl, inr, ℕ, ◌+◌, ◌-◌, ◌*◌, List, ◌++◌, length, drop, sym, ap, ◌∙◌, arith, length-append}
 use Rattle.std.proofs.lemmas.List.{take_at, drop_at, drop-drop}
 use Rattle.btr_keys.specs.Layout.{spelling}
 use Rattle.csum_kinds.specs.Kind.{kind_sum}
 use Rattle.btr_node.specs.Areas.{HasAreas}
-use Rattle.btr_node.specs.Draft.{Draft, IsDraft, bytes_of, contents, data_of, heads_of, head_of, sealed, node_bytes}
+use Rattle.btr_node.specs.Draft.{Draft, IsDraft, bytes_of, contents, heads_of, head_of, sealed, node_bytes}
 use Rattle.btr_node.specs.Head.{head_layout, head_in, count, behind_head, expected, HasHead}
 use Rattle.btr_node.specs.Inner.{IsInner, children_in, first_keys}
-use Rattle.btr_node.specs.Leaf.{IsLeaf, HasLeafLayout, Item, item_layout, heads_in, items_in, keys_of}
+use Rattle.btr_node.specs.Leaf.{IsLeaf, HasLeafLayout, item_layout, heads_in, items_in, keys_of}
 use Rattle.btr_node.specs.NodeSize.{IsNodeSize}
-use Rattle.btr_node.specs.Order.{ascends, Ascends}
+use Rattle.btr_node.specs.Order.{ascends}
 use Rattle.btr_node.specs.Records.{records_in}
 use Rattle.btr_node.specs.Sum.{HasSum}
 use Rattle.btr_node.specs.Writer.{stored_items, stored_children}

@@ -1,7 +1,7 @@
 -- What the bytes of a node read as.
-use Rattle.std.proofs.Common.{◌≡◌, ◌≤◌, ◌<◌, ◌^◌, ℕ, zero, suc, ◌+◌, ◌-◌, ◌*◌, List, [], ◌∷◌, ◌++◌, length, take, drop, map, replicate, slice_range, true, refl, sym, ap, ◌∙◌, arith, append_assoc, length-append}
+use Rattle.std.proofs.Common.{◌≡◌, ◌≤◌, ◌<◌, ◌^◌, ℕ, suc, ◌+◌, ◌-◌, ◌*◌, List, [], ◌∷◌, ◌++◌, length, take, drop, map, slice_range, true, refl, sym, ap, ◌∙◌, arith, append_assoc, length-append}
 use Rattle.std.specs.List.{All, flat_map}
-use Rattle.std.proofs.lemmas.List.{append-nil, take_at, drop_at, drop-drop, length-replicate}
+use Rattle.std.proofs.lemmas.List.{append-nil, take_at, drop_at}
 use Rattle.std.proofs.lemmas.List.Elements.{All-nil, All-cons, All-head, All-tail}
 use Rattle.btr_keys.specs.Key.{key_layout}
 use Rattle.btr_keys.specs.Layout.{Layout, spelling}
@@ -14,9 +14,9 @@ use Rattle.btr_node.specs.Leaf.{Item, item_layout, item_of}
 use Rattle.btr_node.specs.Records.{records_in}
 use Rattle.btr_node.specs.Writer.{stored_items, stored_children}
 use Rattle.btr_node.specs.declared.child.Child.{Child}
-use Rattle.btr_node.specs.declared.item.ItemHead.{ItemHead}
-use Rattle.btr_node.proofs.Apart.{descends-has_areas, areas_decide, joined, within_test}
+use Rattle.btr_node.proofs.Apart.{descends-has_areas, areas_decide, within_test}
 use Rattle.btr_node.proofs.Putting.{zeros, length-zeros, length-heads_of, bytes_of-parts, head_below}
+use Rattle.btr_node.proofs.Rows.{joined}
 use Rattle.btr_node.proofs.Spelled.{item_size, child_size, item_reads, child_reads, length-records}
 
 -- records that stand one after the other read as what they spell

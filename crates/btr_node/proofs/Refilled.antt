@@ -1,11 +1,8 @@
 -- A buffer whose bytes behind the head were written through a slice.
-use Rattle.std.proofs.Common.{◌≡◌, ◌≤◌, ℕ, ◌+◌, ◌-◌, List, [], ◌++◌, length, take, drop, refl, sym, ap, ◌∙◌, arith, length-append, length-take, length-drop}
+use Rattle.std.proofs.Common.{◌≡◌, ◌≤◌, ℕ, ◌-◌, List, [], ◌++◌, length, take, drop, ap, ◌∙◌, arith, length-append, length-take, length-drop}
 use Rattle.std.proofs.lemmas.List.{append-nil, take_at, drop_at, drop_all, take_rest}
 use borrow.Rule.Slice.PartMut.{put_mid}
-use Rattle.btr_node.specs.Draft.{contents}
 use Rattle.btr_node.specs.Head.{behind_head}
-use Rattle.btr_node.specs.Leaf.{Item}
-use Rattle.btr_node.specs.declared.child.Child.{Child}
 
 -- as many bytes as there were
 pub refilled : (len : ℕ) (new old : List ℕ) → length new ≡ len → take len (new ++ drop (length new) old) ≡ new

@@ -26,6 +26,15 @@ next_row F width layout n i bytes row lt is =
     at_drop_more F rows i row (omega (arith, length-records_in width layout n bytes))
     ∙ ap (λ r. F (r ∷ drop (i + 1) rows)) (record_at width layout n i bytes row lt ∙ sym is)
 
+-- both parts of a test, and a test by its parts
+pub both : (a b : Bool) → (a && b) ≡ true → (a ≡ true) × (b ≡ true)
+both true b h = (refl, h)
+both false b h = (cc)
+
+pub joined : (a b : Bool) → a ≡ true → b ≡ true → (a && b) ≡ true
+joined true b h k = k
+joined false b h k = h
+
 -- one test of many passed, or did not
 pub passed : (test rest left all : Bool) → test ≡ true → left ≡ (test && rest) → left ≡ all → rest ≡ all
 passed test rest left all p e h = ap (λ b. b && rest) (sym p) ∙ sym e ∙ h

@@ -1,8 +1,7 @@
 -- The bytes of heads, items and children: how many they are, and that they read as what they spell.
-use Rattle.std.proofs.Common.{◌≡◌, ◌<◌, ◌^◌, ℕ, ◌+◌, ◌*◌, zero, suc, List, [], ◌∷◌, ◌++◌, length, replicate, refl, sym, ap, ◌∙◌, arith, length-append}
+use Rattle.std.proofs.Common.{◌≡◌, ◌<◌, ◌^◌, ℕ, ◌*◌, List, [], ◌∷◌, length, refl, arith, length-append}
 use Rattle.std.proofs.Math.Nat.{mul-suc}
 use Rattle.std.specs.List.{flat_map}
-use Rattle.std.proofs.lemmas.List.{length-replicate}
 use Rattle.btr_keys.specs.Key.{key_layout}
 use Rattle.btr_keys.specs.declared.key.Key.{Key}
 use Rattle.btr_keys.specs.Layout.{spelling}

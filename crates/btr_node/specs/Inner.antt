@@ -1,11 +1,11 @@
 -- Inner nodes, as the Btrfs on-disk format documentation has them: children behind the node's head.
-use Rattle.std.specs.Prelude.{◌≡◌, ℕ, ◌+◌, ◌*◌, ◌≤◌, nat_lt, nat_le, Bool, ◌&&◌, List, length, drop, map}
+use Rattle.std.specs.Prelude.{ℕ, ◌+◌, ◌*◌, ◌≤◌, nat_lt, nat_le, Bool, ◌&&◌, List, length, drop, map}
 use Rattle.btr_keys.specs.Layout.{Layout, made_by, ◌▸◌, part, u64}
 use Rattle.btr_keys.specs.Key.{key_layout}
 use Rattle.btr_keys.specs.declared.key.Key.{Key}
 use Rattle.btr_node.specs.Records.{records_in}
 use Rattle.btr_node.specs.Head.{count, behind_head, HasHead, has_head}
-use Rattle.btr_node.specs.Sum.{HasSum, has_sum}
+use Rattle.btr_node.specs.Sum.{HasSum}
 use Rattle.btr_node.specs.Order.{ascends, Ascends}
 use Rattle.btr_node.specs.declared.child.Child.{Child}
 use Rattle.btr_node.specs.declared.expect.Expect.{Expect}

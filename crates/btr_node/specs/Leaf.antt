@@ -6,7 +6,7 @@ use Rattle.btr_keys.specs.Key.{key_layout}
 use Rattle.btr_keys.specs.declared.key.Key.{Key}
 use Rattle.btr_node.specs.Records.{records_in}
 use Rattle.btr_node.specs.Head.{count, behind_head, HasHead, has_head}
-use Rattle.btr_node.specs.Sum.{HasSum, has_sum}
+use Rattle.btr_node.specs.Sum.{HasSum}
 use Rattle.btr_node.specs.Areas.{HasAreas, has_areas}
 use Rattle.btr_node.specs.Order.{ascends, Ascends}
 use Rattle.btr_node.specs.declared.expect.Expect.{Expect}

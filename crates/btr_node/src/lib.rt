@@ -25,7 +25,9 @@ pub use expect::Expect;
 pub use head::Head;
 pub use inner::InnerView;
 pub use item::ItemHead;
-pub use laws::{inner_nodes_read_back, leaves_read_back};
+pub use laws::{
+    damages_tell, inner_nodes_read_back, joined_ascend, leaves_read_back, parts_ascend,
+};
 pub use leaf::LeafView;
 pub use writer::{Full, NodeWriter};
 

@@ -15,7 +15,7 @@ use csum_kinds::{SumKind, kind_sum};
 /// of the leaf begins at byte `low` of it.
 pub fn put_item(behind: &mut [u8], count: usize, low: usize, key: Key, body: &[u8])
     requires heads { 25 * count + 25 + length body.now ≤ low }
-    requires data_ { low ≤ length behind.old }
+    requires within { low ≤ length behind.old }
     requires small { length behind.old ≤ 65536 }
     ensures { (items : List Item) → length items ≡ count → low + length (data_of items) ≡ length behind.old
         → behind.old ≡ contents (length behind.old) items []

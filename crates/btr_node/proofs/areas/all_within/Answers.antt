@@ -1,4 +1,4 @@
-use Rattle.std.proofs.Common.{◌*◌, length, refl, sym, arith}
+use Rattle.std.proofs.Common.{◌*◌, length, refl, sym}
 use Rattle.std.specs.List.{list_all}
 use Rattle.btr_node.specs.Areas.{is_within}
 use Rattle.btr_node.specs.Leaf.{item_layout}

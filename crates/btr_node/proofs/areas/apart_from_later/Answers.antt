@@ -1,4 +1,4 @@
-use Rattle.std.proofs.Common.{◌∙◌, ◌+◌, ◌*◌, drop, Bool, refl, sym, ap}
+use Rattle.std.proofs.Common.{◌∙◌, ◌+◌, drop, refl, sym, ap}
 use Rattle.std.specs.List.{list_all}
 use Rattle.btr_node.specs.Areas.{are_apart}
 use Rattle.btr_node.specs.Leaf.{item_layout}

@@ -1,4 +1,4 @@
-use Rattle.std.proofs.Common.{◌*◌, refl, sym, arith}
+use Rattle.std.proofs.Common.{◌*◌, refl, sym}
 use Rattle.btr_node.specs.Areas.{descends}
 use Rattle.btr_node.specs.Leaf.{item_layout}
 use Rattle.btr_node.proofs.Rows.{next_row, passed, failed, finished}

@@ -1,7 +1,4 @@
-use Rattle.std.proofs.Common.{◌≡◌, ◌≤◌, ◌+◌, length, sym, ap, ◌∙◌, arith, length-take, length-drop}
-use Rattle.btr_node.specs.Areas.{IsWithin}
-use Rattle.btr_node.specs.Head.{behind_head}
-use Rattle.btr_node.specs.declared.item.ItemHead.{ItemHead}
+use Rattle.std.proofs.Common.{◌≤◌, ◌+◌, length, arith}
 use Rattle.btr_node.proofs.Leaves.{head_within}
 use Rattle.btr_node.proofs.leaf.data_at.Goals as goal
 

@@ -1,6 +1,6 @@
 use Rattle.std.proofs.Common.{ℕ, List, length, sym, ap, ◌∙◌, arith}
 use Rattle.btr_keys.specs.Key.{key_layout}
-use Rattle.btr_node.specs.Head.{behind_head, count}
+use Rattle.btr_node.specs.Head.{count}
 use Rattle.btr_node.specs.Order.{ascends}
 use Rattle.btr_node.specs.Records.{records_in}
 use Rattle.btr_node.specs.declared.head.Head.{Head}

@@ -1,5 +1,4 @@
-use Rattle.std.proofs.Common.{◌*◌, ◌+◌, ◌≤◌, length, drop, ap, ◌∙◌, arith}
-use Rattle.btr_node.specs.Head.{behind_head}
+use Rattle.std.proofs.Common.{◌*◌, drop, ap, ◌∙◌}
 use Rattle.btr_node.specs.Leaf.{item_layout}
 use Rattle.btr_node.proofs.Leaves.{head_there}
 use Rattle.btr_node.proofs.leaf.head_at.Goals as goal

@@ -1,6 +1,5 @@
-use Rattle.std.proofs.Common.{◌≡◌, ◌++◌, ℕ, List, length, take, drop, sym, ap, ◌∙◌, arith, length-take, length-drop}
+use Rattle.std.proofs.Common.{◌≡◌, ◌++◌, ℕ, List, length, drop, sym, ap, ◌∙◌, arith, length-take, length-drop}
 use borrow.Rule.Slice.PartMut.{put_mid}
-use Rattle.csum_kinds.specs.Kind.{kind_sum}
 use Rattle.btr_node.proofs.Putting.{put_head_is, sum_place}
 use Rattle.btr_node.proofs.Spelled.{length-kind_sum}
 use Rattle.btr_node.proofs.put.put_head.Goals as goal

@@ -1,4 +1,4 @@
-use Rattle.std.proofs.Common.{◌≡◌, ◌<◌, get_or, length, sym, ap, ◌∙◌, arith}
+use Rattle.std.proofs.Common.{◌<◌, get_or, length, sym, ap, ◌∙◌, arith}
 use Rattle.btr_node.specs.Head.{count}
 use Rattle.btr_node.specs.Leaf.{Item}
 use Rattle.btr_node.proofs.Leaves.{length-items_in, item_at}

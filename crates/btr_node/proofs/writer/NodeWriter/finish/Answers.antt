@@ -1,5 +1,5 @@
-use Rattle.std.proofs.Common.{◌≡◌, refl, sym, subst, length, ap, ◌∙◌, arith}
-use Rattle.btr_node.specs.Draft.{Draft, IsDraft, node_bytes}
+use Rattle.std.proofs.Common.{refl, subst, length, ap, ◌∙◌, arith}
+use Rattle.btr_node.specs.Draft.{IsDraft, node_bytes}
 use Rattle.btr_node.specs.Inner.{children_in}
 use Rattle.btr_node.specs.Leaf.{items_in}
 use Rattle.btr_node.proofs.Holding.{room_of, finish_steps, sealed_is}

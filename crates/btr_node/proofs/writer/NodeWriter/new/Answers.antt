@@ -1,4 +1,4 @@
-use Rattle.std.proofs.Common.{ℕ, ◌-◌, List, length, replicate, false, ap, ◌∙◌, refl, arith}
+use Rattle.std.proofs.Common.{◌-◌, false, ap, refl, arith}
 use Rattle.csum_kinds.specs.declared.kind.SumKind.TheVariants.{Crc32c}
 use Rattle.btr_node.specs.declared.expect.Expect.{Expect}
 use Rattle.btr_node.proofs.Holding.{start_steps, head_spelled}
