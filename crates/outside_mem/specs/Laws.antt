@@ -35,9 +35,9 @@ ChoiceDecidesEachBlock =
     (h : History) (choice : List ℕ)
     → (length (crash_image h choice) ≡ length h.start)
     × ((i b : ℕ) → i < length (waiting_blocks h) → b ≡ slice_index_or (waiting_blocks h) i 0
-        → block_at (crash_image h choice) b ≡ by_number (values h b) (slice_index_or choice i 0))
+    → block_at (crash_image h choice) b ≡ by_number (values h b) (slice_index_or choice i 0))
     × ((b : ℕ) → b < length h.start → is_waiting h.calls b ≡ false
-        → block_at (crash_image h choice) b ≡ block_at (synced_from h.start h.calls) b)
+    → block_at (crash_image h choice) b ≡ block_at (synced_from h.start h.calls) b)
 
 -- Each image that a crash may leave comes for a choice of numbers below 2^32, as long as no block has more values.
 abbrev pub EveryCrashHasAChoice : Type 0
