@@ -1,3 +1,4 @@
 pub mod Superblock
 pub mod Outcomes
 pub mod Checks
+pub mod Known

@@ -4,6 +4,9 @@ use Rattle.vol_block.specs.declared.format.Format.TheVariants as formats
 use Rattle.outside.specs.Fault.{Rose}
 use Rattle.outside.specs.History.{Image}
 use Rattle.outside.specs.declared.fault.Fault as faults
+use Rattle.outside.specs.declared.rule.Rule.TheVariants.{SuperField, SystemFree}
+use Rattle.outside.specs.declared.refusal.VolumeRefusal.{VolumeRefusal}
+use Rattle.outside.specs.declared.refusal.VolumeRefusal.TheVariants.{NotVolume, Unclean, Unsupported, Short, JournalPending, Damaged, HasAttributes, PendingLinks, NameTaken, NameTooLong, HashCrowd}
 use Rattle.outside.specs.declared.answer.Answer.{Answer}
 use Rattle.outside.specs.declared.answer.Answer.TheVariants.{Volume, Btr, NoSpace, WrongFormat, ImageMissing, ImageMoved, ImageDamaged, ReservedUsed, Fault, Memory}
 use Rattle.volume_app.specs.declared.ending.Ending.{Ending}
@@ -46,6 +49,47 @@ InspectRefuses disk ImageMissing = ⊥
 InspectRefuses disk (ImageMoved block) = ⊥
 InspectRefuses disk (ImageDamaged refusal) = ⊥
 InspectRefuses disk (ReservedUsed block) = ⊥
+
+-- The refusals of a volume that `inspect` knows, whatever the disk gives: those of the superblock, the journal and the
+-- bitmap.
+abbrev pub IsInspectRefusal : VolumeRefusal → Type 0
+IsInspectRefusal NotVolume = Unit {0}
+IsInspectRefusal (Unclean state) = Unit {0}
+IsInspectRefusal (Unsupported feature value) = Unit {0}
+IsInspectRefusal (Short volume device) = Unit {0}
+IsInspectRefusal (JournalPending trans) = Unit {0}
+IsInspectRefusal (Damaged block rule) = (rule ≡ SuperField) ⊎ (rule ≡ SystemFree)
+IsInspectRefusal (HasAttributes dir object) = ⊥
+IsInspectRefusal (PendingLinks object) = ⊥
+IsInspectRefusal (NameTaken dir object) = ⊥
+IsInspectRefusal (NameTooLong dir object length) = ⊥
+IsInspectRefusal (HashCrowd dir object hash) = ⊥
+
+abbrev pub IsInspectAnswer : Answer → Type 0
+IsInspectAnswer (Volume refusal) = IsInspectRefusal refusal
+IsInspectAnswer WrongFormat = Unit {0}
+IsInspectAnswer Fault = Unit {0}
+IsInspectAnswer Memory = Unit {0}
+IsInspectAnswer (Btr refusal) = ⊥
+IsInspectAnswer (NoSpace needed free run_needed longest_run) = ⊥
+IsInspectAnswer ImageMissing = ⊥
+IsInspectAnswer (ImageMoved block) = ⊥
+IsInspectAnswer (ImageDamaged refusal) = ⊥
+IsInspectAnswer (ReservedUsed block) = ⊥
+
+-- an answer that a command knows
+abbrev pub KnowsAnswer : Option Asked → Answer → Type 0
+KnowsAnswer None answer = ⊥
+KnowsAnswer (Some (inspect path)) answer = IsInspectAnswer answer
+KnowsAnswer (Some help) answer = ⊥
+KnowsAnswer (Some version) answer = ⊥
+
+-- an ending that a command knows, also over a disk that tells nothing
+abbrev pub Knows : Option Asked → Ending → Type 0
+Knows asked Done = Unit {0}
+Knows asked Usage = Unit {0}
+Knows asked (Failed answer) = KnowsAnswer asked answer
+Knows asked OutputFault = Unit {0}
 
 -- a command may answer so on a disk
 abbrev pub Answers : Option Asked → Image → Answer → Type 0
@@ -92,11 +136,12 @@ abbrev pub Reports : List ℕ → ℕ → ℕ → List ℕ → List ℕ → Type
 Reports line faults_old faults_new old new =
     (new ≡ old ++ line) ⊎ (Rose faults_old faults_new × ((k : ℕ) × (new ≡ old ++ take k line)))
 
--- The status is that of an ending, with its line on the error sink. Where the disk tells its blocks, the ending is
+-- The status is that of an ending that the command knows, with its line on the error sink. Where the disk tells its blocks, the ending is
 -- right for them, and the output sink gained its text.
 pub record Runs (asked : Option Asked) (tells : Type 0) (disk : Image) (answer : ℕ) (out_tells : Type 0) (out_old out_new : List ℕ) (err_tells : Type 0) (faults_old faults_new : ℕ) (err_old err_new : List ℕ) : Type 0 where
   pub ending : Ending
   pub answers : answer ≡ status ending
+  pub known : Knows asked ending
   pub right : tells → EndsRight asked disk ending
   pub printed : tells → out_tells → Prints (text_of asked disk) ending out_old out_new
   pub reported : err_tells → Reports (error_line ending) faults_old faults_new err_old err_new

@@ -5,7 +5,7 @@ ghost use Rattle.vol_block.specs.declared.format.Format.TheVariants as formats;
 ghost use Rattle.volume_app.specs.Inspect.{format_in, inspected, inspected_by, inspect_lines, label_of, label_text, IsAccepted, IsInside, IsSuperOf, SuperRefuses, HasSystemBlocks, BitmapRefuses, IsNoFault, of_volume};
 ghost use Rattle.sink_text.specs.Text.{piece_text};
 ghost use Rattle.volume_app.specs.Texts.{text_of_lines};
-ghost use Rattle.volume_app.specs.Outcome.{InspectRefuses};
+ghost use Rattle.volume_app.specs.Outcome.{InspectRefuses, IsInspectAnswer};
 
 use outside::{Access, Answer, BlockSource, Disk, Fault, Sink, VolAnswer, VolumeRefusal};
 use reiser_bitmap::Bitmap;
@@ -39,6 +39,7 @@ pub fn inspect<D: Disk>(alloc: Global, path: &str, disk: &mut D) -> Result<Inspe
     ensures accepted { IsTrue D.tells → IfOk result (λ s. IsAccepted (reads (D.history disk.old))) }
     ensures found { IsTrue D.tells → IfOk result (λ i. i ≡ inspected (reads (D.history disk.old))) }
     ensures refused { IsTrue D.tells → IfErr result (InspectRefuses (reads (D.history disk.old))) }
+    ensures known { IfErr result IsInspectAnswer }
 {
     match disk.open(path, Access::Read) {
         Ok(()) => check_volume(alloc, disk),
@@ -54,6 +55,7 @@ fn check_volume<S: BlockSource>(alloc: Global, source: &mut S) -> Result<Inspect
     ensures accepted { IsTrue S.tells → IfOk result (λ s. IsAccepted (S.blocks source.old)) }
     ensures found { IsTrue S.tells → IfOk result (λ i. i ≡ inspected (S.blocks source.old)) }
     ensures refused { IsTrue S.tells → IfErr result (InspectRefuses (S.blocks source.old)) }
+    ensures known { IfErr result IsInspectAnswer }
 {
     let volume = match read_super(source) {
         Ok(volume) => volume,
@@ -78,6 +80,7 @@ fn check_bitmap<S: BlockSource>(
     ensures used { IsTrue S.tells → (image : Image) → S.blocks source.old ≡ image → IfOk result (λ i. HasSystemBlocks superblock image) }
     ensures found { IsTrue S.tells → (image : Image) → S.blocks source.old ≡ image → IfOk result (λ i. i ≡ inspected_by superblock image) }
     ensures refused { IsTrue S.tells → (image : Image) → S.blocks source.old ≡ image → IfErr result (BitmapRefuses superblock image) }
+    ensures known { IfErr result IsInspectAnswer }
 {
     let map = match Bitmap::load(alloc, source, superblock.blocks) {
         Ok(map) => map,
@@ -112,6 +115,7 @@ fn read_super<S: BlockSource>(source: &mut S) -> Result<Super, Answer>
     ensures device { IfOk result (λ s. s.blocks ≤ S.size source.old) }
     ensures found { IsTrue S.tells → IfOk result (IsSuperOf (S.blocks source.old)) }
     ensures refused { IsTrue S.tells → IfErr result (SuperRefuses (S.blocks source.old)) }
+    ensures known { IfErr result IsInspectAnswer }
 {
     let device = source.len();
     if device <= SUPERBLOCK {
@@ -132,6 +136,7 @@ fn read_fields(block: &Block, device: u64) -> Result<Super, Answer>
     ensures found { (image : Image) → block_at image 16 ≡ block.now.bytes → length image ≡ device → IfOk result (IsSuperOf image) }
     ensures refused { (image : Image) → block_at image 16 ≡ block.now.bytes → length image ≡ device → IfErr result (SuperRefuses image) }
     ensures no_fault { IfErr result IsNoFault }
+    ensures known { IfErr result IsInspectAnswer }
 {
     match format_of(block) {
         Format::Btrfs => Err(Answer::WrongFormat),

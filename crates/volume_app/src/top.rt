@@ -2,7 +2,7 @@ ghost use Rattle.std.specs.Prelude.{◌≡◌, ◌≢◌, ◌↔◌, ◌<◌, �
 ghost use Rattle.outside.specs.Fault.{Rose};
 ghost use Rattle.outside.specs.History.{Image, reads, clock, IsSettled, LeftSince};
 ghost use Rattle.volume_app.specs.Command.{command, opens};
-ghost use Rattle.volume_app.specs.Outcome.{text_of, Prints, Reports, IsDone, EndsRight, HasFaults, IsQuiet, Runs, TakesMemory, ending_of};
+ghost use Rattle.volume_app.specs.Outcome.{text_of, Prints, Reports, IsDone, EndsRight, HasFaults, IsQuiet, Knows, Runs, TakesMemory, ending_of};
 
 use crate::Ending;
 use crate::command::{Command, read_words};
@@ -64,6 +64,7 @@ fn perform<D: Disk, O: Sink>(alloc: Global, words: &[String], disk: &mut D, out:
     ensures quiet { IsTrue O.tells → IsQuiet result → O.taken out.new ≡ O.taken out.old }
     ensures unchanged { IsTrue D.tells → D.history disk.new ≡ D.history disk.old }
     ensures memory { result ≡ Ending.Failed Answer.Memory → TakesMemory (command (map string_bytes words.now)) }
+    ensures known { Knows (command (map string_bytes words.now)) result }
     ensures faults { HasFaults result (D.faults disk.old) (D.faults disk.new) (O.faults out.old) (O.faults out.new) }
 {
     match read_words(words) {

@@ -1,6 +1,7 @@
 use Rattle.std.proofs.Common.{◌≤◌, refl, sym, ◌∙◌, subst}
 use Rattle.reiser_super.specs.declared.superblock.Super.{Super}
 use Rattle.volume_app.specs.Inspect.{IsInside}
+use Rattle.volume_app.proofs.Known.{superblock_known}
 use Rattle.volume_app.proofs.Superblock.{super_found, super_refused}
 use Rattle.volume_app.proofs.inspect.read_fields.Goals as goal
 
@@ -14,6 +15,7 @@ returns-in-Ok c =
       found = λ image same size. super_found image c.args.block.now.bytes c.args.device c.in-Ok.volume c.requires (λ is. c.in_default.not-Btrfs (c.format_of.ensures ∙ is)) fields clean same size;
       refused = λ image same size. tt;
       no_fault = tt;
+      known = tt;
     }
 
 pub returns-in-Err : goal.returns-in-Err
@@ -23,4 +25,5 @@ returns-in-Err c = record {
   found = λ image same size. tt;
   refused = λ image same size. super_refused image c.args.block.now.bytes c.args.device c.in-Err.refusal c.requires (λ is. c.in_default.not-Btrfs (c.format_of.ensures ∙ is)) c.in-Err.ensures.refusal same size;
   no_fault = tt;
+  known = superblock_known c.args.block.now.bytes c.args.device c.in-Err.refusal (sym c.in-Err.ensures.refusal);
 }
