@@ -1,0 +1,12 @@
+pub mod Apart
+pub mod Ascending
+pub mod Breaks
+pub mod Holding
+pub mod Inners
+pub mod Leaves
+pub mod NodeBack
+pub mod Putting
+pub mod ReadBack
+pub mod Refilled
+pub mod Rows
+pub mod Spelled

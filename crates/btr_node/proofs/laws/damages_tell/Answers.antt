@@ -1,0 +1,54 @@
+use Rattle.std.proofs.Common.{◌≡◌, ◌↔◌, ℕ, List, []}
+use Rattle.btr_node.specs.Inner.{IsInner, has_inner_head, has_inner_layout, has_inner_order}
+use Rattle.btr_node.specs.Leaf.{IsLeaf, has_leaf_head, has_leaf_layout, has_leaf_order}
+use Rattle.btr_node.specs.Rules.{leaf_damages, inner_damages}
+use Rattle.btr_node.specs.Sum.{has_sum}
+use Rattle.btr_node.specs.declared.expect.Expect.{Expect}
+use Rattle.btr_node.proofs.Breaks.{breaks_none, none_broken, sum_decides, leaf_head_decides}
+use Rattle.btr_node.proofs.Inners.{inner_head_decides, inner_layout_decides}
+use Rattle.btr_node.proofs.Leaves.{leaf_layout_decides}
+use Rattle.btr_node.proofs.laws.damages_tell.Goals as goal
+
+leaf_tells : (want : Expect) (bytes : List ℕ) → leaf_damages want bytes ≡ [] ↔ IsLeaf want bytes
+unfolding leaf_damages
+leaf_tells want bytes =
+    let sum = sum_decides want.sums bytes in
+    let head = leaf_head_decides want bytes in
+    let layout = leaf_layout_decides bytes in (
+      λ none.
+          let all = none_broken (has_sum want.sums bytes) (has_leaf_head want bytes) (has_leaf_layout bytes) (has_leaf_order bytes) none in
+          record {
+            sum = sum.0 all.0;
+            head = (head.0 all.1).1;
+            level = (head.0 all.1).0;
+            layout = layout.0 all.2;
+            order = all.3;
+          },
+      λ leaf.
+          breaks_none (has_sum want.sums bytes) (has_leaf_head want bytes) (has_leaf_layout bytes) (has_leaf_order bytes)
+          (sum.1 leaf.sum) (head.1 (leaf.level, leaf.head)) (layout.1 leaf.layout) leaf.order,
+    )
+
+inner_tells : (want : Expect) (bytes : List ℕ) → inner_damages want bytes ≡ [] ↔ IsInner want bytes
+unfolding inner_damages
+inner_tells want bytes =
+    let sum = sum_decides want.sums bytes in
+    let head = inner_head_decides want bytes in
+    let layout = inner_layout_decides bytes in (
+      λ none.
+          let all = none_broken (has_sum want.sums bytes) (has_inner_head want bytes) (has_inner_layout bytes) (has_inner_order bytes) none in
+          record {
+            sum = sum.0 all.0;
+            level = (head.0 all.1).0;
+            some = (head.0 all.1).1;
+            head = (head.0 all.1).2;
+            layout = layout.0 all.2;
+            order = all.3;
+          },
+      λ node.
+          breaks_none (has_sum want.sums bytes) (has_inner_head want bytes) (has_inner_layout bytes) (has_inner_order bytes)
+          (sum.1 node.sum) (head.1 (node.level, node.some, node.head)) (layout.1 node.layout) node.order,
+    )
+
+pub returns : goal.returns
+returns c = λ want bytes. (leaf_tells want bytes, inner_tells want bytes)

@@ -1,0 +1,12 @@
+pub mod Areas
+pub mod Draft
+pub mod Head
+pub mod Inner
+pub mod Laws
+pub mod Leaf
+pub mod NodeSize
+pub mod Order
+pub mod Records
+pub mod Rules
+pub mod Sum
+pub mod Writer

@@ -1,0 +1,59 @@
+ghost use Rattle.std.specs.Prelude.{◌≡◌, ◌≤◌, ◌+◌, length, drop};
+ghost use Rattle.btr_keys.specs.Layout.{spelling};
+ghost use Rattle.btr_node.specs.Inner.{child_layout};
+
+use btr_keys::{Field, Key, put_fields};
+use vol_block::u64_at;
+
+/// A child of an inner node, 33 bytes, as the Btrfs on-disk format documentation has it.
+#[derive(Clone, Copy, Debug, PartialEq, Eq)]
+pub struct Child {
+    /// The first key of the child.
+    pub key: Key,
+    /// The child's address, in bytes.
+    pub address: u64,
+    /// The transaction that wrote the child.
+    pub generation: u64,
+}
+
+impl Child {
+    /// The bytes of a child in its parent.
+    pub const SIZE: usize = 33;
+
+    /// The child in the 33 bytes from byte `at` on.
+    pub fn at(bytes: &[u8], at: usize) -> Child
+        requires { at + 33 ≤ length bytes.now }
+        ensures { result ≡ child_layout.read (drop at bytes.now) }
+    {
+        Child::first(&bytes[at..])
+    }
+
+    fn first(bytes: &[u8]) -> Child
+        requires { 33 ≤ length bytes.now }
+        ensures { result ≡ child_layout.read bytes.now }
+    {
+        Child {
+            key: Key::at(bytes, 0),
+            address: u64_at(bytes, 17),
+            generation: u64_at(bytes, 25),
+        }
+    }
+
+    /// Writes the child into 33 bytes.
+    #[tactic(auto, unfolding(crate::specs::Inner::child_layout))]
+    pub fn write(&self, into: &mut [u8])
+        requires { length into.old ≡ 33 }
+        ensures { into.new ≡ spelling child_layout self.now }
+    {
+        let mut key = [0; 17];
+        self.key.write(&mut key);
+        put_fields(
+            into,
+            &[
+                Field::Bytes(&key),
+                Field::U64(self.address),
+                Field::U64(self.generation),
+            ],
+        );
+    }
+}

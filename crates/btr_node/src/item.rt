@@ -1,0 +1,59 @@
+ghost use Rattle.std.specs.Prelude.{◌≡◌, ◌≤◌, ◌+◌, length, drop};
+ghost use Rattle.btr_keys.specs.Layout.{spelling};
+ghost use Rattle.btr_node.specs.Leaf.{item_layout};
+
+use btr_keys::{Field, Key, put_fields};
+use vol_block::u32_at;
+
+/// The head of a leaf's item, 25 bytes, as the Btrfs on-disk format documentation has it.
+#[derive(Clone, Copy, Debug, PartialEq, Eq)]
+pub struct ItemHead {
+    /// The item's key.
+    pub key: Key,
+    /// Where its data begins, in bytes from the end of the node's head.
+    pub offset: u32,
+    /// How many bytes of data it has.
+    pub size: u32,
+}
+
+impl ItemHead {
+    /// The bytes of an item's head.
+    pub const SIZE: usize = 25;
+
+    /// The head in the 25 bytes from byte `at` on.
+    pub fn at(bytes: &[u8], at: usize) -> ItemHead
+        requires { at + 25 ≤ length bytes.now }
+        ensures { result ≡ item_layout.read (drop at bytes.now) }
+    {
+        ItemHead::first(&bytes[at..])
+    }
+
+    fn first(bytes: &[u8]) -> ItemHead
+        requires { 25 ≤ length bytes.now }
+        ensures { result ≡ item_layout.read bytes.now }
+    {
+        ItemHead {
+            key: Key::at(bytes, 0),
+            offset: u32_at(bytes, 17),
+            size: u32_at(bytes, 21),
+        }
+    }
+
+    /// Writes the head into 25 bytes.
+    #[tactic(auto, unfolding(crate::specs::Leaf::item_layout))]
+    pub fn write(&self, into: &mut [u8])
+        requires { length into.old ≡ 25 }
+        ensures { into.new ≡ spelling item_layout self.now }
+    {
+        let mut key = [0; 17];
+        self.key.write(&mut key);
+        put_fields(
+            into,
+            &[
+                Field::Bytes(&key),
+                Field::U32(self.offset),
+                Field::U32(self.size),
+            ],
+        );
+    }
+}

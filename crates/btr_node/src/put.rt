@@ -1,0 +1,54 @@
+ghost use Rattle.std.specs.Prelude.{◌≡◌, ◌≤◌, ◌+◌, ◌*◌, ◌++◌, ◌∷◌, [], List, length, drop};
+ghost use Rattle.btr_keys.specs.Layout.{spelling};
+ghost use Rattle.btr_node.specs.Draft.{contents, data_of, sealed};
+ghost use Rattle.btr_node.specs.Head.{head_layout};
+ghost use Rattle.btr_node.specs.Leaf.{Item};
+ghost use Rattle.btr_node.specs.declared.child.Child.{Child as ChildOf};
+
+use crate::child::Child;
+use crate::head::Head;
+use crate::item::ItemHead;
+use btr_keys::Key;
+use csum_kinds::{SumKind, kind_sum};
+
+/// Puts an item behind the `count` items that a leaf has. `behind` is what stands behind the leaf's head, and the data
+/// of the leaf begins at byte `low` of it.
+pub fn put_item(behind: &mut [u8], count: usize, low: usize, key: Key, body: &[u8])
+    requires heads { 25 * count + 25 + length body.now ≤ low }
+    requires within { low ≤ length behind.old }
+    requires small { length behind.old ≤ 65536 }
+    ensures { (items : List Item) → length items ≡ count → low + length (data_of items) ≡ length behind.old
+        → behind.old ≡ contents (length behind.old) items []
+        → behind.new ≡ contents (length behind.old) (items ++ (key, body.now) ∷ []) [] }
+{
+    let begin = low - body.len();
+    behind[begin..low].copy_from_slice(body);
+    let head = ItemHead {
+        key,
+        offset: begin as u32,
+        size: body.len() as u32,
+    };
+    let at = 25 * count;
+    head.write(&mut behind[at..at + 25]);
+}
+
+/// Puts a child behind the `count` children that an inner node has. `behind` is what stands behind the node's head.
+pub fn put_child(behind: &mut [u8], count: usize, child: &Child)
+    requires { 33 * count + 33 ≤ length behind.old }
+    ensures { (children : List ChildOf) → length children ≡ count
+        → behind.old ≡ contents (length behind.old) [] children
+        → behind.new ≡ contents (length behind.old) [] (children ++ child.now ∷ []) }
+{
+    let at = 33 * count;
+    child.write(&mut behind[at..at + 33]);
+}
+
+/// Writes the head of a node, and its checksum before it.
+pub fn put_head(bytes: &mut [u8], head: &Head, sums: SumKind)
+    requires { 101 ≤ length bytes.old }
+    ensures { bytes.new ≡ sealed sums (spelling head_layout head.now ++ drop 101 bytes.old) }
+{
+    head.write(&mut bytes[32..101]);
+    let sum = kind_sum(sums, &bytes[32..]);
+    bytes[..32].copy_from_slice(&sum);
+}

@@ -1,0 +1,9 @@
+use Rattle.std.proofs.Common.{refl, arith}
+use Rattle.castagnoli.specs.Castagnoli.{shifted}
+use Rattle.castagnoli.specs.declared.table.TheConstants.{TABLE}
+use Rattle.castagnoli.proofs.Linear.{entry_of}
+use Rattle.castagnoli.proofs.table.after_eight.Goals as goal
+
+pub returns : goal.returns
+unfolding shifted
+returns c = entry_of TABLE refl c.args.low (omega arith)

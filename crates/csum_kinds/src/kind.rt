@@ -1,0 +1,59 @@
+ghost use Rattle.std.specs.Prelude.{◌≡◌, ◌++◌, replicate};
+ghost use Rattle.std.specs.Int.{w32, to_le_bytes};
+ghost use Rattle.csum_kinds.specs.Kind.{kind_sum, kind_width};
+
+use castagnoli::crc32c;
+
+/// A kind of checksum, as a superblock names it.
+#[derive(Clone, Copy, Debug, PartialEq, Eq)]
+pub enum SumKind {
+    /// CRC-32C, the superblock's type 0.
+    Crc32c,
+}
+
+/// The checksum of the bytes, as the 32 bytes that a node or a superblock begins with: the sum, and zeros behind it.
+#[tactic(auto, unfolding(crate::specs::Kind::kind_sum))]
+pub fn kind_sum(kind: SumKind, bytes: &[u8]) -> [u8; 32]
+    ensures { result ≡ kind_sum kind bytes.now }
+{
+    match kind {
+        SumKind::Crc32c => padded(crc32c(bytes)),
+    }
+}
+
+/// How many bytes a checksum of this kind has where it stands for a block of data.
+pub fn kind_width(kind: SumKind) -> usize
+    ensures { result ≡ kind_width kind }
+{
+    match kind {
+        SumKind::Crc32c => 4,
+    }
+}
+
+/// A sum of four bytes, the low one first, and zeros behind it.
+fn padded(sum: u32) -> [u8; 32]
+    ensures { result ≡ to_le_bytes w32 sum ++ replicate 28 0 }
+{
+    let [a, b, c, d] = sum.to_le_bytes();
+    let mut field = [0; 32];
+    field[0] = a;
+    field[1] = b;
+    field[2] = c;
+    field[3] = d;
+    field
+}
+
+#[cfg(test)]
+mod tests {
+    use super::{SumKind, kind_sum, kind_width};
+
+    // The check value that catalogues of CRCs give for CRC-32/ISCSI, 0xE3069283.
+    #[test]
+    fn check_value(rt: HostRuntime) {
+        let field = kind_sum(SumKind::Crc32c, b"123456789");
+        let mut wanted = [0; 32];
+        wanted[..4].copy_from_slice(&[0x83, 0x92, 0x06, 0xE3]);
+        assert_eq!(rt; field, wanted);
+        assert_eq!(rt; kind_width(SumKind::Crc32c), 4);
+    }
+}
