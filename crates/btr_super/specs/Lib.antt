@@ -1,0 +1,4 @@
+pub mod Constant
+pub mod Sums
+pub mod Super
+pub mod Rules
