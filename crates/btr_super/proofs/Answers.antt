@@ -23,10 +23,10 @@ pub first_refuses : {U A : Type 0} (bs cs : List (Bool × BtrRefusal)) (u : U) (
 first_refuses [] cs u x r e = absurd cc
 first_refuses {U = U} {A = A} (rule ∷ bs) cs u x r e =
     let step : (holds : Bool) → err {A = U} r ≡ unless_refused (cond holds (failing bs) (rule.1 ∷ failing bs)) u → err {A = A} r ≡ unless_refused (cond holds (failing (bs ++ cs)) (rule.1 ∷ failing (bs ++ cs))) x
-      = λ holds. elim holds as (λ holds. err {A = U} r ≡ unless_refused (cond holds (failing bs) (rule.1 ∷ failing bs)) u → err {A = A} r ≡ unless_refused (cond holds (failing (bs ++ cs)) (rule.1 ∷ failing (bs ++ cs))) x) [
-          | true ↦ λ h. first_refuses bs cs u x r h
-          | false ↦ λ h. let same : r ≡ rule.1 = cc in ap (λ (z : BtrRefusal). err {A = A} z) same
-        ] in
+    = λ holds. elim holds as (λ holds. err {A = U} r ≡ unless_refused (cond holds (failing bs) (rule.1 ∷ failing bs)) u → err {A = A} r ≡ unless_refused (cond holds (failing (bs ++ cs)) (rule.1 ∷ failing (bs ++ cs))) x) [
+      | true ↦ λ h. first_refuses bs cs u x r h
+      | false ↦ λ h. let same : r ≡ rule.1 = cc in ap (λ (z : BtrRefusal). err {A = A} z) same
+    ] in
     step rule.0 e
 
 -- the first rules hold, so the others decide
@@ -34,10 +34,10 @@ pub others_decide : {U : Type 0} (bs cs : List (Bool × BtrRefusal)) (u : U) →
 others_decide [] cs u e = refl
 others_decide {U = U} (rule ∷ bs) cs u e =
     let step : (holds : Bool) → ok {A = U} u ≡ unless_refused (cond holds (failing bs) (rule.1 ∷ failing bs)) u → cond holds (failing (bs ++ cs)) (rule.1 ∷ failing (bs ++ cs)) ≡ failing cs
-      = λ holds. elim holds as (λ holds. ok {A = U} u ≡ unless_refused (cond holds (failing bs) (rule.1 ∷ failing bs)) u → cond holds (failing (bs ++ cs)) (rule.1 ∷ failing (bs ++ cs)) ≡ failing cs) [
-          | true ↦ λ h. others_decide bs cs u h
-          | false ↦ λ h. absurd cc
-        ] in
+    = λ holds. elim holds as (λ holds. ok {A = U} u ≡ unless_refused (cond holds (failing bs) (rule.1 ∷ failing bs)) u → cond holds (failing (bs ++ cs)) (rule.1 ∷ failing (bs ++ cs)) ≡ failing cs) [
+      | true ↦ λ h. others_decide bs cs u h
+      | false ↦ λ h. absurd cc
+    ] in
     step rule.0 e
 
 -- the same answer whatever the value is

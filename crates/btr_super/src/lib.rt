@@ -4,9 +4,14 @@
 //! [`Super::encode`], and the copies of a block by [`mirror`]. Nothing here allocates.
 #![tactic(auto)]
 
+mod laws;
 mod read;
 mod sums;
 mod superblock;
 
+pub use laws::supers_read_back;
 pub use sums::{csum_type, sum_kind};
 pub use superblock::{Super, mirror};
+
+#[cfg(test)]
+mod tests;

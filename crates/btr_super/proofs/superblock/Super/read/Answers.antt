@@ -30,7 +30,7 @@ returns-in_err-check_fields-clause-value c =
     let others = others_decide (block_rules block c.args.place c.args.device) rules tt c.in_ok-check_block.ensures in
     let p = err_from_is_err_and c.from_residual-in_err-check_fields.result c.from_residual-in_err-check_fields.ensures.1 in
     let fields : Err c.in_err-check_fields.field-0.0 ≡ unless_refused (failing rules) tt =
-      c.in_err-check_fields.ensures ∙ ap (λ (s : Super). unless_refused (failing (field_rules s c.args.place c.args.device)) tt) c.first-found.ensures in
+    c.in_err-check_fields.ensures ∙ ap (λ (s : Super). unless_refused (failing (field_rules s c.args.place c.args.device)) tt) c.first-found.ensures in
     rw (p.1, p.2) (same_refusal (failing rules) tt (super_in block) c.in_err-check_fields.field-0.0 fields ∙ ap (λ (rs : List BtrRefusal). unless_refused rs (super_in block)) (sym others))
 
 pub returns-in_err-check_block-clause-rules : goal.returns-in_err-check_block-clause-rules
