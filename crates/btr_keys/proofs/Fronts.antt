@@ -1,8 +1,6 @@
 -- Fields that are written one after the other: what stands in front of a place.
-use Rattle.std.proofs.Common.{◌≡◌, ◌≤◌, ◌<◌, ℕ, zero, suc, ◌+◌, List, [], ◌∷◌, ◌++◌, length, take, drop, ◌∙◌, refl, ap, sym, arith, append_assoc, length-append, length-take, get_or, add-one}
+use Rattle.std.proofs.Common.{◌≡◌, ◌≤◌, ◌<◌, ℕ, zero, suc, ◌+◌, List, [], ◌∷◌, ◌++◌, length, take, ◌∙◌, refl, ap, sym, arith, append_assoc, length-append, length-take, get_or, add-one}
 use Rattle.std.proofs.lemmas.List.{take_at, append-nil}
-use Rattle.byteorder.specs.Endian.{little_bytes}
-use Rattle.vol_block.specs.Volume.{put_field}
 use Rattle.btr_keys.specs.declared.field.Field.{Field}
 use Rattle.btr_keys.specs.Field.{field_width, field_bytes, fields_width, fields_bytes}
 

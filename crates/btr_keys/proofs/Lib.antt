@@ -1,3 +1,5 @@
 pub mod Fronts
 pub mod Layouts
 pub mod Records
+pub mod Starts
+pub mod Repeats

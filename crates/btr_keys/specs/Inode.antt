@@ -23,26 +23,26 @@ make_inode generation transid size nbytes block_group nlink uid gid mode rdev fl
       atime = atime;
       ctime = ctime;
       mtime = mtime;
-      otime = otime
+      otime = otime;
     }
 
 -- the numbers, 32 bytes that are kept for later, and the times
 unfoldable pub inode_layout : Layout Inode Inode
 inode_layout =
     reserved 32
-      (made_by make_inode
-      ▸ u64 (λ i. i.generation)
-      ▸ u64 (λ i. i.transid)
-      ▸ u64 (λ i. i.size)
-      ▸ u64 (λ i. i.nbytes)
-      ▸ u64 (λ i. i.block_group)
-      ▸ u32 (λ i. i.nlink)
-      ▸ u32 (λ i. i.uid)
-      ▸ u32 (λ i. i.gid)
-      ▸ u32 (λ i. i.mode)
-      ▸ u64 (λ i. i.rdev)
-      ▸ u64 (λ i. i.flags)
-      ▸ u64 (λ i. i.sequence))
+    (made_by make_inode
+    ▸ u64 (λ i. i.generation)
+    ▸ u64 (λ i. i.transid)
+    ▸ u64 (λ i. i.size)
+    ▸ u64 (λ i. i.nbytes)
+    ▸ u64 (λ i. i.block_group)
+    ▸ u32 (λ i. i.nlink)
+    ▸ u32 (λ i. i.uid)
+    ▸ u32 (λ i. i.gid)
+    ▸ u32 (λ i. i.mode)
+    ▸ u64 (λ i. i.rdev)
+    ▸ u64 (λ i. i.flags)
+    ▸ u64 (λ i. i.sequence))
     ▸ stamp (λ i. i.atime)
     ▸ stamp (λ i. i.ctime)
     ▸ stamp (λ i. i.mtime)

@@ -30,11 +30,11 @@ made_by make = record { width = 0; read = λ _. make; spell = λ _ rest. rest; f
 infixl 10 ◌▸◌
 abbrev pub ◌▸◌ : {R A F : Type 0} → Layout R (A → F) → Row R A → Layout R F
 layout ▸ row = record {
-    width = layout.width + row.width;
-    read = λ bytes. layout.read bytes (row.read (drop layout.width bytes));
-    spell = λ value rest. layout.spell value (row.spell (row.get value) ++ rest);
-    fits = λ value. layout.fits value × row.fits (row.get value)
-  }
+  width = layout.width + row.width;
+  read = λ bytes. layout.read bytes (row.read (drop layout.width bytes));
+  spell = λ value rest. layout.spell value (row.spell (row.get value) ++ rest);
+  fits = λ value. layout.fits value × row.fits (row.get value);
+}
 
 -- a byte
 abbrev pub u8 : {R : Type 0} → (R → ℕ) → Row R ℕ
@@ -56,12 +56,12 @@ u64 get = number 8 get
 -- a signed number of eight bytes, in two's complement
 abbrev pub i64 : {R : Type 0} → (R → ℤ) → Row R ℤ
 i64 get = record {
-    width = 8;
-    get = get;
-    read = λ bytes. cast_signed w64 (little_number 8 bytes);
-    spell = λ z. little_bytes 8 (cast_unsigned w64 z);
-    fits = FitsSigned w64
-  }
+  width = 8;
+  get = get;
+  read = λ bytes. cast_signed w64 (little_number 8 bytes);
+  spell = λ z. little_bytes 8 (cast_unsigned w64 z);
+  fits = FitsSigned w64;
+}
 
 -- so many bytes as they are
 abbrev pub array : {R : Type 0} → ℕ → (R → List ℕ) → Row R (List ℕ)
@@ -74,11 +74,11 @@ part layout get = record { width = layout.width; get = get; read = layout.read; 
 -- so many bytes that are written as zeros and not looked at
 abbrev pub reserved : {R F : Type 0} → ℕ → Layout R F → Layout R F
 reserved n layout = record {
-    width = layout.width + n;
-    read = layout.read;
-    spell = λ value rest. layout.spell value (replicate n 0 ++ rest);
-    fits = layout.fits
-  }
+  width = layout.width + n;
+  read = layout.read;
+  spell = λ value rest. layout.spell value (replicate n 0 ++ rest);
+  fits = layout.fits;
+}
 
 -- what a body of n bytes reads as, where the record takes that many; None at any other length
 abbrev pub whole : {R : Type 0} → ℕ → Layout R R → List ℕ → Option R

@@ -3,4 +3,9 @@ pub mod Field
 pub mod Key
 pub mod Stamp
 pub mod Inode
+pub mod Repeated
+pub mod InodeRef
+pub mod Extref
+pub mod DirEntry
+pub mod FileExtent
 pub mod Laws

@@ -1,4 +1,4 @@
-ghost use Rattle.std.specs.Prelude.{◌≡◌, ◌+◌, ◌≤◌, ◌++◌, length, take};
+ghost use Rattle.std.specs.Prelude.{◌≡◌, ◌+◌, ◌≤◌, ◌++◌, length, take, drop};
 ghost use Rattle.btr_keys.specs.Field.{field_width, field_bytes, fields_width, fields_bytes};
 
 use vol_block::{put_u16, put_u32, put_u64};
@@ -63,4 +63,14 @@ fn put_field(into: &mut [u8], at: usize, field: &Field<'_>) -> usize
             at + n
         }
     }
+}
+
+/// The `N` bytes from byte `at` on, as an identifier or a label.
+pub fn array_at<const N: usize>(bytes: &[u8], at: usize) -> [u8; N]
+    requires { at + N ≤ length bytes.now }
+    ensures { result ≡ take N (drop at bytes.now) }
+{
+    let mut array = [0; N];
+    array.copy_from_slice(&bytes[at..at + N]);
+    array
 }

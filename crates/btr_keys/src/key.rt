@@ -61,6 +61,15 @@ impl Key {
         );
     }
 
+    /// The 17 bytes of the key.
+    pub fn to_bytes(&self) -> [u8; 17]
+        ensures { result ≡ key_bytes self.now }
+    {
+        let mut bytes = [0; 17];
+        self.write(&mut bytes);
+        bytes
+    }
+
     /// Whether this key stands before another: by objectid, then by kind, then by offset.
     pub fn is_before(&self, other: &Key) -> bool
         ensures { IsTrue result ↔ IsBefore self.now other.now }

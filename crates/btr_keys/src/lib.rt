@@ -5,14 +5,29 @@
 //! the body. Nothing here allocates or fails otherwise.
 #![tactic(auto)]
 
+mod dir_entry;
+mod extref;
 mod field;
+mod file_extent;
 mod inode;
+mod inode_ref;
 mod key;
 mod laws;
+mod named;
 mod stamp;
 
-pub use field::{Field, put_fields};
+pub use dir_entry::{DirEntry, DirItems};
+pub use extref::{Extref, Extrefs};
+pub use field::{Field, array_at, put_fields};
+pub use file_extent::{DiskRange, ExtentContent, FileExtent};
 pub use inode::Inode;
+pub use inode_ref::{InodeRef, InodeRefs};
 pub use key::Key;
-pub use laws::{inodes_read_back, keys_read_back, stamps_read_back};
+pub use laws::{
+    dir_items_read_back, disk_ranges_read_back, extrefs_read_back, file_extents_read_back,
+    inode_refs_read_back, inodes_read_back, keys_read_back, stamps_read_back,
+};
 pub use stamp::Stamp;
+
+#[cfg(test)]
+mod tests;

@@ -48,10 +48,7 @@ impl Stamp {
     {
         put_fields(
             into,
-            &[
-                Field::U64(self.sec.cast_unsigned()),
-                Field::U32(self.nsec),
-            ],
+            &[Field::U64(self.sec.cast_unsigned()), Field::U32(self.nsec)],
         );
     }
 

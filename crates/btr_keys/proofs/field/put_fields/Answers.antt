@@ -1,6 +1,5 @@
-use Rattle.std.proofs.Common.{◌≡◌, ◌∙◌, ap, ◌++◌, List, ℕ, arith}
+use Rattle.std.proofs.Common.{arith}
 use Rattle.btr_keys.specs.declared.field.Field.TheVariants.{U8}
-use Rattle.btr_keys.specs.Field.{field_bytes}
 use Rattle.btr_keys.proofs.Fronts.{fields_bytes_more, fields_width_more, room_for_field}
 use Rattle.btr_keys.proofs.field.put_fields.Goals as goal
 
@@ -9,6 +8,6 @@ put_field-at-requires c = omega (arith, room_for_field c.args.fields.now c.loop-
 
 pub loop-field-preserved : goal.loop-field-preserved
 loop-field-preserved c = record {
-    place = omega (arith, fields_width_more c.args.fields.now c.loop-field.field-index (U8 0) c.loop-field-test.true);
-    front = let more = fields_bytes_more c.args.fields.now c.loop-field.field-index (U8 0) c.loop-field-test.true in cc (c.put_field-at.ensures.front);
-  }
+  place = omega (arith, fields_width_more c.args.fields.now c.loop-field.field-index (U8 0) c.loop-field-test.true);
+  front = let more = fields_bytes_more c.args.fields.now c.loop-field.field-index (U8 0) c.loop-field-test.true in cc (c.put_field-at.ensures.front);
+}

@@ -1,0 +1,32 @@
+-- Steps over the references of an extent.
+use Rattle.std.proofs.Common.{◌≡◌, ◌<◌, ◌≤◌, ℕ, List, length, drop, Some, None, cond, ltb, ◌==◌, Bool, true, false, refl, arith, subst, length-drop, slice_index_or}
+use Rattle.std.proofs.lemmas.Bool.{ltb-false}
+use Rattle.btr_keys.proofs.Starts.{Shrinks}
+use Rattle.btr_space_items.specs.InlineRef.{behind_inline, rest_of}
+
+rest_shrinks : (n : ℕ) → 0 < n → Shrinks (rest_of n)
+rest_shrinks n some bytes rest e =
+    let step : (short : Bool) → ltb (length bytes) n ≡ short → cond short None (Some (drop n bytes)) ≡ Some rest → length rest < length bytes
+    = λ short. elim short as (λ short. ltb (length bytes) n ≡ short → cond short None (Some (drop n bytes)) ≡ Some rest → length rest < length bytes) [
+      | true ↦ λ t h. absurd cc
+      | false ↦ λ t h.
+          let long : n ≤ length bytes = ltb-false _ _ t in
+          let same : drop n bytes ≡ rest = cc in
+          subst (λ (r : List ℕ). length r < length bytes) same (omega (arith, length-drop n bytes))
+    ] in
+    step (ltb (length bytes) n) refl e
+
+pub inline_shrinks : Shrinks behind_inline
+unfolding behind_inline
+inline_shrinks bytes rest e =
+    let inner : (is_data : Bool) → cond is_data (rest_of 29 bytes) None ≡ Some rest → length rest < length bytes
+    = λ is_data. elim is_data as (λ is_data. cond is_data (rest_of 29 bytes) None ≡ Some rest → length rest < length bytes) [
+      | true ↦ λ h. rest_shrinks 29 (omega arith) bytes rest h
+      | false ↦ λ h. absurd cc
+    ] in
+    let outer : (block : Bool) → cond block (rest_of 9 bytes) (cond (slice_index_or bytes 0 0 == 178) (rest_of 29 bytes) None) ≡ Some rest → length rest < length bytes
+    = λ block. elim block as (λ block. cond block (rest_of 9 bytes) (cond (slice_index_or bytes 0 0 == 178) (rest_of 29 bytes) None) ≡ Some rest → length rest < length bytes) [
+      | true ↦ λ h. rest_shrinks 9 (omega arith) bytes rest h
+      | false ↦ λ h. inner (slice_index_or bytes 0 0 == 178) h
+    ] in
+    outer (slice_index_or bytes 0 0 == 176) e

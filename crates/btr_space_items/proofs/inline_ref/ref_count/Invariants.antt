@@ -1,0 +1,15 @@
+use Rattle.std.proofs.Common.{◌≡◌, ◌≤◌, ◌+◌, length}
+use Rattle.std.specs.Option.{option_map}
+use Rattle.btr_keys.specs.Repeated.{starts}
+use Rattle.btr_space_items.specs.InlineRef.{behind_inline}
+use Rattle.btr_space_items.proofs.inline_ref.ref_count.Given as goal
+
+abbrev pub invariant-loop-rest : goal.invariant-loop-rest
+invariant-loop-rest l =
+    record {
+      within : l.count + length l.rest ≤ length l.body;
+      counted : option_map length (starts behind_inline l.body) ≡ option_map (λ n. l.count + n) (option_map length (starts behind_inline l.rest));
+    }
+
+abbrev pub decreases-loop-rest : goal.decreases-loop-rest
+decreases-loop-rest l = length l.rest

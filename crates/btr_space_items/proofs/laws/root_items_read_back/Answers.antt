@@ -1,0 +1,5 @@
+use Rattle.btr_space_items.proofs.Records.{root_items_read_back}
+use Rattle.btr_space_items.proofs.laws.root_items_read_back.Goals as goal
+
+pub returns : goal.returns
+returns c = root_items_read_back

@@ -1,0 +1,10 @@
+pub mod BlockGroup
+pub mod DevExtent
+pub mod Device
+pub mod Stripe
+pub mod ExtentHead
+pub mod Chunk
+pub mod RootItem
+pub mod RootRef
+pub mod InlineRef
+pub mod Laws

@@ -1,0 +1,77 @@
+ghost use Rattle.std.specs.Prelude.{◌≡◌, ◌+◌, ◌≤◌, length};
+ghost use Rattle.btr_space_items.specs.BlockGroup.{block_group_layout, block_group_at, block_group_of, block_group_bytes};
+
+use btr_keys::{Field, put_fields};
+use vol_block::u64_at;
+
+/// The body of a block group, key (logical address, 192, length), both in bytes: 24 bytes, as the Btrfs on-disk format
+/// documentation has it.
+#[derive(Clone, Copy, Debug, PartialEq, Eq)]
+pub struct BlockGroup {
+    /// Bytes of extents and nodes in the group.
+    pub used: u64,
+    /// The objectid of the group's chunk: 256.
+    pub chunk_objectid: u64,
+    /// What the group holds: 1 data, 2 system, 4 metadata.
+    pub flags: u64,
+}
+
+impl BlockGroup {
+    /// The bytes of a value.
+    pub const SIZE: usize = 24;
+
+    /// The value in the 24 bytes from byte `at` on.
+    pub fn at(bytes: &[u8], at: usize) -> BlockGroup
+        requires { at + 24 ≤ length bytes.now }
+        ensures { result ≡ block_group_at bytes.now at }
+    {
+        BlockGroup::first(&bytes[at..])
+    }
+
+    fn first(bytes: &[u8]) -> BlockGroup
+        requires { 24 ≤ length bytes.now }
+        ensures { result ≡ block_group_layout.read bytes.now }
+    {
+        BlockGroup {
+            used: u64_at(bytes, 0),
+            chunk_objectid: u64_at(bytes, 8),
+            flags: u64_at(bytes, 16),
+        }
+    }
+
+    /// The value that is the whole body; None exactly where the body has another length than 24 bytes.
+    pub fn read(body: &[u8]) -> Option<BlockGroup>
+        ensures { result ≡ block_group_of body.now }
+    {
+        if body.len() == BlockGroup::SIZE {
+            Some(BlockGroup::first(body))
+        } else {
+            None
+        }
+    }
+
+    /// Writes the value into the 24 bytes of a slice.
+    #[tactic(auto, unfolding(crate::specs::BlockGroup::block_group_layout))]
+    pub fn write(&self, into: &mut [u8])
+        requires { length into.old ≡ 24 }
+        ensures { into.new ≡ block_group_bytes self.now }
+    {
+        put_fields(
+            into,
+            &[
+                Field::U64(self.used),
+                Field::U64(self.chunk_objectid),
+                Field::U64(self.flags),
+            ],
+        );
+    }
+
+    /// The 24 bytes of the value.
+    pub fn to_bytes(&self) -> [u8; 24]
+        ensures { result ≡ block_group_bytes self.now }
+    {
+        let mut bytes = [0; 24];
+        self.write(&mut bytes);
+        bytes
+    }
+}

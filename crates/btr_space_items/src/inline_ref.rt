@@ -1,0 +1,201 @@
+ghost use Rattle.std.specs.Prelude.{◌≡◌, ◌<◌, ◌≤◌, ◌↔◌, List, ℕ, length, Some, IsSome, IsTrue, slice_get};
+ghost use Rattle.std.specs.Option.{option_map, option_copied};
+ghost use Rattle.btr_keys.specs.Repeated.{starts};
+ghost use Rattle.btr_space_items.specs.InlineRef.{
+  behind_inline,
+  rest_of,
+  inline_ref_front,
+  inline_ref_bytes,
+  inline_ref_size,
+  inline_refs_of,
+};
+
+use btr_keys::{Field, put_fields};
+use std::marker::Model;
+use vol_block::{u32_at, u64_at};
+
+/// A reference to an extent that stands in the extent's item, as the Btrfs on-disk format documentation has it.
+#[derive(Clone, Copy, Debug, PartialEq, Eq)]
+pub enum InlineRef {
+    /// A node of a tree: kind 176, 9 bytes.
+    TreeBlock {
+        /// The tree's number.
+        root: u64,
+    },
+    /// Data of a file: kind 178, 29 bytes.
+    DataRef {
+        /// The number of the file's tree.
+        root: u64,
+        /// The file's inode.
+        objectid: u64,
+        /// Where in the file the extent's begin would lie, in bytes.
+        offset: u64,
+        /// How many file extents refer to it so.
+        count: u32,
+    },
+}
+
+/// The byte that begins a reference to a node.
+const TREE_BLOCK: u8 = 176;
+/// The byte that begins a reference to data.
+const DATA: u8 = 178;
+
+impl InlineRef {
+    /// How many bytes the reference takes.
+    pub fn size(&self) -> usize
+        ensures { result ≡ inline_ref_size self.now }
+    {
+        match self {
+            InlineRef::TreeBlock { .. } => 9,
+            InlineRef::DataRef { .. } => 29,
+        }
+    }
+
+    /// Writes the reference into a slice of its size.
+    #[tactic(auto, unfolding(crate::specs::InlineRef::tree_block_layout, crate::specs::InlineRef::data_ref_layout))]
+    pub fn write(&self, into: &mut [u8])
+        requires { length into.old ≡ inline_ref_size self.now }
+        ensures { into.new ≡ inline_ref_bytes self.now }
+    {
+        match *self {
+            InlineRef::TreeBlock { root } => {
+                put_fields(into, &[Field::U8(TREE_BLOCK), Field::U64(root)]);
+            }
+            InlineRef::DataRef {
+                root,
+                objectid,
+                offset,
+                count,
+            } => put_fields(
+                into,
+                &[
+                    Field::U8(DATA),
+                    Field::U64(root),
+                    Field::U64(objectid),
+                    Field::U64(offset),
+                    Field::U32(count),
+                ],
+            ),
+        }
+    }
+
+    #[tactic(auto, unfolding(crate::specs::InlineRef::tree_block_layout, crate::specs::InlineRef::data_ref_layout, crate::specs::InlineRef::behind_inline))]
+    fn front(bytes: &[u8]) -> InlineRef
+        requires { IsSome (behind_inline bytes.now) }
+        ensures { result ≡ inline_ref_front bytes.now }
+    {
+        if bytes[0] == TREE_BLOCK {
+            InlineRef::TreeBlock {
+                root: u64_at(bytes, 1),
+            }
+        } else {
+            InlineRef::DataRef {
+                root: u64_at(bytes, 1),
+                objectid: u64_at(bytes, 9),
+                offset: u64_at(bytes, 17),
+                count: u32_at(bytes, 25),
+            }
+        }
+    }
+}
+
+/// The bytes behind the reference that a slice begins with; None where it is not whole or of another kind.
+#[tactic(auto, unfolding(crate::specs::InlineRef::behind_inline))]
+fn behind(bytes: &[u8]) -> Option<&[u8]>
+    ensures { option_copied result ≡ behind_inline bytes.now }
+{
+    match bytes {
+        [TREE_BLOCK, ..] => rest_of(9, bytes),
+        [DATA, ..] => rest_of(29, bytes),
+        _ => None,
+    }
+}
+
+fn rest_of(n: usize, bytes: &[u8]) -> Option<&[u8]>
+    ensures { option_copied result ≡ rest_of n bytes.now }
+{
+    if bytes.len() < n {
+        None
+    } else {
+        Some(&bytes[n..])
+    }
+}
+
+/// How many references a slice is; None where one is not whole or of another kind.
+fn ref_count(body: &[u8]) -> Option<usize>
+    ensures { result ≡ option_map length (starts behind_inline body.now) }
+{
+    let mut rest = body;
+    let mut count = 0;
+    while !rest.is_empty() {
+        rest = behind(rest)?;
+        count += 1;
+    }
+    Some(count)
+}
+
+/// The bytes from the begin of reference `i` on.
+fn ref_start(body: &[u8], i: usize) -> &[u8]
+    ensures whole { (all : List (List ℕ)) → starts behind_inline body.now ≡ Some all → i < length all → IsSome (behind_inline result.now) }
+    ensures there { (all : List (List ℕ)) → starts behind_inline body.now ≡ Some all → i < length all → slice_get all i ≡ Some result.now }
+{
+    let mut rest = body;
+    for _ in 0..i {
+        let Some(after) = behind(rest) else {
+            return rest;
+        };
+        rest = after;
+    }
+    rest
+}
+
+/// The references of an extent: what stands behind the first 24 bytes of an extent or metadata item.
+#[derive(Debug, Drop)]
+pub struct InlineRefs<'a> {
+    body: &'a [u8],
+    count: usize,
+}
+
+impl<'a> Model for InlineRefs<'a> {
+    ghost use Rattle.std.specs.Prelude.{◌≡◌, List, Some, length, unwrap_or, []};
+    ghost use Rattle.btr_space_items.specs.declared.inline_ref.InlineRef.{InlineRef};
+    ghost use Rattle.btr_space_items.specs.InlineRef.{inline_refs_of};
+
+    ghost Value = { List InlineRef };
+
+    ghost view = { λ v. unwrap_or (inline_refs_of v.body.now) [] };
+
+    ghost invariant = { λ v. (inline_refs_of v.body.now ≡ Some (unwrap_or (inline_refs_of v.body.now) [])) × (v.count ≡ length (unwrap_or (inline_refs_of v.body.now) [])) };
+}
+
+impl<'a> InlineRefs<'a> {
+    /// The references that a slice is; None exactly where it is not any number of whole references of the two kinds.
+    pub fn read(body: &'a [u8]) -> Option<InlineRefs<'a>>
+        ensures { result ≡ inline_refs_of body.now }
+    {
+        let count = ref_count(body)?;
+        Some(InlineRefs { body, count })
+    }
+
+    /// How many references there are.
+    pub fn len(&self) -> usize
+        ensures { result ≡ length self.now }
+    {
+        self.count
+    }
+
+    /// Whether there is none.
+    pub fn is_empty(&self) -> bool
+        ensures { IsTrue result ↔ (length self.now ≡ 0) }
+    {
+        self.count == 0
+    }
+
+    /// Reference `i`, in the order of the item. It goes over the references before it.
+    pub fn get(&self, i: usize) -> InlineRef
+        requires { i < length self.now }
+        ensures { slice_get self.now i ≡ Some result }
+    {
+        InlineRef::front(ref_start(self.body, i))
+    }
+}
