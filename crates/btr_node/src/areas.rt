@@ -24,8 +24,8 @@ fn descends(entries: &[u8], count: usize) -> bool
 {
     let mut end = entries.len();
     for i in 0..count {
-        let head = ItemHead::at(entries, 25 * i);
-        if !is_within(&head, 25 * count, end) {
+        let head = ItemHead::at(entries, ItemHead::SIZE * i);
+        if !is_within(&head, ItemHead::SIZE * count, end) {
             return false;
         }
         end = head.offset as usize;
@@ -39,8 +39,8 @@ fn all_within(entries: &[u8], count: usize) -> bool
     ensures { result ≡ list_all (is_within (25 * count) (length entries.now)) (records_in 25 item_layout count entries.now) }
 {
     for i in 0..count {
-        let head = ItemHead::at(entries, 25 * i);
-        if !is_within(&head, 25 * count, entries.len()) {
+        let head = ItemHead::at(entries, ItemHead::SIZE * i);
+        if !is_within(&head, ItemHead::SIZE * count, entries.len()) {
             return false;
         }
     }
@@ -75,9 +75,9 @@ fn apart_from_later(entries: &[u8], count: usize, i: usize) -> bool
     ensures { result ≡ list_all (are_apart (item_layout.read (drop (25 * i) entries.now)))
         (drop (i + 1) (records_in 25 item_layout count entries.now)) }
 {
-    let head = ItemHead::at(entries, 25 * i);
+    let head = ItemHead::at(entries, ItemHead::SIZE * i);
     for j in i + 1..count {
-        let later = ItemHead::at(entries, 25 * j);
+        let later = ItemHead::at(entries, ItemHead::SIZE * j);
         if !are_apart(&head, &later) {
             return false;
         }

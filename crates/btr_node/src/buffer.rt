@@ -6,7 +6,7 @@ ghost use Rattle.btr_node.specs.Leaf.{Item};
 ghost use Rattle.btr_node.specs.declared.child.Child.{Child as ChildOf};
 
 use crate::child::Child;
-use crate::head::Head;
+use crate::head::{HEAD_SIZE, Head};
 use crate::put::{put_child, put_head, put_item};
 use btr_keys::Key;
 use csum_kinds::SumKind;
@@ -41,7 +41,7 @@ pub fn add_item(buffer: &mut Vec<u8>, count: usize, low: usize, key: Key, body: 
         → behind_head buffer.new.items ≡ contents (length buffer.old.items - 101) (items ++ (key, body.now) ∷ []) [] }
 {
     let bytes = buffer.as_mut_slice();
-    put_item(&mut bytes[101..], count, low, key, body);
+    put_item(&mut bytes[HEAD_SIZE..], count, low, key, body);
 }
 
 /// Puts a child behind the `count` children of the inner node in a buffer.
@@ -53,7 +53,7 @@ pub fn add_child(buffer: &mut Vec<u8>, count: usize, child: &Child)
         → behind_head buffer.new.items ≡ contents (length buffer.old.items - 101) [] (children ++ child.now ∷ []) }
 {
     let bytes = buffer.as_mut_slice();
-    put_child(&mut bytes[101..], count, child);
+    put_child(&mut bytes[HEAD_SIZE..], count, child);
 }
 
 /// Writes the head of the node in a buffer, and its checksum before it.

@@ -3,9 +3,13 @@ ghost use Rattle.btr_keys.specs.Layout.{spelling};
 ghost use Rattle.btr_node.specs.Head.{head_layout, head_in, behind_head, expected, has_head};
 
 use crate::expect::Expect;
+use crate::sum::SUM_SIZE;
 use btr_keys::{Field, put_fields};
 use csum_kinds::SumKind;
 use vol_block::{u32_at, u64_at};
+
+/// The bytes of a node's checksum and head.
+pub const HEAD_SIZE: usize = 101;
 
 /// The head of a node behind its checksum, 69 bytes, as the Btrfs on-disk format documentation has it.
 #[derive(Clone, Copy, Debug, PartialEq, Eq)]
@@ -36,7 +40,7 @@ impl Head {
         requires { 101 ≤ length bytes.now }
         ensures { result ≡ head_in bytes.now }
     {
-        Head::first(&bytes[32..])
+        Head::first(&bytes[SUM_SIZE..])
     }
 
     fn first(bytes: &[u8]) -> Head
@@ -112,5 +116,5 @@ pub fn behind_head(bytes: &[u8]) -> &[u8]
     requires { 101 ≤ length bytes.now }
     ensures { result.now ≡ behind_head bytes.now }
 {
-    &bytes[101..]
+    &bytes[HEAD_SIZE..]
 }

@@ -6,7 +6,7 @@ ghost use Rattle.btr_node.specs.Rules.{InnerObeys, inner_damages};
 
 use crate::child::Child;
 use crate::expect::Expect;
-use crate::head::{Head, behind_head, has_head};
+use crate::head::{HEAD_SIZE, Head, behind_head, has_head};
 use crate::order::keys_ascend;
 use crate::sum::has_sum;
 use outside::BtrRule;
@@ -89,7 +89,7 @@ fn child_at(bytes: &[u8], i: usize) -> Child
     requires within { i < count bytes.now }
     ensures { result ≡ child_at bytes.now i }
 {
-    Child::at(behind_head(bytes), 33 * i)
+    Child::at(behind_head(bytes), Child::SIZE * i)
 }
 
 /// Whether the parent says of the node that it is an inner node, and what its head says, and there is a child.
@@ -105,7 +105,7 @@ fn has_layout(bytes: &[u8]) -> bool
     requires { IsNodeSize (length bytes.now) }
     ensures { result ≡ has_inner_layout bytes.now }
 {
-    101 + 33 * Head::of(bytes).count as usize <= bytes.len()
+    HEAD_SIZE + Child::SIZE * Head::of(bytes).count as usize <= bytes.len()
 }
 
 /// Whether the first keys of the children ascend.

@@ -6,7 +6,7 @@ ghost use Rattle.btr_node.specs.Rules.{LeafObeys, leaf_damages};
 
 use crate::areas::has_areas;
 use crate::expect::Expect;
-use crate::head::{Head, behind_head, has_head};
+use crate::head::{HEAD_SIZE, Head, behind_head, has_head};
 use crate::item::ItemHead;
 use crate::order::keys_ascend;
 use crate::sum::has_sum;
@@ -96,7 +96,7 @@ fn head_at(bytes: &[u8], i: usize) -> ItemHead
     requires within { i < count bytes.now }
     ensures { result ≡ head_at bytes.now i }
 {
-    ItemHead::at(behind_head(bytes), 25 * i)
+    ItemHead::at(behind_head(bytes), ItemHead::SIZE * i)
 }
 
 /// The data of item i of a leaf.
@@ -124,7 +124,7 @@ fn has_layout(bytes: &[u8]) -> bool
     ensures { result ≡ has_leaf_layout bytes.now }
 {
     let count = Head::of(bytes).count as usize;
-    101 + 25 * count <= bytes.len() && has_areas(behind_head(bytes), count)
+    HEAD_SIZE + ItemHead::SIZE * count <= bytes.len() && has_areas(behind_head(bytes), count)
 }
 
 /// Whether the keys of the items ascend.

@@ -6,8 +6,9 @@ ghost use Rattle.btr_node.specs.Leaf.{Item};
 ghost use Rattle.btr_node.specs.declared.child.Child.{Child as ChildOf};
 
 use crate::child::Child;
-use crate::head::Head;
+use crate::head::{HEAD_SIZE, Head};
 use crate::item::ItemHead;
+use crate::sum::SUM_SIZE;
 use btr_keys::Key;
 use csum_kinds::{SumKind, kind_sum};
 
@@ -28,8 +29,8 @@ pub fn put_item(behind: &mut [u8], count: usize, low: usize, key: Key, body: &[u
         offset: begin as u32,
         size: body.len() as u32,
     };
-    let at = 25 * count;
-    head.write(&mut behind[at..at + 25]);
+    let at = ItemHead::SIZE * count;
+    head.write(&mut behind[at..at + ItemHead::SIZE]);
 }
 
 /// Puts a child behind the `count` children that an inner node has. `behind` is what stands behind the node's head.
@@ -39,8 +40,8 @@ pub fn put_child(behind: &mut [u8], count: usize, child: &Child)
         → behind.old ≡ contents (length behind.old) [] children
         → behind.new ≡ contents (length behind.old) [] (children ++ child.now ∷ []) }
 {
-    let at = 33 * count;
-    child.write(&mut behind[at..at + 33]);
+    let at = Child::SIZE * count;
+    child.write(&mut behind[at..at + Child::SIZE]);
 }
 
 /// Writes the head of a node, and its checksum before it.
@@ -48,7 +49,7 @@ pub fn put_head(bytes: &mut [u8], head: &Head, sums: SumKind)
     requires { 101 ≤ length bytes.old }
     ensures { bytes.new ≡ sealed sums (spelling head_layout head.now ++ drop 101 bytes.old) }
 {
-    head.write(&mut bytes[32..101]);
-    let sum = kind_sum(sums, &bytes[32..]);
-    bytes[..32].copy_from_slice(&sum);
+    head.write(&mut bytes[SUM_SIZE..HEAD_SIZE]);
+    let sum = kind_sum(sums, &bytes[SUM_SIZE..]);
+    bytes[..SUM_SIZE].copy_from_slice(&sum);
 }

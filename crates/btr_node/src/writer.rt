@@ -11,7 +11,8 @@ ghost use Rattle.btr_node.specs.contracts.writer.NodeWriter.{the_row};
 use crate::buffer::{add_child, add_item, clear, seal, zeroed};
 use crate::child::Child;
 use crate::expect::Expect;
-use crate::head::Head;
+use crate::head::{HEAD_SIZE, Head};
+use crate::item::ItemHead;
 use btr_keys::Key;
 use csum_kinds::SumKind;
 use outside::Memory;
@@ -67,7 +68,7 @@ impl NodeWriter {
             chunk_tree: [0; 16],
             items: 0,
             children: 0,
-            low: nodesize as usize - 101,
+            low: nodesize as usize - HEAD_SIZE,
         })
     }
 
@@ -87,14 +88,14 @@ impl NodeWriter {
         self.chunk_tree = chunk_tree;
         self.items = 0;
         self.children = 0;
-        self.low = self.buffer.len() - 101;
+        self.low = self.buffer.len() - HEAD_SIZE;
     }
 
     /// How many bytes are left for items with their heads of 25 bytes, or for children of 33 bytes.
     pub fn room(&self) -> usize
         ensures { result ≡ room self.now }
     {
-        self.low - 25 * self.items - 33 * self.children
+        self.low - ItemHead::SIZE * self.items - Child::SIZE * self.children
     }
 
     /// Adds an item to a leaf, behind those that it has. Full comes exactly where the room is below 25 bytes and the
@@ -107,7 +108,7 @@ impl NodeWriter {
         ensures ok { OnOk result (self.new ≡ record self.old { items = self.old.items ++ (key, body.now) ∷ [] }) }
         ensures err { OnErr result (self.new ≡ self.old) }
     {
-        if self.room() < 25 + body.len() {
+        if self.room() < ItemHead::SIZE + body.len() {
             return Err(Full);
         }
         add_item(&mut self.buffer, self.items, self.low, key, body);
@@ -126,7 +127,7 @@ impl NodeWriter {
         ensures ok { OnOk result (self.new ≡ record self.old { children = self.old.children ++ child ∷ [] }) }
         ensures err { OnErr result (self.new ≡ self.old) }
     {
-        if self.room() < 33 {
+        if self.room() < Child::SIZE {
             return Err(Full);
         }
         add_child(&mut self.buffer, self.children, &child);

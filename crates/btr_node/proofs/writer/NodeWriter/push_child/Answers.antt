@@ -10,7 +10,7 @@ use Rattle.btr_node.proofs.writer.NodeWriter.push_child.Goals as goal
 pub add_child-requires : goal.add_child-requires
 add_child-requires c =
     let known = room_of c.self.inside.buffer.items c.self.inside.low c.self.inside.started c.self.inside.want c.self.inside.chunk_tree c.self.inside.items c.self.inside.children c.self.invariant in
-    omega (arith, known.room_is, known.entries, known.low_within, ap room c.self.view_is, c.room.ensures, c.if-room-lt33.false)
+    omega (arith, known.room_is, known.entries, known.low_within, ap room c.self.view_is, c.room.ensures, c.if-room-lt-SIZE.false)
 
 pub overflow_add-self : goal.overflow_add-self
 overflow_add-self c =
@@ -22,7 +22,7 @@ invariant_of-self c =
     let pushed =
     let draft_is = c.self.view_is in
     let fits : 33 ≤ room (held c.self.inside.buffer.items c.self.inside.started c.self.inside.want c.self.inside.chunk_tree c.self.inside.items c.self.inside.children) =
-    omega (arith, c.if-room-lt33.false, c.room.ensures, ap room draft_is) in
+    omega (arith, c.if-room-lt-SIZE.false, c.room.ensures, ap room draft_is) in
     let spelled : child_layout.fits c.args.child =
     child_spelled c.args.child (key_spelled c.args.child.key (omega arith) (omega arith) (omega arith)) (omega arith) (omega arith) in
     let inner : 1 ≤ c.self.inside.want.level = omega (arith, ap (λ d. d.want.level) draft_is, c.requires.inner) in
@@ -40,7 +40,7 @@ returns-clause-ok c =
     let pushed =
     let draft_is = c.self.view_is in
     let fits : 33 ≤ room (held c.self.inside.buffer.items c.self.inside.started c.self.inside.want c.self.inside.chunk_tree c.self.inside.items c.self.inside.children) =
-    omega (arith, c.if-room-lt33.false, c.room.ensures, ap room draft_is) in
+    omega (arith, c.if-room-lt-SIZE.false, c.room.ensures, ap room draft_is) in
     let spelled : child_layout.fits c.args.child =
     child_spelled c.args.child (key_spelled c.args.child.key (omega arith) (omega arith) (omega arith)) (omega arith) (omega arith) in
     let inner : 1 ≤ c.self.inside.want.level = omega (arith, ap (λ d. d.want.level) draft_is, c.requires.inner) in

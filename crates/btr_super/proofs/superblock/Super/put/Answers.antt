@@ -1,0 +1,7 @@
+use Rattle.std.proofs.Common.{◌∙◌, refl}
+use Rattle.btr_super.specs.Super.{super_layout}
+use Rattle.btr_super.proofs.superblock.Super.put.Goals as goal
+
+pub returns : goal.returns
+unfolding super_layout
+returns c = c.put_fields.ensures ∙ rw (c.requires.device) refl

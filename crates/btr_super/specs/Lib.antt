@@ -1,0 +1,5 @@
+pub mod Constant
+pub mod Sums
+pub mod Super
+pub mod Rules
+pub mod Laws

@@ -1,0 +1,71 @@
+-- The rules of a superblock that is read, each a test and what is answered where it fails, in their order.
+use Rattle.std.specs.Prelude.{ℕ, ◌*◌, ◌%◌, ◌^◌, ◌==◌, nat_lt, nat_le, Bool, ◌&&◌, ◌||◌, if◌then◌else◌, bit_and, List, [], ◌∷◌, ◌++◌, codes, is_some, Result, Ok, Err}
+use Rattle.outside.specs.declared.refusal.BtrRefusal.{BtrRefusal}
+use Rattle.outside.specs.declared.refusal.BtrRefusal.TheVariants.{BadBtrfs, Unsupported}
+use Rattle.outside.specs.declared.rule.BtrRule.TheVariants.{SuperCsum, SuperField}
+use Rattle.outside.specs.declared.rule.Feature.TheVariants.{Incompat, ChecksumType, SectorSize, NodeSize, DeviceCount}
+use Rattle.vol_block.specs.Format.{has_bytes_at}
+use Rattle.btr_super.specs.declared.superblock.Super.{Super}
+use Rattle.btr_super.specs.Sums.{known_kind, csum_type_of, has_sum}
+use Rattle.btr_super.specs.Super.{super_in}
+
+-- whatever the place is, a refusal names the address of the first superblock
+abbrev pub bad_field : BtrRefusal
+bad_field = BadBtrfs 65536 SuperField
+
+-- the device has such a block, and the block has the magic of Btrfs
+abbrev pub is_super : List ℕ → ℕ → ℕ → Bool
+is_super block place device = nat_lt place device && has_bytes_at block 64 (codes "_BHRfS_M")
+
+-- its address is its own, the trees have at most seven levels above their leaves, the bootstrap array has its room, and
+-- the volume lies on the device, in whole blocks, of which there are at most 2^36
+abbrev pub has_fields : Super → ℕ → ℕ → Bool
+has_fields s place device =
+    (s.bytenr == 4096 * place)
+    && (nat_le s.root_level 7 && (nat_le s.chunk_root_level 7 && (nat_le s.log_root_level 7
+    && (nat_le s.sys_chunk_array_size 2048
+    && (nat_le s.total_bytes (4096 * device) && (nat_le s.total_bytes (2 ^ 48) && (s.total_bytes % 4096 == 0)))))))
+
+-- The bits beside those of features that are read: mixed backrefs 0x1, a default subvolume 0x2, LZO 0x8, ZSTD 0x10, big
+-- metadata 0x20, extended inode refs 0x40, skinny metadata 0x100 and no holes 0x200.
+abbrev pub unread_bits : ℕ → ℕ
+unread_bits incompat = bit_and incompat 0xFFFFFFFFFFFFFC84
+
+abbrev pub is_node_size : ℕ → Bool
+is_node_size n = (n == 4096) || ((n == 8192) || ((n == 16384) || ((n == 32768) || (n == 65536))))
+
+-- it is a superblock, and its checksum is right
+abbrev pub block_rules : List ℕ → ℕ → ℕ → List (Bool × BtrRefusal)
+block_rules block place device =
+    (is_super block place device, bad_field)
+    ∷ (is_some (known_kind (csum_type_of block)), Unsupported ChecksumType (csum_type_of block))
+    ∷ (has_sum (known_kind (csum_type_of block)) block, BadBtrfs 65536 SuperCsum)
+    ∷ []
+
+-- its fields are those of a volume that is read
+abbrev pub field_rules : Super → ℕ → ℕ → List (Bool × BtrRefusal)
+field_rules s place device =
+    (has_fields s place device, bad_field)
+    ∷ (unread_bits s.incompat == 0, Unsupported Incompat (unread_bits s.incompat))
+    ∷ (s.sectorsize == 4096, Unsupported SectorSize s.sectorsize)
+    ∷ (is_node_size s.nodesize, Unsupported NodeSize s.nodesize)
+    ∷ (s.num_devices == 1, Unsupported DeviceCount s.num_devices)
+    ∷ []
+
+-- what is answered by the rules that fail, in their order
+abbrev pub failing : List (Bool × BtrRefusal) → List BtrRefusal
+failing [] = []
+failing (rule ∷ rules) = if rule.0 then failing rules else rule.1 ∷ failing rules
+
+-- all refusals of a superblock; there is none exactly where it is read
+abbrev pub super_refusals : List ℕ → ℕ → ℕ → List BtrRefusal
+super_refusals block place device = failing (block_rules block place device ++ field_rules (super_in block) place device)
+
+-- the first of some refusals, and the value where there is none
+abbrev pub unless_refused : {A : Type 0} → List BtrRefusal → A → Result A BtrRefusal
+unless_refused [] x = Ok x
+unless_refused (refusal ∷ refusals) x = Err refusal
+
+-- the superblock that a block is, at this place of a device of so many blocks
+unfoldable pub super_of : List ℕ → ℕ → ℕ → Result Super BtrRefusal
+super_of block place device = unless_refused (super_refusals block place device) (super_in block)

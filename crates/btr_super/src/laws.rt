@@ -1,0 +1,7 @@
+// What is written is read again: a law is the contract of a function that does nothing.
+ghost use Rattle.btr_super.specs.Laws.{SupersReadBack};
+
+/// The block of a superblock whose fields keep the rules of its place reads there as that superblock.
+pub fn supers_read_back()
+    ensures { SupersReadBack }
+{}

@@ -1,0 +1,132 @@
+ghost use Rattle.std.specs.Prelude.{◌≡◌, ◌≤◌, ◌↔◌, [], length, codes, IsOk};
+ghost use Rattle.vol_block.specs.Format.{has_bytes_at};
+ghost use Rattle.btr_super.specs.Rules.{
+  is_super,
+  has_fields,
+  unread_bits,
+  is_node_size,
+  block_rules,
+  field_rules,
+  failing,
+  unless_refused,
+  super_refusals,
+  super_of,
+};
+
+use crate::sums::{has_sum, sum_kind};
+use crate::superblock::{MAGIC, Super};
+use outside::{BtrRefusal, BtrRule, Feature};
+use vol_block::{Block, BlockNo, u16_at};
+
+/// The address of the first superblock in bytes, which each refusal names.
+const ADDRESS: u64 = 65536;
+
+/// The bits of incompatible features that are not read: all but mixed backrefs, a default subvolume, LZO, ZSTD, big
+/// metadata, extended inode refs, skinny metadata and no holes.
+const UNREAD: u64 = 0xFFFF_FFFF_FFFF_FC84;
+
+const BAD_FIELD: BtrRefusal = BtrRefusal::BadBtrfs {
+    address: ADDRESS,
+    rule: BtrRule::SuperField,
+};
+
+impl Super {
+    /// The superblock that a block is, at this place of a device of `device` blocks.
+    ///
+    /// It is refused by the first of these that fails: the device has that block, and the block has the magic of Btrfs; the
+    /// kind of checksum is known; the checksum is right; the fields are in their bounds (the superblock's own address, at
+    /// most seven levels, the bootstrap array's room, and a length in whole blocks, at most that of the device and 2^48);
+    /// no other incompatible features than those that are read; a sector size of 4096; one of the five node sizes; one
+    /// device.
+    pub fn read(block: &Block, place: BlockNo, device: u64) -> Result<Super, BtrRefusal>
+        ensures value { result ≡ super_of block.now.bytes place device }
+        ensures rules { IsOk result ↔ (super_refusals block.now.bytes place device ≡ []) }
+    {
+        check_block(block, place, device)?;
+        let found = Super::first(&block.bytes);
+        found.check_fields(place, device)?;
+        Ok(found)
+    }
+
+    fn check_fields(&self, place: BlockNo, device: u64) -> Result<(), BtrRefusal>
+        ensures { result ≡ unless_refused (failing (field_rules self.now place device)) tt }
+    {
+        if !self.has_fields(place, device) {
+            return Err(BAD_FIELD);
+        }
+        let unread = self.incompat & UNREAD;
+        if unread != 0 {
+            return unsupported(Feature::Incompat, unread);
+        }
+        if self.sectorsize != 4096 {
+            return unsupported(Feature::SectorSize, self.sectorsize as u64);
+        }
+        if !is_node_size(self.nodesize) {
+            return unsupported(Feature::NodeSize, self.nodesize as u64);
+        }
+        if self.num_devices != 1 {
+            return unsupported(Feature::DeviceCount, self.num_devices);
+        }
+        Ok(())
+    }
+
+    fn has_fields(&self, place: BlockNo, device: u64) -> bool
+        ensures { result ≡ has_fields self.now place device }
+    {
+        self.bytenr % 4096 == 0
+            && self.bytenr / 4096 == place
+            && self.root_level <= 7
+            && self.chunk_root_level <= 7
+            && self.log_root_level <= 7
+            && self.sys_chunk_array_size <= 2048
+            && self.total_bytes / 4096 <= device
+            && self.total_bytes <= 1 << 48
+            && self.total_bytes % 4096 == 0
+    }
+}
+
+/// Whether a node size is one of the five that are read, in bytes.
+fn is_node_size(size: u32) -> bool
+    ensures { result ≡ is_node_size size }
+{
+    size == 4096 || size == 8192 || size == 16384 || size == 32768 || size == 65536
+}
+
+fn unsupported(feature: Feature, value: u64) -> Result<(), BtrRefusal>
+    ensures { result ≡ Err (BtrRefusal.Unsupported feature value) }
+{
+    Err(BtrRefusal::Unsupported { feature, value })
+}
+
+fn check_block(block: &Block, place: BlockNo, device: u64) -> Result<(), BtrRefusal>
+    ensures { result ≡ unless_refused (failing (block_rules block.now.bytes place device)) tt }
+{
+    if !is_super(&block.bytes, place, device) {
+        return Err(BAD_FIELD);
+    }
+    let csum_type = u16_at(&block.bytes, 196);
+    let Some(kind) = sum_kind(csum_type) else {
+        return unsupported(Feature::ChecksumType, csum_type as u64);
+    };
+    if !has_sum(kind, &block.bytes) {
+        return Err(BtrRefusal::BadBtrfs {
+            address: ADDRESS,
+            rule: BtrRule::SuperCsum,
+        });
+    }
+    Ok(())
+}
+
+fn is_super(block: &[u8], place: BlockNo, device: u64) -> bool
+    requires { 64 ≤ length block.now }
+    ensures { result ≡ is_super block.now place device }
+{
+    place < device && has_magic(block)
+}
+
+fn has_magic(block: &[u8]) -> bool
+    requires { 64 ≤ length block.now }
+    ensures { result ≡ has_bytes_at block.now 64 (codes "_BHRfS_M") }
+{
+    block[64..].starts_with(MAGIC)
+}
