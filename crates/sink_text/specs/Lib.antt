@@ -1,2 +1,4 @@
+pub mod Digits
 pub mod Escape
+pub mod Pushes
 pub mod Text

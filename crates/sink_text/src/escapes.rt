@@ -1,5 +1,7 @@
-ghost use Rattle.std.specs.Prelude.{◌≡◌, ◌≤◌, ◌<◌, take};
-ghost use Rattle.sink_text.specs.Escape.{escape, hex_digit};
+ghost use Rattle.std.specs.Prelude.{◌≡◌, ◌≤◌, take};
+ghost use Rattle.sink_text.specs.Escape.{escape};
+
+use crate::digits::hex_digit;
 
 /// How one byte of a name is printed: the first `len` of these bytes.
 #[derive(Clone, Copy, Debug)]
@@ -26,16 +28,5 @@ pub fn escape(byte: u8) -> Spelling
             bytes: [b'\\', b'x', hex_digit(byte / 16), hex_digit(byte % 16)],
             len: 4,
         }
-    }
-}
-
-fn hex_digit(digit: u8) -> u8
-    requires { digit < 16 }
-    ensures { result ≡ hex_digit digit }
-{
-    if digit < 10 {
-        b'0' + digit
-    } else {
-        b'a' - 10 + digit
     }
 }

@@ -1,0 +1,14 @@
+use Rattle.std.proofs.Common.{[], ◌∷◌}
+use Rattle.fs_rows.specs.Text.{flags_text, last_fields}
+use Rattle.fs_rows.proofs.LineLemmas.{pushes_fields, stopped_fields}
+use Rattle.fs_rows.proofs.line.push_from_flags.Goals as goal
+
+pub returns-in_err-push_flags-clause-taken : goal.returns-in_err-push_flags-clause-taken
+returns-in_err-push_flags-clause-taken g c = λ tells.
+    let r = c.args.row.now in
+    stopped_fields (flags_text r ∷ []) (last_fields r) _ _ _ _ _ c.from_residual.ensures.0 (c.in_err-push_flags.ensures.taken tells)
+
+pub returns-clause-taken : goal.returns-clause-taken
+returns-clause-taken g c = λ tells.
+    let r = c.args.row.now in
+    pushes_fields (flags_text r ∷ []) (last_fields r) _ _ _ _ _ _ _ (c.in_ok-push_flags.ensures.taken tells) (c.push_last.ensures.taken tells)

@@ -1,0 +1,4 @@
+pub mod Mark
+pub mod Marker
+pub mod Rows
+pub mod Text
