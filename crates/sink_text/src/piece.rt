@@ -1,6 +1,6 @@
 ghost use Rattle.std.specs.Prelude.{IsTrue};
 ghost use Rattle.outside.specs.Fault.{HasCause, Takes};
-ghost use Rattle.sink_text.specs.Text.{piece_text, text_of};
+ghost use Rattle.sink_text.specs.Text.{text_of};
 
 use crate::Buffered;
 use outside::{Fault, Sink};
@@ -27,23 +27,13 @@ pub enum Piece<'a> {
     Hex(&'a [u8]),
 }
 
-/// Writes the text of the pieces, one after the other. After a fault the sink gained a first part of it.
+/// Writes the text of the pieces, one after the other, in as few calls of the sink as its length allows. After a fault
+/// the sink gained a first part of it.
 pub fn write_pieces<S: Sink>(pieces: &[Piece<'_>], out: &mut S) -> Result<(), Fault>
     ensures taken { IsTrue S.tells → Takes (S.taken out.old) (text_of pieces.now) result (S.taken out.new) }
     ensures cause { HasCause (S.faults out.old) (S.faults out.new) result }
 {
-    for piece in pieces {
-        write_piece(piece, out)?;
-    }
-    Ok(())
-}
-
-/// Writes the text of a piece in one go, where it has no more than 4096 bytes.
-fn write_piece<S: Sink>(piece: &Piece<'_>, out: &mut S) -> Result<(), Fault>
-    ensures taken { IsTrue S.tells → Takes (S.taken out.old) (piece_text piece.now) result (S.taken out.new) }
-    ensures cause { HasCause (S.faults out.old) (S.faults out.new) result }
-{
     let mut text = Buffered::new();
-    text.push_piece(piece, out)?;
+    text.push_pieces(pieces, out)?;
     text.flush(out)
 }

@@ -1,9 +1,11 @@
-use Rattle.sink_text.specs.Text.{piece_text, text_of}
-use Rattle.sink_text.proofs.Prefix.{prefix_more, takes_part}
+use Rattle.sink_text.proofs.Prefix.{takes_part}
+use Rattle.sink_text.proofs.Pushing.{takes_of_flush, takes_of_stopped}
 use Rattle.sink_text.proofs.piece.write_pieces.Goals as goal
 
-pub returns-in_err-write_piece-clause-taken : goal.returns-in_err-write_piece-clause-taken
-returns-in_err-write_piece-clause-taken g c = λ tells.
-    let part = c.in_err-write_piece.ensures.taken tells in
-    takes_part _ (text_of c.args.pieces.now) _ _ c.from_residual.ensures.0
-    (prefix_more piece_text c.args.pieces.now c.loop-piece.piece-index _ _ _ _ part.0 c.loop-piece-test.true (c.loop-piece.invariant.taken tells) part.1)
+pub returns-in_err-push_pieces-clause-taken : goal.returns-in_err-push_pieces-clause-taken
+returns-in_err-push_pieces-clause-taken g c = λ tells.
+    takes_part _ _ _ _ c.from_residual.ensures.0 (takes_of_stopped _ _ _ (rw c.new-text.ensures at (c.in_err-push_pieces.ensures.taken tells)))
+
+pub returns-clause-taken : goal.returns-clause-taken
+returns-clause-taken g c = λ tells.
+    takes_of_flush _ _ _ _ _ _ (rw c.new-text.ensures at (c.in_ok-push_pieces.ensures.taken tells)) (c.flush.ensures.taken tells)

@@ -1,9 +1,0 @@
-use Rattle.std.proofs.Common.{◌≡◌, IsTrue, ◌++◌, ◌≤◌, take}
-use Rattle.sink_text.specs.Text.{text_of}
-use Rattle.sink_text.proofs.piece.write_pieces.Given as goal
-
-abbrev pub invariant-loop-piece : goal.invariant-loop-piece
-invariant-loop-piece g l = record {
-  taken : IsTrue g.S.Sink.tells → g.S.Sink.taken l.out ≡ g.S.Sink.taken l.initial.out ++ text_of (take l.piece-index l.pieces);
-  faults : g.S.Sink.faults l.initial.out ≤ g.S.Sink.faults l.out;
-}
