@@ -1,5 +1,5 @@
 -- The first rule that fails, and checksums' lengths.
-use Rattle.std.proofs.Common.{◌≡◌, ◌↔◌, ℕ, Bool, true, false, List, [], ◌∷◌, ◌++◌, length, Result, Ok, Err, cond, refl, ap, sym, ◌∙◌, subst}
+use Rattle.std.proofs.Common.{◌≡◌, ◌↔◌, ℕ, Bool, true, false, List, [], ◌∷◌, ◌++◌, length, Result, Ok, Err, cond, refl, ap, sym, subst}
 use Rattle.std.specs.Prelude.{IsOk}
 use Rattle.csum_kinds.specs.Kind.{kind_sum}
 use Rattle.csum_kinds.specs.declared.kind.SumKind.{SumKind}

@@ -1,5 +1,5 @@
 -- A superblock that is written is read again.
-use Rattle.std.proofs.Common.{◌≡◌, ◌<◌, ◌+◌, ℕ, Bool, true, ◌&&◌, List, [], ◌∷◌, ◌++◌, length, take, drop, replicate, codes, nat_eq, nat_lt, Result, Ok, Option, Some, None, cond, is_some, refl, ap, sym, ◌∙◌, arith, eq-eqb}
+use Rattle.std.proofs.Common.{◌≡◌, ℕ, Bool, true, ◌&&◌, List, [], ◌∷◌, ◌++◌, length, drop, replicate, codes, nat_eq, nat_lt, Ok, Some, is_some, refl, ap, sym, ◌∙◌, eq-eqb}
 use Rattle.std.proofs.lemmas.Bool.{lt-ltb}
 use Rattle.std.proofs.lemmas.List.{drop_at, drop-drop}
 use Rattle.std.specs.List.{starts_with}
@@ -7,23 +7,21 @@ use Rattle.byteorder.specs.Endian.{little_number, little_bytes}
 use Rattle.vol_block.specs.Volume.{field}
 use Rattle.vol_block.specs.Format.{has_bytes_at}
 use Rattle.csum_kinds.specs.Kind.{kind_sum}
-use Rattle.csum_kinds.specs.declared.kind.SumKind.{SumKind}
 use Rattle.outside.specs.declared.refusal.BtrRefusal.{BtrRefusal}
 use Rattle.btr_keys.specs.Layout.{spelling}
 use Rattle.btr_keys.proofs.Layouts.{Reads, start, ◌▹◌, u8_reads, u16_reads, u32_reads, u64_reads, array_reads, part_reads}
-use Rattle.btr_space_items.specs.Device.{device_layout}
 use Rattle.btr_space_items.proofs.Records.{device_reads}
 use Rattle.btr_super.specs.declared.superblock.Super.{Super}
-use Rattle.btr_super.specs.Sums.{known_kind, csum_type_of, has_sum, behind_sum, sealed, sealed_by}
+use Rattle.btr_super.specs.Sums.{known_kind, csum_type_of, has_sum, sealed_by}
 use Rattle.btr_super.specs.Super.{super_layout, make_super, super_in, super_bytes}
-use Rattle.btr_super.specs.Rules.{is_super, bad_field, block_rules, field_rules, failing, unless_refused, super_of}
+use Rattle.btr_super.specs.Rules.{is_super, block_rules, field_rules, failing, unless_refused, super_of}
 use Rattle.btr_super.specs.Laws.{SupersReadBack}
 use Rattle.btr_super.proofs.Answers.{sum_length}
 use Rattle.btr_super.proofs.Constants.{◌▹▹◌}
 
 pub super_reads : Reads super_layout (λ s. s)
 unfolding super_layout
-super_reads = 
+super_reads =
     start make_super
     ▹ array_reads {n = 16} {get = λ s. s.fsid}
     ▹ u64_reads {get = λ s. s.bytenr}
@@ -98,13 +96,13 @@ supers_read_back s kind place device fits known there fields =
     let named : csum_type_of block ≡ field 2 covered 164 = ap (little_number 2) (sym (drop-drop 164 32 block) ∙ ap (drop 164) behind) in
     let names_kind : known_kind (csum_type_of block) ≡ Some kind = ap known_kind named ∙ kind_is in
     let magic : has_bytes_at block 64 (codes "_BHRfS_M") ≡ true =
-      ap (λ (z : List ℕ). starts_with nat_eq z (codes "_BHRfS_M")) (sym (drop-drop 32 32 block) ∙ ap (drop 32) behind) ∙ magic_in s fits in
+    ap (λ (z : List ℕ). starts_with nat_eq z (codes "_BHRfS_M")) (sym (drop-drop 32 32 block) ∙ ap (drop 32) behind) ∙ magic_in s fits in
     let first : is_super block place device ≡ true = ap (λ (b : Bool). nat_lt place device && b) magic ∙ ap (λ (b : Bool). b && true) (lt-ltb place device there) in
     let second : is_some (known_kind (csum_type_of block)) ≡ true = ap is_some names_kind in
     let third : has_sum (known_kind (csum_type_of block)) block ≡ true =
-      ap (λ k. has_sum k block) names_kind ∙ ap (λ (z : List ℕ). starts_with nat_eq block (kind_sum kind z)) behind ∙ starts_with_front sum covered in
+    ap (λ k. has_sum k block) names_kind ∙ ap (λ (z : List ℕ). starts_with nat_eq block (kind_sum kind z)) behind ∙ starts_with_front sum covered in
     let none : failing (block_rules block place device ++ field_rules (super_in block) place device) ≡ [] =
-      three_hold _ _ _ _ _ _ (field_rules (super_in block) place device) first second third ∙ ap (λ (v : Super). failing (field_rules v place device)) reads ∙ fields in
+    three_hold _ _ _ _ _ _ (field_rules (super_in block) place device) first second third ∙ ap (λ (v : Super). failing (field_rules v place device)) reads ∙ fields in
     ap (λ (z : List ℕ). super_of z place device) is_block
     ∙ ap (λ (rs : List BtrRefusal). unless_refused rs (super_in block)) none
     ∙ ap Ok reads

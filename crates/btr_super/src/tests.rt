@@ -1,5 +1,7 @@
 // The superblock of a volume that `mkfs.btrfs -m single -d single --rootdir DIR -L label-of-it` made, beside the values that
 // `btrfs inspect-internal dump-super -f` prints of it.
+ghost use Rattle.std.specs.Prelude.{◌<◌};
+
 use super::*;
 use outside::{BtrRefusal, BtrRule, Feature};
 use std::test::*;

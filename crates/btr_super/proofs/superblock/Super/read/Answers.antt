@@ -1,4 +1,4 @@
-use Rattle.std.proofs.Common.{◌≡◌, ◌++◌, List, Bool, Result, Err, Ok, ◌∙◌, ap, sym}
+use Rattle.std.proofs.Common.{◌≡◌, List, Err, Ok, ◌∙◌, ap, sym}
 use Rattle.std.proofs.lemmas.Result.{err_from_is_err_and}
 use Rattle.outside.specs.declared.refusal.BtrRefusal.{BtrRefusal}
 use Rattle.btr_super.specs.declared.superblock.Super.{Super}
