@@ -1,8 +1,9 @@
 -- Bodies of directory items, as ReiserFS has them (struct reiserfs_de_head of Linux's fs/reiserfs/reiserfs.h): heads of
 -- 16 bytes, and names packed from the end of the body backwards.
-use Rattle.std.specs.Prelude.{ℕ, zero, suc, ◌+◌, ◌*◌, ◌/◌, ◌%◌, ◌≤◌, ◌<◌, ◌==◌, nat_lt, Bool, true, not, ◌&&◌, List, [], ◌∷◌, length, slice_range}
+use Rattle.std.specs.Prelude.{ℕ, zero, suc, ◌+◌, ◌*◌, ◌/◌, ◌%◌, ◌≤◌, ◌<◌, ◌==◌, nat_lt, Bool, not, ◌&&◌, List, [], ◌∷◌, length, slice_range}
 use Rattle.std.specs.List.{take_while}
 use Rattle.vol_block.specs.Volume.{field}
+use Rattle.reiser_node.specs.Leaf.{each_below}
 use Rattle.reiser_items.specs.declared.entries.Entry.{Entry}
 
 -- an entry without where its name lies in memory
@@ -67,10 +68,6 @@ entries count body = entries_from body 0 count
 -- The same grammar as a test.
 abbrev pub is_entry : ℕ → List ℕ → ℕ → Bool
 is_entry count body i = not (nat_lt (location body i) (16 * count)) && not (nat_lt (area_end body i) (location body i))
-
-abbrev pub each_below : (ℕ → Bool) → ℕ → Bool
-each_below test zero = true
-each_below test (suc n) = test n && each_below test n
 
 abbrev pub are_entries : ℕ → List ℕ → Bool
 are_entries count body = nat_lt 0 count && each_below (is_entry count body) count

@@ -14,7 +14,7 @@ pub struct Entry<'a> {
     pub dir: u32,
     /// The number of that object.
     pub object: u32,
-    /// Whether the entry counts. One that does not is of a file that was removed while it was open.
+    /// Whether the entry counts. One that does not is passed over when names are listed.
     pub visible: bool,
     /// The name, without the zeros that fill its place up.
     pub name: &'a [u8],
