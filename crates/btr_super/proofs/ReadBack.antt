@@ -75,11 +75,11 @@ magic_in : (s : Super) → super_layout.fits s → has_bytes_at (spelling super_
 unfolding super_layout
 magic_in s fits = magic_there s.fsid _ s.bytenr s.flags fits.0.0.0.0.0.0.0.0.0.0.0.0.0.0.0.0.0.0.0.0.0.0.0.0.0.0.0.0.0.0.1
 
-starts_with_front : (front rest : List ℕ) → starts_with nat_eq (front ++ rest) front ≡ true
+pub starts_with_front : (front rest : List ℕ) → starts_with nat_eq (front ++ rest) front ≡ true
 starts_with_front [] rest = refl
 starts_with_front (x ∷ front) rest = ap (λ (b : Bool). b && starts_with nat_eq (front ++ rest) front) (eq-eqb x x refl) ∙ starts_with_front front rest
 
-three_hold : (a b c : Bool) (p q r : BtrRefusal) (rules : List (Bool × BtrRefusal)) → a ≡ true → b ≡ true → c ≡ true → failing ((a, p) ∷ (b, q) ∷ (c, r) ∷ rules) ≡ failing rules
+pub three_hold : (a b c : Bool) (p q r : BtrRefusal) (rules : List (Bool × BtrRefusal)) → a ≡ true → b ≡ true → c ≡ true → failing ((a, p) ∷ (b, q) ∷ (c, r) ∷ rules) ≡ failing rules
 three_hold a b c p q r rules x y z = rw (x, y, z) refl
 
 pub supers_read_back : SupersReadBack

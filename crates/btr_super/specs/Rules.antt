@@ -42,15 +42,18 @@ block_rules block place device =
     ∷ (has_sum (known_kind (csum_type_of block)) block, BadBtrfs 65536 SuperCsum)
     ∷ []
 
--- its fields are those of a volume that is read
-abbrev pub field_rules : Super → ℕ → ℕ → List (Bool × BtrRefusal)
-field_rules s place device =
-    (has_fields s place device, bad_field)
-    ∷ (unread_bits s.incompat == 0, Unsupported Incompat (unread_bits s.incompat))
+-- it has no feature that is not read
+abbrev pub feature_rules : Super → List (Bool × BtrRefusal)
+feature_rules s =
+    (unread_bits s.incompat == 0, Unsupported Incompat (unread_bits s.incompat))
     ∷ (s.sectorsize == 4096, Unsupported SectorSize s.sectorsize)
     ∷ (is_node_size s.nodesize, Unsupported NodeSize s.nodesize)
     ∷ (s.num_devices == 1, Unsupported DeviceCount s.num_devices)
     ∷ []
+
+-- its fields are those of a volume that is read
+abbrev pub field_rules : Super → ℕ → ℕ → List (Bool × BtrRefusal)
+field_rules s place device = (has_fields s place device, bad_field) ∷ feature_rules s
 
 -- what is answered by the rules that fail, in their order
 abbrev pub failing : List (Bool × BtrRefusal) → List BtrRefusal

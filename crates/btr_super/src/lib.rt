@@ -9,7 +9,7 @@ mod read;
 mod sums;
 mod superblock;
 
-pub use laws::supers_read_back;
+pub use laws::{mirrors_read, supers_read_back};
 pub use sums::{csum_type, sum_kind};
 pub use superblock::{Super, mirror};
 
