@@ -42,14 +42,14 @@ content_byte image ranges (Inline bytes) k = slice_index bytes k
 content_byte image ranges (Regular r) k = if is_hole r then 0 else byte_of_place image (place ranges (r.disk_bytenr + r.offset + k))
 content_byte image ranges (Prealloc r) k = 0
 
--- the extent covers byte i of the file
-abbrev pub covers : TreeItem → ContentValue → ℕ → Bool
-covers i content k = nat_le i.key.offset k && nat_lt k (i.key.offset + extent_length content)
+-- an extent from byte `offset` of the file on covers byte k
+abbrev pub covers : ℕ → ContentValue → ℕ → Bool
+covers offset content k = nat_le offset k && nat_lt k (offset + extent_length content)
 
 -- byte i of a file with these extents: that of the one that covers it, or 0
 abbrev pub byte_from : Image → List MapRange → TreeItem → Option FileExtentValue → ℕ → ℕ → ℕ
 byte_from image ranges i None k other = other
-byte_from image ranges i (Some e) k other = if covers i e.content k then content_byte image ranges e.content (k - i.key.offset) else other
+byte_from image ranges i (Some e) k other = if covers i.key.offset e.content k then content_byte image ranges e.content (k - i.key.offset) else other
 
 abbrev pub file_byte : Image → List MapRange → List TreeItem → ℕ → ℕ
 file_byte image ranges [] k = 0
@@ -59,26 +59,30 @@ file_byte image ranges (i ∷ extents) k = byte_from image ranges i (file_extent
 abbrev pub file_bytes : Image → List MapRange → List TreeItem → ℕ → ℕ → List ℕ
 file_bytes image ranges items ino size = map (file_byte image ranges (extents_of items ino)) (range_with_len 0 size)
 
--- whole blocks in the file and on the device, and within the disk extent
-abbrev pub range_is_aligned : TreeItem → DiskRange → Bool
-range_is_aligned i r =
-    (i.key.offset % 4096 == 0)
+-- from byte `offset` of the file on: whole blocks in the file and on the device, and within the disk extent
+abbrev pub range_is_aligned : ℕ → DiskRange → Bool
+range_is_aligned offset r =
+    (offset % 4096 == 0)
     && ((r.num_bytes % 4096 == 0)
     && (is_hole r || ((r.disk_bytenr % 4096 == 0) && ((r.offset % 4096 == 0) && nat_le (r.offset + r.num_bytes) r.disk_num_bytes))))
 
-abbrev pub is_aligned : TreeItem → ContentValue → Bool
-is_aligned i (Inline bytes) = true
-is_aligned i (Regular r) = range_is_aligned i r
-is_aligned i (Prealloc r) = range_is_aligned i r
+abbrev pub is_aligned : ℕ → ContentValue → Bool
+is_aligned offset (Inline bytes) = true
+is_aligned offset (Regular r) = range_is_aligned offset r
+is_aligned offset (Prealloc r) = range_is_aligned offset r
 
 -- how many bytes it adds to those that are covered
+abbrev pub range_covers : DiskRange → ℕ
+range_covers r = if is_hole r then 0 else r.num_bytes
+
 abbrev pub covered_by : ContentValue → ℕ
 covered_by (Inline bytes) = 0
-covered_by (Regular r) = if is_hole r then 0 else r.num_bytes
+covered_by (Regular r) = range_covers r
 covered_by (Prealloc r) = 0
 
+-- an address is told by its lowest 64 bits
 abbrev pub at_unmapped : Option ℕ → ℕ → List BtrRefusal
-at_unmapped None address = BadBtrfs address Unmapped ∷ []
+at_unmapped None address = BadBtrfs (address % 2 ^ 64) Unmapped ∷ []
 at_unmapped (Some p) address = []
 
 -- blocks from an address on that are in no chunk
@@ -86,31 +90,37 @@ abbrev pub unmapped_in : List MapRange → ℕ → ℕ → List BtrRefusal
 unmapped_in ranges zero address = []
 unmapped_in ranges (suc n) address = at_unmapped (place ranges address) address ++ unmapped_in ranges n (address + 4096)
 
+abbrev pub range_refusals : List MapRange → DiskRange → List BtrRefusal
+range_refusals ranges r = if is_hole r then [] else unmapped_in ranges (r.num_bytes / 4096) (r.disk_bytenr + r.offset)
+
 abbrev pub place_refusals : List MapRange → ContentValue → List BtrRefusal
 place_refusals ranges (Inline bytes) = []
-place_refusals ranges (Regular r) = if is_hole r then [] else unmapped_in ranges (r.num_bytes / 4096) (r.disk_bytenr + r.offset)
+place_refusals ranges (Regular r) = range_refusals ranges r
 place_refusals ranges (Prealloc r) = []
 
 -- where the extents end and what they cover after one more
-abbrev pub end_after : ℕ → TreeItem → Option FileExtentValue → ℕ
-end_after end i None = end
-end_after end i (Some e) = i.key.offset + extent_length e.content
+abbrev pub end_after : ℕ → ℕ → Option FileExtentValue → ℕ
+end_after end offset None = end
+end_after end offset (Some e) = offset + extent_length e.content
 
 abbrev pub covered_after : ℕ → Option FileExtentValue → ℕ
 covered_after covered None = covered
 covered_after covered (Some e) = covered + covered_by e.content
 
--- what is wrong with one extent
-abbrev pub extent_refusals : List MapRange → ℕ → ℕ → TreeItem → FileExtentValue → List BtrRefusal
-extent_refusals ranges end covered i e =
+-- what is wrong with one extent, from byte `offset` of the file on
+abbrev pub has_form : ℕ → ℕ → ℕ → ContentValue → Bool
+has_form end covered offset content = nat_le end offset && (is_aligned offset content && nat_lt (covered + covered_by content) (2 ^ 59))
+
+abbrev pub extent_refusals : List MapRange → ℕ → ℕ → ℕ → ℕ → FileExtentValue → List BtrRefusal
+extent_refusals ranges end covered offset leaf e =
     unless (e.compression == 0) (Unsupported Compression e.compression)
     ++ (unless (e.encryption == 0) (Unsupported Encryption e.encryption)
-    ++ (unless (nat_le end i.key.offset && (is_aligned i e.content && nat_lt (covered + covered_by e.content) (2 ^ 59))) (BadBtrfs i.leaf ExtentForm)
+    ++ (unless (has_form end covered offset e.content) (BadBtrfs leaf ExtentForm)
     ++ place_refusals ranges e.content))
 
 abbrev pub refusals_at : List MapRange → ℕ → ℕ → TreeItem → Option FileExtentValue → List BtrRefusal
 refusals_at ranges end covered i None = BadBtrfs i.leaf Body ∷ []
-refusals_at ranges end covered i (Some e) = extent_refusals ranges end covered i e
+refusals_at ranges end covered i (Some e) = extent_refusals ranges end covered i.key.offset i.leaf e
 
 -- What is wrong with the extents of a file, one after the other, behind one that ends at `end` of the file, where the
 -- regular ones before cover `covered` bytes, holes apart. One that is off its grammar has no end.
@@ -118,4 +128,13 @@ abbrev pub extents_refusals : List MapRange → ℕ → ℕ → List TreeItem �
 extents_refusals ranges end covered [] = []
 extents_refusals ranges end covered (i ∷ items) =
     refusals_at ranges end covered i (file_extent_of i.body)
-    ++ extents_refusals ranges (end_after end i (file_extent_of i.body)) (covered_after covered (file_extent_of i.body)) items
+    ++ extents_refusals ranges (end_after end i.key.offset (file_extent_of i.body)) (covered_after covered (file_extent_of i.body)) items
+
+-- where the last of some extents ends, and how much they cover
+abbrev pub extents_end : ℕ → List TreeItem → ℕ
+extents_end end [] = end
+extents_end end (i ∷ items) = extents_end (end_after end i.key.offset (file_extent_of i.body)) items
+
+abbrev pub extents_covered : ℕ → List TreeItem → ℕ
+extents_covered covered [] = covered
+extents_covered covered (i ∷ items) = extents_covered (covered_after covered (file_extent_of i.body)) items

@@ -1,5 +1,5 @@
 -- The saved image of the volume before.
-use Rattle.std.specs.Prelude.{◌≡◌, ◌≢◌, ◌⊎◌, ℕ, ◌+◌, ◌-◌, ◌*◌, ◌/◌, ◌%◌, ◌<◌, ◌==◌, nat_lt, nat_le, nat_eq, Bool, true, false, not, ◌&&◌, if◌then◌else◌, List, [], ◌∷◌, codes, Contains, Option, Some, None}
+use Rattle.std.specs.Prelude.{◌≡◌, ◌≢◌, ◌⊎◌, ℕ, ◌+◌, ◌-◌, ◌*◌, ◌/◌, ◌%◌, ◌<◌, ◌==◌, nat_lt, nat_le, nat_eq, Bool, true, false, not, ◌&&◌, if◌then◌else◌, List, [], ◌∷◌, ◌++◌, codes, Contains, Option, Some, None}
 use Rattle.std.specs.Option.{option_map, option_and_then}
 use Rattle.std.specs.List.{list_any}
 use Rattle.std.specs.Cmp.Lexicographic.{pointwise}
@@ -18,12 +18,19 @@ use Rattle.btr_walk.specs.Events.{TreeItem}
 use Rattle.btr_walk.specs.Map.{place}
 use Rattle.btr_walk.specs.Walks.{found, wrong}
 use Rattle.fs_rows.specs.declared.row.Kind.TheVariants.{File}
-use Rattle.btr_reader.specs.Opening.{tree_of}
+use Rattle.btr_walk.specs.declared.tree.Tree.{Tree}
+use Rattle.btr_keys.specs.DirEntry.{DirEntryValue}
+use Rattle.btr_reader.specs.Opening.{tree_of, or_later}
 use Rattle.btr_reader.specs.Roots.{root_item, pointer_of}
 use Rattle.btr_reader.specs.Inodes.{inode_item, kind_of_mode}
-use Rattle.btr_reader.specs.Links.{Naming, namings, is_index, index_entry, is_saved_name}
+use Rattle.btr_reader.specs.Links.{Naming, namings, is_index, index_entry}
 use Rattle.btr_reader.specs.Extents.{extents_of, extents_refusals, is_hole, covers}
 use Rattle.btr_reader.specs.Rows.{roots_on}
+
+-- the first one of two
+abbrev pub first_key : Option Key → Option Key → Option Key
+first_key None second = second
+first_key (Some key) second = Some key
 
 -- the first entry of inode 256 with a name that passes
 abbrev pub entry_named : (List ℕ → Bool) → List Naming → Option Key
@@ -37,30 +44,21 @@ tree_number key = if key.kind == 132 then Some key.objectid else None
 abbrev pub inode_number : Key → Option ℕ
 inode_number key = if key.kind == 1 then Some key.objectid else None
 
-abbrev pub is_image_name : List ℕ → Bool
-is_image_name name = pointwise nat_eq name (codes "image")
+-- whether a name is this one
+abbrev pub is_called : List ℕ → List ℕ → Bool
+is_called wanted name = pointwise nat_eq name wanted
 
--- the root of a tree that is there
-abbrev pub root_at : List TreeItem → ℕ → Option Pointer
-root_at roots number = option_and_then (λ i. pointer_of i.body) (root_item number roots)
+-- the entries of inode 256 of a tree
+abbrev pub saved_entry : List TreeItem → Option Key
+saved_entry items = entry_named (is_called (codes "reiserfs_saved")) (namings items)
 
-abbrev pub items_at : Image → Super → List MapRange → ℕ → Pointer → List TreeItem
-items_at image s ranges number p = found image ranges (tree_of s number p)
+abbrev pub image_entry : List TreeItem → Option Key
+image_entry items = entry_named (is_called (codes "image")) (namings items)
 
--- the items of a tree that is there
-abbrev pub tree_items_of : Image → Super → List MapRange → ℕ → Option (List TreeItem)
-tree_items_of image s ranges number = option_map (items_at image s ranges number) (root_at (roots_on image s ranges) number)
-
--- the tree that the root directory's entry names
-abbrev pub saved_tree : Image → Super → List MapRange → Option ℕ
-saved_tree image s ranges = option_and_then (λ items. option_and_then tree_number (entry_named is_saved_name (namings items))) (tree_items_of image s ranges 5)
-
-abbrev pub saved_items : Image → Super → List MapRange → Option (List TreeItem)
-saved_items image s ranges = option_and_then (tree_items_of image s ranges) (saved_tree image s ranges)
-
--- the inode item that the entry `image` of these names
-abbrev pub image_inode : List TreeItem → Option TreeItem
-image_inode items = option_and_then (inode_item items) (option_and_then inode_number (entry_named is_image_name (namings items)))
+-- the items of a tree whose root is there, by its root item; None where the body is off its grammar
+abbrev pub pointer_in : Option TreeItem → Option Pointer
+pointer_in None = None
+pointer_in (Some i) = pointer_of i.body
 
 abbrev pub content_is_inline : ContentValue → Bool
 content_is_inline (Inline bytes) = true
@@ -74,11 +72,6 @@ is_inline (Some e) = content_is_inline e.content
 abbrev pub is_file : ℕ → Bool
 is_file mode = mode / 4096 % 16 == 8
 
--- the file with this inode item has the form of an image: it is regular, in whole blocks, and has no inline extent
-abbrev pub is_image : List TreeItem → TreeItem → Inode → Bool
-is_image items i own =
-    is_file own.mode && ((own.size % 4096 == 0) && not (list_any (λ e. is_inline (file_extent_of e.body)) (extents_of items i.key.objectid)))
-
 -- the block of the device that has block k of the contents of an extent, if there is one
 abbrev pub content_block : List MapRange → ContentValue → ℕ → Option ℕ
 content_block ranges (Inline bytes) k = None
@@ -87,40 +80,108 @@ content_block ranges (Prealloc r) k = None
 
 abbrev pub block_from : List MapRange → TreeItem → Option FileExtentValue → ℕ → Option ℕ → Option ℕ
 block_from ranges i None b other = other
-block_from ranges i (Some e) b other = if covers i e.content (4096 * b) then content_block ranges e.content (b - i.key.offset / 4096) else other
+block_from ranges i (Some e) b other = if covers i.key.offset e.content (4096 * b) then content_block ranges e.content (b - i.key.offset / 4096) else other
 
 -- the block of the device that holds block b of a file with these extents, or none for a hole
 abbrev pub file_block : List MapRange → List TreeItem → ℕ → Option ℕ
 file_block ranges [] b = None
 file_block ranges (i ∷ extents) b = block_from ranges i (file_extent_of i.body) b (file_block ranges extents b)
 
--- The image of an opened volume: the items of its tree, its inode item and its inode.
-pub record HasImage (image : Image) (s : Super) (ranges : List MapRange) (items : List TreeItem) (i : TreeItem) (own : Inode) : Type 0 where
-  pub tree : saved_items image s ranges ≡ Some items
-  pub item : image_inode items ≡ Some i
-  pub inode : inode_of i.body ≡ Some own
-  pub form : is_image items i own ≡ true
+-- A file that is an image: its extents, and how many blocks it has.
+pub record ImageFile : Type 0 where
+  pub extents : List TreeItem
+  pub blocks : ℕ
 
--- there is none
-abbrev pub IsImageMissing : Image → Super → List MapRange → Type 0
-IsImageMissing image s ranges = (items : List TreeItem) (i : TreeItem) (own : Inode) → ¬ HasImage image s ranges items i own
+-- the file is an image if it is regular, in whole blocks, and has no inline extent
+abbrev pub is_image : List TreeItem → Inode → Bool
+is_image extents own = is_file own.mode && ((own.size % 4096 == 0) && not (list_any (λ e. is_inline (file_extent_of e.body)) extents))
 
--- the number of its blocks, and the place of block b
-abbrev pub image_length : Inode → ℕ
-image_length own = own.size / 4096
+abbrev pub file_if_image : List TreeItem → Option Inode → Option ImageFile
+file_if_image extents None = None
+file_if_image extents (Some own) = if is_image extents own then Some (record { extents = extents; blocks = own.size / 4096 }) else None
 
-abbrev pub image_place : List MapRange → List TreeItem → TreeItem → Inode → ℕ → Option ℕ
-image_place ranges items i own b = if nat_lt b (image_length own) then file_block ranges (extents_of items i.key.objectid) b else None
+-- what the inode item of a file in a tree gives
+abbrev pub image_at : List TreeItem → ℕ → Option TreeItem → Option ImageFile
+image_at items ino None = None
+image_at items ino (Some i) = file_if_image (extents_of items ino) (inode_of i.body)
+
+-- the image in the tree with these items
+abbrev pub image_in : List TreeItem → Option ImageFile
+image_in items = option_and_then (λ ino. image_at items ino (inode_item items ino)) (option_and_then inode_number (image_entry items))
+
+abbrev pub items_at : Image → Super → List MapRange → ℕ → Pointer → List TreeItem
+items_at image s ranges number p = found image ranges (tree_of s number p)
+
+-- the image in another tree, by its root item
+abbrev pub image_below : Image → Super → List MapRange → ℕ → Option TreeItem → Option ImageFile
+image_below image s ranges number root = option_and_then (λ p. image_in (items_at image s ranges number p)) (pointer_in root)
+
+-- the image of a volume, by the root item of its file tree
+abbrev pub image_from : Image → Super → List MapRange → Option TreeItem → Option ImageFile
+image_from image s ranges root =
+    option_and_then (λ p. option_and_then (λ number. image_below image s ranges number (root_item number (roots_on image s ranges)))
+    (option_and_then tree_number (saved_entry (items_at image s ranges 5 p)))) (pointer_in root)
+
+-- The saved image of an opened volume. It is missing where the entry, the tree or the file is not there, or the file has not
+-- the form of an image.
+abbrev pub saved_image : Image → Super → List MapRange → Option ImageFile
+saved_image image s ranges = image_from image s ranges (root_item 5 (roots_on image s ranges))
+
+-- the place of block b
+abbrev pub image_place : List MapRange → ImageFile → ℕ → Option ℕ
+image_place ranges f b = if nat_lt b f.blocks then file_block ranges f.extents b else None
 
 -- Refusals on the way to the image: of a root item, of a tree, of an entry of inode 256, of the image's inode and of its
--- extents. What is not there is no refusal: then the image is missing.
-pub data BreaksTree (image : Image) (s : Super) (ranges : List MapRange) (number : ℕ) (r : BtrRefusal) : Type 0 where
-  bad_root_item : (i : TreeItem) → root_item number (roots_on image s ranges) ≡ Some i → pointer_of i.body ≡ None → r ≡ BadBtrfs i.leaf Body → BreaksTree image s ranges number r
-  bad_tree : (p : Pointer) → root_at (roots_on image s ranges) number ≡ Some p → Contains (wrong image ranges (tree_of s number p)) r → BreaksTree image s ranges number r
-  bad_index : (p : Pointer) (i : TreeItem) → root_at (roots_on image s ranges) number ≡ Some p → Contains (items_at image s ranges number p) i → is_index i ≡ true → i.key.objectid ≡ 256 → index_entry i.body ≡ None → r ≡ BadBtrfs i.leaf Body → BreaksTree image s ranges number r
+-- extents. What is not there is no refusal, and what can't be found because of a refusal isn't looked at.
+abbrev pub index_refusals_at : TreeItem → Option DirEntryValue → List BtrRefusal
+index_refusals_at i None = BadBtrfs i.leaf Body ∷ []
+index_refusals_at i (Some e) = []
 
-pub data IsImageRefusal (image : Image) (s : Super) (ranges : List MapRange) (r : BtrRefusal) : Type 0 where
-  in_tree : BreaksTree image s ranges 5 r → IsImageRefusal image s ranges r
-  in_saved : (number : ℕ) → saved_tree image s ranges ≡ Some number → BreaksTree image s ranges number r → IsImageRefusal image s ranges r
-  bad_inode : (items : List TreeItem) (i : TreeItem) → saved_items image s ranges ≡ Some items → image_inode items ≡ Some i → inode_of i.body ≡ None → r ≡ BadBtrfs i.leaf Body → IsImageRefusal image s ranges r
-  bad_extents : (items : List TreeItem) (i : TreeItem) (own : Inode) → saved_items image s ranges ≡ Some items → image_inode items ≡ Some i → inode_of i.body ≡ Some own → is_file own.mode ≡ true → Contains (extents_refusals ranges 0 0 (extents_of items i.key.objectid)) r → IsImageRefusal image s ranges r
+abbrev pub own_index_refusals : TreeItem → List BtrRefusal
+own_index_refusals i = if is_index i && (i.key.objectid == 256) then index_refusals_at i (index_entry i.body) else []
+
+abbrev pub index_refusals : List TreeItem → List BtrRefusal
+index_refusals [] = []
+index_refusals (i ∷ items) = own_index_refusals i ++ index_refusals items
+
+-- of a tree in which an entry of inode 256 is looked for
+abbrev pub entry_refusals : Image → List MapRange → Tree → List BtrRefusal
+entry_refusals image ranges t = wrong image ranges t ++ index_refusals (found image ranges t)
+
+abbrev pub after_pointer : (Pointer → List BtrRefusal) → ℕ → Option Pointer → List BtrRefusal
+after_pointer next leaf None = BadBtrfs leaf Body ∷ []
+after_pointer next leaf (Some p) = next p
+
+abbrev pub after_root : (Pointer → List BtrRefusal) → Option TreeItem → List BtrRefusal
+after_root next None = []
+after_root next (Some i) = after_pointer next i.leaf (pointer_of i.body)
+
+abbrev pub if_there : (ℕ → List BtrRefusal) → Option ℕ → List BtrRefusal
+if_there next None = []
+if_there next (Some number) = next number
+
+-- of the image's inode and extents
+abbrev pub own_refusals : List MapRange → List TreeItem → ℕ → Option Inode → List BtrRefusal
+own_refusals ranges extents leaf None = BadBtrfs leaf Body ∷ []
+own_refusals ranges extents leaf (Some own) = if is_file own.mode then extents_refusals ranges 0 0 extents else []
+
+abbrev pub file_refusals : List MapRange → List TreeItem → ℕ → Option TreeItem → List BtrRefusal
+file_refusals ranges items ino None = []
+file_refusals ranges items ino (Some i) = own_refusals ranges (extents_of items ino) i.leaf (inode_of i.body)
+
+abbrev pub image_refusals_in : List MapRange → List TreeItem → List BtrRefusal
+image_refusals_in ranges items = if_there (λ ino. file_refusals ranges items ino (inode_item items ino)) (option_and_then inode_number (image_entry items))
+
+abbrev pub refusals_below : Image → Super → List MapRange → ℕ → Option TreeItem → List BtrRefusal
+refusals_below image s ranges number root =
+    after_root (λ p. or_later (entry_refusals image ranges (tree_of s number p)) (image_refusals_in ranges (items_at image s ranges number p))) root
+
+abbrev pub refusals_from : Image → Super → List MapRange → Option TreeItem → List BtrRefusal
+refusals_from image s ranges root =
+    after_root
+    (λ p. or_later (entry_refusals image ranges (tree_of s 5 p))
+    (if_there (λ number. refusals_below image s ranges number (root_item number (roots_on image s ranges))) (option_and_then tree_number (saved_entry (items_at image s ranges 5 p)))))
+    root
+
+abbrev pub image_refusals : Image → Super → List MapRange → List BtrRefusal
+image_refusals image s ranges = refusals_from image s ranges (root_item 5 (roots_on image s ranges))

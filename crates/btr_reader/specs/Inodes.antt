@@ -6,6 +6,7 @@ use Rattle.btr_keys.specs.declared.inode.Inode.{Inode}
 use Rattle.fs_rows.specs.declared.row.Kind.{Kind}
 use Rattle.fs_rows.specs.declared.row.Kind.TheVariants.{Directory, File, Symlink, Character, Block, Fifo, Socket, Subvolume}
 use Rattle.btr_walk.specs.Events.{TreeItem}
+use Rattle.btr_reader.specs.declared.inodes.InodeFound.{InodeFound}
 
 -- the item is the inode item of this inode
 abbrev pub is_inode_of : ℕ → TreeItem → Bool
@@ -37,3 +38,15 @@ HasKind items ino kind = (inode : Inode) × (inode_on items ino ≡ Some inode) 
 
 abbrev pub IsDirectory : List TreeItem → ℕ → Type 0
 IsDirectory items ino = HasKind items ino Directory
+
+-- the first one of two
+abbrev pub first_item : Option TreeItem → Option TreeItem → Option TreeItem
+first_item None second = second
+first_item (Some i) second = Some i
+
+-- an inode item that was found, by its leaf and its inode
+abbrev pub TellsInode : Option InodeFound → Option TreeItem → Type 0
+TellsInode None None = Unit {0}
+TellsInode None (Some i) = ⊥
+TellsInode (Some f) None = ⊥
+TellsInode (Some f) (Some i) = (f.leaf ≡ i.leaf) × (f.inode ≡ inode_of i.body)

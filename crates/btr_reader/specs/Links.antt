@@ -36,10 +36,14 @@ abbrev pub naming_at : TreeItem → Option DirEntryValue → List Naming
 naming_at i None = []
 naming_at i (Some e) = naming_of i e ∷ []
 
+-- the entry that an item is
+abbrev pub own_naming : TreeItem → List Naming
+own_naming i = if is_index i then naming_at i (index_entry i.body) else []
+
 -- all entries of a tree whose bodies are on their grammar
 abbrev pub namings : List TreeItem → List Naming
 namings [] = []
-namings (i ∷ items) = (if is_index i then naming_at i (index_entry i.body) else []) ++ namings items
+namings (i ∷ items) = own_naming i ++ namings items
 
 -- not empty, without a slash or a zero byte, and neither `.` nor `..`
 abbrev pub is_name : List ℕ → Bool

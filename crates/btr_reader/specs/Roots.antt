@@ -5,6 +5,7 @@ use Rattle.btr_space_items.specs.RootItem.{root_item_of}
 use Rattle.btr_space_items.specs.declared.root_item.RootItem.{RootItem}
 use Rattle.btr_walk.specs.declared.tree.Pointer.{Pointer}
 use Rattle.btr_walk.specs.Events.{TreeItem}
+use Rattle.btr_reader.specs.declared.roots.RootFound.{RootFound}
 
 -- the item is a root item of the tree with this number; what its key's offset is does not matter
 abbrev pub is_root_of : ℕ → TreeItem → Bool
@@ -26,3 +27,10 @@ root_pointer r = if nat_lt 7 r.level then None else Some (record { address = r.b
 
 abbrev pub pointer_of : List ℕ → Option Pointer
 pointer_of body = option_and_then root_pointer (root_item_of body)
+
+-- a root item that was found, by its leaf and its pointer
+abbrev pub TellsRoot : Option RootFound → Option TreeItem → Type 0
+TellsRoot None None = Unit {0}
+TellsRoot None (Some i) = ⊥
+TellsRoot (Some f) None = ⊥
+TellsRoot (Some f) (Some i) = (f.leaf ≡ i.leaf) × (f.pointer ≡ pointer_of i.body)

@@ -4,8 +4,16 @@
 mod bootstrap;
 mod chunk;
 mod chunk_tree;
+mod entries;
+mod extents;
+mod inodes;
 mod open;
+mod roots;
 mod volume;
 
 pub use chunk::ChunkAt;
+pub use entries::find_entry;
+pub use extents::{Reach, check_extent};
+pub use inodes::{InodeFound, find_inode};
+pub use roots::{RootFound, find_root};
 pub use volume::Btrfs;
