@@ -8,14 +8,18 @@ use Rattle.outside.specs.declared.rule.BtrRule.TheVariants.{Unmapped, Body, Exte
 use Rattle.outside.specs.declared.rule.Feature.TheVariants.{Compression, Encryption}
 use Rattle.btr_keys.specs.FileExtent.{ContentValue, Inline, Regular, Prealloc, FileExtentValue, file_extent_of}
 use Rattle.btr_keys.specs.declared.file_extent.DiskRange.{DiskRange}
+use Rattle.btr_keys.specs.declared.key.Key.{Key}
 use Rattle.btr_walk.specs.declared.map.MapRange.{MapRange}
 use Rattle.btr_walk.specs.Map.{place}
 use Rattle.btr_walk.specs.Events.{TreeItem}
 use Rattle.btr_reader.specs.Chunks.{unless}
 
 -- the extents of a file, in the order of their places in it
+abbrev pub is_extent_key : ℕ → Key → Bool
+is_extent_key ino key = (key.objectid == ino) && (key.kind == 108)
+
 abbrev pub is_extent_of : ℕ → TreeItem → Bool
-is_extent_of ino i = (i.key.objectid == ino) && (i.key.kind == 108)
+is_extent_of ino i = is_extent_key ino i.key
 
 abbrev pub extents_of : List TreeItem → ℕ → List TreeItem
 extents_of items ino = filter (is_extent_of ino) items

@@ -6,3 +6,4 @@ pub mod Links
 pub mod Extents
 pub mod Rows
 pub mod Image
+pub mod Pieces
