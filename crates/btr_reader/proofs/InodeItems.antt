@@ -1,5 +1,5 @@
 -- The item of an inode, found as the items go by.
-use Rattle.std.proofs.Common.{◌≡◌, ℕ, Bool, true, false, ◌&&◌, eqb, List, [], ◌∷◌, ◌++◌, Option, Some, None, if◌then◌else◌, refl, sym, ◌∙◌, ap, subst, arith}
+use Rattle.std.proofs.Common.{◌≡◌, ℕ, Bool, true, false, List, [], ◌∷◌, ◌++◌, Option, Some, None, if◌then◌else◌, refl}
 use Rattle.btr_walk.specs.Events.{TreeItem}
 use Rattle.btr_reader.specs.Inodes.{is_inode_of, inode_item, first_item}
 

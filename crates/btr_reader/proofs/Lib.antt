@@ -7,3 +7,6 @@ pub mod RootItems
 pub mod InodeItems
 pub mod EntryItems
 pub mod Unmapped
+pub mod Gathering
+pub mod OneExtent
+pub mod Stages

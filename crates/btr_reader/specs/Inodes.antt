@@ -4,7 +4,7 @@ use Rattle.std.specs.Option.{option_and_then}
 use Rattle.btr_keys.specs.Inode.{inode_of}
 use Rattle.btr_keys.specs.declared.inode.Inode.{Inode}
 use Rattle.fs_rows.specs.declared.row.Kind.{Kind}
-use Rattle.fs_rows.specs.declared.row.Kind.TheVariants.{Directory, File, Symlink, Character, Block, Fifo, Socket, Subvolume}
+use Rattle.fs_rows.specs.declared.row.Kind.TheVariants.{Directory, File, Symlink, Character, Block, Fifo, Socket}
 use Rattle.btr_walk.specs.Events.{TreeItem}
 use Rattle.btr_reader.specs.declared.inodes.InodeFound.{InodeFound}
 

@@ -1,6 +1,6 @@
 -- The trees of a volume, as the root tree names them.
 use Rattle.std.specs.Prelude.{◌≡◌, ℕ, ◌==◌, nat_lt, Bool, ◌&&◌, if◌then◌else◌, List, [], ◌∷◌, Option, Some, None}
-use Rattle.std.specs.Option.{option_map, option_and_then}
+use Rattle.std.specs.Option.{option_and_then}
 use Rattle.btr_space_items.specs.RootItem.{root_item_of}
 use Rattle.btr_space_items.specs.declared.root_item.RootItem.{RootItem}
 use Rattle.btr_walk.specs.declared.tree.Pointer.{Pointer}

@@ -1,5 +1,5 @@
 -- The rows of a Btrfs volume, and what is wrong with what they are made from.
-use Rattle.std.specs.Prelude.{◌≡◌, ◌≢◌, ◌⊎◌, ℕ, ◌+◌, ◌*◌, ◌/◌, ◌%◌, ◌^◌, ◌==◌, pos, Bool, true, false, not, ◌&&◌, ◌||◌, if◌then◌else◌, List, [], ◌∷◌, ◌++◌, length, filter, Contains, Option, Some, None, Ok}
+use Rattle.std.specs.Prelude.{◌≡◌, ◌≢◌, ◌⊎◌, ℕ, ◌/◌, ◌%◌, ◌^◌, ◌==◌, pos, Bool, true, false, not, ◌&&◌, if◌then◌else◌, List, [], ◌∷◌, ◌++◌, Contains, Some, None}
 use Rattle.std.specs.Int.{bit_at}
 use Rattle.std.specs.Ordering.{is_le}
 use Rattle.outside.specs.History.{Image}
@@ -18,7 +18,7 @@ use Rattle.fs_rows.specs.Rows.{NameList, WholeRow, AscendsByPath, path_cmp, name
 use Rattle.fs_rows.specs.declared.row.Kind.{Kind}
 use Rattle.fs_rows.specs.declared.row.Kind.TheVariants.{Directory, File, Symlink, Character, Block, Fifo, Socket, Subvolume}
 use Rattle.fs_rows.specs.declared.row.Time.{Time}
-use Rattle.btr_reader.specs.Opening.{super_on, tree_of, root_tree, chunk_map, opening_refusals}
+use Rattle.btr_reader.specs.Opening.{tree_of, root_tree}
 use Rattle.btr_reader.specs.Roots.{root_item, pointer_of}
 use Rattle.btr_reader.specs.Inodes.{inode_item, inode_on, kind_of_mode, HasKind, IsDirectory}
 use Rattle.btr_reader.specs.Links.{Naming, namings, followed, is_index, index_entry, is_name, names_inode, names_tree, IsNamed, Target, inode, tree, Leads}

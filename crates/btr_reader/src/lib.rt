@@ -8,6 +8,7 @@ mod entries;
 mod extents;
 mod gather;
 mod gathered;
+mod image;
 mod image_map;
 mod image_place;
 mod inodes;

@@ -2,13 +2,12 @@ use Rattle.std.proofs.Common.{◌≡◌, List, [], ◌∷◌, ◌++◌, refl, sy
 use Rattle.std.proofs.lemmas.Result.{err_from_is_err_and}
 use Rattle.outside.specs.History.{Image}
 use Rattle.outside.specs.declared.answer.BtrAnswer.TheVariants.{Refused}
-use Rattle.btr_keys.specs.declared.key.Key.{Key}
 use Rattle.btr_walk.specs.declared.map.MapRange.{MapRange}
 use Rattle.btr_walk.specs.declared.tree.Tree.{Tree}
 use Rattle.btr_walk.specs.Events.{TreeItem}
 use Rattle.btr_walk.specs.Walks.{Blames, found, wrong}
 use Rattle.btr_walk.proofs.Events.{none_both}
-use Rattle.btr_reader.specs.Image.{first_key, entry_named, is_called, own_index_refusals, index_refusals, entry_refusals}
+use Rattle.btr_reader.specs.Image.{first_key, entry_named, is_called, index_refusals, entry_refusals}
 use Rattle.btr_reader.specs.Links.{own_naming, namings}
 use Rattle.btr_reader.specs.Opening.{IsAmong}
 use Rattle.btr_reader.proofs.Among.{blames_among, among_left, among_right, given_first}
