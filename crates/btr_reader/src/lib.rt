@@ -23,3 +23,6 @@ pub use image_map::{ImageMap, Piece};
 pub use inodes::{InodeFound, find_inode};
 pub use roots::{RootFound, find_root};
 pub use volume::Btrfs;
+
+#[cfg(test)]
+mod tests;
