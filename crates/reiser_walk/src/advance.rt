@@ -1,4 +1,4 @@
-ghost use Rattle.std.specs.Prelude.{◌≡◌, ◌≤◌, ◌<◌, ◌+◌, ◌-◌, ◌++◌, ℕ, ◌∷◌, [], List, Bool, true, false, length, Contains, Ok, Some, IsTrue, IfOk, IfErr, IfSome, IfNone, OnSome, OnOk, OnErr};
+ghost use Rattle.std.specs.Prelude.{◌≡◌, ◌≤◌, ◌<◌, ◌+◌, ◌-◌, ◌++◌, ℕ, ◌∷◌, [], List, Bool, true, false, length, Contains, Ok, Some, None, IsTrue, IfOk, IfErr, IfSome, IfNone, OnSome, OnOk, OnErr};
 ghost use Rattle.std.specs.Result.{MatchResult};
 ghost use Rattle.outside.specs.Fault.{HasCauseOf};
 ghost use Rattle.outside.specs.History.{Image, block_at};
@@ -85,7 +85,7 @@ impl Walker {
             pending image n self.old ≡ node_events image n (level_of self.new) p.holder p.block ++ pending image n self.new) }
         ensures none { IfNone result ((image : Image) (n : ℕ) → (pending image n self.old ≡ []) × (pending image n self.new ≡ [])) }
         ensures done { self.old.leaf.at.left ≡ 0 → IfNone result (IsDone self.new) }
-        ensures again { IsDone self.old → result ≡ Option.None }
+        ensures again { IsDone self.old → result ≡ None }
         ensures tree { self.new.tree ≡ self.old.tree }
         ensures reached { self.new.reached ≡ self.old.reached }
         ensures leaf { self.new.leaf ≡ self.old.leaf }
@@ -113,7 +113,7 @@ impl Walker {
             MatchResult result (λ found. Takes found self.old.tree self.new image map.now given) (Contains (tree_damages self.old.tree image map.now)) }
         ensures rules { IfErr result IsTreeRefusal }
         ensures done { IfOk result (λ found. IfNone found (IsDone self.new)) }
-        ensures again { IsDone self.old → result ≡ Ok Option.None }
+        ensures again { IsDone self.old → result ≡ Ok None }
         ensures tree { self.new.tree ≡ self.old.tree }
         ensures size { block_count self.new ≡ block_count self.old }
         ensures leaf { self.new.leaf ≡ self.old.leaf }

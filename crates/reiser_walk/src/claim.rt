@@ -90,7 +90,7 @@ fn claim_all(
     ensures fewer { unmarked reached.new ≤ unmarked reached.old }
 {
     for i in 0..blocks.len() {
-        let block = u64::from(blocks.get(i));
+        let block = blocks.get(i) as u64;
         match claim_unless_hole(reached, tree, map, Pointer { block, holder }) {
             Ok(()) => {}
             Err(e) => return Err(e),

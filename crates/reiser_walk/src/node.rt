@@ -3,7 +3,7 @@ ghost use Rattle.outside.specs.Fault.{HasCauseOf};
 ghost use Rattle.outside.specs.History.{Image, block_at};
 ghost use Rattle.reiser_walk.specs.Rules.{is_node, node_damage, broken_rule};
 ghost use Rattle.reiser_walk.specs.Hand.{IsOpened, FitsLevel};
-ghost use Rattle.reiser_walk.specs.Answers.{IsTreeAnswer, IsTreeRefusal, IsOneOf};
+ghost use Rattle.reiser_walk.specs.Answers.{IsTreeAnswer, IsTreeRefusal, IsTreeRule, IsOneOf};
 
 use crate::hand::{LeafInHand, Node, Place, Step};
 use outside::{BlockSource, Rule, VolAnswer, VolumeRefusal};
@@ -67,7 +67,8 @@ fn node_in(no: BlockNo, block: Block, level: u16) -> Option<Node>
 
 /// What is wrong with a block that is off the grammar of the level.
 fn broken_rule(block: &Block, level: u16) -> Rule
-    ensures { result ≡ broken_rule level block.now.bytes }
+    ensures rule { result ≡ broken_rule level block.now.bytes }
+    ensures of_tree { IsTreeRule result }
 {
     if u16_at(&block.bytes, 0) == level && u16_at(&block.bytes, 2) > 0 {
         Rule::Layout

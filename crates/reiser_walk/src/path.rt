@@ -1,4 +1,4 @@
-ghost use Rattle.std.specs.Prelude.{◌≡◌, ◌≤◌, ◌+◌, ◌++◌, ℕ, [], length, vec_capacity, IfSome, IfNone};
+ghost use Rattle.std.specs.Prelude.{◌≡◌, ◌<◌, ◌≤◌, ◌+◌, ◌++◌, ℕ, [], length, vec_capacity, IfSome, IfNone, OnSome};
 ghost use Rattle.outside.specs.History.{Image};
 ghost use Rattle.reiser_walk.specs.Tree.{node_events};
 ghost use Rattle.reiser_walk.specs.Hand.{path_rest};
@@ -13,6 +13,7 @@ pub fn next_child(path: &mut Vec<Step>) -> Option<Pointer>
         path_rest image n (length path.new.items + l) path.old.items
         ≡ node_events image n l p.holder p.block ++ path_rest image n (length path.new.items + l) path.new.items) }
     ensures none { IfNone result ((image : Image) (n top : ℕ) → path_rest image n top path.old.items ≡ []) }
+    ensures some { OnSome result (0 < length path.old.items) }
     ensures emptied { IfNone result (path.new.items ≡ []) }
     ensures shorter { length path.new.items ≤ length path.old.items }
     ensures room { vec_capacity path.new ≡ vec_capacity path.old }
