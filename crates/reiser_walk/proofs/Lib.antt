@@ -1,7 +1,9 @@
 pub mod Claims
 pub mod Damages
 pub mod Events
+pub mod Lists
 pub mod Paths
+pub mod Rules
 pub mod Standing
 pub mod Taking
 pub mod Walking

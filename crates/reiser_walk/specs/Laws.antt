@@ -1,5 +1,5 @@
 -- What it means that nothing is wrong with a tree.
-use Rattle.std.specs.Prelude.{◌≡◌, ◌≢◌, ◌⊎◌, ◌↔◌, ℕ, ◌+◌, ◌%◌, ◌^◌, ◌≤◌, ◌<◌, Bool, true, false, List, [], length, All, AllPairs}
+use Rattle.std.specs.Prelude.{◌≡◌, ◌≢◌, ◌⊎◌, ◌↔◌, ℕ, ◌%◌, ◌^◌, ◌≤◌, ◌<◌, Bool, true, false, List, [], length, All, AllPairs}
 use Rattle.std.specs.Ordering.{is_lt}
 use Rattle.outside.specs.History.{Image, block_at}
 use Rattle.reiser_node.specs.declared.head.ItemHead.{ItemHead}

@@ -38,4 +38,3 @@ pub enum Node {
     Leaf(LeafInHand),
     Inner(Step),
 }
-

@@ -1,5 +1,5 @@
 use Rattle.std.proofs.Common.{ℕ, subst}
-use Rattle.outside.specs.History.{Image, block_at}
+use Rattle.outside.specs.History.{block_at}
 use Rattle.reiser_walk.specs.declared.tree.Tree.{Tree}
 use Rattle.reiser_walk.specs.declared.walker.Walker.{Walker}
 use Rattle.reiser_walk.specs.Answers.{IsOneOf, Blames}

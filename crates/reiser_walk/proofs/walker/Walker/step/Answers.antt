@@ -1,5 +1,4 @@
-use Rattle.std.proofs.Common.{false, sym, ◌∙◌, subst}
-use Rattle.outside.specs.History.{Image}
+use Rattle.std.proofs.Common.{false, ◌∙◌, subst}
 use Rattle.outside.specs.declared.answer.VolAnswer.TheVariants.{Refused}
 use Rattle.reiser_walk.specs.declared.tree.Tree.{Tree}
 use Rattle.reiser_walk.specs.Answers.{Blames}
