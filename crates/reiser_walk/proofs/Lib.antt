@@ -1,4 +1,5 @@
 pub mod Claims
+pub mod Counting
 pub mod Damages
 pub mod Events
 pub mod Lists

@@ -14,8 +14,10 @@ mod laws;
 mod node;
 mod path;
 mod pointer;
+mod stats;
 mod tree;
 mod walker;
 
 pub use laws::sound_trees_keep_rules;
+pub use stats::count_stats;
 pub use walker::Walker;
