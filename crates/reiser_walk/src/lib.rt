@@ -21,3 +21,6 @@ mod walker;
 pub use laws::sound_trees_keep_rules;
 pub use stats::count_stats;
 pub use walker::Walker;
+
+#[cfg(test)]
+mod tests;
