@@ -1,7 +1,6 @@
 -- How many objects a tree has.
 use Rattle.std.specs.Prelude.{ℕ, Bool, true, false, count_by}
 use Rattle.outside.specs.History.{Image}
-use Rattle.reiser_node.specs.declared.head.ItemHead.{ItemHead}
 use Rattle.reiser_node.specs.declared.head.ItemKind.{ItemKind}
 use Rattle.reiser_node.specs.declared.head.ItemKind.TheVariants.{Stat, Indirect, Direct, Directory}
 use Rattle.reiser_walk.specs.declared.tree.Tree.{Tree}
