@@ -2,6 +2,7 @@ pub mod Claims
 pub mod Counting
 pub mod Damages
 pub mod Events
+pub mod Given
 pub mod Lists
 pub mod Paths
 pub mod Rules

@@ -1,5 +1,5 @@
 -- Nothing is wrong with a tree exactly where each rule holds over the whole of its visits, items and reached blocks.
-use Rattle.std.proofs.Common.{◌≡◌, ◌≢◌, inl, inr, ℕ, ◌%◌, ◌^◌, ◌==◌, ◌<◌, ◌≤◌, ◌||◌, Bool, true, false, not, nat_lt, nat_le, List, [], ◌∷◌, ◌++◌, length, is_some, Some, None, if◌then◌else◌, refl, sym, ap, subst, arith, ⊎_elim, true≢false}
+use Rattle.std.proofs.Common.{◌≡◌, ◌≢◌, inl, inr, ℕ, ◌%◌, ◌^◌, ◌==◌, ◌<◌, ◌≤◌, ◌||◌, Bool, true, false, not, nat_lt, nat_le, List, [], ◌∷◌, ◌++◌, length, All, is_some, Some, None, if◌then◌else◌, refl, sym, ap, subst, arith, ⊎_elim, true≢false}
 use Rattle.std.specs.List.{flat_map}
 use Rattle.std.specs.Bool.{Decides}
 use Rattle.std.specs.declared.cmp.Ordering.{Ordering}
@@ -76,6 +76,10 @@ kind_decides Directory head body = (λ _. tt, λ _. refl)
 body_decides : (head : ItemHead) (body : List ℕ) → Decides (is_body head body) (FitsHead head body)
 body_decides head body =
     Decides-or (is_save_link head) _ (λ e. e, λ e. e) (Decides-and (fits_kind head.kind head body) _ (kind_decides head.kind head body) (leb_decides head.offset (2 ^ 45)))
+
+pub all_fit : (items : List Item) → flat_map body_damage items ≡ [] → All (λ i. FitsHead i.head i.body) items
+all_fit items h =
+    all_from_each _ items (each_map (λ i. body_damage i ≡ []) _ items (λ i k. (body_decides i.head i.body).0 (unless_none _ i.leaf Body k)) (each_from_flat body_damage items h))
 
 -- items that ascend
 
@@ -220,11 +224,10 @@ module _ (tree : Tree) (image : Image) (used : List Bool) where
       let kept = reach_keeps tree used [] (reached_in events) (nil_right (flat_map (visit_damage image n) (visits_in events)) (reach_damages tree used [] (reached_in events)) first) in
       let inside = each_map (IsIn tree used) (λ p. p.block < n) (reached_in events) (λ p k. k.0) kept.each in
       let visits = each_from_flat (visit_damage image n) (visits_in events) (nil_left (flat_map (visit_damage image n) (visits_in events)) (reach_damages tree used [] (reached_in events)) first) in
-      let bodies = each_from_flat body_damage (items_in events) (nil_right (order_damages None (items_in events)) (flat_map body_damage (items_in events)) second) in
       record {
         nodes = all_from_each _ (visits_in events) (each_both (λ v. visit_damage image n v ≡ []) (λ v. v.to.block < n) _ (visits_in events) (visit_keeps image n) visits (visits_reach (λ b. b < n) events inside));
         ascending = all_pairs_from_pairs IsBelow (items_in events) (ascending_from (items_in events) (nil_left (order_damages None (items_in events)) (flat_map body_damage (items_in events)) second));
-        bodies = all_from_each _ (items_in events) (each_map (λ i. body_damage i ≡ []) _ (items_in events) (λ i k. (body_decides i.head i.body).0 (unless_none _ i.leaf Body k)) bodies);
+        bodies = all_fit (items_in events) (nil_right (order_damages None (items_in events)) (flat_map body_damage (items_in events)) second);
         inside = all_from_each _ (reached_in events) inside;
         all_used = all_from_each _ (reached_in events) (each_map (IsIn tree used) _ (reached_in events) (λ p k. k.1) kept.each);
         no_system = all_from_each _ (reached_in events) (each_map (IsIn tree used) _ (reached_in events) (λ p k. k.2) kept.each);

@@ -1,5 +1,5 @@
 -- Steps of a walk.
-use Rattle.std.proofs.Common.{◌≡◌, ℕ, zero, suc, ◌-◌, ◌≤◌, Bool, true, false, List, [], ◌∷◌, ◌++◌, length, None, Contains, if◌then◌else◌, nat_lt, replicate, refl, sym, ◌∙◌, ap, subst, arith, append_assoc}
+use Rattle.std.proofs.Common.{◌≡◌, ◌≢◌, ℕ, zero, suc, ◌-◌, ◌==◌, ◌≤◌, Bool, true, false, List, [], ◌∷◌, ◌++◌, length, None, Contains, if◌then◌else◌, nat_lt, replicate, refl, sym, ◌∙◌, ap, subst, arith, append_assoc}
 use Rattle.std.specs.List.{flat_map}
 use Rattle.std.proofs.lemmas.List.{append-nil, length-replicate, get_or-replicate}
 use Rattle.std.proofs.lemmas.List.Concat.{flat_map-append}
@@ -10,20 +10,20 @@ use Rattle.reiser_node.specs.Leaf.{count, is_leaf}
 use Rattle.reiser_node.specs.Inner.{children, is_inner}
 use Rattle.reiser_bitmap.specs.Bits.{has}
 use Rattle.outside.specs.declared.refusal.VolumeRefusal.{VolumeRefusal}
-use Rattle.outside.specs.declared.answer.VolAnswer.{VolAnswer}
-use Rattle.outside.specs.declared.answer.VolAnswer.TheVariants.{Refused, Fault, Memory}
+use Rattle.outside.specs.declared.refusal.VolumeRefusal.TheVariants.{Damaged}
 use Rattle.reiser_walk.specs.declared.tree.Tree.{Tree}
 use Rattle.reiser_walk.specs.declared.hand.Step.{Step}
 use Rattle.reiser_walk.specs.declared.hand.LeafInHand.{LeafInHand}
 use Rattle.reiser_walk.specs.declared.pointer.Pointer.{Pointer}
 use Rattle.reiser_walk.specs.declared.walker.Walker.{Walker}
-use Rattle.reiser_walk.specs.Answers.{IsOneOf, Blames}
 use Rattle.reiser_walk.specs.Items.{Item, Event, node, leaf_events}
 use Rattle.reiser_walk.specs.Tree.{Visit, node_events, tree_events, at_children, visits_in, items_in, reached_in}
-use Rattle.reiser_walk.specs.Rules.{is_node, node_damage, visit_damage, reach_damage, reach_damages, damages, tree_damages}
+use Rattle.reiser_walk.specs.Rules.{is_node, broken_rule, node_damage, visit_damage, reach_damage, reach_damages, damages, tree_damages}
 use Rattle.reiser_walk.specs.Marks.{Marks, seen_after}
-use Rattle.reiser_walk.specs.Hand.{leaf_rest, step_rest, path_rest, HasLeaf, HasInner}
+use Rattle.reiser_walk.specs.Hand.{leaf_rest, step_rest, path_rest}
 use Rattle.reiser_walk.specs.Walks.{pending, root_rest, rest, level_of, IsSound, Walks, IsAt}
+use Rattle.reiser_node.proofs.Grammar.{inner_decides}
+use Rattle.reiser_walk.proofs.Damages.{unless_in}
 use Rattle.reiser_walk.proofs.Events.{visits_in-append, items_in-append, reached_in-append, seen_after-append, reach_damages-append, sound_more}
 use Rattle.reiser_walk.proofs.Paths.{path_nil, path_last}
 
@@ -140,20 +140,54 @@ node_put w v image used given p k tree reached last grammar next =
       sound = subst (λ (t : Tree). IsSound t image used (k.done ++ e)) (sym tree) (sound_more w.tree image used k.done e k.sound visits (append-nil _ ∙ k.claimed) refl refl);
     }
 
-leaf_grammar : (wanted : ℕ) (bytes : List ℕ) → wanted ≡ 1 → is_node wanted bytes ≡ true → is_leaf bytes ≡ true
-leaf_grammar wanted bytes e h = rw e at h
+pub inner_grammar : (level : ℕ) (bytes : List ℕ) → level ≢ 1 → is_inner level bytes ≡ true → is_node level bytes ≡ true
+inner_grammar level bytes other grammar =
+    let high : (level == 1) ≡ false = grind (arith, nat_tests) in
+    rw high grammar
 
-pub leaf_put : (w v : Walker) (image : Image) (used : List Bool) (given : List Item) (p : Pointer) (l : LeafInHand) → IsAt p w image used given
-    → v.tree ≡ w.tree → v.reached ≡ w.reached → v.last ≡ w.last → v.leaf ≡ l → pending image (length used) v ≡ pending image (length used) w
-    → is_node (level_of w) (block_at image p.block) ≡ true → HasLeaf (level_of w) p.block (block_at image p.block) l
+-- a node that is to be read, of a walker with another leaf in hand
+pub at_same : (w v : Walker) (image : Image) (used : List Bool) (given : List Item) (p : Pointer)
+    → v.tree ≡ w.tree → v.reached ≡ w.reached → v.at_start ≡ w.at_start → v.path ≡ w.path → v.last ≡ w.last → IsAt p w image used given → IsAt p v image used given
+at_same w v image used given p tree reached start path last k =
+    let n : ℕ = length used in
+    record {
+      done = k.done;
+      size = ap (length {A = Bool}) reached ∙ k.size;
+      whole = rw (tree, start, path) k.whole;
+      items = k.items;
+      marks = subst (λ (s : List Bool). Marks s (p.block ∷ seen_after [] (reached_in k.done))) (sym reached) k.marks;
+      last = last ∙ k.last;
+      sound = subst (λ (t : Tree). IsSound t image used k.done) (sym tree) k.sound;
+      claimed = subst (λ (t : Tree). reach_damage t used (seen_after [] (reached_in k.done)) p ≡ []) (sym tree) k.claimed;
+      within = k.within;
+    }
+
+-- A block off the grammar is damaged: as a leaf, or as an inner node. It is that of the volume.
+pub leaf_off : (level num b : ℕ) (read bytes : List ℕ) → level ≡ 1 → num ≡ b → read ≡ bytes → is_leaf read ≡ false
+    → Contains (node_damage level b bytes) (Damaged num (broken_rule 1 read))
+leaf_off level num b read bytes one same is off =
+    let node : is_node 1 read ≡ false = off in
+    rw (one, sym same, sym is) (unless_in (is_node 1 read) num (broken_rule 1 read) node)
+
+pub inner_off : (level wanted num b : ℕ) (read bytes : List ℕ) → level ≡ wanted → wanted ≢ 1 → num ≡ b → read ≡ bytes → is_inner wanted read ≡ false
+    → Contains (node_damage level b bytes) (Damaged num (broken_rule wanted read))
+inner_off level wanted num b read bytes same other number is off =
+    let high : (wanted == 1) ≡ false = grind (arith, nat_tests) in
+    let node : is_node wanted read ≡ false = rw high off in
+    rw (same, sym number, sym is) (unless_in (is_node wanted read) num (broken_rule wanted read) node)
+
+-- after the node was opened as a leaf, whose items come next
+pub leaf_put : (w v : Walker) (image : Image) (used : List Bool) (given : List Item) (p : Pointer) → IsAt p w image used given
+    → v.tree ≡ w.tree → v.reached ≡ w.reached → v.last ≡ w.last → pending image (length used) v ≡ pending image (length used) w
+    → level_of w ≡ 1 → is_leaf (block_at image p.block) ≡ true
+    → v.leaf.no ≡ p.block → v.leaf.block.bytes ≡ block_at image p.block → v.leaf.at.next ≡ 0 → v.leaf.at.left ≡ count (block_at image p.block)
     → Walks v image used given
-leaf_put w v image used given p l k tree reached last leaf same grammar has =
+leaf_put w v image used given p k tree reached last same level grammar number bytes next left =
     let n : ℕ = length used in
     let within : nat_lt p.block n ≡ true = grind (arith, nat_tests, k.within) in
-    let rest_is : leaf_rest v.leaf ≡ leaf_events p.block (block_at image p.block) 0 (count (block_at image p.block)) =
-    ap leaf_rest leaf ∙ rw (has.no, has.block, has.next, has.left) refl in
-    node_put w v image used given p k tree reached last grammar
-    (ap (λ (z : List Event). z ++ pending image n w) (leaf_opened image n (level_of w) p.holder p.block has.level (leaf_grammar (level_of w) (block_at image p.block) has.level grammar) within)
+    let rest_is : leaf_rest v.leaf ≡ leaf_events p.block (block_at image p.block) 0 (count (block_at image p.block)) = rw (number, bytes, next, left) refl in
+    node_put w v image used given p k tree reached last (rw level grammar)
+    (ap (λ (z : List Event). z ++ pending image n w) (leaf_opened image n (level_of w) p.holder p.block level grammar within)
     ∙ ap (λ (z : List Event). node p (level_of w) ∷ z)
     (sym (ap (λ (z : List Event). z ++ pending image n v) rest_is ∙ ap (λ (z : List Event). leaf_events p.block (block_at image p.block) 0 (count (block_at image p.block)) ++ z) same)))
 
@@ -165,17 +199,20 @@ pending_put image n w v s tree start path low =
     (ap (λ (z : List Event). z ++ root_rest image n w) (path_last image n (level_of w - 1) (w.tree.height - 1) w.path.items s (omega arith))
     ∙ append_assoc (step_rest image n (level_of w - 1) s) (path_rest image n (w.tree.height - 1) w.path.items) (root_rest image n w))
 
+-- after it was opened as an inner node, whose children come next
 pub inner_put : (w v : Walker) (image : Image) (used : List Bool) (given : List Item) (p : Pointer) (s : Step) → IsAt p w image used given
     → v.tree ≡ w.tree → v.reached ≡ w.reached → v.last ≡ w.last → v.leaf ≡ w.leaf → v.at_start ≡ w.at_start → v.path.items ≡ w.path.items ++ s ∷ [] → w.leaf.at.left ≡ 0
-    → is_node (level_of w) (block_at image p.block) ≡ true → HasInner (level_of w) p.block (block_at image p.block) s → 2 ≤ level_of w
+    → level_of w ≢ 1 → is_inner (level_of w) (block_at image p.block) ≡ true
+    → s.no ≡ p.block → s.block.bytes ≡ block_at image p.block → s.at.next ≡ 0 → s.at.left ≡ children (block_at image p.block)
     → Walks v image used given
-inner_put w v image used given p s k tree reached last leaf start path done grammar has low =
+inner_put w v image used given p s k tree reached last leaf start path done level grammar number bytes next left =
     let n : ℕ = length used in
     let within : nat_lt p.block n ≡ true = grind (arith, nat_tests, k.within) in
+    let low : 2 ≤ level_of w = ((inner_decides (level_of w) (block_at image p.block)).0 grammar).low in
     let step_is : step_rest image n (level_of w - 1) s ≡ at_children (node_events image n (level_of w - 1) p.block) (block_at image p.block) 0 (children (block_at image p.block)) =
-    rw (has.no, has.block, has.next, has.left) refl in
-    node_put w v image used given p k tree reached last grammar
-    (ap (λ (z : List Event). z ++ pending image n w) (inner_opened image n (level_of w) p.holder p.block low has.grammar within)
+    rw (number, bytes, next, left) refl in
+    node_put w v image used given p k tree reached last (inner_grammar (level_of w) (block_at image p.block) level grammar)
+    (ap (λ (z : List Event). z ++ pending image n w) (inner_opened image n (level_of w) p.holder p.block low grammar within)
     ∙ ap (λ (z : List Event). node p (level_of w) ∷ z)
     (sym (ap (λ (z : List Event). z ++ pending image n v) (ap leaf_rest leaf ∙ leaf_done w.leaf done)
     ∙ (pending_put image n w v s tree start path low ∙ ap (λ (z : List Event). z ++ pending image n w) step_is))))
@@ -190,10 +227,3 @@ start_walks w image used left path start reached last = record {
   last = last;
   sound = record { visits = refl; reach = refl; order = refl; bodies = refl };
 }
-
--- the same where the answer may be a fault too
-pub node_answers : (w : Walker) (image : Image) (used : List Bool) (given : List Item) (p : Pointer) (e : VolAnswer) → (k : IsAt p w image used given)
-    → IsOneOf (node_damage (level_of w) p.block (block_at image p.block)) e → Blames w.tree image used e
-node_answers w image used given p (Refused d) k h = node_blamed w image used given p d k h
-node_answers w image used given p Fault k h = tt
-node_answers w image used given p Memory k h = absurd h

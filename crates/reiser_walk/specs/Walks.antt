@@ -1,14 +1,16 @@
 -- Where a walker stands in the tree.
-use Rattle.std.specs.Prelude.{◌≡◌, ◌<◌, ℕ, ◌+◌, ◌*◌, ◌-◌, Bool, true, false, List, [], ◌∷◌, ◌++◌, length, Option, Some, None, if◌then◌else◌}
+use Rattle.std.specs.Prelude.{◌≡◌, ◌<◌, ℕ, ◌+◌, ◌*◌, ◌-◌, Bool, true, false, List, [], ◌∷◌, ◌++◌, length, Option, Some, None, Result, Contains, if◌then◌else◌}
 use Rattle.std.specs.List.{flat_map}
-use Rattle.outside.specs.History.{Image}
+use Rattle.std.specs.Result.{MatchResult}
+use Rattle.outside.specs.History.{Image, block_at}
+use Rattle.outside.specs.declared.refusal.VolumeRefusal.{VolumeRefusal}
 use Rattle.reiser_node.specs.declared.head.ItemHead.{ItemHead}
 use Rattle.reiser_walk.specs.declared.pointer.Pointer.{Pointer}
 use Rattle.reiser_walk.specs.declared.tree.Tree.{Tree}
 use Rattle.reiser_walk.specs.declared.walker.Walker.{Walker}
 use Rattle.reiser_walk.specs.Items.{Item, Event}
-use Rattle.reiser_walk.specs.Tree.{node_events, tree_events, visits_in, items_in, items_of, reached_in}
-use Rattle.reiser_walk.specs.Rules.{visit_damage, reach_damage, reach_damages, order_damages, body_damage, tree_damages}
+use Rattle.reiser_walk.specs.Tree.{node_events, tree_events, visits_in, items_in, items_of, reached_in, reached}
+use Rattle.reiser_walk.specs.Rules.{node_damage, visit_damage, reach_damage, reach_damages, order_damages, body_damage, tree_damages}
 use Rattle.reiser_walk.specs.Marks.{Marks, seen_after, unmarked}
 use Rattle.reiser_walk.specs.Hand.{leaf_rest, path_rest, item_before}
 
@@ -58,7 +60,19 @@ pub record Walks (w : Walker) (image : Image) (used : List Bool) (given : List I
   -- no rule fails up to here
   pub sound : IsSound w.tree image used done
 
--- The same, but for a node that was taken off what is pending and marked, and is still to be read.
+-- So the items given are the first of the tree, and the blocks marked are those of the first pointers.
+pub record IsFirstPart (w : Walker) (image : Image) (used : List Bool) (given : List Item) : Type 0 where
+  pub later : List Item
+  pub items : items_of w.tree image (length used) ≡ given ++ later
+  pub met : List Pointer
+  pub ahead : List Pointer
+  pub reached : reached w.tree image (length used) ≡ met ++ ahead
+  pub marks : Marks w.reached (seen_after [] met)
+
+abbrev pub WalksAreFirstParts : Type 0
+WalksAreFirstParts = (w : Walker) (image : Image) (used : List Bool) (given : List Item) → Walks w image used given → IsFirstPart w image used given
+
+-- The same as `Walks`, but for a node that was taken off what is pending and marked, and is still to be read.
 pub record IsAt (p : Pointer) (w : Walker) (image : Image) (used : List Bool) (given : List Item) : Type 0 where
   pub done : List Event
   pub size : block_count w ≡ length used
@@ -69,6 +83,13 @@ pub record IsAt (p : Pointer) (w : Walker) (image : Image) (used : List Bool) (g
   pub sound : IsSound w.tree image used done
   pub claimed : reach_damage w.tree used (seen_after [] (reached_in done)) p ≡ []
   pub within : p.block < length used
+
+-- The node that was taken stands in the leaf in hand with nothing of it to come: opened, what is in it comes next, or it is
+-- off its grammar.
+abbrev pub Opens : Walker → Result Unit VolumeRefusal → Walker → Type 0
+Opens old result new =
+    (image : Image) (used : List Bool) (given : List Item) (p : Pointer) → IsAt p old image used given → old.leaf.no ≡ p.block → old.leaf.block.bytes ≡ block_at image p.block
+    → MatchResult result (λ _. Walks new image used given) (Contains (node_damage (level_of old) p.block (block_at image p.block)))
 
 -- all items were given, and no rule fails
 pub record IsOver (tree : Tree) (image : Image) (used : List Bool) (given : List Item) : Type 0 where

@@ -1,31 +1,29 @@
-ghost use Rattle.std.specs.Prelude.{◌≡◌, ◌≤◌, ◌<◌, ◌+◌, ◌-◌, ◌++◌, ℕ, ◌∷◌, [], List, Bool, true, false, length, Contains, Ok, Some, None, IsTrue, IfOk, IfErr, IfSome, IfNone, OnSome, OnOk, OnErr};
+ghost use Rattle.std.specs.Prelude.{◌≡◌, ◌≤◌, ◌<◌, ◌+◌, ◌-◌, ◌++◌, ℕ, ◌∷◌, [], List, true, false, length, Contains, Ok, Some, None, IsTrue, IfOk, IfErr, IfSome, IfNone, OnSome, OnOk, OnErr};
 ghost use Rattle.std.specs.Result.{MatchResult};
 ghost use Rattle.outside.specs.Fault.{HasCauseOf};
-ghost use Rattle.outside.specs.History.{Image, block_at};
+ghost use Rattle.outside.specs.History.{Image};
 ghost use Rattle.outside.specs.declared.rule.Rule.TheVariants.{KeyOrder, Body};
 ghost use Rattle.reiser_node.specs.declared.head.ItemHead.{ItemHead};
 ghost use Rattle.reiser_node.specs.Head.{head_at};
 ghost use Rattle.reiser_node.specs.Leaf.{head_place, body_at};
 ghost use Rattle.reiser_walk.specs.declared.pointer.Pointer.{Pointer};
 ghost use Rattle.reiser_walk.specs.declared.tree.Tree.{Tree};
-ghost use Rattle.reiser_walk.specs.Answers.{IsTreeAnswer, IsTreeRefusal, IsOneOf, Blames};
+ghost use Rattle.reiser_walk.specs.Answers.{IsTreeAnswer, IsTreeRefusal, Blames};
 ghost use Rattle.reiser_walk.specs.Bodies.{is_body};
-ghost use Rattle.reiser_walk.specs.Hand.{IsOpened, FitsLevel};
 ghost use Rattle.reiser_walk.specs.Items.{Item};
 ghost use Rattle.reiser_walk.specs.Marks.{unmarked};
 ghost use Rattle.reiser_walk.specs.Rules.{unless, is_above, tree_damages};
 ghost use Rattle.reiser_walk.specs.Tree.{node_events};
-ghost use Rattle.reiser_walk.specs.Walks.{Walks, Moves, Takes, IsAt, IsDone, Comes, HasItem, block_count, fuel, standing, pending, level_of};
+ghost use Rattle.reiser_walk.specs.Walks.{Walks, Moves, Takes, IsDone, Comes, HasItem, block_count, fuel, standing, pending, level_of};
 
 use crate::Walker;
 use crate::bodies::{is_above, is_body};
 use crate::claim::{claim, claim_named};
-use crate::hand::{LeafInHand, Node, Place};
-use crate::node::read_node;
+use crate::hand::{LeafInHand, Place};
 use crate::path::next_child;
 use crate::pointer::Pointer;
 use crate::tree::Tree;
-use outside::{BlockSource, Memory, Rule, VolAnswer, VolumeRefusal};
+use outside::{BlockSource, Fault, Memory, Rule, VolAnswer, VolumeRefusal};
 use reiser_bitmap::Bitmap;
 use reiser_node::{ItemHead, LeafView};
 use std::alloc::Global;
@@ -130,30 +128,6 @@ impl Walker {
         }
     }
 
-    /// The level of the node that was taken.
-    fn level(&self) -> u16
-        ensures { result ≡ level_of self.now }
-    {
-        self.tree.height - 1 - self.path.len() as u16
-    }
-
-    /// Puts the node that was taken where its items or children come next.
-    fn put(&mut self, node: Node)
-        requires fits { FitsLevel (level_of self.old) node }
-        requires done { self.old.leaf.at.left ≡ 0 }
-        ensures tree { self.new.tree ≡ self.old.tree }
-        ensures reached { self.new.reached ≡ self.old.reached }
-        ensures spent { self.new.spent ≡ self.old.spent }
-        ensures small { self.new.leaf.at.left ≤ 169 }
-        ensures puts { (image : Image) (used : List Bool) (given : List Item) (p : Pointer) → IsAt p self.old image used given →
-            IsOpened (level_of self.old) p.block (block_at image p.block) node → Walks self.new image used given }
-    {
-        match node {
-            Node::Leaf(leaf) => self.leaf = leaf,
-            Node::Inner(step) => self.path.push_reserved(step),
-        }
-    }
-
     /// Opens the next node. False after the last.
     fn descend<S: BlockSource>(&mut self, src: &mut S, map: &Bitmap) -> Result<bool, VolAnswer>
         requires done { self.old.leaf.at.left ≡ 0 }
@@ -176,11 +150,15 @@ impl Walker {
             Ok(None) => return Ok(false),
             Err(e) => return Err(VolAnswer::Refused(e)),
         };
-        match read_node(src, pointer.block, self.level()) {
-            Ok(node) => self.put(node),
-            Err(e) => return Err(e),
+        self.await_block(pointer.block);
+        match src.read(pointer.block, &mut self.leaf.block) {
+            Ok(()) => {}
+            Err(Fault) => return Err(VolAnswer::Fault),
         }
-        Ok(true)
+        match self.open() {
+            Ok(()) => Ok(true),
+            Err(e) => Err(VolAnswer::Refused(e)),
+        }
     }
 
     /// Looks at the next item of the leaf in hand.

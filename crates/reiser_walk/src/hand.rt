@@ -1,17 +1,18 @@
 ghost use Rattle.std.specs.Prelude.{◌≡◌, ◌<◌, ◌+◌};
-ghost use Rattle.reiser_node.specs.Leaf.{IsLeaf, level, count};
 ghost use Rattle.reiser_node.specs.Inner.{IsInner, children};
+ghost use Rattle.reiser_node.specs.Leaf.{IsLeaf, level, count};
 
 use vol_block::{Block, BlockNo};
 
-/// Which items of a leaf are still to come.
+/// Which items or children of a node are still to come.
 #[derive(Clone, Copy, Debug)]
 pub struct Place {
     pub next: usize,
     pub left: usize,
 }
 
-/// A leaf, and which of its items are still to come. Before the first leaf it is any block with none.
+/// A leaf, and which of its items are still to come. Before the first leaf, and where a node is still to be looked at, it
+/// is any block with none.
 #[derive(Drop)]
 pub struct LeafInHand {
     pub no: BlockNo,
@@ -26,15 +27,7 @@ pub struct LeafInHand {
 pub struct Step {
     pub no: BlockNo,
     pub block: Block,
-    pub next: usize,
-    pub left: usize,
+    pub at: Place,
     ghost inner: { IsInner (level block.bytes) block.bytes },
-    ghost all: { next + left ≡ children block.bytes },
-}
-
-/// A node that was read.
-#[derive(Drop)]
-pub enum Node {
-    Leaf(LeafInHand),
-    Inner(Step),
+    ghost all: { at.next + at.left ≡ children block.bytes },
 }

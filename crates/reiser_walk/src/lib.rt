@@ -11,14 +11,14 @@ mod bodies;
 mod claim;
 mod hand;
 mod laws;
-mod node;
+mod open;
 mod path;
 mod pointer;
 mod stats;
 mod tree;
 mod walker;
 
-pub use laws::sound_trees_keep_rules;
+pub use laws::{sound_trees_keep_rules, walks_are_first_parts};
 pub use stats::count_stats;
 pub use walker::Walker;
 
