@@ -1,7 +1,7 @@
 #!/usr/bin/env python3
 """Writes a ReiserFS 3.6 volume whose tree has so many leaves: tree_volume.py LEAVES FILE.
 
-Each leaf holds 12 files: the stat item, an item of 8 pointers and a tail of 190 bytes for each. Leaves lie one behind the
+Each leaf holds 8 files: the stat item, an item of 8 pointers and a tail of 350 bytes for each. Leaves lie one behind the
 other, then the inner nodes, then the blocks of data, which are left as holes of the image. No directory names the files,
 so the volume is good for a walk of its tree alone.
 """
@@ -9,7 +9,7 @@ import struct
 import sys
 
 BLOCK = 4096
-FILES, POINTERS, TAIL = 12, 8, 190
+FILES, POINTERS, TAIL = 8, 8, 350
 JOURNAL_FIRST, JOURNAL_SIZE = 18, 8192
 
 
@@ -64,7 +64,7 @@ def main():
     nodes = [next(numbers) for _ in range(leaves)]
     above = []
     level = 1
-    while len(nodes) > 1 or level == 1 and leaves == 0:
+    while len(nodes) > 1:
         level += 1
         parts = groups(nodes)
         nodes = [next(numbers) for _ in parts]
