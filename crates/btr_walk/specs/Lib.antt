@@ -1,0 +1,5 @@
+pub mod Map
+pub mod Node
+pub mod Events
+pub mod Tree
+pub mod Laws
