@@ -11,6 +11,7 @@ use Rattle.btr_walk.specs.declared.tree.Form.{Form}
 use Rattle.btr_walk.specs.declared.tree.Pointer.{Pointer}
 use Rattle.btr_walk.specs.declared.map.MapRange.{MapRange}
 use Rattle.btr_walk.specs.Events.{TreeItem, Event, node, item, leaf_events, nodes_in, items_in_events}
+use Rattle.btr_walk.specs.Walks.{last_after}
 use Rattle.btr_walk.specs.Tree.{bare_item, node_faults, pointer_damages, at_address, is_above, order_damages}
 
 pub nodes_in-append : (xs ys : List Event) → nodes_in (xs ++ ys) ≡ nodes_in xs ++ nodes_in ys
@@ -41,11 +42,6 @@ pub node_faults-append : (image : Image) (ranges : List MapRange) (form : Form) 
 node_faults-append image ranges form owner bare xs ys =
     ap (flat_map (pointer_damages image ranges form owner bare)) (nodes_in-append xs ys)
     ∙ flat_map-append (pointer_damages image ranges form owner bare) (nodes_in xs) (nodes_in ys)
-
--- the key of the last item, after one before
-abbrev pub last_after : Option Key → List TreeItem → Option Key
-last_after last [] = last
-last_after last (i ∷ items) = last_after (Some i.key) items
 
 pub last_after-append : (last : Option Key) (xs ys : List TreeItem) → last_after last (xs ++ ys) ≡ last_after (last_after last xs) ys
 last_after-append last [] ys = refl

@@ -1,3 +1,8 @@
+ghost use Rattle.std.specs.Prelude.{◌≡◌};
+ghost use Rattle.btr_walk.specs.Events.{may_be_bare};
+ghost use Rattle.btr_walk.specs.Node.{want};
+
+use btr_node::Expect;
 use csum_kinds::SumKind;
 
 /// What the nodes of a volume share.
@@ -20,4 +25,38 @@ pub struct Pointer {
     pub level: u8,
     /// The transaction that wrote the node.
     pub generation: u64,
+}
+
+/// A tree of a volume.
+#[derive(Clone, Copy, Debug, PartialEq, Eq)]
+pub struct Tree {
+    /// What its nodes share with all others of the volume.
+    pub form: Form,
+    /// The pointer to its root.
+    pub root: Pointer,
+    /// Its number.
+    pub owner: u64,
+}
+
+impl Tree {
+    /// What is known of a node of the tree by the pointer to it.
+    pub fn want(&self, p: &Pointer) -> Expect
+        ensures { result ≡ want self.now.form self.now.owner p.now }
+    {
+        Expect {
+            address: p.address,
+            fsid: self.form.fsid,
+            owner: self.owner,
+            level: p.level,
+            generation: p.generation,
+            sums: self.form.sums,
+        }
+    }
+
+    /// Whether a leaf may be empty: only one that is the root.
+    pub fn may_be_bare(&self) -> bool
+        ensures { result ≡ may_be_bare self.now.root }
+    {
+        self.root.level == 0
+    }
 }
