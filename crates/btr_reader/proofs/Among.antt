@@ -1,0 +1,50 @@
+-- Refusals as members of lists, and what a walk has given.
+use Rattle.std.proofs.Common.{◌≡◌, List, [], ◌∷◌, ◌++◌, sym, ◌∙◌, ap, subst, arith}
+use Rattle.std.proofs.lemmas.List.Elements.{Contains-append_left, Contains-append_right}
+use Rattle.outside.specs.History.{Image}
+use Rattle.outside.specs.declared.answer.BtrAnswer.{BtrAnswer}
+use Rattle.outside.specs.declared.answer.BtrAnswer.TheVariants.{Refused, Fault, Memory}
+use Rattle.outside.specs.declared.refusal.BtrRefusal.{BtrRefusal}
+use Rattle.btr_walk.specs.declared.map.MapRange.{MapRange}
+use Rattle.btr_walk.specs.declared.walker.TreeWalker.{TreeWalker}
+use Rattle.btr_walk.specs.Events.{TreeItem, items_in_events}
+use Rattle.btr_walk.specs.Walks.{Walks, Blames, found, rest}
+use Rattle.btr_walk.proofs.Events.{items_in-append}
+use Rattle.btr_reader.specs.Opening.{IsAmong, or_later}
+
+pub among_left : (xs ys : List BtrRefusal) (e : BtrAnswer) → IsAmong xs e → IsAmong (xs ++ ys) e
+among_left xs ys (Refused r) h = Contains-append_left xs ys r h
+among_left xs ys Fault h = tt
+among_left xs ys Memory h = tt
+
+pub among_right : (xs ys : List BtrRefusal) (e : BtrAnswer) → IsAmong ys e → IsAmong (xs ++ ys) e
+among_right xs ys (Refused r) h = Contains-append_right xs ys r h
+among_right xs ys Fault h = tt
+among_right xs ys Memory h = tt
+
+pub blames_among : (xs : List BtrRefusal) (e : BtrAnswer) → Blames xs e → IsAmong xs e
+blames_among xs (Refused r) h = h
+blames_among xs Fault h = tt
+blames_among xs Memory h = tt
+
+none_first : (ys : List BtrRefusal) (e : BtrAnswer) → IsAmong [] e → IsAmong ys e
+none_first ys (Refused r) (k, lt, is) = absurd (omega (arith, lt))
+none_first ys Fault h = tt
+none_first ys Memory h = tt
+
+pub among_first : (xs ys : List BtrRefusal) (e : BtrAnswer) → IsAmong xs e → IsAmong (or_later xs ys) e
+among_first [] ys e h = none_first ys e h
+among_first (x ∷ xs) ys e h = h
+
+pub among_later : (xs ys : List BtrRefusal) (e : BtrAnswer) → xs ≡ [] → IsAmong ys e → IsAmong (or_later xs ys) e
+among_later xs ys e none h = subst (λ (z : List BtrRefusal). IsAmong (or_later z ys) e) (sym none) h
+
+pub none_later : (xs ys : List BtrRefusal) → xs ≡ [] → ys ≡ [] → or_later xs ys ≡ []
+none_later xs ys a b = ap (λ (z : List BtrRefusal). or_later z ys) a ∙ b
+
+-- what was given are the first items of the tree
+pub given_first : (w : TreeWalker) (image : Image) (ranges : List MapRange) (given : List TreeItem) → Walks w image ranges given → (later : List TreeItem) × (found image ranges w.tree ≡ given ++ later)
+given_first w image ranges given k = (
+  items_in_events (rest image ranges w),
+  ap items_in_events (sym k.whole) ∙ (items_in-append k.done (rest image ranges w) ∙ ap (λ (z : List TreeItem). z ++ items_in_events (rest image ranges w)) k.items),
+)

@@ -1,0 +1,90 @@
+-- What is known of a superblock that is read.
+use Rattle.std.proofs.Common.{◌≡◌, ℕ, ◌*◌, ◌≤◌, eqb, nat_lt, nat_le, Bool, true, false, ◌&&◌, List, [], ◌∷◌, Result, Ok, Err, IfOk, codes, is_some, refl, sym, ap, subst, arith}
+use Rattle.std.proofs.lemmas.Bool.Decides.{nat_tests}
+use Rattle.outside.specs.declared.refusal.BtrRefusal.{BtrRefusal}
+use Rattle.outside.specs.declared.refusal.BtrRefusal.TheVariants.{BadBtrfs, Unsupported}
+use Rattle.outside.specs.declared.rule.BtrRule.TheVariants.{SuperCsum, SuperField}
+use Rattle.outside.specs.declared.rule.Feature.TheVariants.{Incompat, ChecksumType, SectorSize, NodeSize, DeviceCount}
+use Rattle.vol_block.specs.Format.{has_bytes_at}
+use Rattle.btr_super.specs.declared.superblock.Super.{Super}
+use Rattle.btr_super.specs.Sums.{known_kind, csum_type_of, has_sum}
+use Rattle.btr_super.specs.Super.{super_in}
+use Rattle.btr_super.specs.Rules.{bad_field, is_super, has_fields, unread_bits, is_node_size, field_rules, feature_rules, failing, unless_refused, super_refusals, super_of}
+use Rattle.btr_node.proofs.Rows.{both}
+use Rattle.btr_walk.proofs.Stacks.{sized}
+use Rattle.btr_reader.specs.Opening.{IsInBounds}
+
+-- a device that has no block 16 has no superblock
+pub no_super : (block : List ℕ) (device : ℕ) → device ≤ 16 → super_of block 16 device ≡ Err (BadBtrfs 65536 SuperField)
+unfolding super_of
+no_super block device few =
+    let off : nat_lt 16 device ≡ false = grind (arith, nat_tests, few) in
+    ap (λ t. unless_refused
+    (failing ((t && has_bytes_at block 64 (codes "_BHRfS_M"), bad_field)
+    ∷ (is_some (known_kind (csum_type_of block)), Unsupported ChecksumType (csum_type_of block))
+    ∷ (has_sum (known_kind (csum_type_of block)) block, BadBtrfs 65536 SuperCsum)
+    ∷ field_rules (super_in block) 16 device))
+    (super_in block)) off
+
+rule_holds : (t : Bool) (r : BtrRefusal) (rules : List (Bool × BtrRefusal)) → failing ((t, r) ∷ rules) ≡ [] → (t ≡ true) × (failing rules ≡ [])
+rule_holds true r rules h = (refl, h)
+rule_holds false r rules h = absurd (cc h)
+
+abbrev ok_of : {A : Type 0} → A → Result A BtrRefusal
+ok_of x = Ok x
+
+ok_is : {A : Type 0} (x y : A) → ok_of x ≡ ok_of y → x ≡ y
+ok_is x y h = cc h
+
+none_refused : {A : Type 0} (rs : List BtrRefusal) (x y : A) → unless_refused rs x ≡ Ok y → (rs ≡ []) × (x ≡ y)
+none_refused [] x y h = (refl, ok_is x y h)
+none_refused (r ∷ rs) x y h = absurd (cc h)
+
+le_of : (a b : ℕ) → nat_le a b ≡ true → a ≤ b
+le_of a b h = grind (arith, nat_tests, h)
+
+abbrev device_rules : Super → List (Bool × BtrRefusal)
+device_rules s = (eqb s.num_devices 1, Unsupported DeviceCount s.num_devices) ∷ []
+
+abbrev size_rules : Super → List (Bool × BtrRefusal)
+size_rules s = (is_node_size s.nodesize, Unsupported NodeSize s.nodesize) ∷ device_rules s
+
+abbrev sector_rules : Super → List (Bool × BtrRefusal)
+sector_rules s = (eqb s.sectorsize 4096, Unsupported SectorSize s.sectorsize) ∷ size_rules s
+
+bounds : (s : Super) (device : ℕ) → failing (field_rules s 16 device) ≡ [] → IsInBounds s
+bounds s device h =
+    let first = rule_holds (has_fields s 16 device) bad_field (feature_rules s) h in
+    let bits = rule_holds (eqb (unread_bits s.incompat) 0) (Unsupported Incompat (unread_bits s.incompat)) (sector_rules s) first.1 in
+    let sector = rule_holds (eqb s.sectorsize 4096) (Unsupported SectorSize s.sectorsize) (size_rules s) bits.1 in
+    let size = rule_holds (is_node_size s.nodesize) (Unsupported NodeSize s.nodesize) (device_rules s) sector.1 in
+    let own = both (eqb s.bytenr (4096 * 16)) _ first.0 in
+    let root = both (nat_le s.root_level 7) _ own.1 in
+    let chunks = both (nat_le s.chunk_root_level 7) _ root.1 in
+    let log = both (nat_le s.log_root_level 7) _ chunks.1 in
+    let array = both (nat_le s.sys_chunk_array_size 2048) _ log.1 in
+    record {
+      nodesize = sized s.nodesize size.0;
+      root = le_of s.root_level 7 root.0;
+      chunks = le_of s.chunk_root_level 7 chunks.0;
+      array = le_of s.sys_chunk_array_size 2048 array.0;
+    }
+
+abbrev sum_rules : List ℕ → ℕ → List (Bool × BtrRefusal)
+sum_rules block device = (has_sum (known_kind (csum_type_of block)) block, BadBtrfs 65536 SuperCsum) ∷ field_rules (super_in block) 16 device
+
+abbrev kind_rules : List ℕ → ℕ → List (Bool × BtrRefusal)
+kind_rules block device = (is_some (known_kind (csum_type_of block)), Unsupported ChecksumType (csum_type_of block)) ∷ sum_rules block device
+
+pub in_bounds : (block : List ℕ) (device : ℕ) (s : Super) → super_of block 16 device ≡ Ok s → IsInBounds s
+unfolding super_of
+in_bounds block device s h =
+    let read = none_refused (super_refusals block 16 device) (super_in block) s h in
+    let magic = rule_holds (is_super block 16 device) bad_field (kind_rules block device) read.0 in
+    let kind = rule_holds (is_some (known_kind (csum_type_of block))) (Unsupported ChecksumType (csum_type_of block)) (sum_rules block device) magic.1 in
+    let sum = rule_holds (has_sum (known_kind (csum_type_of block)) block) (BadBtrfs 65536 SuperCsum) (field_rules (super_in block) 16 device) kind.1 in
+    subst IsInBounds read.1 (bounds (super_in block) device sum.1)
+
+pub read_bounds : (block : List ℕ) (device : ℕ) (result : Result Super BtrRefusal) → result ≡ super_of block 16 device → IfOk result IsInBounds
+read_bounds block device (Ok s) is = in_bounds block device s (sym is)
+read_bounds block device (Err r) is = tt

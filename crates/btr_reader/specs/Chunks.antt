@@ -1,0 +1,110 @@
+-- The chunks of a volume, and the map of addresses that they make.
+use Rattle.std.specs.Prelude.{ℕ, zero, suc, ◌+◌, ◌*◌, ◌%◌, ◌==◌, nat_lt, nat_le, max, min, Bool, ◌&&◌, if◌then◌else◌, List, [], ◌∷◌, ◌++◌, length, drop, slice_range, Option, Some, None}
+use Rattle.std.specs.List.{list_any}
+use Rattle.std.specs.Option.{option_map, option_and_then}
+use Rattle.outside.specs.declared.refusal.BtrRefusal.{BtrRefusal}
+use Rattle.outside.specs.declared.refusal.BtrRefusal.TheVariants.{BadBtrfs, Unsupported}
+use Rattle.outside.specs.declared.rule.BtrRule.TheVariants.{ChunkForm}
+use Rattle.outside.specs.declared.rule.Feature.TheVariants.{ChunkType}
+use Rattle.vol_block.specs.Volume.{field}
+use Rattle.btr_keys.specs.Key.{key_at}
+use Rattle.btr_keys.specs.declared.key.Key.{Key}
+use Rattle.btr_space_items.specs.Chunk.{chunk_of}
+use Rattle.btr_walk.specs.declared.map.MapRange.{MapRange}
+use Rattle.btr_walk.specs.Events.{TreeItem}
+use Rattle.btr_reader.specs.declared.chunk.ChunkAt.{ChunkAt}
+
+-- the key of a chunk, whose offset is the logical address
+abbrev pub is_chunk_key : Key → Bool
+is_chunk_key key = (key.objectid == 256) && (key.kind == 228)
+
+-- the range of addresses that a chunk maps
+abbrev pub range_of : ChunkAt → MapRange
+range_of c = record { logical = c.logical; length = c.chunk.length; physical = c.chunk.stripe.offset }
+
+-- The bootstrap array is a list of chunks, each a key of 17 bytes and a body of 48 bytes and 32 for each stripe.
+abbrev pub entry_size : List ℕ → ℕ
+entry_size bytes = 17 + (48 + 32 * field 2 bytes 61)
+
+-- the chunk that bytes begin with
+abbrev pub front_chunk : List ℕ → Option ChunkAt
+front_chunk bytes =
+    if nat_lt (length bytes) 97 then None
+    else (if is_chunk_key (key_at bytes 0)
+    then option_map (λ chunk. record { logical = (key_at bytes 0).offset; chunk = chunk }) (chunk_of (slice_range bytes 17 (entry_size bytes)))
+    else None)
+
+-- the chunks that bytes are, at most n
+unfoldable pub chunks_within : ℕ → List ℕ → Option (List ChunkAt)
+chunks_within n [] = Some []
+chunks_within zero (b ∷ bs) = None
+chunks_within (suc n) (b ∷ bs) =
+    option_and_then (λ c. option_map (λ cs. c ∷ cs) (chunks_within n (drop (entry_size (b ∷ bs)) (b ∷ bs)))) (front_chunk (b ∷ bs))
+
+abbrev pub array_chunks : List ℕ → Option (List ChunkAt)
+array_chunks bytes = chunks_within (length bytes) bytes
+
+-- what is answered where a test fails
+abbrev pub unless : Bool → BtrRefusal → List BtrRefusal
+unless test refusal = if test then [] else refusal ∷ []
+
+-- its address, its length and its place are multiples of 4096, and it ends within the device of so many blocks
+abbrev pub lies_on : ℕ → ChunkAt → Bool
+lies_on device c =
+    (c.logical % 4096 == 0)
+    && ((c.chunk.length % 4096 == 0) && ((c.chunk.stripe.offset % 4096 == 0) && nat_le (c.chunk.stripe.offset + c.chunk.length) (4096 * device)))
+
+-- What is wrong with a chunk by itself. Its kind says what it holds in the three low bits, and in the others how it is
+-- spread over devices: in one piece where they are 0.
+abbrev pub chunk_refusals : ℕ → ChunkAt → List BtrRefusal
+chunk_refusals device c =
+    unless (nat_lt c.chunk.kind 8) (Unsupported ChunkType c.chunk.kind)
+    ++ (unless (c.chunk.num_stripes == 1) (Unsupported ChunkType c.chunk.num_stripes) ++ unless (lies_on device c) (BadBtrfs c.logical ChunkForm))
+
+-- there is an address in both
+abbrev pub overlap : MapRange → MapRange → Bool
+overlap a b = nat_lt (max a.logical b.logical) (min (a.logical + a.length) (b.logical + b.length))
+
+-- what is wrong with a chunk beside others
+abbrev pub beside_refusals : ℕ → List MapRange → ChunkAt → List BtrRefusal
+beside_refusals device others c = chunk_refusals device c ++ (if list_any (overlap (range_of c)) others then BadBtrfs c.logical ChunkForm ∷ [] else [])
+
+-- the same of chunks one after the other, after others
+abbrev pub chunks_refusals : ℕ → List MapRange → List ChunkAt → List BtrRefusal
+chunks_refusals device others [] = []
+chunks_refusals device others (c ∷ cs) = beside_refusals device others c ++ chunks_refusals device (others ++ range_of c ∷ []) cs
+
+-- the ranges are the same
+abbrev pub same_range : MapRange → MapRange → Bool
+same_range a b = (a.logical == b.logical) && ((a.length == b.length) && (a.physical == b.physical))
+
+-- a chunk that none of these is
+abbrev pub new_chunk : List MapRange → ChunkAt → Option ChunkAt
+new_chunk boot c = if list_any (same_range (range_of c)) boot then None else Some c
+
+-- What an item of the chunk tree adds, where these are the ranges of the bootstrap array: the chunk that it is. One with
+-- the range of a chunk of the array is that chunk.
+abbrev pub chunk_in : List MapRange → Key → List ℕ → Option (Option ChunkAt)
+chunk_in boot key body =
+    if is_chunk_key key then option_map (λ chunk. new_chunk boot (record { logical = key.offset; chunk = chunk })) (chunk_of body) else Some None
+
+-- the map after an item, and what is wrong with the item; None is a body that is no chunk
+abbrev pub with_chunk : List MapRange → Option (Option ChunkAt) → List MapRange
+with_chunk ranges None = ranges
+with_chunk ranges (Some None) = ranges
+with_chunk ranges (Some (Some c)) = ranges ++ range_of c ∷ []
+
+abbrev pub chunk_item_refusals : ℕ → List MapRange → ℕ → Option (Option ChunkAt) → List BtrRefusal
+chunk_item_refusals device ranges logical None = BadBtrfs logical ChunkForm ∷ []
+chunk_item_refusals device ranges logical (Some None) = []
+chunk_item_refusals device ranges logical (Some (Some c)) = beside_refusals device ranges c
+
+-- the map after the items of the chunk tree, and what is wrong with the items
+abbrev pub with_items : List MapRange → List MapRange → List TreeItem → List MapRange
+with_items boot ranges [] = ranges
+with_items boot ranges (i ∷ items) = with_items boot (with_chunk ranges (chunk_in boot i.key i.body)) items
+
+abbrev pub items_refusals : ℕ → List MapRange → List MapRange → List TreeItem → List BtrRefusal
+items_refusals device boot ranges [] = []
+items_refusals device boot ranges (i ∷ items) =
+    chunk_item_refusals device ranges i.key.offset (chunk_in boot i.key i.body) ++ items_refusals device boot (with_chunk ranges (chunk_in boot i.key i.body)) items

@@ -1,0 +1,166 @@
+ghost use Rattle.std.specs.Prelude.{◌≡◌, ◌++◌, ◌∷◌, [], map, true, OnOk, OnErr, IfErr, Contains};
+ghost use Rattle.std.specs.List.{list_any};
+ghost use Rattle.btr_reader.specs.Chunks.{range_of, lies_on, overlap, same_range, beside_refusals, chunks_refusals, is_chunk_key};
+ghost use Rattle.btr_reader.specs.Opening.{IsAmong, IsNoFault};
+ghost use Rattle.btr_walk.specs.Walks.{LieOn};
+
+use btr_keys::Key;
+use btr_space_items::Chunk;
+use btr_walk::MapRange;
+use outside::{BtrAnswer, BtrRefusal, BtrRule, Feature, Memory};
+
+/// The object and the kind in the key of a chunk; the offset is its logical address in bytes.
+const CHUNK_OBJECT: u64 = 256;
+
+const CHUNK_KIND: u8 = 228;
+
+/// A chunk, and its logical address in bytes.
+#[derive(Clone, Copy, Debug, PartialEq, Eq)]
+pub struct ChunkAt {
+    pub logical: u64,
+    pub chunk: Chunk,
+}
+
+/// Whether a key is that of a chunk.
+pub fn is_chunk_key(key: &Key) -> bool
+    ensures { result ≡ is_chunk_key key.now }
+{
+    key.objectid == CHUNK_OBJECT && key.kind == CHUNK_KIND
+}
+
+/// The range of addresses that a chunk maps.
+pub fn range_of(c: &ChunkAt) -> MapRange
+    ensures { result ≡ range_of c.now }
+{
+    MapRange {
+        logical: c.logical,
+        length: c.chunk.length,
+        physical: c.chunk.stripe.offset,
+    }
+}
+
+/// Whether the address, the length and the place of a chunk are whole blocks, and it ends within a device of `device`
+/// blocks.
+fn lies_on(device: u64, c: &ChunkAt) -> bool
+    ensures { result ≡ lies_on device c.now }
+{
+    c.logical % 4096 == 0
+        && c.chunk.length % 4096 == 0
+        && c.chunk.stripe.offset % 4096 == 0
+        && c.chunk.stripe.offset as u128 + c.chunk.length as u128 <= 4096 * device as u128
+}
+
+/// Whether there is an address in both ranges.
+fn overlap(a: &MapRange, b: &MapRange) -> bool
+    ensures { result ≡ overlap a.now b.now }
+{
+    let low = a.logical.max(b.logical) as u128;
+    let a_end = a.logical as u128 + a.length as u128;
+    let b_end = b.logical as u128 + b.length as u128;
+    low < a_end.min(b_end)
+}
+
+/// Whether a range shares an address with one of others.
+fn overlaps(range: &MapRange, others: &[MapRange]) -> bool
+    ensures { result ≡ list_any (overlap range.now) others.now }
+{
+    for other in others {
+        if overlap(range, other) {
+            return true;
+        }
+    }
+    false
+}
+
+/// Whether two ranges are the same.
+fn same_range(a: &MapRange, b: &MapRange) -> bool
+    ensures { result ≡ same_range a.now b.now }
+{
+    a.logical == b.logical && a.length == b.length && a.physical == b.physical
+}
+
+/// Whether a range is one of these.
+pub fn is_among(range: &MapRange, others: &[MapRange]) -> bool
+    ensures { result ≡ list_any (same_range range.now) others.now }
+{
+    for other in others {
+        if same_range(range, other) {
+            return true;
+        }
+    }
+    false
+}
+
+/// What is wrong with a chunk beside others, on a device of `device` blocks.
+fn check_chunk(device: u64, others: &[MapRange], c: &ChunkAt) -> Result<(), BtrRefusal>
+    ensures ok { OnOk result (beside_refusals device others.now c.now ≡ []) }
+    ensures lies { OnOk result (lies_on device c.now ≡ true) }
+    ensures err { IfErr result (λ r. Contains (beside_refusals device others.now c.now) r) }
+{
+    if c.chunk.kind >= 8 {
+        return Err(BtrRefusal::Unsupported {
+            feature: Feature::ChunkType,
+            value: c.chunk.kind,
+        });
+    }
+    if c.chunk.num_stripes != 1 {
+        return Err(BtrRefusal::Unsupported {
+            feature: Feature::ChunkType,
+            value: c.chunk.num_stripes as u64,
+        });
+    }
+    if !lies_on(device, c) || overlaps(&range_of(c), others) {
+        return Err(BtrRefusal::BadBtrfs {
+            address: c.logical,
+            rule: BtrRule::ChunkForm,
+        });
+    }
+    Ok(())
+}
+
+/// Adds a chunk to a map of addresses on a device of `device` blocks, unless something is wrong with it.
+pub fn add_chunk(ranges: &mut Vec<MapRange>, device: u64, c: &ChunkAt) -> Result<(), BtrAnswer>
+    requires inside { LieOn device ranges.old.items }
+    ensures inside { LieOn device ranges.new.items }
+    ensures added { OnOk result (ranges.new.items ≡ ranges.old.items ++ range_of c.now ∷ []) }
+    ensures ok { OnOk result (beside_refusals device ranges.old.items c.now ≡ []) }
+    ensures err { IfErr result (IsAmong (beside_refusals device ranges.old.items c.now)) }
+    ensures cause { IfErr result IsNoFault }
+{
+    match check_chunk(device, ranges.as_slice(), c) {
+        Ok(()) => {}
+        Err(refusal) => return Err(BtrAnswer::Refused(refusal)),
+    }
+    push_range(ranges, range_of(c))?;
+    Ok(())
+}
+
+fn push_range(ranges: &mut Vec<MapRange>, range: MapRange) -> Result<(), Memory>
+    ensures ok { OnOk result (ranges.new.items ≡ ranges.old.items ++ range ∷ []) }
+    ensures err { OnErr result (ranges.new.items ≡ ranges.old.items) }
+{
+    ranges.push(range)?;
+    Ok(())
+}
+
+/// Adds the chunks of a bootstrap array, one after the other, to an empty map.
+pub fn add_chunks(
+    ranges: &mut Vec<MapRange>,
+    device: u64,
+    chunks: &[ChunkAt],
+) -> Result<(), BtrAnswer>
+    requires empty { ranges.old.items ≡ [] }
+    ensures inside { OnOk result (LieOn device ranges.new.items) }
+    ensures added { OnOk result (ranges.new.items ≡ map range_of chunks.now) }
+    ensures ok { OnOk result (chunks_refusals device [] chunks.now ≡ []) }
+    ensures err { IfErr result (IsAmong (chunks_refusals device [] chunks.now)) }
+    ensures cause { IfErr result IsNoFault }
+{
+    for c in chunks {
+        match add_chunk(ranges, device, c) {
+            Ok(()) => {}
+            Err(e) => return Err(e),
+        }
+    }
+    Ok(())
+}

@@ -1,0 +1,113 @@
+ghost use Rattle.std.specs.Prelude.{◌≡◌, ◌≤◌, ◌++◌, [], IsTrue, IfOk, IfErr, OnOk};
+ghost use Rattle.outside.specs.Fault.{HasCauseOf};
+ghost use Rattle.outside.specs.History.{Image};
+ghost use Rattle.btr_node.specs.NodeSize.{IsNodeSize};
+ghost use Rattle.btr_walk.specs.Walks.{LieOn, found, wrong};
+ghost use Rattle.btr_reader.specs.Chunks.{chunk_in, with_chunk, with_items, chunk_item_refusals, items_refusals};
+ghost use Rattle.btr_reader.specs.Opening.{IsAmong, IsNoFault};
+
+use crate::chunk::{ChunkAt, add_chunk, is_among, is_chunk_key, range_of};
+use btr_keys::Key;
+use btr_space_items::Chunk;
+use btr_walk::{MapRange, Tree, TreeWalker};
+use outside::{BlockSource, BtrAnswer, BtrRefusal, BtrRule, Memory};
+use std::alloc::Global;
+
+/// Adds what an item of the chunk tree adds to the map, where `boot` is the map of the bootstrap array.
+fn add_item(
+    ranges: &mut Vec<MapRange>,
+    boot: &[MapRange],
+    device: u64,
+    key: &Key,
+    body: &[u8],
+) -> Result<(), BtrAnswer>
+    requires inside { LieOn device ranges.old.items }
+    ensures inside { LieOn device ranges.new.items }
+    ensures added { OnOk result (ranges.new.items ≡ with_chunk ranges.old.items (chunk_in boot.now key.now body.now)) }
+    ensures ok { OnOk result (chunk_item_refusals device ranges.old.items key.now.offset (chunk_in boot.now key.now body.now) ≡ []) }
+    ensures err { IfErr result (IsAmong (chunk_item_refusals device ranges.old.items key.now.offset (chunk_in boot.now key.now body.now))) }
+    ensures cause { IfErr result IsNoFault }
+{
+    if !is_chunk_key(key) {
+        return Ok(());
+    }
+    let chunk = match Chunk::read(body) {
+        Some(chunk) => chunk,
+        None => {
+            return Err(BtrAnswer::Refused(BtrRefusal::BadBtrfs {
+                address: key.offset,
+                rule: BtrRule::ChunkForm,
+            }));
+        }
+    };
+    let c = ChunkAt {
+        logical: key.offset,
+        chunk,
+    };
+    if is_among(&range_of(&c), boot) {
+        return Ok(());
+    }
+    add_chunk(ranges, device, &c)
+}
+
+/// The map of addresses that a chunk tree makes beside the bootstrap array, whose map is `boot`. The nodes of the tree
+/// lie by the array alone.
+pub fn read_chunks<S: BlockSource>(
+    alloc: Global,
+    src: &mut S,
+    tree: Tree,
+    device: u64,
+    boot: &[MapRange],
+) -> Result<Vec<MapRange>, BtrAnswer>
+    requires size { IsNodeSize tree.form.nodesize }
+    requires high { tree.root.level ≤ 7 }
+    requires device { device ≡ S.size src.old }
+    requires inside { LieOn device boot.now }
+    ensures kept { S.kept src.old src.new }
+    ensures cause { HasCauseOf BtrAnswer.Fault (S.faults src.old) (S.faults src.new) result }
+    ensures inside { IfOk result (λ ranges. LieOn device ranges.items) }
+    ensures ok { IsTrue S.tells → (image : Image) → S.blocks src.old ≡ image →
+        OnOk result (wrong image boot.now tree ++ items_refusals device boot.now boot.now (found image boot.now tree) ≡ []) }
+    ensures map { IsTrue S.tells → (image : Image) → S.blocks src.old ≡ image →
+        IfOk result (λ ranges. ranges.items ≡ with_items boot.now boot.now (found image boot.now tree)) }
+    ensures err { IsTrue S.tells → (image : Image) → S.blocks src.old ≡ image →
+        IfErr result (IsAmong (wrong image boot.now tree ++ items_refusals device boot.now boot.now (found image boot.now tree))) }
+{
+    let mut ranges = copy_of(alloc, boot)?;
+    let mut walker = TreeWalker::new(alloc, tree)?;
+    while walker.advance(src, boot)? {
+        match add_item(&mut ranges, boot, device, &walker.key(), walker.body()) {
+            Ok(()) => {}
+            Err(e) => return Err(e),
+        }
+    }
+    Ok(ranges)
+}
+
+/// Reads a whole tree, and looks at no item of it.
+pub fn check_tree<S: BlockSource>(
+    alloc: Global,
+    src: &mut S,
+    tree: Tree,
+    ranges: &[MapRange],
+) -> Result<(), BtrAnswer>
+    requires size { IsNodeSize tree.form.nodesize }
+    requires high { tree.root.level ≤ 7 }
+    requires inside { LieOn (S.size src.old) ranges.now }
+    ensures kept { S.kept src.old src.new }
+    ensures cause { HasCauseOf BtrAnswer.Fault (S.faults src.old) (S.faults src.new) result }
+    ensures ok { IsTrue S.tells → (image : Image) → S.blocks src.old ≡ image → OnOk result (wrong image ranges.now tree ≡ []) }
+    ensures err { IsTrue S.tells → (image : Image) → S.blocks src.old ≡ image → IfErr result (IsAmong (wrong image ranges.now tree)) }
+{
+    let mut walker = TreeWalker::new(alloc, tree)?;
+    while walker.advance(src, ranges)? {}
+    Ok(())
+}
+
+fn copy_of(alloc: Global, boot: &[MapRange]) -> Result<Vec<MapRange>, Memory>
+    ensures { IfOk result (λ ranges. ranges.items ≡ boot.now) }
+{
+    let mut ranges = Vec::new(alloc);
+    ranges.extend_from_slice(boot)?;
+    Ok(ranges)
+}

@@ -1,0 +1,162 @@
+ghost use Rattle.std.specs.Prelude.{◌≡◌, ◌≤◌, [], Ok, Some, length, take, map, IsTrue, IfOk, IfErr, OnOk};
+ghost use Rattle.outside.specs.Fault.{HasCauseOf};
+ghost use Rattle.outside.specs.History.{Image};
+ghost use Rattle.btr_super.specs.Rules.{super_of};
+ghost use Rattle.btr_walk.specs.Walks.{LieOn};
+ghost use Rattle.btr_reader.specs.Opening.{form_of, chunk_tree, root_tree, super_on, boot_chunks, opening_refusals, boot_refusals, boot_ranges, IsOpened, IsAmong, IsNoFault, IsInBounds, IsSuperAnswer};
+
+use crate::bootstrap::array_chunks;
+use crate::chunk::add_chunks;
+use crate::chunk_tree::{check_tree, read_chunks};
+use crate::volume::Btrfs;
+use btr_super::{Super, sum_kind};
+use btr_walk::{Form, MapRange, Pointer, Tree};
+use csum_kinds::SumKind;
+use outside::{BlockSource, BtrAnswer, BtrRefusal, BtrRule};
+use std::alloc::Global;
+use vol_block::{Block, BlockNo};
+
+/// The place of the first superblock.
+const SUPER_PLACE: BlockNo = 16;
+
+/// The numbers of two trees.
+const ROOT_TREE: u64 = 1;
+
+const CHUNK_TREE: u64 = 3;
+
+/// What the nodes of the volume share.
+fn form_of(sup: &Super) -> Form
+    ensures { result ≡ form_of sup.now }
+{
+    Form {
+        fsid: sup.fsid,
+        nodesize: sup.nodesize,
+        sums: sum_kind(sup.csum_type).unwrap_or(SumKind::Crc32c),
+    }
+}
+
+fn chunk_tree(sup: &Super) -> Tree
+    ensures { result ≡ chunk_tree sup.now }
+{
+    Tree {
+        form: form_of(sup),
+        root: Pointer {
+            address: sup.chunk_root,
+            level: sup.chunk_root_level,
+            generation: sup.chunk_root_generation,
+        },
+        owner: CHUNK_TREE,
+    }
+}
+
+fn root_tree(sup: &Super) -> Tree
+    ensures { result ≡ root_tree sup.now }
+{
+    Tree {
+        form: form_of(sup),
+        root: Pointer {
+            address: sup.root,
+            level: sup.root_level,
+            generation: sup.generation,
+        },
+        owner: ROOT_TREE,
+    }
+}
+
+/// The superblock that a block is, read at its place.
+fn super_in(block: &Block, device: u64) -> Result<Super, BtrRefusal>
+    ensures value { result ≡ super_of block.now.bytes 16 device }
+    ensures bounds { IfOk result IsInBounds }
+{
+    Super::read(block, SUPER_PLACE, device)
+}
+
+/// Reads the superblock of a device of `device` blocks.
+fn read_super<S: BlockSource>(src: &mut S, device: u64) -> Result<Super, BtrAnswer>
+    requires { device ≡ S.size src.old }
+    ensures kept { S.kept src.old src.new }
+    ensures cause { HasCauseOf BtrAnswer.Fault (S.faults src.old) (S.faults src.new) result }
+    ensures bounds { IfOk result IsInBounds }
+    ensures ok { IsTrue S.tells → (image : Image) → S.blocks src.old ≡ image → IfOk result (λ s. super_on image ≡ Ok s) }
+    ensures err { IsTrue S.tells → (image : Image) → S.blocks src.old ≡ image → IfErr result (IsSuperAnswer (super_on image)) }
+{
+    if device <= SUPER_PLACE {
+        return Err(BtrAnswer::Refused(BtrRefusal::BadBtrfs {
+            address: 65536,
+            rule: BtrRule::SuperField,
+        }));
+    }
+    let mut block = Block::zero();
+    src.read(SUPER_PLACE, &mut block)?;
+    match super_in(&block, device) {
+        Ok(sup) => Ok(sup),
+        Err(refusal) => Err(BtrAnswer::Refused(refusal)),
+    }
+}
+
+/// The map of addresses that the bootstrap array makes on a device of `device` blocks.
+fn read_boot(alloc: Global, sup: &Super, device: u64) -> Result<Vec<MapRange>, BtrAnswer>
+    requires { IsInBounds sup.now }
+    ensures inside { IfOk result (λ ranges. LieOn device ranges.items) }
+    ensures ok { OnOk result (boot_refusals device (boot_chunks sup.now) ≡ []) }
+    ensures ranges { IfOk result (λ ranges. ranges.items ≡ boot_ranges (boot_chunks sup.now)) }
+    ensures err { IfErr result (IsAmong (boot_refusals device (boot_chunks sup.now))) }
+    ensures cause { IfErr result IsNoFault }
+{
+    let chunks = match array_chunks(
+        alloc,
+        &sup.sys_chunk_array[..sup.sys_chunk_array_size as usize],
+    ) {
+        Ok(chunks) => chunks,
+        Err(e) => return Err(e),
+    };
+    let mut ranges = Vec::new(alloc);
+    match add_chunks(&mut ranges, device, chunks.as_slice()) {
+        Ok(()) => Ok(ranges),
+        Err(e) => Err(e),
+    }
+}
+
+impl Btrfs {
+    /// Opens a volume: reads its superblock, its chunks and its root tree.
+    ///
+    /// It is refused exactly where something is wrong with them, apart from faults and want of memory, by one of the
+    /// things that are. Refusals of the superblock come first. A log tree is not looked at.
+    pub fn open<S: BlockSource>(alloc: Global, src: &mut S) -> Result<Btrfs, BtrAnswer>
+        ensures kept { S.kept src.old src.new }
+        ensures cause { HasCauseOf BtrAnswer.Fault (S.faults src.old) (S.faults src.new) result }
+        ensures device { IfOk result (λ b. b.device ≡ S.size src.old) }
+        ensures opened { IsTrue S.tells → (image : Image) → S.blocks src.old ≡ image → IfOk result (λ b. IsOpened image b.sup b.ranges.items) }
+        ensures refused { IsTrue S.tells → (image : Image) → S.blocks src.old ≡ image → IfErr result (IsAmong (opening_refusals image)) }
+    {
+        let device = src.len();
+        let sup = match read_super(src, device) {
+            Ok(sup) => sup,
+            Err(e) => return Err(e),
+        };
+        let boot = match read_boot(alloc, &sup, device) {
+            Ok(boot) => boot,
+            Err(e) => return Err(e),
+        };
+        let ranges = match read_chunks(alloc, src, chunk_tree(&sup), device, boot.as_slice()) {
+            Ok(ranges) => ranges,
+            Err(e) => return Err(e),
+        };
+        match check_tree(alloc, src, root_tree(&sup), ranges.as_slice()) {
+            Ok(()) => {}
+            Err(e) => return Err(e),
+        }
+        Ok(Btrfs {
+            sup,
+            device,
+            ranges,
+        })
+    }
+
+    /// The superblock.
+    pub fn sup(&self) -> &Super
+        ensures { result.now ≡ self.now.sup }
+    {
+        &self.sup
+    }
+}

@@ -1,0 +1,14 @@
+ghost use Rattle.btr_walk.specs.Walks.{LieOn};
+
+use btr_super::Super;
+use btr_walk::MapRange;
+
+/// An opened Btrfs volume: its superblock, and the map of its addresses.
+#[derive(Drop)]
+pub struct Btrfs {
+    pub sup: Super,
+    /// How many blocks the device had.
+    pub device: u64,
+    pub ranges: Vec<MapRange>,
+    ghost inside: { LieOn device ranges.items },
+}

@@ -1,0 +1,18 @@
+//! The items of a Btrfs tree, one after the other, or what is wrong with the tree.
+#![tactic(auto)]
+
+mod advance;
+mod blocks;
+mod laws;
+mod map;
+mod node;
+mod tree;
+mod walker;
+
+pub use laws::{children_give_items, leaves_give_items, nodes_decide, subtrees_are_trees};
+pub use map::{MapRange, is_mapped, place};
+pub use tree::{Form, Pointer, Tree};
+pub use walker::{Place, TreeWalker};
+
+#[cfg(test)]
+mod tests;
