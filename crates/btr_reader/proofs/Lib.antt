@@ -3,3 +3,10 @@ pub mod Adding
 pub mod Array
 pub mod Supers
 pub mod Opens
+pub mod RootItems
+pub mod InodeItems
+pub mod EntryItems
+pub mod Unmapped
+pub mod Gathering
+pub mod OneExtent
+pub mod Stages

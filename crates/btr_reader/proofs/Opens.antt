@@ -12,7 +12,7 @@ use Rattle.btr_reader.specs.Chunks.{items_refusals, with_items}
 use Rattle.btr_reader.specs.Opening.{super_on, chunk_tree, root_tree, boot_chunks, boot_ranges, boot_refusals, map_from, or_later, trees_refusals, refusals_after, opening_refusals, IsOpened, IsAmong, IsSuperAnswer}
 use Rattle.btr_reader.proofs.Among.{among_first, among_later, none_later}
 
-opening_is : (image : Image) (s : Super) → super_on image ≡ Ok s
+pub opening_is : (image : Image) (s : Super) → super_on image ≡ Ok s
     → opening_refusals image ≡ or_later (boot_refusals (length image) (boot_chunks s)) (trees_refusals image s (boot_ranges (boot_chunks s)))
 unfolding opening_refusals
 opening_is image s read = ap (refusals_after image) read

@@ -25,7 +25,7 @@ const ROOT_TREE: u64 = 1;
 const CHUNK_TREE: u64 = 3;
 
 /// What the nodes of the volume share.
-fn form_of(sup: &Super) -> Form
+pub fn form_of(sup: &Super) -> Form
     ensures { result ≡ form_of sup.now }
 {
     Form {
@@ -49,7 +49,7 @@ fn chunk_tree(sup: &Super) -> Tree
     }
 }
 
-fn root_tree(sup: &Super) -> Tree
+pub fn root_tree(sup: &Super) -> Tree
     ensures { result ≡ root_tree sup.now }
 {
     Tree {

@@ -1,3 +1,5 @@
+ghost use Rattle.std.specs.Prelude.{◌≤◌, IsTrue};
+ghost use Rattle.btr_walk.specs.Stack.{is_node_size};
 ghost use Rattle.btr_walk.specs.Walks.{LieOn};
 
 use btr_super::Super;
@@ -10,5 +12,7 @@ pub struct Btrfs {
     /// How many blocks the device had.
     pub device: u64,
     pub ranges: Vec<MapRange>,
+    ghost size: { IsTrue (is_node_size sup.nodesize) },
+    ghost high: { sup.root_level ≤ 7 },
     ghost inside: { LieOn device ranges.items },
 }

@@ -1,0 +1,171 @@
+-- The steps on the way to the saved image.
+use Rattle.std.proofs.Common.{◌≡◌, ℕ, true, List, [], ◌∷◌, ◌++◌, length, codes, if◌then◌else◌, Option, Some, None, Result, Ok, refl, sym, ◌∙◌, ap, subst}
+use Rattle.std.specs.Option.{option_and_then}
+use Rattle.outside.specs.History.{Image}
+use Rattle.outside.specs.declared.answer.BtrAnswer.{BtrAnswer}
+use Rattle.outside.specs.declared.refusal.BtrRefusal.{BtrRefusal}
+use Rattle.btr_keys.specs.Inode.{inode_of}
+use Rattle.btr_keys.specs.declared.inode.Inode.{Inode}
+use Rattle.btr_keys.specs.declared.key.Key.{Key}
+use Rattle.btr_super.specs.declared.superblock.Super.{Super}
+use Rattle.btr_walk.specs.declared.map.MapRange.{MapRange}
+use Rattle.btr_walk.specs.declared.tree.Pointer.{Pointer}
+use Rattle.btr_walk.specs.declared.tree.Tree.{Tree}
+use Rattle.btr_walk.specs.Events.{TreeItem}
+use Rattle.btr_walk.specs.Walks.{found, wrong}
+use Rattle.btr_reader.specs.declared.gathered.Gathered.{Gathered}
+use Rattle.btr_reader.specs.declared.image_map.ImageMap.{ImageMap}
+use Rattle.btr_reader.specs.Extents.{extents_of, extents_refusals}
+use Rattle.btr_reader.specs.Image.{ImageFile, is_file, is_called, entry_named, image_entry, saved_entry, pointer_in, tree_number, inode_number, file_if_image, image_at, image_in, items_at, image_below, saved_image, entry_refusals, after_pointer, after_root, if_there, own_refusals, file_refusals, image_refusals_in, refusals_below, image_refusals}
+use Rattle.btr_reader.specs.Inodes.{inode_item}
+use Rattle.btr_reader.specs.Links.{namings}
+use Rattle.btr_reader.specs.Opening.{tree_of, root_tree, boot_chunks, boot_ranges, boot_refusals, map_from, or_later, trees_refusals, IsOpened, IsAmong}
+use Rattle.btr_reader.specs.Pieces.{Gathers, MapsImage}
+use Rattle.btr_reader.specs.Reading.{FindsTree, FindsFile, ReadsImage}
+use Rattle.btr_reader.specs.Roots.{root_item, pointer_of}
+use Rattle.btr_reader.specs.Rows.{roots_on}
+use Rattle.btr_reader.proofs.Among.{among_first}
+use Rattle.btr_reader.proofs.Opens.{opening_is}
+
+-- the same answer, of the same image and refusals
+reads_as : (ranges : List MapRange) (file other : Option ImageFile) (refusals others : List BtrRefusal) (result : Result (Option ImageMap) BtrAnswer) → file ≡ other → refusals ≡ others
+    → ReadsImage ranges file refusals result → ReadsImage ranges other others result
+reads_as ranges file other refusals others result is same reads =
+    subst (λ (z : List BtrRefusal). ReadsImage ranges other z result) same (subst (λ (f : Option ImageFile). ReadsImage ranges f refusals result) is reads)
+
+-- a regular file: its refusals are those of its extents
+refusals_of_file : (ranges : List MapRange) (items : List TreeItem) (ino : ℕ) (i : TreeItem) (own : Inode) → inode_of i.body ≡ Some own → is_file own.mode ≡ true
+    → file_refusals ranges items ino (Some i) ≡ extents_refusals ranges 0 0 (extents_of items ino)
+refusals_of_file ranges items ino i own read regular =
+    let extents : List TreeItem = extents_of items ino in
+    ap (own_refusals ranges extents i.leaf) read ∙ ap (λ t. if t then extents_refusals ranges 0 0 extents else []) regular
+
+among_file : (ranges : List MapRange) (items : List TreeItem) (ino : ℕ) (item : Option TreeItem) (own : Inode) (e : BtrAnswer) → FindsFile item (Ok (Some own))
+    → IsAmong (extents_refusals ranges 0 0 (extents_of items ino)) e → IsAmong (file_refusals ranges items ino item) e
+among_file ranges items ino None own e finds bad = absurd finds
+among_file ranges items ino (Some i) own e finds bad = subst (λ (z : List BtrRefusal). IsAmong z e) (sym (refusals_of_file ranges items ino i own finds.0 finds.1)) bad
+
+pub file_refused : (image : Image) (ranges slice : List MapRange) (tree : Tree) (items : List TreeItem) (ino : ℕ) (own : Inode) (e : BtrAnswer) → slice ≡ ranges → found image ranges tree ≡ items
+    → wrong image ranges tree ≡ [] → FindsFile (inode_item (found image slice tree) ino) (Ok (Some own))
+    → IsAmong (wrong image slice tree ++ extents_refusals slice 0 0 (extents_of (found image slice tree) ino)) e → IsAmong (file_refusals ranges items ino (inode_item items ino)) e
+file_refused image ranges slice tree items ino own e same is sound finds bad =
+    let all : List TreeItem = found image ranges tree in
+    let there : FindsFile (inode_item all ino) (Ok (Some own)) = subst (λ (r : List MapRange). FindsFile (inode_item (found image r tree) ino) (Ok (Some own))) same finds in
+    let here : IsAmong (wrong image ranges tree ++ extents_refusals ranges 0 0 (extents_of all ino)) e =
+    subst (λ (r : List MapRange). IsAmong (wrong image r tree ++ extents_refusals r 0 0 (extents_of (found image r tree) ino)) e) same bad in
+    subst (λ (z : List TreeItem). IsAmong (file_refusals ranges z ino (inode_item z ino)) e) is
+    (among_file ranges all ino (inode_item all ino) own e there
+    (subst (λ (z : List BtrRefusal). IsAmong (z ++ extents_refusals ranges 0 0 (extents_of all ino)) e) sound here))
+
+-- a map of a file is one of what its inode item gives
+file_maps : (ranges : List MapRange) (items : List TreeItem) (ino : ℕ) (item : Option TreeItem) (own : Inode) (map : Option ImageMap) → FindsFile item (Ok (Some own))
+    → (is_file own.mode ≡ true → MapsImage ranges map (file_if_image (extents_of items ino) (Some own))) → extents_refusals ranges 0 0 (extents_of items ino) ≡ []
+    → MapsImage ranges map (image_at items ino item) × (file_refusals ranges items ino item ≡ [])
+file_maps ranges items ino None own map finds maps none = absurd finds
+file_maps ranges items ino (Some i) own map finds maps none = (
+  subst (λ (o : Option Inode). MapsImage ranges map (file_if_image (extents_of items ino) o)) (sym finds.0) (maps finds.1),
+  refusals_of_file ranges items ino i own finds.0 finds.1 ∙ none,
+)
+
+pub file_read : (image : Image) (ranges slice : List MapRange) (tree : Tree) (items : List TreeItem) (ino : ℕ) (own : Inode) (g : Gathered) (map : Option ImageMap) → slice ≡ ranges
+    → found image ranges tree ≡ items → FindsFile (inode_item (found image slice tree) ino) (Ok (Some own)) → Gathers slice (extents_of (found image slice tree) ino) g
+    → ((extents : List TreeItem) → is_file own.mode ≡ true → Gathers slice extents g → MapsImage slice map (file_if_image extents (Some own)))
+    → MapsImage ranges map (image_at items ino (inode_item items ino)) × (file_refusals ranges items ino (inode_item items ino) ≡ [])
+file_read image ranges slice tree items ino own g map same is finds gathers maps =
+    let all : List TreeItem = found image ranges tree in
+    let there : FindsFile (inode_item all ino) (Ok (Some own)) = subst (λ (r : List MapRange). FindsFile (inode_item (found image r tree) ino) (Ok (Some own))) same finds in
+    let gathered : Gathers ranges (extents_of all ino) g = subst (λ (r : List MapRange). Gathers r (extents_of (found image r tree) ino) g) same gathers in
+    let mapped : Gathers ranges (extents_of all ino) g → is_file own.mode ≡ true → MapsImage ranges map (file_if_image (extents_of all ino) (Some own)) =
+    subst (λ (r : List MapRange). Gathers r (extents_of all ino) g → is_file own.mode ≡ true → MapsImage r map (file_if_image (extents_of all ino) (Some own))) same
+    (λ k regular. maps (extents_of all ino) regular k) in
+    subst (λ (z : List TreeItem). MapsImage ranges map (image_at z ino (inode_item z ino)) × (file_refusals ranges z ino (inode_item z ino) ≡ [])) is
+    (file_maps ranges all ino (inode_item all ino) own map there (mapped gathered) gathered.sound)
+
+-- a tree that is there
+after_there : (next : Pointer → List BtrRefusal) (root : Option TreeItem) (i : TreeItem) (p : Pointer) → root ≡ Some i → pointer_of i.body ≡ Some p → after_root next root ≡ next p
+after_there next root i p is read = ap (after_root next) is ∙ ap (after_pointer next i.leaf) read
+
+image_there : (next : Pointer → Option ImageFile) (root : Option TreeItem) (i : TreeItem) (p : Pointer) → root ≡ Some i → pointer_of i.body ≡ Some p → option_and_then next (pointer_in root) ≡ next p
+image_there next root i p is read = ap (λ (o : Option TreeItem). option_and_then next (pointer_in o)) is ∙ ap (option_and_then next) read
+
+pub entry_refused : (image : Image) (s : Super) (ranges slice : List MapRange) (number : ℕ) (later : Pointer → List BtrRefusal) (root : Option TreeItem) (tree : Tree) (e : BtrAnswer) → slice ≡ ranges
+    → FindsTree s number root (Ok (Some tree)) → IsAmong (entry_refusals image slice tree) e
+    → IsAmong (after_root (λ p. or_later (entry_refusals image ranges (tree_of s number p)) (later p)) root) e
+entry_refused image s ranges slice number later root tree e same (i, p, is, read, tree_is) bad =
+    let here : IsAmong (entry_refusals image ranges (tree_of s number p)) e =
+    subst (λ (t : Tree). IsAmong (entry_refusals image ranges t) e) tree_is (subst (λ (r : List MapRange). IsAmong (entry_refusals image r tree) e) same bad) in
+    subst (λ (z : List BtrRefusal). IsAmong z e)
+    (sym (after_there (λ q. or_later (entry_refusals image ranges (tree_of s number q)) (later q)) root i p is read))
+    (among_first (entry_refusals image ranges (tree_of s number p)) (later p) e here)
+
+none_first : (xs ys : List BtrRefusal) → xs ++ ys ≡ [] → xs ≡ []
+none_first [] ys h = refl
+none_first (x ∷ xs) ys h = absurd (cc h)
+
+-- the image in a tree that is there
+pub saved_read : (image : Image) (s : Super) (ranges slice : List MapRange) (number : ℕ) (root : Option TreeItem) (tree : Tree) (key : Option Key) (name : List ℕ) (ino : ℕ)
+    (result : Result (Option ImageMap) BtrAnswer) → slice ≡ ranges → name ≡ codes "image" → FindsTree s number root (Ok (Some tree))
+    → key ≡ entry_named (is_called name) (namings (found image slice tree)) → entry_refusals image slice tree ≡ [] → option_and_then inode_number key ≡ Some ino
+    → ((items : List TreeItem) → found image ranges tree ≡ items → wrong image ranges tree ≡ []
+    → ReadsImage ranges (image_at items ino (inode_item items ino)) (file_refusals ranges items ino (inode_item items ino)) result)
+    → ReadsImage ranges (image_below image s ranges number root) (refusals_below image s ranges number root) result
+saved_read image s ranges slice number root tree key name ino result same name_is (i, p, is, read, tree_is) key_is none number_is reads =
+    let at : Tree = tree_of s number p in
+    let items : List TreeItem = items_at image s ranges number p in
+    let right : entry_refusals image ranges tree ≡ [] = subst (λ (r : List MapRange). entry_refusals image r tree ≡ []) same none in
+    let right_at : entry_refusals image ranges at ≡ [] = subst (λ (t : Tree). entry_refusals image ranges t ≡ []) tree_is right in
+    let items_are : found image ranges tree ≡ items = ap (λ (t : Tree). found image ranges t) tree_is in
+    let key_at : key ≡ image_entry items =
+    key_is
+    ∙ (ap (λ (n : List ℕ). entry_named (is_called n) (namings (found image slice tree))) name_is
+    ∙ (ap (λ (r : List MapRange). entry_named (is_called (codes "image")) (namings (found image r tree))) same
+    ∙ ap (λ (z : List TreeItem). image_entry z) items_are)) in
+    let named : option_and_then inode_number (image_entry items) ≡ Some ino = ap (option_and_then inode_number) (sym key_at) ∙ number_is in
+    reads_as ranges (image_at items ino (inode_item items ino)) (image_below image s ranges number root) (file_refusals ranges items ino (inode_item items ino)) (refusals_below image s ranges number root)
+    result
+    (sym (image_there (λ q. image_in (items_at image s ranges number q)) root i p is read ∙ ap (option_and_then (λ n. image_at items n (inode_item items n))) named))
+    (sym (after_there (λ q. or_later (entry_refusals image ranges (tree_of s number q)) (image_refusals_in ranges (items_at image s ranges number q))) root i p is read
+    ∙ (ap (λ (z : List BtrRefusal). or_later z (image_refusals_in ranges items)) right_at ∙ ap (if_there (λ n. file_refusals ranges items n (inode_item items n))) named)))
+    (reads items items_are (none_first (wrong image ranges tree) _ right))
+
+-- the image of a volume whose file tree names a tree
+pub top_read : (image : Image) (s : Super) (ranges slice : List MapRange) (tree : Tree) (key : Option Key) (name : List ℕ) (number : ℕ) (result : Result (Option ImageMap) BtrAnswer) → slice ≡ ranges
+    → name ≡ codes "reiserfs_saved" → FindsTree s 5 (root_item 5 (roots_on image s ranges)) (Ok (Some tree)) → key ≡ entry_named (is_called name) (namings (found image slice tree))
+    → entry_refusals image slice tree ≡ [] → option_and_then tree_number key ≡ Some number
+    → ReadsImage ranges (image_below image s ranges number (root_item number (roots_on image s ranges))) (refusals_below image s ranges number (root_item number (roots_on image s ranges))) result
+    → ReadsImage ranges (saved_image image s ranges) (image_refusals image s ranges) result
+top_read image s ranges slice tree key name number result same name_is (i, p, is, read, tree_is) key_is none number_is reads =
+    let at : Tree = tree_of s 5 p in
+    let items : List TreeItem = items_at image s ranges 5 p in
+    let root : Option TreeItem = root_item 5 (roots_on image s ranges) in
+    let right_at : entry_refusals image ranges at ≡ [] =
+    subst (λ (t : Tree). entry_refusals image ranges t ≡ []) tree_is (subst (λ (r : List MapRange). entry_refusals image r tree ≡ []) same none) in
+    let key_at : key ≡ saved_entry items =
+    key_is
+    ∙ (ap (λ (n : List ℕ). entry_named (is_called n) (namings (found image slice tree))) name_is
+    ∙ (ap (λ (r : List MapRange). entry_named (is_called (codes "reiserfs_saved")) (namings (found image r tree))) same
+    ∙ ap (λ (t : Tree). saved_entry (found image ranges t)) tree_is)) in
+    let named : option_and_then tree_number (saved_entry items) ≡ Some number = ap (option_and_then tree_number) (sym key_at) ∙ number_is in
+    reads_as ranges (image_below image s ranges number (root_item number (roots_on image s ranges))) (saved_image image s ranges)
+    (refusals_below image s ranges number (root_item number (roots_on image s ranges))) (image_refusals image s ranges) result
+    (sym (image_there
+    (λ q. option_and_then (λ n. image_below image s ranges n (root_item n (roots_on image s ranges))) (option_and_then tree_number (saved_entry (items_at image s ranges 5 q)))) root i p is read
+    ∙ ap (option_and_then (λ n. image_below image s ranges n (root_item n (roots_on image s ranges)))) named))
+    (sym (after_there
+    (λ q. or_later (entry_refusals image ranges (tree_of s 5 q))
+    (if_there (λ n. refusals_below image s ranges n (root_item n (roots_on image s ranges))) (option_and_then tree_number (saved_entry (items_at image s ranges 5 q))))) root i p is read
+    ∙ (ap (λ (z : List BtrRefusal). or_later z (if_there (λ n. refusals_below image s ranges n (root_item n (roots_on image s ranges))) (option_and_then tree_number (saved_entry items)))) right_at
+    ∙ ap (if_there (λ n. refusals_below image s ranges n (root_item n (roots_on image s ranges)))) named)))
+    reads
+
+later_none : (xs ys : List BtrRefusal) → or_later xs ys ≡ [] → ys ≡ []
+later_none [] ys h = h
+later_none (x ∷ xs) ys h = absurd (cc h)
+
+-- nothing is wrong with the root tree of a volume that was opened
+pub root_right : (image : Image) (s : Super) (ranges : List MapRange) → IsOpened image s ranges → wrong image ranges (root_tree s) ≡ []
+root_right image s ranges k =
+    let boot : List MapRange = boot_ranges (boot_chunks s) in
+    let trees : trees_refusals image s boot ≡ [] =
+    later_none (boot_refusals (length image) (boot_chunks s)) (trees_refusals image s boot) (sym (opening_is image s k.super) ∙ k.sound) in
+    subst (λ (r : List MapRange). wrong image r (root_tree s) ≡ []) (sym k.map_is) (later_none _ (wrong image (map_from image s boot) (root_tree s)) trees)

@@ -1,0 +1,102 @@
+use Rattle.std.proofs.Common.{◌≡◌, List, [], ◌∷◌, ◌++◌, refl, sym, ◌∙◌, ap, subst, arith}
+use Rattle.std.proofs.lemmas.Result.{err_from_is_err_and}
+use Rattle.outside.specs.History.{Image}
+use Rattle.outside.specs.declared.answer.BtrAnswer.TheVariants.{Refused}
+use Rattle.btr_walk.specs.declared.map.MapRange.{MapRange}
+use Rattle.btr_walk.specs.declared.tree.Tree.{Tree}
+use Rattle.btr_walk.specs.Events.{TreeItem}
+use Rattle.btr_walk.specs.Walks.{Blames, found, wrong}
+use Rattle.btr_walk.proofs.Events.{none_both}
+use Rattle.btr_reader.specs.Image.{first_key, entry_named, is_called, index_refusals, entry_refusals}
+use Rattle.btr_reader.specs.Links.{own_naming, namings}
+use Rattle.btr_reader.specs.Opening.{IsAmong}
+use Rattle.btr_reader.proofs.Among.{blames_among, among_left, among_right, given_first}
+use Rattle.btr_reader.proofs.EntryItems.{entry_push, index_right, index_refused}
+use Rattle.btr_reader.proofs.entries.find_entry.Goals as goal
+
+pub loop-walker-init : goal.loop-walker-init
+loop-walker-init g c = record {
+  kept = g.met.S.BlockSource.kept_refl c.args.src.now;
+  later = omega arith;
+  tree = c.in_ok-walker.ensures.tree;
+  fresh = c.in_ok-walker.ensures.fresh;
+  walks = λ tells. ([], c.in_ok-walker.ensures.walks _ _, refl, refl);
+}
+
+pub returns-in_err-advance-clause-err : goal.returns-in_err-advance-clause-err
+returns-in_err-advance-clause-err g c = λ tells image is.
+    let told = c.loop-walker.invariant.walks tells in
+    let here : Image = g.S.BlockSource.blocks c.args.src.now in
+    let ranges : List MapRange = c.args.ranges.now in
+    let same = g.met.S.BlockSource.kept_blocks c.args.src.now c.loop-walker.src tells c.loop-walker.invariant.kept in
+    let blames = c.in_err-advance.ensures.comes tells here same told.0 told.1 in
+    let err = err_from_is_err_and c.from_residual-in_err-advance.result c.from_residual-in_err-advance.ensures.1 in
+    rw err.1 (subst (λ (m : Image). IsAmong (entry_refusals m ranges c.args.tree) err.0) is
+    (subst (IsAmong (entry_refusals here ranges c.args.tree)) (sym err.2)
+    (among_left (wrong here ranges c.args.tree) _ c.in_err-advance.field-0.0
+    (blames_among (wrong here ranges c.args.tree) c.in_err-advance.field-0.0
+    (subst (λ (tree : Tree). Blames (wrong here ranges tree) c.in_err-advance.field-0.0) c.loop-walker.invariant.tree blames)))))
+
+pub loop-walker-preserved : goal.loop-walker-preserved
+loop-walker-preserved g c =
+    let before = c.loop-walker.invariant in
+    record {
+      kept = g.met.S.BlockSource.kept_trans _ _ _ before.kept c.advance.ensures.kept;
+      later = omega (arith, before.later, c.advance.ensures.cause.later);
+      tree = c.advance.ensures.tree ∙ before.tree;
+      fresh = c.in_ok-advance.ensures.spent;
+      walks = λ tells.
+          let told = before.walks tells in
+          let same = g.met.S.BlockSource.kept_blocks c.args.src.now c.loop-walker.src tells before.kept in
+          let came = rw c.if-branch.true at (c.in_ok-advance.ensures.comes tells (g.S.BlockSource.blocks c.args.src.now) same told.0 told.1) in
+          let i : TreeItem = came.0 in
+          let key = sym (c.key.ensures i came.2) in
+          let body = sym (c.body.ensures i came.2) in (
+            told.0 ++ i ∷ [],
+            came.1,
+            c.in-Ok.ensures.found i key body
+                ∙ (ap (λ o. first_key o (entry_named (is_called c.args.name.now) (own_naming i))) told.2 ∙ sym (entry_push (is_called c.args.name.now) told.0 i)),
+            index_right told.0 i told.3 (c.in-Ok.ensures.ok i key body),
+          );
+    }
+
+pub returns-in-Err-clause-err : goal.returns-in-Err-clause-err
+returns-in-Err-clause-err g c = λ tells image is.
+    let before = c.loop-walker.invariant in
+    let here : Image = g.S.BlockSource.blocks c.args.src.now in
+    let ranges : List MapRange = c.args.ranges.now in
+    let told = before.walks tells in
+    let same = g.met.S.BlockSource.kept_blocks c.args.src.now c.loop-walker.src tells before.kept in
+    let came = rw c.if-branch.true at (c.in_ok-advance.ensures.comes tells here same told.0 told.1) in
+    let i : TreeItem = came.0 in
+    let first = given_first c.advance.new.self here ranges (told.0 ++ i ∷ []) came.1 in
+    let tree = c.advance.ensures.tree ∙ before.tree in
+    subst (λ (m : Image). IsAmong (entry_refusals m ranges c.args.tree) (Refused c.in-Err.refusal)) is
+    (among_right (wrong here ranges c.args.tree) _ (Refused c.in-Err.refusal)
+    (index_refused (found here ranges c.args.tree) told.0 first.0 i (Refused c.in-Err.refusal) (ap (λ (t : Tree). found here ranges t) (sym tree) ∙ first.1)
+    (c.in-Err.ensures.err i (sym (c.key.ensures i came.2)) (sym (c.body.ensures i came.2)) (sym (c.leaf.ensures i came.2)))))
+
+pub returns-clause-ok : goal.returns-clause-ok
+returns-clause-ok g c = λ tells image is.
+    let before = c.loop-walker.invariant in
+    let here : Image = g.S.BlockSource.blocks c.args.src.now in
+    let ranges : List MapRange = c.args.ranges.now in
+    let told = before.walks tells in
+    let same = g.met.S.BlockSource.kept_blocks c.args.src.now c.loop-walker.src tells before.kept in
+    let end = rw c.if-branch.false at (c.in_ok-advance.ensures.comes tells here same told.0 told.1) in
+    let all : told.0 ≡ found here ranges c.args.tree = end.1.all ∙ ap (λ (t : Tree). found here ranges t) before.tree in
+    subst (λ (m : Image). entry_refusals m ranges c.args.tree ≡ []) is
+    (none_both (wrong here ranges c.args.tree) _ (subst (λ (tree : Tree). wrong here ranges tree ≡ []) before.tree end.1.sound) (ap index_refusals (sym all) ∙ told.3))
+
+pub returns-clause-entry : goal.returns-clause-entry
+returns-clause-entry g c = λ tells image is.
+    let before = c.loop-walker.invariant in
+    let here : Image = g.S.BlockSource.blocks c.args.src.now in
+    let ranges : List MapRange = c.args.ranges.now in
+    let told = before.walks tells in
+    let same = g.met.S.BlockSource.kept_blocks c.args.src.now c.loop-walker.src tells before.kept in
+    let end = rw c.if-branch.false at (c.in_ok-advance.ensures.comes tells here same told.0 told.1) in
+    let all : told.0 ≡ found here ranges c.args.tree = end.1.all ∙ ap (λ (t : Tree). found here ranges t) before.tree in
+    told.2
+    ∙ (ap (λ (items : List TreeItem). entry_named (is_called c.args.name.now) (namings items)) all
+    ∙ ap (λ (m : Image). entry_named (is_called c.args.name.now) (namings (found m ranges c.args.tree))) is)

@@ -1,0 +1,90 @@
+use Rattle.std.proofs.Common.{◌≡◌, ℕ, ◌<◌, ◌^◌, List, [], ◌∷◌, ◌++◌, sym, ◌∙◌, ap, subst, arith}
+use Rattle.std.proofs.lemmas.Result.{err_from_is_err_and}
+use Rattle.outside.specs.History.{Image}
+use Rattle.outside.specs.declared.refusal.BtrRefusal.{BtrRefusal}
+use Rattle.btr_walk.specs.declared.map.MapRange.{MapRange}
+use Rattle.btr_walk.specs.declared.tree.Tree.{Tree}
+use Rattle.btr_walk.specs.Events.{TreeItem}
+use Rattle.btr_walk.specs.Walks.{Blames, found, wrong}
+use Rattle.btr_reader.specs.Extents.{extents_of, extents_refusals}
+use Rattle.btr_reader.specs.Opening.{IsAmong}
+use Rattle.btr_reader.specs.Pieces.{Gathers}
+use Rattle.btr_reader.proofs.Among.{blames_among, among_left, among_right, given_first}
+use Rattle.btr_reader.proofs.OneExtent.{extents_first}
+use Rattle.btr_reader.proofs.gather.gather_extents.Goals as goal
+
+-- what is wrong with the tree and the extents
+abbrev all_wrong : Image → List MapRange → Tree → ℕ → List BtrRefusal
+all_wrong image ranges tree ino = wrong image ranges tree ++ extents_refusals ranges 0 0 (extents_of (found image ranges tree) ino)
+
+pub loop-walker-init : goal.loop-walker-init
+loop-walker-init g c = record {
+  kept = g.met.S.BlockSource.kept_refl c.args.src.now;
+  later = omega arith;
+  tree = c.in_ok-walker.ensures.tree;
+  fresh = c.in_ok-walker.ensures.fresh;
+  few = subst (λ n. n < 2 ^ 59) (sym c.nothing-g.ensures.none) (omega arith);
+  walks = λ tells. ([], c.in_ok-walker.ensures.walks _ _, c.nothing-g.ensures.gathers _);
+}
+
+pub returns-in_err-advance-clause-err : goal.returns-in_err-advance-clause-err
+returns-in_err-advance-clause-err g c = λ tells image is.
+    let told = c.loop-walker.invariant.walks tells in
+    let here : Image = g.S.BlockSource.blocks c.args.src.now in
+    let ranges : List MapRange = c.args.ranges.now in
+    let same = g.met.S.BlockSource.kept_blocks c.args.src.now c.loop-walker.src tells c.loop-walker.invariant.kept in
+    let blames = c.in_err-advance.ensures.comes tells here same told.0 told.1 in
+    let err = err_from_is_err_and c.from_residual-in_err-advance.result c.from_residual-in_err-advance.ensures.1 in
+    rw err.1 (subst (λ (m : Image). IsAmong (all_wrong m ranges c.args.tree c.args.inode) err.0) is
+    (subst (IsAmong (all_wrong here ranges c.args.tree c.args.inode)) (sym err.2)
+    (among_left (wrong here ranges c.args.tree) _ c.in_err-advance.field-0.0
+    (blames_among (wrong here ranges c.args.tree) c.in_err-advance.field-0.0
+    (subst (λ (tree : Tree). Blames (wrong here ranges tree) c.in_err-advance.field-0.0) c.loop-walker.invariant.tree blames)))))
+
+pub loop-walker-preserved : goal.loop-walker-preserved
+loop-walker-preserved g c =
+    let before = c.loop-walker.invariant in
+    record {
+      kept = g.met.S.BlockSource.kept_trans _ _ _ before.kept c.advance.ensures.kept;
+      later = omega (arith, before.later, c.advance.ensures.cause.later);
+      tree = c.advance.ensures.tree ∙ before.tree;
+      fresh = c.in_ok-advance.ensures.spent;
+      few = c.in-Ok.ensures.few;
+      walks = λ tells.
+          let told = before.walks tells in
+          let same = g.met.S.BlockSource.kept_blocks c.args.src.now c.loop-walker.src tells before.kept in
+          let came = rw c.if-branch.true at (c.in_ok-advance.ensures.comes tells (g.S.BlockSource.blocks c.args.src.now) same told.0 told.1) in
+          let i : TreeItem = came.0 in (
+            told.0 ++ i ∷ [],
+            came.1,
+            c.in-Ok.ensures.ok i told.0 (sym (c.key.ensures i came.2)) (sym (c.body.ensures i came.2)) (sym (c.leaf.ensures i came.2)) told.2,
+          );
+    }
+
+pub returns-in-Err-clause-err : goal.returns-in-Err-clause-err
+returns-in-Err-clause-err g c = λ tells image is.
+    let before = c.loop-walker.invariant in
+    let here : Image = g.S.BlockSource.blocks c.args.src.now in
+    let ranges : List MapRange = c.args.ranges.now in
+    let told = before.walks tells in
+    let same = g.met.S.BlockSource.kept_blocks c.args.src.now c.loop-walker.src tells before.kept in
+    let came = rw c.if-branch.true at (c.in_ok-advance.ensures.comes tells here same told.0 told.1) in
+    let i : TreeItem = came.0 in
+    let first = given_first c.advance.new.self here ranges (told.0 ++ i ∷ []) came.1 in
+    let tree = c.advance.ensures.tree ∙ before.tree in
+    subst (λ (m : Image). IsAmong (all_wrong m ranges c.args.tree c.args.inode) c.in-Err.e) is
+    (among_right (wrong here ranges c.args.tree) _ c.in-Err.e
+    (extents_first ranges c.args.inode (found here ranges c.args.tree) (told.0 ++ i ∷ []) first.0 c.in-Err.e (ap (λ (t : Tree). found here ranges t) (sym tree) ∙ first.1)
+    (c.in-Err.ensures.err i told.0 (sym (c.key.ensures i came.2)) (sym (c.body.ensures i came.2)) (sym (c.leaf.ensures i came.2)) told.2)))
+
+pub returns-clause-gathered : goal.returns-clause-gathered
+returns-clause-gathered g c = λ tells image is.
+    let before = c.loop-walker.invariant in
+    let here : Image = g.S.BlockSource.blocks c.args.src.now in
+    let ranges : List MapRange = c.args.ranges.now in
+    let told = before.walks tells in
+    let same = g.met.S.BlockSource.kept_blocks c.args.src.now c.loop-walker.src tells before.kept in
+    let end = rw c.if-branch.false at (c.in_ok-advance.ensures.comes tells here same told.0 told.1) in
+    let all : told.0 ≡ found here ranges c.args.tree = end.1.all ∙ ap (λ (t : Tree). found here ranges t) before.tree in
+    subst (λ (m : Image). Gathers ranges (extents_of (found m ranges c.args.tree) c.args.inode) c.loop-walker.g) is
+    (subst (λ (items : List TreeItem). Gathers ranges (extents_of items c.args.inode) c.loop-walker.g) all told.2)

@@ -1,0 +1,31 @@
+use Rattle.std.proofs.Common.{◌≡◌, true, Some, None, sym, ◌∙◌, ap, arith}
+use Rattle.std.specs.Option.{option_map}
+use Rattle.outside.specs.declared.refusal.BtrRefusal.TheVariants.{BadBtrfs}
+use Rattle.outside.specs.declared.rule.BtrRule.TheVariants.{Body}
+use Rattle.btr_keys.specs.FileExtent.{file_extent_value, file_extent_of}
+use Rattle.btr_keys.specs.declared.key.Key.{Key}
+use Rattle.btr_reader.specs.Extents.{is_extent_key, is_extent_of}
+use Rattle.btr_reader.proofs.OneExtent.{item_refused, gathers_one}
+use Rattle.btr_reader.proofs.gather.gather_item.Goals as goal
+
+pub returns-in-None-clause-err : goal.returns-in-None-clause-err
+returns-in-None-clause-err c = λ i given key body leaf k.
+    let own : is_extent_of c.args.inode i ≡ true = ap (is_extent_key c.args.inode) key ∙ (sym c.is_extent_key.ensures ∙ c.if-not-is_extent_key.false) in
+    let read : file_extent_of i.body ≡ None = ap file_extent_of body ∙ (sym c.read.ensures ∙ ap (option_map file_extent_value) c.in-None.is) in
+    item_refused c.args.ranges.now c.args.inode given i None _ _ (BadBtrfs c.args.leaf Body) own read k.end k.covered (0, omega arith, ap (λ a. BadBtrfs a Body) leaf)
+
+pub returns-in-Err-clause-err : goal.returns-in-Err-clause-err
+returns-in-Err-clause-err c = λ i given key body leaf k.
+    let own : is_extent_of c.args.inode i ≡ true = ap (is_extent_key c.args.inode) key ∙ (sym c.is_extent_key.ensures ∙ c.if-not-is_extent_key.false) in
+    let read : file_extent_of i.body ≡ Some (file_extent_value c.in-Some.extent) = ap file_extent_of body ∙ (sym c.read.ensures ∙ ap (option_map file_extent_value) c.in-Some.is) in
+    item_refused c.args.ranges.now c.args.inode given i (Some (file_extent_value c.in-Some.extent)) _ _ c.in-Err.refusal own read k.end k.covered
+    (rw (ap (λ (x : Key). x.offset) key, leaf) c.in-Err.ensures.err)
+
+pub returns-clause-ok : goal.returns-clause-ok
+returns-clause-ok c = λ i given key body leaf k.
+    let own : is_extent_of c.args.inode i ≡ true = ap (is_extent_key c.args.inode) key ∙ (sym c.is_extent_key.ensures ∙ c.if-not-is_extent_key.false) in
+    let read : file_extent_of i.body ≡ Some (file_extent_value c.in-Some.extent) = ap file_extent_of body ∙ (sym c.read.ensures ∙ ap (option_map file_extent_value) c.in-Some.is) in
+    let offset = ap (λ (x : Key). x.offset) key in
+    gathers_one c.args.ranges.now c.args.inode given i c.args.g.now c.add_extent.new.g (file_extent_value c.in-Some.extent) own read k
+    (rw (offset, leaf) c.in-Ok.ensures.ok)
+    (rw offset c.in_ok-add_extent.ensures.end) c.in_ok-add_extent.ensures.covered c.in_ok-add_extent.ensures.inline (rw offset c.in_ok-add_extent.ensures.pieces)

@@ -1,0 +1,186 @@
+-- The saved image of the volume before.
+use Rattle.std.specs.Prelude.{ℕ, ◌+◌, ◌-◌, ◌*◌, ◌/◌, ◌%◌, ◌==◌, nat_lt, nat_eq, Bool, true, false, not, ◌&&◌, if◌then◌else◌, List, [], ◌∷◌, ◌++◌, codes, Option, Some, None}
+use Rattle.std.specs.Option.{option_map, option_and_then}
+use Rattle.std.specs.List.{list_any}
+use Rattle.std.specs.Cmp.Lexicographic.{pointwise}
+use Rattle.outside.specs.History.{Image}
+use Rattle.outside.specs.declared.refusal.BtrRefusal.{BtrRefusal}
+use Rattle.outside.specs.declared.refusal.BtrRefusal.TheVariants.{BadBtrfs}
+use Rattle.outside.specs.declared.rule.BtrRule.TheVariants.{Body}
+use Rattle.btr_keys.specs.FileExtent.{ContentValue, Inline, Regular, Prealloc, FileExtentValue, file_extent_of}
+use Rattle.btr_keys.specs.Inode.{inode_of}
+use Rattle.btr_keys.specs.declared.inode.Inode.{Inode}
+use Rattle.btr_keys.specs.declared.key.Key.{Key}
+use Rattle.btr_super.specs.declared.superblock.Super.{Super}
+use Rattle.btr_walk.specs.declared.map.MapRange.{MapRange}
+use Rattle.btr_walk.specs.declared.tree.Pointer.{Pointer}
+use Rattle.btr_walk.specs.Events.{TreeItem}
+use Rattle.btr_walk.specs.Map.{place}
+use Rattle.btr_walk.specs.Walks.{found, wrong}
+use Rattle.btr_walk.specs.declared.tree.Tree.{Tree}
+use Rattle.btr_keys.specs.DirEntry.{DirEntryValue}
+use Rattle.btr_reader.specs.Opening.{tree_of, or_later}
+use Rattle.btr_reader.specs.Roots.{root_item, pointer_of}
+use Rattle.btr_reader.specs.Inodes.{inode_item}
+use Rattle.btr_reader.specs.Links.{Naming, namings, is_index, index_entry}
+use Rattle.btr_reader.specs.Extents.{extents_of, extents_refusals, is_hole, covers}
+use Rattle.btr_reader.specs.Rows.{roots_on}
+
+-- the first one of two
+abbrev pub first_key : Option Key → Option Key → Option Key
+first_key None second = second
+first_key (Some key) second = Some key
+
+-- the first entry of inode 256 with a name that passes
+abbrev pub entry_named : (List ℕ → Bool) → List Naming → Option Key
+entry_named test [] = None
+entry_named test (n ∷ ns) = if (n.dir == 256) && test n.name then Some n.location else entry_named test ns
+
+-- the number of another tree, or of an inode, that a location is
+abbrev pub tree_number : Key → Option ℕ
+tree_number key = if key.kind == 132 then Some key.objectid else None
+
+abbrev pub inode_number : Key → Option ℕ
+inode_number key = if key.kind == 1 then Some key.objectid else None
+
+-- whether a name is this one
+abbrev pub is_called : List ℕ → List ℕ → Bool
+is_called wanted name = pointwise nat_eq name wanted
+
+-- the entries of inode 256 of a tree
+abbrev pub saved_entry : List TreeItem → Option Key
+saved_entry items = entry_named (is_called (codes "reiserfs_saved")) (namings items)
+
+abbrev pub image_entry : List TreeItem → Option Key
+image_entry items = entry_named (is_called (codes "image")) (namings items)
+
+-- the items of a tree whose root is there, by its root item; None where the body is off its grammar
+abbrev pub pointer_in : Option TreeItem → Option Pointer
+pointer_in None = None
+pointer_in (Some i) = pointer_of i.body
+
+abbrev pub content_is_inline : ContentValue → Bool
+content_is_inline (Inline bytes) = true
+content_is_inline (Regular r) = false
+content_is_inline (Prealloc r) = false
+
+abbrev pub is_inline : Option FileExtentValue → Bool
+is_inline None = false
+is_inline (Some e) = content_is_inline e.content
+
+abbrev pub is_file : ℕ → Bool
+is_file mode = mode / 4096 % 16 == 8
+
+-- the block of the device that has block k of the contents of an extent, if there is one
+abbrev pub content_block : List MapRange → ContentValue → ℕ → Option ℕ
+content_block ranges (Inline bytes) k = None
+content_block ranges (Regular r) k = if is_hole r then None else option_map (λ p. p / 4096) (place ranges (r.disk_bytenr + r.offset + 4096 * k))
+content_block ranges (Prealloc r) k = None
+
+abbrev pub block_from : List MapRange → TreeItem → Option FileExtentValue → ℕ → Option ℕ → Option ℕ
+block_from ranges i None b other = other
+block_from ranges i (Some e) b other = if covers i.key.offset e.content (4096 * b) then content_block ranges e.content (b - i.key.offset / 4096) else other
+
+-- the block of the device that holds block b of a file with these extents, or none for a hole
+abbrev pub file_block : List MapRange → List TreeItem → ℕ → Option ℕ
+file_block ranges [] b = None
+file_block ranges (i ∷ extents) b = block_from ranges i (file_extent_of i.body) b (file_block ranges extents b)
+
+-- A file that is an image: its extents, and how many blocks it has.
+pub record ImageFile : Type 0 where
+  pub extents : List TreeItem
+  pub blocks : ℕ
+
+-- the file is an image if it is regular, in whole blocks, and has no inline extent
+abbrev pub is_image : List TreeItem → Inode → Bool
+is_image extents own = is_file own.mode && ((own.size % 4096 == 0) && not (list_any (λ e. is_inline (file_extent_of e.body)) extents))
+
+abbrev pub file_if_image : List TreeItem → Option Inode → Option ImageFile
+file_if_image extents None = None
+file_if_image extents (Some own) = if is_image extents own then Some (record { extents = extents; blocks = own.size / 4096 }) else None
+
+-- what the inode item of a file in a tree gives
+abbrev pub image_at : List TreeItem → ℕ → Option TreeItem → Option ImageFile
+image_at items ino None = None
+image_at items ino (Some i) = file_if_image (extents_of items ino) (inode_of i.body)
+
+-- the image in the tree with these items
+abbrev pub image_in : List TreeItem → Option ImageFile
+image_in items = option_and_then (λ ino. image_at items ino (inode_item items ino)) (option_and_then inode_number (image_entry items))
+
+abbrev pub items_at : Image → Super → List MapRange → ℕ → Pointer → List TreeItem
+items_at image s ranges number p = found image ranges (tree_of s number p)
+
+-- the image in another tree, by its root item
+abbrev pub image_below : Image → Super → List MapRange → ℕ → Option TreeItem → Option ImageFile
+image_below image s ranges number root = option_and_then (λ p. image_in (items_at image s ranges number p)) (pointer_in root)
+
+-- the image of a volume, by the root item of its file tree
+abbrev pub image_from : Image → Super → List MapRange → Option TreeItem → Option ImageFile
+image_from image s ranges root =
+    option_and_then (λ p. option_and_then (λ number. image_below image s ranges number (root_item number (roots_on image s ranges)))
+    (option_and_then tree_number (saved_entry (items_at image s ranges 5 p)))) (pointer_in root)
+
+-- The saved image of an opened volume. It is missing where the entry, the tree or the file is not there, or the file has not
+-- the form of an image.
+abbrev pub saved_image : Image → Super → List MapRange → Option ImageFile
+saved_image image s ranges = image_from image s ranges (root_item 5 (roots_on image s ranges))
+
+-- the place of block b
+abbrev pub image_place : List MapRange → ImageFile → ℕ → Option ℕ
+image_place ranges f b = if nat_lt b f.blocks then file_block ranges f.extents b else None
+
+-- Refusals on the way to the image: of a root item, of a tree, of an entry of inode 256, of the image's inode and of its
+-- extents. What is not there is no refusal, and what can't be found because of a refusal isn't looked at.
+abbrev pub index_refusals_at : TreeItem → Option DirEntryValue → List BtrRefusal
+index_refusals_at i None = BadBtrfs i.leaf Body ∷ []
+index_refusals_at i (Some e) = []
+
+abbrev pub own_index_refusals : TreeItem → List BtrRefusal
+own_index_refusals i = if is_index i && (i.key.objectid == 256) then index_refusals_at i (index_entry i.body) else []
+
+abbrev pub index_refusals : List TreeItem → List BtrRefusal
+index_refusals [] = []
+index_refusals (i ∷ items) = own_index_refusals i ++ index_refusals items
+
+-- of a tree in which an entry of inode 256 is looked for
+abbrev pub entry_refusals : Image → List MapRange → Tree → List BtrRefusal
+entry_refusals image ranges t = wrong image ranges t ++ index_refusals (found image ranges t)
+
+abbrev pub after_pointer : (Pointer → List BtrRefusal) → ℕ → Option Pointer → List BtrRefusal
+after_pointer next leaf None = BadBtrfs leaf Body ∷ []
+after_pointer next leaf (Some p) = next p
+
+abbrev pub after_root : (Pointer → List BtrRefusal) → Option TreeItem → List BtrRefusal
+after_root next None = []
+after_root next (Some i) = after_pointer next i.leaf (pointer_of i.body)
+
+abbrev pub if_there : (ℕ → List BtrRefusal) → Option ℕ → List BtrRefusal
+if_there next None = []
+if_there next (Some number) = next number
+
+-- of the image's inode and extents
+abbrev pub own_refusals : List MapRange → List TreeItem → ℕ → Option Inode → List BtrRefusal
+own_refusals ranges extents leaf None = BadBtrfs leaf Body ∷ []
+own_refusals ranges extents leaf (Some own) = if is_file own.mode then extents_refusals ranges 0 0 extents else []
+
+abbrev pub file_refusals : List MapRange → List TreeItem → ℕ → Option TreeItem → List BtrRefusal
+file_refusals ranges items ino None = []
+file_refusals ranges items ino (Some i) = own_refusals ranges (extents_of items ino) i.leaf (inode_of i.body)
+
+abbrev pub image_refusals_in : List MapRange → List TreeItem → List BtrRefusal
+image_refusals_in ranges items = if_there (λ ino. file_refusals ranges items ino (inode_item items ino)) (option_and_then inode_number (image_entry items))
+
+abbrev pub refusals_below : Image → Super → List MapRange → ℕ → Option TreeItem → List BtrRefusal
+refusals_below image s ranges number root =
+    after_root (λ p. or_later (entry_refusals image ranges (tree_of s number p)) (image_refusals_in ranges (items_at image s ranges number p))) root
+
+abbrev pub refusals_from : Image → Super → List MapRange → Option TreeItem → List BtrRefusal
+refusals_from image s ranges root =
+    after_root
+    (λ p. or_later (entry_refusals image ranges (tree_of s 5 p))
+    (if_there (λ number. refusals_below image s ranges number (root_item number (roots_on image s ranges))) (option_and_then tree_number (saved_entry (items_at image s ranges 5 p)))))
+    root
+
+abbrev pub image_refusals : Image → Super → List MapRange → List BtrRefusal
+image_refusals image s ranges = refusals_from image s ranges (root_item 5 (roots_on image s ranges))

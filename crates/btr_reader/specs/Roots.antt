@@ -1,0 +1,36 @@
+-- The trees of a volume, as the root tree names them.
+use Rattle.std.specs.Prelude.{◌≡◌, ℕ, ◌==◌, nat_lt, Bool, ◌&&◌, if◌then◌else◌, List, [], ◌∷◌, Option, Some, None}
+use Rattle.std.specs.Option.{option_and_then}
+use Rattle.btr_space_items.specs.RootItem.{root_item_of}
+use Rattle.btr_space_items.specs.declared.root_item.RootItem.{RootItem}
+use Rattle.btr_walk.specs.declared.tree.Pointer.{Pointer}
+use Rattle.btr_walk.specs.Events.{TreeItem}
+use Rattle.btr_reader.specs.declared.roots.RootFound.{RootFound}
+
+-- the item is a root item of the tree with this number; what its key's offset is does not matter
+abbrev pub is_root_of : ℕ → TreeItem → Bool
+is_root_of number i = (i.key.objectid == number) && (i.key.kind == 132)
+
+-- the last one of some, or another before them
+abbrev pub last_or : Option TreeItem → Option TreeItem → Option TreeItem
+last_or None first = first
+last_or (Some i) first = Some i
+
+-- The root item of a tree: of several the last one, which has the greatest offset.
+abbrev pub root_item : ℕ → List TreeItem → Option TreeItem
+root_item number [] = None
+root_item number (i ∷ items) = last_or (root_item number items) (if is_root_of number i then Some i else None)
+
+-- the pointer to a tree's root that a body gives; no tree has more than seven levels above its leaves
+abbrev pub root_pointer : RootItem → Option Pointer
+root_pointer r = if nat_lt 7 r.level then None else Some (record { address = r.bytenr; level = r.level; generation = r.generation })
+
+abbrev pub pointer_of : List ℕ → Option Pointer
+pointer_of body = option_and_then root_pointer (root_item_of body)
+
+-- a root item that was found, by its leaf and its pointer
+abbrev pub TellsRoot : Option RootFound → Option TreeItem → Type 0
+TellsRoot None None = Unit {0}
+TellsRoot None (Some i) = ⊥
+TellsRoot (Some f) None = ⊥
+TellsRoot (Some f) (Some i) = (f.leaf ≡ i.leaf) × (f.pointer ≡ pointer_of i.body)

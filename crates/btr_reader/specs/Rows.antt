@@ -1,0 +1,196 @@
+-- The rows of a Btrfs volume, and what is wrong with what they are made from.
+use Rattle.std.specs.Prelude.{◌≡◌, ◌≢◌, ◌⊎◌, ℕ, ◌/◌, ◌%◌, ◌^◌, ◌==◌, pos, Bool, true, false, not, ◌&&◌, if◌then◌else◌, List, [], ◌∷◌, ◌++◌, Contains, Some, None}
+use Rattle.std.specs.Int.{bit_at}
+use Rattle.std.specs.Ordering.{is_le}
+use Rattle.outside.specs.History.{Image}
+use Rattle.outside.specs.declared.refusal.BtrRefusal.{BtrRefusal}
+use Rattle.outside.specs.declared.refusal.BtrRefusal.TheVariants.{BadBtrfs}
+use Rattle.outside.specs.declared.rule.BtrRule.TheVariants.{Body, NoInode, NameForm, DirTwice}
+use Rattle.btr_keys.specs.Inode.{inode_of}
+use Rattle.btr_keys.specs.declared.inode.Inode.{Inode}
+use Rattle.btr_keys.specs.declared.stamp.Stamp.{Stamp}
+use Rattle.btr_super.specs.declared.superblock.Super.{Super}
+use Rattle.btr_walk.specs.declared.map.MapRange.{MapRange}
+use Rattle.btr_walk.specs.declared.tree.Pointer.{Pointer}
+use Rattle.btr_walk.specs.Events.{TreeItem}
+use Rattle.btr_walk.specs.Walks.{found, wrong}
+use Rattle.fs_rows.specs.Rows.{NameList, WholeRow, AscendsByPath, path_cmp, name_count}
+use Rattle.fs_rows.specs.declared.row.Kind.{Kind}
+use Rattle.fs_rows.specs.declared.row.Kind.TheVariants.{Directory, File, Symlink, Character, Block, Fifo, Socket, Subvolume}
+use Rattle.fs_rows.specs.declared.row.Time.{Time}
+use Rattle.btr_reader.specs.Opening.{tree_of, root_tree}
+use Rattle.btr_reader.specs.Roots.{root_item, pointer_of}
+use Rattle.btr_reader.specs.Inodes.{inode_item, inode_on, kind_of_mode, HasKind, IsDirectory}
+use Rattle.btr_reader.specs.Links.{Naming, namings, followed, is_index, index_entry, is_name, names_inode, names_tree, IsNamed, Target, inode, tree, Leads}
+use Rattle.btr_reader.specs.Extents.{extents_of, file_bytes, extents_refusals}
+
+abbrev pub time_of : Stamp → Time
+time_of s = record { sec = s.sec; nsec = s.nsec }
+
+abbrev pub is_device : Kind → Bool
+is_device Character = true
+is_device Block = true
+is_device Directory = false
+is_device File = false
+is_device Symlink = false
+is_device Fifo = false
+is_device Socket = false
+is_device Subvolume = false
+
+abbrev pub is_symlink : Kind → Bool
+is_symlink Symlink = true
+is_symlink Directory = false
+is_symlink File = false
+is_symlink Character = false
+is_symlink Block = false
+is_symlink Fifo = false
+is_symlink Socket = false
+is_symlink Subvolume = false
+
+abbrev pub has_bytes : Kind → Bool
+has_bytes File = true
+has_bytes Symlink = true
+has_bytes Directory = false
+has_bytes Character = false
+has_bytes Block = false
+has_bytes Fifo = false
+has_bytes Socket = false
+has_bytes Subvolume = false
+
+abbrev pub is_directory : Kind → Bool
+is_directory Directory = true
+is_directory File = false
+is_directory Symlink = false
+is_directory Character = false
+is_directory Block = false
+is_directory Fifo = false
+is_directory Socket = false
+is_directory Subvolume = false
+
+abbrev pub has_flag : Inode → ℕ → Bool
+has_flag i b = bit_at i.flags b == 1
+
+-- What a path's row has from its inode: all but path, least, names and bytes. The flags are bits 5 to 9; of a symlink
+-- immutable and append mean nothing. A device's number is 2^20·major + minor.
+pub record HasInode (i : Inode) (row : WholeRow) : Type 0 where
+  pub kind : kind_of_mode i.mode ≡ Some row.kind
+  pub mode : row.mode ≡ i.mode % 4096
+  pub uid : row.uid ≡ i.uid
+  pub gid : row.gid ≡ i.gid
+  pub atime : row.atime ≡ time_of i.atime
+  pub mtime : row.mtime ≡ time_of i.mtime
+  pub ctime : row.ctime ≡ time_of i.ctime
+  pub sync : row.sync ≡ has_flag i 5
+  pub immutable : row.immutable ≡ (not (is_symlink row.kind) && has_flag i 6)
+  pub append : row.append ≡ (not (is_symlink row.kind) && has_flag i 7)
+  pub nodump : row.nodump ≡ has_flag i 8
+  pub noatime : row.noatime ≡ has_flag i 9
+  pub major : row.major ≡ (if is_device row.kind then i.rdev / 2 ^ 20 else 0)
+  pub minor : row.minor ≡ (if is_device row.kind then i.rdev % 2 ^ 20 else 0)
+
+-- the number of the root directory's inode
+abbrev pub top : Target
+top = inode 256
+
+-- a path of the inode, and no path of it is below
+pub record IsLeastPath (items : List TreeItem) (ino : ℕ) (path : NameList) : Type 0 where
+  pub leads : Leads items top path (inode ino)
+  pub least : (other : NameList) → Leads items top other (inode ino) → is_le (path_cmp path other) ≡ true
+
+-- the row of a path that leads to an inode
+pub record IsInodeRow (image : Image) (ranges : List MapRange) (items : List TreeItem) (rows : List WholeRow) (ino : ℕ) (row : WholeRow) : Type 0 where
+  pub leads : Leads items top row.path (inode ino)
+  pub own : Inode
+  pub has : inode_on items ino ≡ Some own
+  pub fields : HasInode own row
+  pub least : IsLeastPath items ino row.least
+  pub names : row.names ≡ (if is_directory row.kind then 0 else name_count rows row.least)
+  pub bytes : row.bytes ≡ (if has_bytes row.kind then file_bytes image ranges items ino own.size else [])
+
+-- a row that is this kind at this path, and nothing else
+abbrev pub subvolume_row : NameList → WholeRow
+subvolume_row path =
+    record {
+      path = path;
+      kind = Subvolume;
+      mode = 0;
+      uid = 0;
+      gid = 0;
+      atime = record { sec = pos 0; nsec = 0 };
+      mtime = record { sec = pos 0; nsec = 0 };
+      ctime = record { sec = pos 0; nsec = 0 };
+      sync = false;
+      immutable = false;
+      append = false;
+      nodump = false;
+      noatime = false;
+      major = 0;
+      minor = 0;
+      least = path;
+      names = 0;
+      bytes = [];
+    }
+
+-- the row of a path that leads to another tree
+pub record IsTreeRow (items : List TreeItem) (number : ℕ) (row : WholeRow) : Type 0 where
+  pub leads : Leads items top row.path (tree number)
+  pub is : row ≡ subvolume_row row.path
+
+abbrev pub IsRowOf : Image → List MapRange → List TreeItem → List WholeRow → Target → WholeRow → Type 0
+IsRowOf image ranges items rows (inode ino) row = IsInodeRow image ranges items rows ino row
+IsRowOf image ranges items rows (tree number) row = IsTreeRow items number row
+
+-- The rows of a file tree with these items, which ascend by path: one for each path, and no others.
+pub record AreRows (image : Image) (ranges : List MapRange) (items : List TreeItem) (rows : List WholeRow) : Type 0 where
+  pub ascends : AscendsByPath rows
+  pub each : (row : WholeRow) → Contains rows row → (to : Target) × IsRowOf image ranges items rows to row
+  pub whole : (path : NameList) (to : Target) → Leads items top path to → (row : WholeRow) × Contains rows row × (row.path ≡ path)
+
+-- two elements of a list, the earlier one first
+pub record AreIn {X : Type 0} (xs : List X) (x y : X) : Type 0 where
+  pub before : List X
+  pub after : List X
+  pub split : xs ≡ before ++ (y ∷ after)
+  pub earlier : Contains before x
+
+-- Which inodes and names break which rule, in a file tree with these items and a root tree with those.
+pub data BreaksNames (roots items : List TreeItem) (root : ℕ) (r : BtrRefusal) : Type 0 where
+  no_root_directory : inode_item items 256 ≡ None → r ≡ BadBtrfs root NoInode → BreaksNames roots items root r
+  root_is_none : (own : Inode) (kind : Kind) → inode_on items 256 ≡ Some own → kind_of_mode own.mode ≡ Some kind → kind ≢ Directory → r ≡ BadBtrfs root NoInode → BreaksNames roots items root r
+  bad_inode : (ino : ℕ) (i : TreeItem) → IsNamed items ino → inode_item items ino ≡ Some i → inode_of i.body ≡ None → r ≡ BadBtrfs i.leaf Body → BreaksNames roots items root r
+  bad_mode : (ino : ℕ) (i : TreeItem) (own : Inode) → IsNamed items ino → inode_item items ino ≡ Some i → inode_of i.body ≡ Some own → kind_of_mode own.mode ≡ None → r ≡ BadBtrfs i.leaf Body → BreaksNames roots items root r
+  bad_index : (i : TreeItem) → Contains items i → is_index i ≡ true → IsNamed items i.key.objectid → IsDirectory items i.key.objectid → index_entry i.body ≡ None → r ≡ BadBtrfs i.leaf Body → BreaksNames roots items root r
+  bad_name : (n : Naming) → Contains (namings items) n → IsNamed items n.dir → IsDirectory items n.dir → is_name n.name ≡ false → r ≡ BadBtrfs n.leaf NameForm → BreaksNames roots items root r
+  twice : (m n : Naming) → AreIn (namings items) m n → IsNamed items n.dir → IsDirectory items n.dir → m.dir ≡ n.dir → m.name ≡ n.name → r ≡ BadBtrfs n.leaf NameForm → BreaksNames roots items root r
+  bad_location : (n : Naming) → Contains (followed items) n → IsNamed items n.dir → IsDirectory items n.dir → names_inode n ≡ false → names_tree n ≡ false → r ≡ BadBtrfs n.leaf Body → BreaksNames roots items root r
+  no_inode : (n : Naming) → Contains (followed items) n → IsNamed items n.dir → IsDirectory items n.dir → names_inode n ≡ true → inode_item items n.location.objectid ≡ None → r ≡ BadBtrfs n.leaf NoInode → BreaksNames roots items root r
+  no_tree : (n : Naming) → Contains (followed items) n → IsNamed items n.dir → IsDirectory items n.dir → names_tree n ≡ true → root_item n.location.objectid roots ≡ None → r ≡ BadBtrfs n.leaf NoInode → BreaksNames roots items root r
+  directory_twice : (m n : Naming) → AreIn (followed items) m n → IsNamed items m.dir → IsDirectory items m.dir → IsNamed items n.dir → IsDirectory items n.dir → names_inode m ≡ true → names_inode n ≡ true → m.location.objectid ≡ n.location.objectid → IsDirectory items n.location.objectid → r ≡ BadBtrfs n.leaf DirTwice → BreaksNames roots items root r
+  root_named : (n : Naming) → Contains (followed items) n → IsNamed items n.dir → IsDirectory items n.dir → names_inode n ≡ true → n.location.objectid ≡ 256 → r ≡ BadBtrfs n.leaf DirTwice → BreaksNames roots items root r
+
+-- a named file or symlink whose extents break a rule
+pub record BreaksExtents (ranges : List MapRange) (items : List TreeItem) (r : BtrRefusal) : Type 0 where
+  pub ino : ℕ
+  pub named : IsNamed items ino
+  pub kind : HasKind items ino File ⊎ HasKind items ino Symlink
+  pub among : Contains (extents_refusals ranges 0 0 (extents_of items ino)) r
+
+-- The refusals of the file tree, number 5, of an opened volume with this superblock and this map.
+abbrev pub roots_on : Image → Super → List MapRange → List TreeItem
+roots_on image s ranges = found image ranges (root_tree s)
+
+pub data IsTreeRefusal (image : Image) (s : Super) (ranges : List MapRange) (r : BtrRefusal) : Type 0 where
+  no_root_item : root_item 5 (roots_on image s ranges) ≡ None → r ≡ BadBtrfs s.root NoInode → IsTreeRefusal image s ranges r
+  bad_root_item : (i : TreeItem) → root_item 5 (roots_on image s ranges) ≡ Some i → pointer_of i.body ≡ None → r ≡ BadBtrfs i.leaf Body → IsTreeRefusal image s ranges r
+  bad_tree : (i : TreeItem) (p : Pointer) → root_item 5 (roots_on image s ranges) ≡ Some i → pointer_of i.body ≡ Some p → Contains (wrong image ranges (tree_of s 5 p)) r → IsTreeRefusal image s ranges r
+  bad_names : (i : TreeItem) (p : Pointer) → root_item 5 (roots_on image s ranges) ≡ Some i → pointer_of i.body ≡ Some p → BreaksNames (roots_on image s ranges) (found image ranges (tree_of s 5 p)) p.address r → IsTreeRefusal image s ranges r
+  bad_extents : (i : TreeItem) (p : Pointer) → root_item 5 (roots_on image s ranges) ≡ Some i → pointer_of i.body ≡ Some p → BreaksExtents ranges (found image ranges (tree_of s 5 p)) r → IsTreeRefusal image s ranges r
+
+-- The rows of a volume that can be opened, and whose file tree has no refusal.
+pub record AreBtrfsRows (image : Image) (s : Super) (ranges : List MapRange) (rows : List WholeRow) : Type 0 where
+  pub readable : (r : BtrRefusal) → ¬ IsTreeRefusal image s ranges r
+  pub item : TreeItem
+  pub has_item : root_item 5 (roots_on image s ranges) ≡ Some item
+  pub at : Pointer
+  pub has_root : pointer_of item.body ≡ Some at
+  pub rows_are : AreRows image ranges (found image ranges (tree_of s 5 at)) rows

@@ -1,0 +1,11 @@
+use crate::extents::Reach;
+use crate::image_map::Piece;
+
+/// What is gathered of the extents of a file, one after the other.
+#[derive(Drop)]
+pub struct Gathered {
+    pub reach: Reach,
+    /// Whether one of them is inline.
+    pub inline: bool,
+    pub pieces: Vec<Piece>,
+}

@@ -1,0 +1,310 @@
+ghost use Rattle.std.specs.Prelude.{◌≡◌, ◌≤◌, ◌∷◌, [], Option, Some, None, true, IsTrue, IfOk, IfErr, IfSome, List, length};
+ghost use Rattle.std.specs.Option.{option_and_then};
+ghost use Rattle.outside.specs.Fault.{HasCauseOf};
+ghost use Rattle.outside.specs.History.{Image};
+ghost use Rattle.btr_walk.specs.Events.{TreeItem};
+ghost use Rattle.btr_walk.specs.Walks.{LieOn, found, wrong};
+ghost use Rattle.btr_reader.specs.Image.{is_file, tree_number, inode_number, file_if_image, image_at, image_below, saved_image, file_refusals, refusals_below, image_refusals};
+ghost use Rattle.btr_reader.specs.Inodes.{inode_item, TellsInode};
+ghost use Rattle.btr_reader.specs.Opening.{IsNoFault, IsOpened, root_tree as root_tree_of};
+ghost use Rattle.btr_reader.specs.Pieces.{Gathers, MapsImage};
+ghost use Rattle.btr_reader.specs.Reading.{IsWalkable, FindsTree, FindsFile, ReadsImage};
+ghost use Rattle.btr_reader.specs.Roots.{root_item, TellsRoot};
+ghost use Rattle.btr_reader.specs.Rows.{roots_on};
+
+use crate::entries::find_entry;
+use crate::gather::gather_extents;
+use crate::gathered::Gathered;
+use crate::image_map::ImageMap;
+use crate::inodes::{InodeFound, find_inode};
+use crate::open::{form_of, root_tree};
+use crate::roots::{RootFound, find_root};
+use crate::volume::Btrfs;
+use btr_keys::{Inode, Key};
+use btr_super::Super;
+use btr_walk::{MapRange, Tree};
+use outside::{BlockSource, BtrAnswer, BtrRefusal, BtrRule, Memory};
+use std::alloc::Global;
+
+/// The number of the file tree.
+const FILE_TREE: u64 = 5;
+
+/// The kinds in the keys of root items and of inode items.
+const ROOT_KIND: u8 = 132;
+
+const INODE_KIND: u8 = 1;
+
+fn bad_body(leaf: u64) -> BtrAnswer
+    ensures { result ≡ BtrAnswer.Refused (BtrRefusal.BadBtrfs leaf BtrRule.Body) }
+{
+    BtrAnswer::Refused(BtrRefusal::BadBtrfs {
+        address: leaf,
+        rule: BtrRule::Body,
+    })
+}
+
+impl Btrfs {
+    /// The root tree.
+    #[tactic(auto, using(btr_walk::proofs::Stacks::sized))]
+    fn roots(&self) -> Tree
+        ensures value { result ≡ root_tree_of self.now.sup }
+        ensures walkable { IsWalkable result }
+    {
+        root_tree(&self.sup)
+    }
+
+    /// The tree of a root item that was looked for.
+    #[tactic(auto, using(btr_walk::proofs::Stacks::sized))]
+    fn tree_in(&self, number: u64, root: Option<RootFound>) -> Result<Option<Tree>, BtrAnswer>
+        ensures finds { (item : Option TreeItem) → TellsRoot root item → FindsTree self.now.sup number item result }
+        ensures walkable { IfOk result (λ o. IfSome o IsWalkable) }
+        ensures cause { IfErr result IsNoFault }
+    {
+        let root = match root {
+            Some(root) => root,
+            None => return Ok(None),
+        };
+        let pointer = match root.pointer {
+            Some(pointer) => pointer,
+            None => return Err(bad_body(root.leaf)),
+        };
+        if pointer.level > 7 {
+            return Err(bad_body(root.leaf));
+        }
+        Ok(Some(Tree {
+            form: form_of(&self.sup),
+            root: pointer,
+            owner: number,
+        }))
+    }
+}
+
+/// The inode of an inode item that was looked for, if it is that of a regular file.
+fn file_in(item: Option<InodeFound>) -> Result<Option<Inode>, BtrAnswer>
+    ensures finds { (i : Option TreeItem) → TellsInode item i → FindsFile i result }
+    ensures cause { IfErr result IsNoFault }
+{
+    let item = match item {
+        Some(item) => item,
+        None => return Ok(None),
+    };
+    let inode = match item.inode {
+        Some(inode) => inode,
+        None => return Err(bad_body(item.leaf)),
+    };
+    if inode.mode / 4096 % 16 != 8 {
+        return Ok(None);
+    }
+    Ok(Some(inode))
+}
+
+/// The tree that an entry names.
+fn tree_number(key: Option<Key>) -> Option<u64>
+    ensures { result ≡ option_and_then tree_number key }
+{
+    match key {
+        Some(key) => {
+            if key.kind == ROOT_KIND {
+                Some(key.objectid)
+            } else {
+                None
+            }
+        }
+        None => None,
+    }
+}
+
+/// The inode that an entry names.
+fn inode_number(key: Option<Key>) -> Option<u64>
+    ensures { result ≡ option_and_then inode_number key }
+{
+    match key {
+        Some(key) => {
+            if key.kind == INODE_KIND {
+                Some(key.objectid)
+            } else {
+                None
+            }
+        }
+        None => None,
+    }
+}
+
+fn copy_of(alloc: Global, ranges: &[MapRange]) -> Result<Vec<MapRange>, Memory>
+    ensures { IfOk result (λ copy. copy.items ≡ ranges.now) }
+{
+    let mut copy = Vec::new(alloc);
+    copy.extend_from_slice(ranges)?;
+    Ok(copy)
+}
+
+/// The map of a regular file, whose extents were gathered, if it has the form of an image.
+fn map_of(
+    alloc: Global,
+    own: &Inode,
+    gathered: Gathered,
+    ranges: &[MapRange],
+    device: u64,
+) -> Result<Option<ImageMap>, Memory>
+    requires inside { LieOn device ranges.now }
+    ensures map { (extents : List TreeItem) → is_file own.now.mode ≡ true → Gathers ranges.now extents gathered
+        → IfOk result (λ o. MapsImage ranges.now o (file_if_image extents (Some own.now))) }
+    ensures device { IfOk result (λ o. IfSome o (λ m. m.device ≡ device)) }
+{
+    if gathered.inline || own.size % 4096 != 0 {
+        return Ok(None);
+    }
+    Ok(Some(ImageMap {
+        blocks: own.size / 4096,
+        device,
+        ranges: copy_of(alloc, ranges)?,
+        pieces: gathered.pieces,
+    }))
+}
+
+impl Btrfs {
+    /// The tree with this number, if it has a root item.
+    fn find_tree<S: BlockSource>(
+        &self,
+        alloc: Global,
+        src: &mut S,
+        number: u64,
+    ) -> Result<Option<Tree>, BtrAnswer>
+        requires inside { LieOn (S.size src.old) self.now.ranges.items }
+        ensures kept { S.kept src.old src.new }
+        ensures cause { HasCauseOf BtrAnswer.Fault (S.faults src.old) (S.faults src.new) result }
+        ensures walkable { IfOk result (λ o. IfSome o IsWalkable) }
+        ensures finds { IsTrue S.tells → (image : Image) → S.blocks src.old ≡ image → wrong image self.now.ranges.items (root_tree_of self.now.sup) ≡ [] →
+            FindsTree self.now.sup number (root_item number (roots_on image self.now.sup self.now.ranges.items)) result }
+    {
+        let root = match find_root(alloc, src, self.roots(), self.ranges.as_slice(), number) {
+            Ok(root) => root,
+            Err(e) => return Err(e),
+        };
+        self.tree_in(number, root)
+    }
+
+    /// The map of a file in a tree with which nothing is wrong.
+    fn read_file<S: BlockSource>(
+        &self,
+        alloc: Global,
+        src: &mut S,
+        tree: Tree,
+        inode: u64,
+    ) -> Result<Option<ImageMap>, BtrAnswer>
+        requires inside { LieOn (S.size src.old) self.now.ranges.items }
+        requires walkable { IsWalkable tree }
+        ensures kept { S.kept src.old src.new }
+        ensures cause { HasCauseOf BtrAnswer.Fault (S.faults src.old) (S.faults src.new) result }
+        ensures device { IfOk result (λ o. IfSome o (λ m. m.device ≡ self.now.device)) }
+        ensures reads { IsTrue S.tells → (image : Image) → S.blocks src.old ≡ image → (items : List TreeItem) → found image self.now.ranges.items tree ≡ items → wrong image self.now.ranges.items tree ≡ [] →
+            ReadsImage self.now.ranges.items (image_at items inode (inode_item items inode)) (file_refusals self.now.ranges.items items inode (inode_item items inode)) result }
+    {
+        let ranges = self.ranges.as_slice();
+        let item = match find_inode(alloc, src, tree, ranges, inode) {
+            Ok(item) => item,
+            Err(e) => return Err(e),
+        };
+        let own = match file_in(item) {
+            Ok(Some(own)) => own,
+            Ok(None) => return Ok(None),
+            Err(e) => return Err(e),
+        };
+        let gathered = match gather_extents(alloc, src, tree, ranges, inode) {
+            Ok(gathered) => gathered,
+            Err(e) => return Err(e),
+        };
+        match map_of(alloc, &own, gathered, ranges, self.device) {
+            Ok(map) => Ok(map),
+            Err(e) => Err(BtrAnswer::from(e)),
+        }
+    }
+
+    /// The map of the image in the tree with this number.
+    fn read_saved<S: BlockSource>(
+        &self,
+        alloc: Global,
+        src: &mut S,
+        number: u64,
+    ) -> Result<Option<ImageMap>, BtrAnswer>
+        requires inside { LieOn (S.size src.old) self.now.ranges.items }
+        ensures kept { S.kept src.old src.new }
+        ensures cause { HasCauseOf BtrAnswer.Fault (S.faults src.old) (S.faults src.new) result }
+        ensures device { IfOk result (λ o. IfSome o (λ m. m.device ≡ self.now.device)) }
+        ensures reads { IsTrue S.tells → (image : Image) → S.blocks src.old ≡ image → (root : Option TreeItem) → root_item number (roots_on image self.now.sup self.now.ranges.items) ≡ root →
+            wrong image self.now.ranges.items (root_tree_of self.now.sup) ≡ [] →
+            ReadsImage self.now.ranges.items (image_below image self.now.sup self.now.ranges.items number root) (refusals_below image self.now.sup self.now.ranges.items number root) result }
+    {
+        let tree = match self.find_tree(alloc, src, number) {
+            Ok(Some(tree)) => tree,
+            Ok(None) => return Ok(None),
+            Err(e) => return Err(e),
+        };
+        let key = match find_entry(alloc, src, tree, self.ranges.as_slice(), b"image") {
+            Ok(key) => key,
+            Err(e) => return Err(e),
+        };
+        let inode = match inode_number(key) {
+            Some(inode) => inode,
+            None => return Ok(None),
+        };
+        self.read_file(alloc, src, tree, inode)
+    }
+
+    /// The map of the image of a volume whose root tree is right.
+    fn read_image<S: BlockSource>(
+        &self,
+        alloc: Global,
+        src: &mut S,
+    ) -> Result<Option<ImageMap>, BtrAnswer>
+        requires inside { LieOn (S.size src.old) self.now.ranges.items }
+        ensures kept { S.kept src.old src.new }
+        ensures cause { HasCauseOf BtrAnswer.Fault (S.faults src.old) (S.faults src.new) result }
+        ensures device { IfOk result (λ o. IfSome o (λ m. m.device ≡ self.now.device)) }
+        ensures reads { IsTrue S.tells → (image : Image) → S.blocks src.old ≡ image → wrong image self.now.ranges.items (root_tree_of self.now.sup) ≡ [] →
+            ReadsImage self.now.ranges.items (saved_image image self.now.sup self.now.ranges.items) (image_refusals image self.now.sup self.now.ranges.items) result }
+    {
+        let tree = match self.find_tree(alloc, src, FILE_TREE) {
+            Ok(Some(tree)) => tree,
+            Ok(None) => return Ok(None),
+            Err(e) => return Err(e),
+        };
+        let key = match find_entry(alloc, src, tree, self.ranges.as_slice(), b"reiserfs_saved") {
+            Ok(key) => key,
+            Err(e) => return Err(e),
+        };
+        let number = match tree_number(key) {
+            Some(number) => number,
+            None => return Ok(None),
+        };
+        self.read_saved(alloc, src, number)
+    }
+
+    /// Where the blocks of the saved image lie; None exactly where it is missing: where the entry `reiserfs_saved` of the
+    /// root directory, the tree that it names, the entry `image` of that or the file is not there, or the file is not
+    /// regular, has an inline extent, or a size that is no multiple of 4096.
+    ///
+    /// Over the source that was opened it is refused exactly where something is wrong on the way, by one of the things
+    /// that are. All nodes of the file tree and of the image's tree are looked at; of the bodies in them the directory
+    /// indexes of inode 256, and the inode and the extents of the file. A log tree is not looked at. Over a source with
+    /// another number of blocks it is refused.
+    pub fn image_map<S: BlockSource>(
+        &self,
+        alloc: Global,
+        src: &mut S,
+    ) -> Result<Option<ImageMap>, BtrAnswer>
+        ensures kept { S.kept src.old src.new }
+        ensures cause { HasCauseOf BtrAnswer.Fault (S.faults src.old) (S.faults src.new) result }
+        ensures device { IfOk result (λ o. IfSome o (λ m. m.device ≡ S.size src.old)) }
+        ensures reads { IsTrue S.tells → (image : Image) → S.blocks src.old ≡ image → length image ≡ self.now.device → IsOpened image self.now.sup self.now.ranges.items →
+            ReadsImage self.now.ranges.items (saved_image image self.now.sup self.now.ranges.items) (image_refusals image self.now.sup self.now.ranges.items) result }
+    {
+        if src.len() != self.device {
+            return Err(BtrAnswer::Refused(BtrRefusal::BadBtrfs {
+                address: 65536,
+                rule: BtrRule::SuperField,
+            }));
+        }
+        self.read_image(alloc, src)
+    }
+}

@@ -1,0 +1,71 @@
+ghost use Rattle.std.specs.Prelude.{◌≡◌, ◌≤◌, [], Option, if◌then◌else◌, Some, None, IsTrue, IfOk, IfErr, OnOk};
+ghost use Rattle.outside.specs.Fault.{HasCauseOf};
+ghost use Rattle.outside.specs.History.{Image};
+ghost use Rattle.btr_node.specs.NodeSize.{IsNodeSize};
+ghost use Rattle.btr_walk.specs.Events.{TreeItem};
+ghost use Rattle.btr_walk.specs.Walks.{LieOn, found, wrong};
+ghost use Rattle.btr_reader.specs.Inodes.{is_inode_of, inode_item, first_item, TellsInode};
+ghost use Rattle.btr_reader.specs.Opening.{IsAmong};
+
+use btr_keys::{Inode, Key};
+use btr_walk::{MapRange, Tree, TreeWalker};
+use outside::{BlockSource, BtrAnswer};
+use std::alloc::Global;
+
+/// The kind in the key of an inode item.
+const INODE_KIND: u8 = 1;
+
+/// An inode item: the leaf that it stands in, and the inode; None where its body is off the grammar.
+#[derive(Clone, Copy, Debug)]
+pub struct InodeFound {
+    pub leaf: u64,
+    pub inode: Option<Inode>,
+}
+
+/// The first item of an inode, after one more item of the tree.
+fn seek_inode(
+    first: Option<InodeFound>,
+    number: u64,
+    key: &Key,
+    body: &[u8],
+    leaf: u64,
+) -> Option<InodeFound>
+    ensures { (i : TreeItem) (before : Option TreeItem) → i.key ≡ key.now → i.body ≡ body.now → i.leaf ≡ leaf → TellsInode first before
+        → TellsInode result (first_item before (if is_inode_of number i then Some i else None)) }
+{
+    if first.is_some() {
+        return first;
+    }
+    if key.objectid == number && key.kind == INODE_KIND && key.offset == 0 {
+        return Some(InodeFound {
+            leaf,
+            inode: Inode::read(body),
+        });
+    }
+    None
+}
+
+/// The item of an inode in a file tree; of several the first one.
+pub fn find_inode<S: BlockSource>(
+    alloc: Global,
+    src: &mut S,
+    tree: Tree,
+    ranges: &[MapRange],
+    number: u64,
+) -> Result<Option<InodeFound>, BtrAnswer>
+    requires size { IsNodeSize tree.form.nodesize }
+    requires high { tree.root.level ≤ 7 }
+    requires inside { LieOn (S.size src.old) ranges.now }
+    ensures kept { S.kept src.old src.new }
+    ensures cause { HasCauseOf BtrAnswer.Fault (S.faults src.old) (S.faults src.new) result }
+    ensures inode { IsTrue S.tells → (image : Image) → S.blocks src.old ≡ image → IfOk result (λ o. TellsInode o (inode_item (found image ranges.now tree) number)) }
+    ensures ok { IsTrue S.tells → (image : Image) → S.blocks src.old ≡ image → OnOk result (wrong image ranges.now tree ≡ []) }
+    ensures err { IsTrue S.tells → (image : Image) → S.blocks src.old ≡ image → IfErr result (IsAmong (wrong image ranges.now tree)) }
+{
+    let mut first = None;
+    let mut walker = TreeWalker::new(alloc, tree)?;
+    while walker.advance(src, ranges)? {
+        first = seek_inode(first, number, &walker.key(), walker.body(), walker.leaf());
+    }
+    Ok(first)
+}
