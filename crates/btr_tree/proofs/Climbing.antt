@@ -1,5 +1,5 @@
 -- From the leaves of a tree up to its root.
-use Rattle.std.proofs.Common.{◌≡◌, ℕ, zero, suc, ◌+◌, ◌-◌, ◌*◌, ◌^◌, ◌<◌, ◌≤◌, List, [], ◌∷◌, ◌++◌, length, map, get_or, Some, refl, sym, ◌∙◌, ap, subst, arith, append_assoc, ⊎_elim}
+use Rattle.std.proofs.Common.{◌≡◌, ℕ, zero, suc, ◌+◌, ◌^◌, ◌<◌, ◌≤◌, List, [], ◌∷◌, ◌++◌, length, get_or, refl, sym, ◌∙◌, ap, subst, arith, append_assoc, ⊎_elim}
 use Rattle.std.specs.List.{flat_map, sum}
 use Rattle.std.specs.Int.{div_ceil}
 use Rattle.std.proofs.Math.Nat.{pow-suc}
@@ -16,7 +16,6 @@ use Rattle.btr_walk.specs.Map.{identity}
 use Rattle.btr_walk.specs.Node.{child_pointer}
 use Rattle.btr_walk.specs.declared.tree.Pointer.{Pointer}
 use Rattle.btr_tree.specs.Building.{Made, pointer_to}
-use Rattle.btr_tree.specs.Builder.{first_key}
 use Rattle.btr_tree.specs.Packing.{fan_out, level_sizes}
 use Rattle.btr_tree.specs.Roots.{AreRoots, IsExtended, HasRoots, IsRaised, IsRoot}
 use Rattle.btr_tree.proofs.KeyOrder.{heads_ascend}

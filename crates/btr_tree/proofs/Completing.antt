@@ -1,17 +1,17 @@
 -- A tree is complete.
-use Rattle.std.proofs.Common.{◌≡◌, ℕ, ◌+◌, ◌<◌, ◌≤◌, ◌++◌, ◌∷◌, [], List, Some, length, refl, sym, ◌∙◌, ap, subst, arith}
+use Rattle.std.proofs.Common.{◌≡◌, ℕ, ◌+◌, ◌≤◌, ◌++◌, ◌∷◌, [], List, length, sym, ◌∙◌, ap, subst, arith}
 use Rattle.std.specs.List.{flat_map}
 use Rattle.std.proofs.lemmas.List.{length_push}
 use Rattle.btr_node.specs.Draft.{node_bytes}
-use Rattle.btr_node.specs.Leaf.{Item, items_in}
+use Rattle.btr_node.specs.Leaf.{items_in}
 use Rattle.btr_node.specs.NodeSize.{IsNodeSize}
 use Rattle.btr_node.specs.declared.child.Child.{Child}
 use Rattle.btr_walk.specs.Laws.{LeavesGiveItems, SubtreesAreTrees}
 use Rattle.btr_tree.specs.Building.{Made, AreSlots, begun_at, with_node, ReadsBack}
-use Rattle.btr_tree.specs.Builder.{Building, pushed, leaf_closed, IsInHand, IsIdle, IsNextSlot, Stands, item_size}
+use Rattle.btr_tree.specs.Builder.{Building, pushed, leaf_closed, IsInHand, IsNextSlot, Stands}
 use Rattle.btr_tree.specs.Counting.{tree_nodes, nodes_above}
 use Rattle.btr_tree.specs.Packing.{capacity}
-use Rattle.btr_tree.specs.Roots.{IsForest, IsExtended, IsClimbed, IsCompleted, IsRoot, lengths_of}
+use Rattle.btr_tree.specs.Roots.{IsForest, IsClimbed, IsCompleted, IsRoot, lengths_of}
 use Rattle.btr_tree.specs.declared.climb.Root.{Root}
 use Rattle.btr_tree.proofs.Climbing.{extended_then}
 use Rattle.btr_tree.proofs.Leaves.{leaf_roots, leaf_count, packed_count, packed_same, empty_nodes, empty_root, extended_node}

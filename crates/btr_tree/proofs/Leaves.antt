@@ -1,16 +1,16 @@
 -- The leaves that were made are subtrees.
-use Rattle.std.proofs.Common.{◌≡◌, ◌⊎◌, ℕ, zero, suc, ◌+◌, ◌-◌, ◌*◌, ◌%◌, ◌^◌, ◌<◌, ◌≤◌, ◌||◌, ltb, Bool, true, false, List, [], ◌∷◌, ◌++◌, length, map, get_or, Some, refl, sym, ◌∙◌, ap, subst, arith, ⊎_elim}
+use Rattle.std.proofs.Common.{◌≡◌, ℕ, suc, ◌+◌, ◌%◌, ◌^◌, ◌<◌, ◌≤◌, ◌||◌, ltb, Bool, true, List, [], ◌∷◌, ◌++◌, length, map, get_or, refl, sym, ◌∙◌, ap, subst, arith, ⊎_elim}
 use Rattle.std.specs.Prelude.{All}
 use Rattle.std.specs.List.{flat_map, sum_by}
 use Rattle.std.proofs.lemmas.Bool.{or_right, lt-ltb, cases_lt}
-use Rattle.std.proofs.lemmas.List.{length-map, length_push, map-append, append-nil}
+use Rattle.std.proofs.lemmas.List.{length-map, length_push, map-append}
 use Rattle.std.proofs.lemmas.List.Sums.{sum_by-cons}
 use Rattle.std.proofs.lemmas.List.Elements.{All-nil, All-cons, All-head, All-tail}
 use Rattle.outside.specs.History.{Image}
 use Rattle.btr_node.specs.Draft.{node_bytes}
 use Rattle.btr_node.specs.Head.{count, behind_head}
 use Rattle.btr_node.specs.Inner.{first_keys}
-use Rattle.btr_node.specs.Leaf.{Item, IsLeaf, item_layout, heads_in, items_in, keys_of}
+use Rattle.btr_node.specs.Leaf.{Item, IsLeaf, item_layout, heads_in, items_in}
 use Rattle.btr_node.specs.NodeSize.{IsNodeSize}
 use Rattle.btr_node.specs.Records.{records_in}
 use Rattle.btr_node.specs.declared.child.Child.{Child}
@@ -20,11 +20,11 @@ use Rattle.btr_walk.specs.Map.{identity, is_mapped, node_at}
 use Rattle.btr_walk.specs.Node.{want, child_pointer}
 use Rattle.btr_walk.specs.declared.tree.Form.{Form}
 use Rattle.btr_walk.specs.declared.tree.Pointer.{Pointer}
-use Rattle.btr_tree.specs.Building.{Made, AreSlots, slot, StandAt, pointer_to, expected_at, begun_at, with_node, ReadsBack}
-use Rattle.btr_tree.specs.Builder.{Building, pushed, first_key, child_of, children_of, leaf_closed, IsInHand, IsNextSlot, Stands, item_size}
+use Rattle.btr_tree.specs.Building.{Made, AreSlots, slot, pointer_to, begun_at, with_node, ReadsBack}
+use Rattle.btr_tree.specs.Builder.{Building, pushed, first_key, child_of, children_of, IsInHand, IsNextSlot, Stands, item_size}
 use Rattle.btr_tree.specs.Counting.{tree_nodes}
 use Rattle.btr_tree.specs.Packing.{packed_from, packed, weight, capacity, level_sizes}
-use Rattle.btr_tree.specs.Roots.{AreRoots, HasRoots, IsForest, IsExtended, IsRoot, lengths_of}
+use Rattle.btr_tree.specs.Roots.{HasRoots, IsExtended, IsRoot, lengths_of}
 use Rattle.btr_tree.proofs.Groups.{packed-fits, packed-next, packed-none}
 use Rattle.btr_tree.proofs.Raising.{slot_mapped, stand_last}
 use Rattle.btr_tree.proofs.Standing.{leaves_more, children_more, full_more, lists_are, pushed_same, next_is}

@@ -1,5 +1,6 @@
 pub mod Climbing
 pub mod Completing
+pub mod FullGroups
 pub mod Groups
 pub mod KeyOrder
 pub mod Leaves

@@ -1,8 +1,7 @@
 -- Nodes on a disk.
-use Rattle.std.proofs.Common.{◌≡◌, ◌≢◌, ◌⊎◌, ℕ, zero, suc, ◌+◌, ◌-◌, ◌*◌, ◌/◌, ◌%◌, ◌^◌, ◌<◌, ◌≤◌, ◌&&◌, leb, ltb, true, false, List, [], ◌∷◌, ◌++◌, length, take, drop, set, get_or, Option, Some, None, cond, refl, sym, ◌∙◌, ap, subst, arith, ⊎_elim, get_or-set_same, get_or-set_other}
-use Rattle.std.specs.Prelude.{All, AllPairs, Any}
+use Rattle.std.proofs.Common.{◌≡◌, ◌≢◌, ℕ, zero, suc, ◌+◌, ◌-◌, ◌*◌, ◌/◌, ◌%◌, ◌^◌, ◌<◌, ◌≤◌, leb, ltb, true, List, [], ◌++◌, length, take, drop, set, get_or, Some, refl, sym, ◌∙◌, ap, subst, arith, ⊎_elim, get_or-set_same, get_or-set_other}
 use Rattle.std.proofs.Math.Nat.{mul-suc}
-use Rattle.std.proofs.lemmas.Bool.{cases_lt, cases_eq, and_from, le-leb, lt-ltb}
+use Rattle.std.proofs.lemmas.Bool.{cases_eq, and_from, le-leb, lt-ltb}
 use Rattle.std.proofs.lemmas.List.{take-append-drop, drop-drop, nil_from_length, length-drop}
 use Rattle.std.specs.List.{slice_get}
 use Rattle.std.proofs.lemmas.Nat.{mul-le}
@@ -11,7 +10,7 @@ use Rattle.std.proofs.lemmas.Option.{get_or_from_slice_get, slice_get_within}
 use Rattle.outside.specs.History.{Image, block_at}
 use Rattle.btr_node.specs.NodeSize.{IsNodeSize}
 use Rattle.btr_walk.specs.Map.{place, holds, identity, block_of_place, blocks_at, node_at}
-use Rattle.btr_tree.specs.Building.{pieces_of, AreSlots, slot, StandAt}
+use Rattle.btr_tree.specs.Building.{pieces_of, AreSlots, slot}
 use Rattle.btr_tree.specs.Writing.{IsInNode, IsInSlots, HoldBytes}
 
 -- one block more holds its bytes

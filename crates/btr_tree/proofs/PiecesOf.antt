@@ -1,6 +1,6 @@
 -- Pieces of one size.
-use Rattle.std.proofs.Common.{◌≡◌, ℕ, zero, suc, ◌+◌, ◌-◌, ◌*◌, ◌<◌, ◌≤◌, List, [], ◌∷◌, ◌++◌, length, take, drop, get_or, refl, sym, ◌∙◌, ap, arith, length-append, length-drop, append_assoc}
-use Rattle.std.proofs.lemmas.List.{take-append-le, drop-append-le, take_all, drop_all, nil_from_length}
+use Rattle.std.proofs.Common.{◌≡◌, ℕ, zero, suc, ◌+◌, ◌*◌, ◌≤◌, List, [], ◌∷◌, ◌++◌, length, take, drop, refl, ◌∙◌, ap, arith, length-drop}
+use Rattle.std.proofs.lemmas.List.{take-append-le, drop-append-le, take_all, nil_from_length}
 use Rattle.std.proofs.Math.Nat.{mul-suc}
 use Rattle.btr_tree.specs.Building.{pieces_of}
 

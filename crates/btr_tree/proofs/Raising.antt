@@ -1,7 +1,7 @@
 -- A level of a tree from the one below it.
-use Rattle.std.proofs.Common.{◌≡◌, ◌⊎◌, ℕ, zero, suc, ◌+◌, ◌-◌, ◌*◌, ◌/◌, ◌%◌, ◌^◌, ◌<◌, ◌≤◌, ◌&&◌, leb, ltb, eqb, Bool, true, false, List, [], ◌∷◌, ◌++◌, length, map, take, drop, get_or, Some, refl, sym, ◌∙◌, ap, subst, arith, ⊎_elim}
+use Rattle.std.proofs.Common.{◌≡◌, ℕ, zero, suc, ◌+◌, ◌*◌, ◌/◌, ◌%◌, ◌^◌, ◌<◌, ◌≤◌, leb, ltb, eqb, Bool, true, List, [], ◌∷◌, ◌++◌, length, map, take, drop, get_or, refl, sym, ◌∙◌, ap, subst, arith, ⊎_elim}
 use Rattle.std.specs.Prelude.{All}
-use Rattle.std.specs.List.{flat_map, slice_get}
+use Rattle.std.specs.List.{flat_map}
 use Rattle.std.proofs.lemmas.Bool.{and_from, le-leb, lt-ltb, eq-eqb}
 use Rattle.std.proofs.lemmas.List.{take-append-drop, take_more, map-append, take-map, drop-map, length_push, get_or_append_left, get_or_push, get_or-take, get_or-drop, length-take, length-drop}
 use Rattle.outside.specs.History.{Image}
@@ -19,9 +19,9 @@ use Rattle.btr_walk.specs.Map.{holds, identity, are_mapped, is_mapped, node_at}
 use Rattle.btr_walk.specs.Node.{want, child_pointer}
 use Rattle.btr_walk.specs.declared.tree.Form.{Form}
 use Rattle.btr_walk.specs.declared.tree.Pointer.{Pointer}
-use Rattle.btr_tree.specs.Building.{Made, AreSlots, slot, StandAt, pointer_to, expected_at, IsParent}
+use Rattle.btr_tree.specs.Building.{Made, AreSlots, slot, StandAt, pointer_to, IsParent}
 use Rattle.btr_tree.specs.Builder.{first_key}
-use Rattle.btr_tree.specs.Roots.{AreRoots, IsExtended, HasRoots, IsRaised}
+use Rattle.btr_tree.specs.Roots.{AreRoots}
 
 -- the keys of the first children ascend, and of any part
 pub front_ascends : (part : List Child) (i : ℕ) (d : Child) → Ascends (first_keys part) → i < length part → Ascends (first_keys (take i part) ++ (get_or part i d).key ∷ [])

@@ -1,14 +1,14 @@
 -- What holds of a builder, one item on.
-use Rattle.std.proofs.Common.{◌≡◌, ℕ, zero, suc, ◌+◌, ◌-◌, ◌*◌, ◌^◌, ◌<◌, ◌≤◌, Bool, true, false, List, [], ◌∷◌, ◌++◌, length, map, get_or, Option, Some, None, refl, sym, ◌∙◌, ap, subst, arith, length-append, append_assoc, ⊎_elim}
+use Rattle.std.proofs.Common.{◌≡◌, ℕ, ◌+◌, ◌<◌, ◌≤◌, false, List, [], ◌∷◌, ◌++◌, length, map, get_or, Some, None, refl, sym, ◌∙◌, ap, subst, arith, append_assoc, ⊎_elim}
 use Rattle.std.specs.Prelude.{All, MatchOption}
-use Rattle.std.specs.List.{flat_map, sum_by, slice_get}
+use Rattle.std.specs.List.{flat_map, sum_by}
 use Rattle.std.proofs.lemmas.Bool.{cases_lt}
 use Rattle.std.proofs.lemmas.List.{append-nil, map-append, length-map, get_or_append_left, get_or_push, length_push}
 use Rattle.std.proofs.lemmas.List.Concat.{flat_map-append}
 use Rattle.std.proofs.lemmas.List.Elements.{All-nil, All-cons, All-head, All-tail}
 use Rattle.std.proofs.lemmas.Option.{get_or_from_slice_get, slice_get_within}
 use Rattle.btr_keys.specs.declared.key.Key.{Key}
-use Rattle.btr_node.specs.Draft.{Draft, node_bytes, room}
+use Rattle.btr_node.specs.Draft.{node_bytes, room}
 use Rattle.btr_node.specs.Leaf.{Item, IsLeaf, items_in, keys_of}
 use Rattle.btr_node.specs.NodeSize.{IsNodeSize}
 use Rattle.btr_walk.specs.declared.tree.Form.{Form}
@@ -16,7 +16,7 @@ use Rattle.btr_node.specs.Order.{Ascends, ascends}
 use Rattle.btr_node.specs.declared.child.Child.{Child}
 use Rattle.btr_node.specs.declared.expect.Expect.{Expect}
 use Rattle.btr_node.proofs.Ascending.{second_ascends}
-use Rattle.btr_tree.specs.Building.{Made, AreSlots, slot, expected_at, begun_at, with_node, with_item, ReadsBack, IsFresh}
+use Rattle.btr_tree.specs.Building.{Made, AreSlots, slot, expected_at, with_node, with_item, ReadsBack, IsFresh}
 use Rattle.btr_tree.specs.Builder.{Building, pushed, first_key, child_of, children_of, leaf_closed, leaf_begun, IsNextSlot, item_size, IsInHand, IsIdle, Stands, leaves_of}
 use Rattle.btr_tree.specs.Packing.{capacity, packed}
 use Rattle.btr_tree.proofs.Groups.{packed-fits, packed-none, one_more_fits, one_more_next, ends_in}

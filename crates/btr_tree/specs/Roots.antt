@@ -1,5 +1,5 @@
 -- Subtrees of a tree that is being written.
-use Rattle.std.specs.Prelude.{◌≡◌, ℕ, suc, ◌+◌, ◌≤◌, ◌<◌, Bool, List, [], ◌++◌, length, map, Option, Some}
+use Rattle.std.specs.Prelude.{◌≡◌, ℕ, suc, ◌+◌, ◌≤◌, Bool, List, ◌++◌, length, map, Some}
 use Rattle.std.specs.List.{All, flat_map, sum}
 use Rattle.std.specs.Int.{div_ceil}
 use Rattle.outside.specs.History.{Image}

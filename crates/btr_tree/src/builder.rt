@@ -6,7 +6,7 @@ ghost use Rattle.btr_node.specs.Draft.{node_bytes};
 ghost use Rattle.btr_node.specs.Leaf.{keys_of};
 ghost use Rattle.btr_node.specs.NodeSize.{IsNodeSize};
 ghost use Rattle.btr_node.specs.Order.{Ascends};
-ghost use Rattle.btr_tree.specs.Building.{AreSlots, StandAt, ReadsBack};
+ghost use Rattle.btr_tree.specs.Building.{AreSlots, IsFresh, StandAt, ReadsBack};
 ghost use Rattle.btr_tree.specs.Counting.{nodes_above, tree_nodes};
 ghost use Rattle.btr_tree.specs.Roots.{IsForest, IsClimbed, IsCompleted, lengths_of};
 ghost use Rattle.btr_tree.specs.Builder.{pushed, leaf_closed, leaf_begun, IsNextSlot, Stands, IsSameTree, HasTree, leaves_of};
@@ -64,6 +64,7 @@ impl TreeBuilder {
     ) -> Result<TreeBuilder, Memory>
         requires size { IsNodeSize nodesize }
         requires slots { AreSlots nodesize slots }
+        ensures fresh { IfOk result (λ b. IsFresh (record { fsid = ids.fsid; nodesize = nodesize; sums = sums }) owner generation ids.chunk_tree slots b.made) }
         ensures stands { IfOk result Stands }
         ensures pushed { IfOk result (λ b. pushed b ≡ []) }
         ensures open { IfOk result (λ b. b.spent ≡ false) }

@@ -11,6 +11,7 @@ mod bound;
 mod builder;
 mod climb;
 mod counter;
+mod laws;
 mod levels;
 mod nodes;
 mod parents;
@@ -22,6 +23,7 @@ pub use bound::node_bound;
 pub use builder::TreeBuilder;
 pub use climb::Root;
 pub use counter::Counter;
+pub use laws::packing_is_full;
 pub use slots::Slots;
 
 #[cfg(test)]

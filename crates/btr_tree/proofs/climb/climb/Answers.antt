@@ -1,14 +1,13 @@
-use Rattle.std.proofs.Common.{◌≡◌, ℕ, suc, ◌+◌, ◌<◌, ◌≤◌, List, Vec, Global, Result, Err, length, get_or, sym, ◌∙◌, ap, subst, refl, arith}
+use Rattle.std.proofs.Common.{◌≡◌, ℕ, ◌+◌, ◌<◌, Vec, Global, Result, Err, length, get_or, sym, ◌∙◌, ap, subst, arith}
 use Rattle.std.specs.Int.{div_ceil}
 use Rattle.btr_node.specs.Inner.{first_keys}
 use Rattle.btr_node.specs.Order.{ascends}
 use Rattle.btr_node.specs.declared.child.Child.{Child}
-use Rattle.btr_tree.specs.Building.{Made}
 use Rattle.btr_tree.specs.Packing.{fan_out}
 use Rattle.btr_tree.specs.Roots.{IsRaised, IsRoot}
 use Rattle.btr_tree.specs.declared.answer.NodeAnswer.TheVariants.{OutOfSlots}
 use Rattle.btr_tree.specs.declared.climb.Root.{Root}
-use Rattle.btr_tree.proofs.Climbing.{IsClimbing, roots_ascend, climbing_begins, climbing_below, climbing_goes_on, climbing_short, climbing_count, root_of, wide_fan}
+use Rattle.btr_tree.proofs.Climbing.{roots_ascend, climbing_begins, climbing_goes_on, climbing_short, climbing_count, root_of, wide_fan}
 use Rattle.btr_tree.proofs.climb.climb.Goals as goal
 
 abbrev err_of : {E : Type 0} (T : Type 0) → E → Result T E

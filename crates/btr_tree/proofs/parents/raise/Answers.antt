@@ -1,7 +1,4 @@
-use Rattle.std.proofs.Common.{◌≡◌, ℕ, ◌+◌, ◌-◌, ◌<◌, ◌≤◌, ◌++◌, ◌∷◌, [], List, Vec, Global, Result, Err, None, length, take, drop, min, sym, ◌∙◌, ap, subst, refl, arith, length-take, length-drop}
-use Rattle.std.specs.List.{slice_get}
-use Rattle.btr_node.specs.Inner.{first_keys}
-use Rattle.btr_node.specs.Order.{ascends}
+use Rattle.std.proofs.Common.{◌≡◌, ℕ, ◌+◌, ◌-◌, ◌≤◌, List, Vec, Global, Result, Err, length, take, drop, min, sym, ap, subst, refl, arith, length-take, length-drop}
 use Rattle.btr_node.specs.declared.child.Child.{Child}
 use Rattle.btr_tree.specs.Building.{Made}
 use Rattle.btr_tree.specs.declared.answer.NodeAnswer.TheVariants.{OutOfSlots}

@@ -1,4 +1,4 @@
-use Rattle.std.proofs.Common.{◌≡◌, ◌<◌, ◌≤◌, ◌+◌, ◌*◌, ◌/◌, length, sym, ◌∙◌, ap, subst, arith}
+use Rattle.std.proofs.Common.{◌≡◌, ◌<◌, ◌+◌, ◌/◌, length, sym, ◌∙◌, ap, subst, arith}
 use Rattle.outside.specs.History.{reads}
 use Rattle.outside.proofs.Crash.{write_only, writes_then}
 use Rattle.btr_tree.specs.Writing.{IsInNode, HoldBytes}

@@ -1,16 +1,10 @@
-use Rattle.std.proofs.Common.{◌≡◌, ℕ, ◌+◌, ◌<◌, ◌≤◌, ◌++◌, ◌∷◌, [], List, Option, Some, None, Result, Ok, Err, length, sym, ◌∙◌, ap, subst, arith}
+use Rattle.std.proofs.Common.{◌≡◌, ℕ, ◌<◌, ◌++◌, [], Result, Ok, Err, length, sym, ◌∙◌, ap, subst, arith}
 use Rattle.std.specs.Prelude.{MatchOption, IfOk}
 use Rattle.std.specs.List.{flat_map}
-use Rattle.btr_node.specs.Draft.{node_bytes}
 use Rattle.btr_node.specs.Leaf.{items_in}
-use Rattle.btr_node.specs.declared.child.Child.{Child}
-use Rattle.btr_tree.specs.Building.{with_node}
-use Rattle.btr_tree.specs.Builder.{Building, pushed, leaf_closed, IsInHand, IsIdle, Stands, item_size}
+use Rattle.btr_tree.specs.Builder.{Building, pushed, IsInHand, IsIdle}
 use Rattle.btr_tree.specs.Counting.{tree_nodes, nodes_above}
-use Rattle.btr_tree.specs.Packing.{capacity}
 use Rattle.btr_tree.specs.Roots.{IsForest, IsClimbed, IsCompleted, lengths_of}
-use Rattle.btr_tree.specs.declared.climb.Root.{Root}
-use Rattle.btr_tree.proofs.Climbing.{extended_then}
 use Rattle.btr_tree.proofs.Completing.{closed_made, closed_forest, closed_count, completed}
 use Rattle.btr_tree.proofs.Leaves.{empty_nodes}
 use Rattle.btr_tree.proofs.builder.TreeBuilder.complete.Goals as goal

@@ -1,6 +1,5 @@
 use Rattle.std.proofs.Common.{◌≡◌, ℕ, sym, ◌∙◌, ap, subst, refl}
 use Rattle.btr_node.specs.Draft.{node_bytes}
-use Rattle.btr_node.specs.NodeSize.{IsNodeSize}
 use Rattle.btr_tree.specs.Building.{Made, begun_at, with_node, ReadsBack}
 use Rattle.btr_tree.specs.Builder.{Building, IsNextSlot}
 use Rattle.btr_tree.proofs.Completing.{completed_empty}

@@ -1,4 +1,4 @@
-use Rattle.std.proofs.Common.{List, [], sym, ap, subst}
+use Rattle.std.proofs.Common.{List, sym, subst}
 use Rattle.btr_node.specs.declared.child.Child.{Child}
 use Rattle.std.proofs.Common.{None, false}
 use Rattle.btr_tree.specs.Builder.{Building, Stands}

@@ -1,11 +1,10 @@
-use Rattle.std.proofs.Common.{◌≡◌, ℕ, ◌+◌, ◌<◌, ◌≤◌, ◌++◌, ◌∷◌, [], List, Option, Some, None, Result, Ok, Err, length, sym, ◌∙◌, ap, subst, arith}
+use Rattle.std.proofs.Common.{◌≡◌, ℕ, ◌+◌, ◌<◌, ◌≤◌, ◌++◌, ◌∷◌, [], Result, Ok, Err, length, sym, ◌∙◌, ap, subst, arith}
 use Rattle.std.specs.Prelude.{MatchOption, OnOk}
 use Rattle.std.proofs.lemmas.List.{length_push}
 use Rattle.btr_node.specs.Draft.{node_bytes, room}
 use Rattle.btr_node.specs.Leaf.{keys_of}
 use Rattle.btr_node.specs.Order.{Ascends}
 use Rattle.btr_node.specs.declared.child.Child.{Child}
-use Rattle.btr_tree.specs.Building.{with_item}
 use Rattle.btr_tree.specs.Builder.{Building, pushed, leaf_closed, leaf_begun, IsNextSlot, IsInHand, IsIdle, Stands}
 use Rattle.btr_tree.specs.declared.builder.TreeBuilder.TheInside.{Inside}
 use Rattle.btr_tree.proofs.Standing.{hand_order, stands_first, stands_next, stands_fits, leaves_next, some_leaf}

@@ -1,4 +1,4 @@
-use Rattle.std.proofs.Common.{◌≡◌, ℕ, length, drop, sym, ◌∙◌, ap}
+use Rattle.std.proofs.Common.{ℕ, length, drop, sym, ◌∙◌, ap}
 use Rattle.btr_tree.specs.Building.{Made}
 use Rattle.btr_tree.proofs.PiecesOf.{length-pieces_of}
 use Rattle.btr_tree.proofs.nodes.Nodes.rest.Goals as goal

@@ -1,4 +1,4 @@
-use Rattle.std.proofs.Common.{◌≡◌, ℕ, suc, ◌+◌, ◌*◌, ◌<◌, ◌++◌, ◌∷◌, [], List, length, sym, ◌∙◌, ap, arith, length-append}
+use Rattle.std.proofs.Common.{◌≡◌, ℕ, suc, ◌+◌, ◌*◌, ◌<◌, ◌++◌, ◌∷◌, [], List, length, ◌∙◌, ap, arith, length-append}
 use Rattle.std.proofs.Math.Nat.{mul-suc}
 use Rattle.btr_node.specs.Draft.{Draft, node_bytes}
 use Rattle.btr_tree.specs.Building.{Made, pieces_of, with_node}

@@ -1,4 +1,4 @@
-use Rattle.std.proofs.Common.{◌≡◌, ℕ, ◌+◌, ◌-◌, ◌*◌, ◌/◌, ◌<◌, ◌≤◌, List, [], length, take, drop, get_or, Some, sym, ◌∙◌, ap, subst, arith}
+use Rattle.std.proofs.Common.{◌≡◌, ℕ, ◌+◌, ◌/◌, ◌<◌, List, [], length, get_or, sym, ◌∙◌, ap, subst, arith}
 use Rattle.std.proofs.lemmas.Option.{get_or_from_slice_get}
 use Rattle.outside.specs.History.{block_at, reads, WritesOnly}
 use Rattle.outside.proofs.Crash.{writes_then, writes_weaker}
@@ -6,7 +6,7 @@ use Rattle.outside.proofs.Phases.{reads_outside}
 use Rattle.btr_walk.specs.Map.{identity, node_at}
 use Rattle.btr_tree.specs.Building.{Made, AreSlots, pieces_of, slot}
 use Rattle.btr_tree.specs.Writing.{IsInNode, IsInSlots, HoldBytes}
-use Rattle.btr_tree.proofs.OnDisk.{pieces_of-at, stand_more, in_slots, node_part, part_long, part_is}
+use Rattle.btr_tree.proofs.OnDisk.{stand_more, in_slots, node_part, part_long, part_is}
 use Rattle.btr_tree.proofs.PiecesOf.{length-pieces_of}
 use Rattle.btr_tree.proofs.nodes.Nodes.write.Goals as goal
 
