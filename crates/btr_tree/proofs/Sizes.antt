@@ -21,10 +21,10 @@ sizes-none : (fan n : ℕ) → level_sizes 0 fan n ≡ []
 unfolding level_sizes
 sizes-none fan n = refl
 
-sum-one : (d fan n : ℕ) → n ≤ 1 → sum (level_sizes (suc d) fan n) ≡ n
+pub sum-one : (d fan n : ℕ) → n ≤ 1 → sum (level_sizes (suc d) fan n) ≡ n
 sum-one d fan n h = ap sum (sizes-one d fan n h) ∙ zero-add n
 
-sum-more : (d fan n : ℕ) → 1 < n → sum (level_sizes (suc d) fan n) ≡ n + sum (level_sizes d fan (div_ceil n fan))
+pub sum-more : (d fan n : ℕ) → 1 < n → sum (level_sizes (suc d) fan n) ≡ n + sum (level_sizes d fan (div_ceil n fan))
 sum-more d fan n h = ap sum (sizes-more d fan n h) ∙ sum_by-cons (λ x. x) n (level_sizes d fan (div_ceil n fan))
 
 -- a level is much smaller than the one below it

@@ -11,7 +11,7 @@ use std::marker::Model;
 const ITEM_SIZE: u64 = 25;
 
 /// The bytes of a child in an inner node.
-const CHILD_SIZE: u64 = 33;
+pub const CHILD_SIZE: u64 = 33;
 
 /// The nodes that a tree takes, counted from the lengths of its items. It keeps no list of them.
 #[derive(Drop)]

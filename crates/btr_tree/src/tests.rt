@@ -1,7 +1,13 @@
-ghost use Rattle.std.specs.Prelude.{◌≤◌, ◌+◌};
+ghost use Rattle.std.specs.Prelude.{◌≡◌, ◌≤◌, ◌+◌};
 ghost use Rattle.btr_node.specs.NodeSize.{IsNodeSize};
 
-use crate::{Counter, node_bound};
+use crate::{Counter, Slots, TreeAnswer, TreeBuilder, node_bound};
+use btr_keys::Key;
+use csum_kinds::SumKind;
+use outside::{Access, Disk};
+use outside_mem::MemDisk;
+use std::test::Fail;
+use vol_block::Ids;
 
 /// A counter of so many items with bodies of one length.
 fn counted(nodesize: u32, items: u64, length: usize) -> Counter
@@ -44,4 +50,34 @@ fn nodes_of_levels(rt: HostRuntime) {
 fn bounds(rt: HostRuntime) {
     assert_eq!(rt; node_bound(0, 16384), 10);
     assert_eq!(rt; node_bound(20631, 16384), 12);
+}
+
+const IDS: Ids = Ids {
+    fsid: [0x11; 16],
+    device: [0x22; 16],
+    chunk_tree: [0x33; 16],
+    subvolume: [0x44; 16],
+};
+
+fn key(objectid: u64) -> Key
+    ensures { result ≡ record { objectid = objectid; kind = 1; offset = 0 } }
+{
+    Key {
+        objectid,
+        kind: 1,
+        offset: 0,
+    }
+}
+
+#[test]
+fn no_slot_for_a_leaf(rt: HostRuntime) -> Result<(), Fail> {
+    let mut disk = MemDisk::new(rt.alloc(), 32)?;
+    disk.open("", Access::Write)?;
+    let slots = Slots::new(rt.alloc());
+    let mut tree = TreeBuilder::new(rt.alloc(), 5, 1, slots, IDS, 4096, SumKind::Crc32c)?;
+    let pushed = tree.push(&mut disk, key(256), b"body");
+    assert_eq!(rt; pushed, Err(TreeAnswer::OutOfSlots));
+    assert!(rt; tree.spent());
+    assert_eq!(rt; disk.writes(), 0);
+    Ok(())
 }
