@@ -16,7 +16,7 @@ use Rattle.reiser_files.specs.Bytes.{first_byte, byte_count, is_covered, direct_
 abbrev pub EndsAt : ItemKind → Item → ℕ → Type 0
 EndsAt kind i n = byte_count kind i.body ≢ 0 → first_byte i + byte_count kind i.body ≤ n
 
-uncovered : (i : Item) (n : ℕ) → (first_byte i ≤ n → n < first_byte i + length i.body → ⊥) → direct_by_kind Direct i n ≡ None
+pub uncovered : (i : Item) (n : ℕ) → (first_byte i ≤ n → n < first_byte i + length i.body → ⊥) → direct_by_kind Direct i n ≡ None
 uncovered i n never =
     elim (cases_Bool (is_covered i n)) as (λ _. direct_by_kind Direct i n ≡ None) [
       | inl h ↦ let both = and_parts (leb (first_byte i) n) (ltb n (first_byte i + length i.body)) h in

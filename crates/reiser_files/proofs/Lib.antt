@@ -14,3 +14,5 @@ pub mod Mapped
 pub mod Ascending
 pub mod Deciding
 pub mod Tails
+pub mod Sorts
+pub mod Ordered

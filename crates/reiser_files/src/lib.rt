@@ -17,7 +17,10 @@ mod tail;
 #[cfg(test)]
 mod tests;
 
-pub use laws::{apart_items_follow, blocks_of_bytes, file_runs_say, named_blocks_decide};
+pub use laws::{
+    apart_items_follow, blocks_are_held, blocks_of_bytes, file_runs_say, items_name_blocks,
+    keys_order_items, named_blocks_decide, targets_are_bytes,
+};
 pub use map::{FileMap, FileRun, RunFrom};
 pub use mapper::FileMapper;
 pub use marker::FileMarker;

@@ -84,7 +84,7 @@ impl FileMap {
 
     /// Appends block `k` of the file, or makes the last run longer where that goes on with it. Without memory the map
     /// is unchanged.
-    pub fn add_block(&mut self, k: u64, from: RunFrom) -> Result<(), Memory>
+    pub(crate) fn add_block(&mut self, k: u64, from: RunFrom) -> Result<(), Memory>
         requires { k + 1 < 2 ^ 64 }
         ensures ok { OnOk result (self.new ≡ with_block self.old k from) }
         ensures err { OnErr result (self.new ≡ self.old) }
@@ -102,7 +102,7 @@ impl FileMap {
     }
 
     /// Appends block `k` of the file, if it lies anywhere. Without memory the map is unchanged.
-    pub fn extend(&mut self, k: u64, from: Option<RunFrom>) -> Result<(), Memory>
+    pub(crate) fn extend(&mut self, k: u64, from: Option<RunFrom>) -> Result<(), Memory>
         requires { k + 1 < 2 ^ 64 }
         ensures ok { OnOk result (self.new ≡ extended self.old k from) }
         ensures err { OnErr result (self.new ≡ self.old) }

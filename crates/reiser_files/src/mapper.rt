@@ -6,11 +6,11 @@ use crate::{FileMap, RunFrom};
 #[derive(Drop)]
 pub struct FileMapper {
     /// The blocks of the file before the one in hand.
-    pub map: FileMap,
+    pub(crate) map: FileMap,
     /// Where the block in hand lies.
-    pub from: Option<RunFrom>,
+    pub(crate) from: Option<RunFrom>,
     /// Its number in the file.
-    pub next: u64,
+    pub(crate) next: u64,
     /// The size of the file in bytes.
-    pub size: u64,
+    pub(crate) size: u64,
 }

@@ -7,11 +7,11 @@ use vol_block::Block;
 #[derive(Drop)]
 pub struct FileMarker {
     /// The blocks of the file before the one in hand.
-    pub marker: Marker,
+    pub(crate) marker: Marker,
     /// The block in hand.
-    pub block: Block,
+    pub(crate) block: Block,
     /// Its number in the file.
-    pub next: u64,
+    pub(crate) next: u64,
     /// The size of the file in bytes.
-    pub size: u64,
+    pub(crate) size: u64,
 }
