@@ -215,6 +215,35 @@ linux_volumes() {
     done
 }
 
+# 200 changes of one byte in the nodes of a real tree, by a fixed list: each run ends within a second, and either accepts
+# the volume or refuses it
+damaged_trees() {
+    need zstd zstd || { echo 'skipped: damaged trees, since zstd is not to be had'; return; }
+    zstd -dqf "$top/tests/volumes/tiny.img.zst" -o packed
+    local nodes seed=1 place was refused=0 others=''
+    mapfile -t nodes < <(debugreiserfs -d packed 2>/dev/null | sed -n 's/.* NODE (\([0-9]*\)).*/\1/p' | sort -nu)
+    draw() { seed=$(((seed * 1103515245 + 12345) % 2147483648)); }
+    for _ in {1..200}; do
+        draw
+        place=$((nodes[seed / 65536 % ${#nodes[@]}] * 4096))
+        draw
+        # most changes where the heads are
+        if ((seed / 65536 % 4)); then draw; place=$((place + seed / 65536 % 256)); else draw; place=$((place + seed / 65536 % 4096)); fi
+        was=$(od -An -tx1 -j "$place" -N 1 packed | tr -d ' ')
+        draw
+        put packed "$place" "$(printf '\\x%02x' $((seed / 65536 % 256)))"
+        timeout 1 "$program" inspect packed >/dev/null 2>&1
+        status=$?
+        [ "$status" = 1 ] && refused=$((refused + 1))
+        [ "$status" -gt 1 ] && others="$others $place:$status"
+        put packed "$place" "\\x$was"
+    done
+    same 'changed bytes of a tree end with status 0 or 1' '' "$others"
+    same 'many of them are refused' yes "$([ "$refused" -ge 20 ] && echo yes || echo "$refused")"
+    run inspect packed
+    same 'the tree as it was is accepted' 0 "$status"
+}
+
 # a block device has a length of its own
 loop_device() {
     local device
@@ -240,6 +269,7 @@ if need mkfs.reiserfs reiserfsprogs && need debugreiserfs reiserfsprogs; then
     refusals
     fresh_volumes
     linux_volumes
+    damaged_trees
     loop_device
 else
     echo 'skipped: all checks on volumes, since reiserfsprogs is not to be had'

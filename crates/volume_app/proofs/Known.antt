@@ -1,5 +1,5 @@
 -- The refusals that `inspect` knows.
-use Rattle.std.proofs.Common.{◌≡◌, ◌⊎◌, inl, inr, ℕ, Bool, true, false, cond, List, [], ◌∷◌, refl, sym, subst}
+use Rattle.std.proofs.Common.{◌≡◌, inl, inr, ℕ, Bool, true, false, cond, List, [], ◌∷◌, refl, sym, subst}
 use Rattle.std.specs.Prelude.{Option, Some, None}
 use Rattle.outside.specs.declared.answer.VolAnswer.{VolAnswer}
 use Rattle.outside.specs.declared.answer.VolAnswer.TheVariants as answers
@@ -9,6 +9,7 @@ use Rattle.reiser_super.specs.Rules.{first_refusal, superblock_rules, superblock
 use Rattle.reiser_super.specs.State.{IsJournalAnswer}
 use Rattle.reiser_bitmap.specs.Answers.{IsNoRefusal}
 use Rattle.reiser_bitmap.specs.System.{NamesFreeBlock}
+use Rattle.reiser_walk.specs.Answers.{IsTreeAnswer}
 use Rattle.volume_app.specs.Inspect.{of_volume}
 use Rattle.volume_app.specs.Outcome.{IsInspectRefusal, IsInspectAnswer}
 
@@ -54,4 +55,19 @@ load_known answers.Fault is = tt
 load_known answers.Memory is = tt
 
 pub system_known : (used : List Bool) (first size : ℕ) (r : VolumeRefusal) → NamesFreeBlock used first size r → IsInspectRefusal r
-system_known used first size r is = subst (λ (x : VolumeRefusal). IsInspectRefusal x) (sym is.1) (inr refl)
+system_known used first size r is = subst (λ (x : VolumeRefusal). IsInspectRefusal x) (sym is.1) (inr (inl refl))
+
+pub tree_known : (answer : VolAnswer) → IsTreeAnswer answer → IsInspectAnswer (of_volume answer)
+tree_known (answers.Refused (Damaged block rule)) is = inr (inr is)
+tree_known (answers.Refused NotVolume) is = absurd is
+tree_known (answers.Refused (Unclean state)) is = absurd is
+tree_known (answers.Refused (Unsupported feature value)) is = absurd is
+tree_known (answers.Refused (Short volume device)) is = absurd is
+tree_known (answers.Refused (JournalPending trans)) is = absurd is
+tree_known (answers.Refused (HasAttributes dir object)) is = is
+tree_known (answers.Refused (PendingLinks object)) is = is
+tree_known (answers.Refused (NameTaken dir object)) is = is
+tree_known (answers.Refused (NameTooLong dir object length)) is = is
+tree_known (answers.Refused (HashCrowd dir object hash)) is = is
+tree_known answers.Fault is = tt
+tree_known answers.Memory is = tt

@@ -1,23 +1,23 @@
 -- What an ending that is right for a disk comes to.
-use Rattle.std.proofs.Common.{◌≡◌, ◌⊎◌, inl, inr, ℕ, ◌+◌, ◌-◌, ◌^◌, ◌<◌, ◌≤◌, Bool, true, false, All, List, [], ◌∷◌, refl, sym, ◌∙◌, ap, subst, arith, Result, Ok, Err}
-use Rattle.std.specs.Prelude.{◌≢◌, Option, Some, None, Contains}
+use Rattle.std.proofs.Common.{◌≡◌, ◌⊎◌, inl, inr, ℕ, ◌-◌, ◌^◌, ◌<◌, Bool, true, false, All, List, [], refl, sym, ◌∙◌, ap, subst, arith, Result, Ok, Err}
+use Rattle.std.specs.Prelude.{Option, Some, None, Contains}
 use Rattle.std.proofs.lemmas.List.Elements.{All-contains}
 use Rattle.vol_block.specs.declared.format.Format.TheVariants as formats
 use Rattle.outside.specs.Fault.{Rose, Takes}
-use Rattle.outside.specs.History.{Image, block_at}
+use Rattle.outside.specs.History.{Image}
 use Rattle.outside.specs.declared.fault.Fault as faults
 use Rattle.outside.specs.declared.answer.Answer.{Answer}
 use Rattle.outside.specs.declared.answer.Answer.TheVariants.{Volume, Btr, NoSpace, WrongFormat, ImageMissing, ImageMoved, ImageDamaged, ReservedUsed, Fault, Memory}
 use Rattle.outside.specs.declared.refusal.VolumeRefusal.{VolumeRefusal}
 use Rattle.outside.specs.declared.refusal.VolumeRefusal.TheVariants.{NotVolume, Unclean, Unsupported, Short, JournalPending, Damaged, HasAttributes, PendingLinks, NameTaken, NameTooLong, HashCrowd}
-use Rattle.reiser_super.specs.Rules.{IsCleanSuper, superblock_refusal}
 use Rattle.reiser_bitmap.specs.Bits.{has}
 use Rattle.reiser_super.proofs.Clean.{none_from_clean}
+use Rattle.reiser_walk.proofs.Rules.{sound_exactly}
 use Rattle.volume_app.specs.declared.ending.Ending.{Ending}
 use Rattle.volume_app.specs.declared.ending.Ending.TheVariants.{Done, Usage, Failed, OutputFault}
 use Rattle.volume_app.specs.Command.{Asked, inspect, help, version}
 use Rattle.volume_app.specs.Ending.{status}
-use Rattle.volume_app.specs.Inspect.{format_in, IsAccepted, IsRefusal, IsPendingRefusal}
+use Rattle.volume_app.specs.Inspect.{format_in, super_in, bits_by, tree_by, IsAccepted, IsRefusal, IsPendingRefusal}
 use Rattle.volume_app.specs.Outcome.{IsDone, InspectRefuses, EndsRight, Prints, HasFaults, ending_of}
 
 -- a text that was written is that of the ending
@@ -47,6 +47,11 @@ has_none used blocks b all there free =
     let never : Unit {0} ≡ ⊥ = cc in
     subst (λ (T : Type 0). T) never tt
 
+no_damage : (damages : List VolumeRefusal) (refusal : VolumeRefusal) → damages ≡ [] → Contains damages refusal → ⊥
+no_damage damages refusal none is =
+    let here : Contains [] refusal = subst (λ (ds : List VolumeRefusal). Contains ds refusal) none is in
+    omega (arith, here.1)
+
 -- an accepted volume is not refused
 pub not_refused : (disk : Image) (refusal : VolumeRefusal) → IsAccepted disk → IsRefusal disk refusal → ⊥
 not_refused disk refusal accepted (inl is) =
@@ -54,7 +59,9 @@ not_refused disk refusal accepted (inl is) =
     let both : None ≡ Some refusal = sym none ∙ is in
     cc
 not_refused disk refusal accepted (inr (inl is)) = no_transaction _ refusal accepted.clean.journal is.1
-not_refused disk refusal accepted (inr (inr is)) = has_none _ _ is.1.0 accepted.system is.1.2 is.1.3
+not_refused disk refusal accepted (inr (inr (inl is))) = has_none _ _ is.1.0 accepted.system is.1.2 is.1.3
+not_refused disk refusal accepted (inr (inr (inr is))) =
+    no_damage _ refusal ((sound_exactly (tree_by (super_in disk)) disk (bits_by (super_in disk) disk)).1 accepted.tree) is.2
 
 not_risen : (before now : ℕ) → now ≡ before → before < 2 ^ 64 - 1 → Rose before now → ⊥
 not_risen before now same low rose = omega (arith, same, low, rose)

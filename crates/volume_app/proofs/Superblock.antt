@@ -12,7 +12,7 @@ use Rattle.outside.specs.declared.refusal.VolumeRefusal.TheVariants.{NotVolume}
 use Rattle.reiser_super.specs.declared.superblock.Super.{Super}
 use Rattle.reiser_super.specs.Superblock.{super_of}
 use Rattle.reiser_super.specs.Rules.{IsCleanSuper, superblock_refusal}
-use Rattle.volume_app.specs.Inspect.{format_in, super_in, IsSuperOf, SuperRefuses}
+use Rattle.volume_app.specs.Inspect.{format_in, IsSuperOf, SuperRefuses}
 
 format_cases : (btrfs reiser : Bool) → cond btrfs formats.Btrfs (cond reiser formats.Reiser formats.Neither) ≢ formats.Btrfs → reiser ≡ true
     → cond btrfs formats.Btrfs (cond reiser formats.Reiser formats.Neither) ≡ formats.Reiser

@@ -1,5 +1,5 @@
 -- What the words of a command line ask for.
-use Rattle.std.specs.Prelude.{ℕ, Bool, false, not, ◌==◌, List, [], ◌∷◌, codes, nat_eq, bytes_eq, Option, Some, None, if◌then◌else◌}
+use Rattle.std.specs.Prelude.{ℕ, Bool, false, not, List, [], ◌∷◌, codes, nat_eq, bytes_eq, Option, Some, None, if◌then◌else◌}
 use Rattle.outside.specs.declared.disk.Access.{Access}
 use Rattle.outside.specs.declared.disk.Access.TheVariants.{Read}
 use Rattle.volume_app.specs.declared.command.Command.{Command}

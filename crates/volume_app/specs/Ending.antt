@@ -1,7 +1,5 @@
 -- How a run ends: its status, its line on the error sink, and what they mean of the disk that was found.
-use Rattle.std.specs.Prelude.{◌≡◌, ◌⊎◌, ℕ, ◌≤◌, List, [], ◌∷◌, ◌++◌, take, codes, Option, Some, None}
-use Rattle.outside.specs.Fault.{Rose}
-use Rattle.outside.specs.History.{Image}
+use Rattle.std.specs.Prelude.{ℕ, List, [], ◌∷◌, ◌++◌, codes}
 use Rattle.outside.specs.declared.answer.Answer.{Answer}
 use Rattle.outside.specs.declared.answer.Answer.TheVariants.{Volume, Btr, NoSpace, WrongFormat, ImageMissing, ImageMoved, ImageDamaged, ReservedUsed, Fault, Memory}
 use Rattle.volume_app.specs.declared.ending.Ending.{Ending}

@@ -9,6 +9,7 @@ use Rattle.outside.specs.declared.refusal.VolumeRefusal.{VolumeRefusal}
 use Rattle.outside.specs.declared.refusal.VolumeRefusal.TheVariants.{NotVolume, Unclean, Unsupported, Short, JournalPending, Damaged, HasAttributes, PendingLinks, NameTaken, NameTooLong, HashCrowd}
 use Rattle.outside.specs.declared.answer.Answer.{Answer}
 use Rattle.outside.specs.declared.answer.Answer.TheVariants.{Volume, Btr, NoSpace, WrongFormat, ImageMissing, ImageMoved, ImageDamaged, ReservedUsed, Fault, Memory}
+use Rattle.reiser_walk.specs.Answers.{IsTreeRule}
 use Rattle.volume_app.specs.declared.ending.Ending.{Ending}
 use Rattle.volume_app.specs.declared.ending.Ending.TheVariants.{Done, Usage, Failed, OutputFault}
 use Rattle.volume_app.specs.Command.{Asked, inspect, help, version}
@@ -50,15 +51,15 @@ InspectRefuses disk (ImageMoved block) = ⊥
 InspectRefuses disk (ImageDamaged refusal) = ⊥
 InspectRefuses disk (ReservedUsed block) = ⊥
 
--- The refusals of a volume that `inspect` knows, whatever the disk gives: those of the superblock, the journal and the
--- bitmap.
+-- The refusals of a volume that `inspect` knows, whatever the disk gives: those of the superblock, the journal, the bitmap
+-- and the tree.
 abbrev pub IsInspectRefusal : VolumeRefusal → Type 0
 IsInspectRefusal NotVolume = Unit {0}
 IsInspectRefusal (Unclean state) = Unit {0}
 IsInspectRefusal (Unsupported feature value) = Unit {0}
 IsInspectRefusal (Short volume device) = Unit {0}
 IsInspectRefusal (JournalPending trans) = Unit {0}
-IsInspectRefusal (Damaged block rule) = (rule ≡ SuperField) ⊎ (rule ≡ SystemFree)
+IsInspectRefusal (Damaged block rule) = (rule ≡ SuperField) ⊎ (rule ≡ SystemFree) ⊎ IsTreeRule rule
 IsInspectRefusal (HasAttributes dir object) = ⊥
 IsInspectRefusal (PendingLinks object) = ⊥
 IsInspectRefusal (NameTaken dir object) = ⊥

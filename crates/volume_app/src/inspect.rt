@@ -1,12 +1,15 @@
-ghost use Rattle.std.specs.Prelude.{◌≡◌, ◌<◌, ◌≤◌, length, None, IfOk, IfErr, IsTrue};
+ghost use Rattle.std.specs.Prelude.{◌≡◌, ◌<◌, ◌≤◌, [], length, None, IfOk, IfErr, OnOk, IsTrue};
 ghost use Rattle.outside.specs.Fault.{HasCause, HasCauseOf, Takes};
 ghost use Rattle.outside.specs.History.{Image, block_at, reads};
+ghost use Rattle.reiser_super.specs.Rules.{IsInBounds};
+ghost use Rattle.reiser_walk.specs.Rules.{tree_damages};
 ghost use Rattle.vol_block.specs.declared.format.Format.TheVariants as formats;
-ghost use Rattle.volume_app.specs.Inspect.{format_in, inspected, inspected_by, inspect_lines, label_of, label_text, IsAccepted, IsInside, IsSuperOf, SuperRefuses, HasSystemBlocks, BitmapRefuses, IsNoFault, of_volume};
+ghost use Rattle.volume_app.specs.Inspect.{format_in, bits_by, tree_by, inspected, inspected_by, inspected_with, inspect_lines, label_of, label_text, IsAccepted, IsSuperOf, SuperRefuses, HasSystemBlocks, BitmapRefuses, TreeRefuses, IsNoFault, of_volume};
 ghost use Rattle.sink_text.specs.Text.{piece_text};
 ghost use Rattle.volume_app.specs.Texts.{text_of_lines};
 ghost use Rattle.volume_app.specs.Outcome.{InspectRefuses, IsInspectAnswer};
 
+use crate::tree::walk_tree;
 use outside::{Access, Answer, BlockSource, Disk, Fault, Sink, VolAnswer, VolumeRefusal};
 use reiser_bitmap::Bitmap;
 use reiser_super::{Super, journal_state};
@@ -67,17 +70,18 @@ fn check_volume<S: BlockSource>(alloc: Global, source: &mut S) -> Result<Inspect
     }
 }
 
-/// Loads the bitmap and checks that it marks the volume's own blocks.
+/// Loads the bitmap, checks that it marks the volume's own blocks, and checks the tree.
 fn check_bitmap<S: BlockSource>(
     alloc: Global,
     source: &mut S,
     superblock: Super,
 ) -> Result<Inspected, Answer>
-    requires inside { IsInside superblock }
+    requires inside { IsInBounds superblock }
     requires device { superblock.blocks ≤ S.size source.old }
     ensures kept { S.kept source.old source.new }
     ensures cause { HasCauseOf Answer.Fault (S.faults source.old) (S.faults source.new) result }
-    ensures used { IsTrue S.tells → (image : Image) → S.blocks source.old ≡ image → IfOk result (λ i. HasSystemBlocks superblock image) }
+    ensures used { IsTrue S.tells → (image : Image) → S.blocks source.old ≡ image → OnOk result (HasSystemBlocks superblock image) }
+    ensures sound { IsTrue S.tells → (image : Image) → S.blocks source.old ≡ image → OnOk result (tree_damages (tree_by superblock) image (bits_by superblock image) ≡ []) }
     ensures found { IsTrue S.tells → (image : Image) → S.blocks source.old ≡ image → IfOk result (λ i. i ≡ inspected_by superblock image) }
     ensures refused { IsTrue S.tells → (image : Image) → S.blocks source.old ≡ image → IfErr result (BitmapRefuses superblock image) }
     ensures known { IfErr result IsInspectAnswer }
@@ -87,12 +91,35 @@ fn check_bitmap<S: BlockSource>(
         Err(answer) => return Err(of_volume(answer)),
     };
     match map.system_used(superblock.journal_first, superblock.journal_size) {
+        Ok(()) => check_tree(alloc, source, superblock, &map),
+        Err(refusal) => Err(Answer::Volume(refusal)),
+    }
+}
+
+/// Checks the tree of a volume with this bitmap.
+fn check_tree<S: BlockSource>(
+    alloc: Global,
+    source: &mut S,
+    superblock: Super,
+    map: &Bitmap,
+) -> Result<Inspected, Answer>
+    requires inside { IsInBounds superblock }
+    requires size { length map.now ≡ superblock.blocks }
+    requires device { superblock.blocks ≤ S.size source.old }
+    ensures kept { S.kept source.old source.new }
+    ensures cause { HasCauseOf Answer.Fault (S.faults source.old) (S.faults source.new) result }
+    ensures sound { IsTrue S.tells → (image : Image) → S.blocks source.old ≡ image → OnOk result (tree_damages (tree_by superblock) image map.now ≡ []) }
+    ensures found { IfOk result (λ i. i ≡ inspected_with superblock map.now) }
+    ensures refused { IsTrue S.tells → (image : Image) → S.blocks source.old ≡ image → IfErr result (TreeRefuses (tree_by superblock) image map.now) }
+    ensures known { IfErr result IsInspectAnswer }
+{
+    match walk_tree(alloc, source, &superblock, map) {
         Ok(()) => Ok(Inspected {
             superblock,
             used: map.used(),
             units: map.free_units(),
         }),
-        Err(refusal) => Err(Answer::Volume(refusal)),
+        Err(answer) => Err(of_volume(answer)),
     }
 }
 
@@ -111,7 +138,7 @@ fn of_volume(answer: VolAnswer) -> Answer
 fn read_super<S: BlockSource>(source: &mut S) -> Result<Super, Answer>
     ensures kept { S.kept source.old source.new }
     ensures cause { HasCauseOf Answer.Fault (S.faults source.old) (S.faults source.new) result }
-    ensures inside { IfOk result IsInside }
+    ensures inside { IfOk result IsInBounds }
     ensures device { IfOk result (λ s. s.blocks ≤ S.size source.old) }
     ensures found { IsTrue S.tells → IfOk result (IsSuperOf (S.blocks source.old)) }
     ensures refused { IsTrue S.tells → IfErr result (SuperRefuses (S.blocks source.old)) }
@@ -131,7 +158,7 @@ fn read_super<S: BlockSource>(source: &mut S) -> Result<Super, Answer>
 /// Reads the fields of block 16 of a device of so many blocks.
 fn read_fields(block: &Block, device: u64) -> Result<Super, Answer>
     requires { SUPERBLOCK < device }
-    ensures inside { IfOk result IsInside }
+    ensures inside { IfOk result IsInBounds }
     ensures device { IfOk result (λ s. s.blocks ≤ device) }
     ensures found { (image : Image) → block_at image 16 ≡ block.now.bytes → length image ≡ device → IfOk result (IsSuperOf image) }
     ensures refused { (image : Image) → block_at image 16 ≡ block.now.bytes → length image ≡ device → IfErr result (SuperRefuses image) }

@@ -12,6 +12,7 @@ mod refusal_line;
 mod tests;
 mod texts;
 mod top;
+mod tree;
 
 pub use command::{Command, read_words};
 pub use ending::Ending;

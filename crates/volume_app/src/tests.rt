@@ -6,7 +6,7 @@ mod sample;
 use crate::run;
 use outside::Memory;
 use outside_mem::{MemDisk, MemSink};
-use sample::{change, changed, sample};
+use sample::{change, changed, pointing_to, sample};
 use std::alloc::Global;
 use std::process::Abort;
 use std::test::Fail;
@@ -225,8 +225,27 @@ fn the_bitmap_marks_the_volumes_own_blocks(rt: HostRuntime) -> Result<(), Fail> 
 }
 
 #[test]
+fn the_tree_is_walked(rt: HostRuntime) -> Result<(), Fail> {
+    for (n, at, bytes, line) in [
+        (17, 6, b"\x07".as_slice(), "refused 6 damaged 51 6\n"),
+        (16, 68, b"\x03".as_slice(), "refused 6 damaged 51 3\n"),
+        (51, 2, b"\0".as_slice(), "refused 6 damaged 51 3\n"),
+        (51, 44, b"\xd5".as_slice(), "refused 6 damaged 51 4\n"),
+    ] {
+        let mut disk = changed(rt.alloc(), n, at, bytes)?;
+        refused(&rt, &mut disk, line)?;
+    }
+    let mut disk = pointing_to(rt.alloc(), 900)?;
+    refused(&rt, &mut disk, "refused 6 damaged 900 6\n")?;
+    let mut disk = pointing_to(rt.alloc(), 51)?;
+    refused(&rt, &mut disk, "refused 6 damaged 51 8\n")?;
+    let mut disk = pointing_to(rt.alloc(), 0)?;
+    ends(&rt, &["inspect", "x"], &mut disk, 0, SAMPLE, "")
+}
+
+#[test]
 fn failed_calls_end_the_run(rt: HostRuntime) -> Result<(), Fail> {
-    for call in 0..4 {
+    for call in 0..5 {
         let mut disk = sample(rt.alloc(), 2048)?;
         disk.fail_call(call)?;
         ends(&rt, &["inspect", "x"], &mut disk, 3, "", "device fault\n")?;

@@ -1,10 +1,11 @@
-use Rattle.std.proofs.Common.{◌≡◌, ◌∙◌, sym, ap, subst}
+use Rattle.std.proofs.Common.{◌≡◌, ◌∙◌, [], sym, ap, subst}
 use Rattle.outside.specs.History.{Image}
 use Rattle.outside.specs.declared.answer.Answer.{Answer}
 use Rattle.reiser_super.specs.declared.superblock.Super.{Super}
-use Rattle.volume_app.specs.Inspect.{HasSystemBlocks, BitmapRefuses, IsAccepted, inspected, inspected_by}
+use Rattle.reiser_walk.specs.Rules.{tree_damages}
+use Rattle.volume_app.specs.Inspect.{bits_by, tree_by, HasSystemBlocks, BitmapRefuses, IsAccepted, inspected, inspected_by}
 use Rattle.volume_app.specs.Outcome.{InspectRefuses}
-use Rattle.volume_app.proofs.Checks.{clean_journal, journal_refuses, system_used, bitmap_refuses, on_ok_from, if_ok_to, if_err_from}
+use Rattle.volume_app.proofs.Checks.{clean_journal, journal_refuses, all_checked, blocks_refuse, on_ok_both, if_ok_to, if_err_from}
 use Rattle.volume_app.proofs.inspect.check_volume.Goals as goal
 
 pub returns-in-Ok-journal_state-clause-accepted : goal.returns-in-Ok-journal_state-clause-accepted
@@ -13,8 +14,8 @@ returns-in-Ok-journal_state-clause-accepted g c = λ tells.
     let first = g.met.S.BlockSource.kept_blocks c.args.source.now c.read_super.new.source tells c.read_super.ensures.kept in
     let second = g.met.S.BlockSource.kept_blocks c.read_super.new.source c.journal_state.new.src tells c.journal_state.ensures.kept in
     let clean = clean_journal disk c.in-Ok.volume (c.in-Ok.ensures.found tells) (c.in-Ok-journal_state.ensures.clean tells disk first) in
-    on_ok_from c.check_bitmap.result (HasSystemBlocks c.in-Ok.volume disk) (IsAccepted disk) (system_used disk c.in-Ok.volume (c.in-Ok.ensures.found tells) clean)
-    (c.check_bitmap.ensures.used tells disk (second ∙ first))
+    on_ok_both c.check_bitmap.result (HasSystemBlocks c.in-Ok.volume disk) (tree_damages (tree_by c.in-Ok.volume) disk (bits_by c.in-Ok.volume disk) ≡ []) (IsAccepted disk)
+    (all_checked disk c.in-Ok.volume (c.in-Ok.ensures.found tells) clean) (c.check_bitmap.ensures.used tells disk (second ∙ first)) (c.check_bitmap.ensures.sound tells disk (second ∙ first))
 
 pub returns-in-Ok-journal_state-clause-found : goal.returns-in-Ok-journal_state-clause-found
 returns-in-Ok-journal_state-clause-found g c = λ tells.
@@ -30,7 +31,7 @@ returns-in-Ok-journal_state-clause-refused g c = λ tells.
     let first = g.met.S.BlockSource.kept_blocks c.args.source.now c.read_super.new.source tells c.read_super.ensures.kept in
     let second = g.met.S.BlockSource.kept_blocks c.read_super.new.source c.journal_state.new.src tells c.journal_state.ensures.kept in
     let clean = clean_journal disk c.in-Ok.volume (c.in-Ok.ensures.found tells) (c.in-Ok-journal_state.ensures.clean tells disk first) in
-    if_err_from c.check_bitmap.result (BitmapRefuses c.in-Ok.volume disk) (InspectRefuses disk) (λ a. bitmap_refuses disk c.in-Ok.volume a (c.in-Ok.ensures.found tells) clean)
+    if_err_from c.check_bitmap.result (BitmapRefuses c.in-Ok.volume disk) (InspectRefuses disk) (λ a. blocks_refuse disk c.in-Ok.volume a (c.in-Ok.ensures.found tells) clean)
     (c.check_bitmap.ensures.refused tells disk (second ∙ first))
 
 pub returns-in-Err-journal_state-clause-refused : goal.returns-in-Err-journal_state-clause-refused

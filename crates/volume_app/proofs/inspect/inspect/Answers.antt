@@ -1,4 +1,4 @@
-use Rattle.std.proofs.Common.{◌≡◌, ◌∙◌, ap, subst, IfOk, IfErr, IsTrue}
+use Rattle.std.proofs.Common.{◌≡◌, ◌∙◌, ap, subst, IfOk, IfErr}
 use Rattle.vol_block.specs.declared.format.Format.TheVariants as formats
 use Rattle.outside.specs.History.{Image, History, reads}
 use Rattle.volume_app.specs.Inspect.{format_in, inspected, IsAccepted}

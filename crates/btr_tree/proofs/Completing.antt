@@ -1,0 +1,68 @@
+-- A tree is complete.
+use Rattle.std.proofs.Common.{◌≡◌, ℕ, ◌+◌, ◌≤◌, ◌++◌, ◌∷◌, [], List, length, sym, ◌∙◌, ap, subst, arith}
+use Rattle.std.specs.List.{flat_map}
+use Rattle.std.proofs.lemmas.List.{length_push}
+use Rattle.btr_node.specs.Draft.{node_bytes}
+use Rattle.btr_node.specs.Leaf.{items_in}
+use Rattle.btr_node.specs.NodeSize.{IsNodeSize}
+use Rattle.btr_node.specs.declared.child.Child.{Child}
+use Rattle.btr_walk.specs.Laws.{LeavesGiveItems, SubtreesAreTrees}
+use Rattle.btr_tree.specs.Building.{Made, AreSlots, begun_at, with_node, ReadsBack}
+use Rattle.btr_tree.specs.Builder.{Building, pushed, leaf_closed, IsInHand, IsNextSlot, Stands}
+use Rattle.btr_tree.specs.Counting.{tree_nodes, nodes_above}
+use Rattle.btr_tree.specs.Packing.{capacity}
+use Rattle.btr_tree.specs.Roots.{IsForest, IsClimbed, IsCompleted, IsRoot, lengths_of}
+use Rattle.btr_tree.specs.declared.climb.Root.{Root}
+use Rattle.btr_tree.proofs.Climbing.{extended_then}
+use Rattle.btr_tree.proofs.Leaves.{leaf_roots, leaf_count, packed_count, packed_same, empty_nodes, empty_root, extended_node}
+use Rattle.btr_tree.proofs.Standing.{next_is}
+
+module _ (law : LeavesGiveItems) (b : Building) (child : Child) (so_far : Stands b) (hand : IsInHand b child) (read : ReadsBack b.made.draft (node_bytes b.made.draft)) where
+  abbrev closed : Building
+  closed = leaf_closed b child
+
+  pub closed_made : length closed.made.nodes ≡ length closed.children
+  closed_made = (leaf_count law b child so_far hand read).0
+
+  pub closed_few : length closed.made.nodes ≤ length closed.made.slots
+  closed_few = (leaf_count law b child so_far hand read).1
+
+  pub closed_forest : IsForest closed.made 0 closed.children
+  closed_forest = record { items = pushed b; roots = leaf_roots law b child so_far hand read; order = so_far.order }
+
+  pub closed_count : nodes_above b.made.form.nodesize (length closed.children) ≡ tree_nodes b.made.form.nodesize (lengths_of (pushed b))
+  closed_count =
+      ap (nodes_above b.made.form.nodesize)
+      (sym closed_made ∙ (sym (packed_count law b child so_far hand read) ∙ packed_same (capacity b.made.form.nodesize) (pushed b)))
+
+  pub completed : (new : Building) (root : Root) → IsClimbed closed.made closed.children new.made root → IsCompleted b new root
+  completed new root climbed = record {
+    extended = extended_then b.made closed.made new.made (extended_node b.made (node_bytes b.made.draft)) climbed.extended;
+    few = climbed.few;
+    count = climbed.count ∙ closed_count;
+    nodes_are = climbed.nodes_are;
+    root_is = climbed.root_is (pushed b) (leaf_roots law b child so_far hand read) so_far.order;
+  }
+
+pub completed_empty : (give : LeavesGiveItems) (are : SubtreesAreTrees) (b new : Building) (root : Root) (a : ℕ) → IsNodeSize b.made.form.nodesize → AreSlots b.made.form.nodesize b.made.slots
+    → b.made.nodes ≡ [] → b.made.draft.items ≡ [] → IsNextSlot b.made a
+    → ReadsBack (begun_at b.made 0 a).draft (node_bytes (begun_at b.made 0 a).draft)
+    → new.made ≡ with_node (begun_at b.made 0 a) (node_bytes (begun_at b.made 0 a).draft)
+    → root.address ≡ a → root.level ≡ 0 → root.nodes ≡ length new.made.nodes → IsCompleted b new root
+completed_empty give are b new root a size slots none no_items at read is address level nodes =
+    let bytes : List ℕ = node_bytes (begun_at b.made 0 a).draft in
+    let empty : pushed b ≡ [] = ap (λ ns. flat_map items_in ns ++ b.made.draft.items) none ∙ no_items in
+    let one : tree_nodes b.made.form.nodesize (lengths_of (pushed b)) ≡ 1 = ap (λ is. tree_nodes b.made.form.nodesize (lengths_of is)) empty ∙ empty_nodes b.made.form.nodesize in
+    let many : length new.made.nodes ≡ length b.made.nodes + 1 = ap (λ (m : Made). length m.nodes) is ∙ length_push b.made.nodes bytes in
+    let next = next_is b.made a at in
+    record {
+      extended = record { more = bytes ∷ []; draft = (begun_at b.made 0 a).draft; is = is };
+      few = omega (arith, many, next.1, ap (λ (m : Made). length m.slots) is);
+      count = omega (arith, many, one, ap (λ ns. length ns) none);
+      nodes_are = nodes;
+      root_is =
+          subst (λ is. IsRoot new.made root.address root.level is) (sym empty)
+          (subst (λ (l : ℕ). IsRoot new.made root.address l []) (sym level)
+          (subst (λ (x : ℕ). IsRoot new.made x 0 []) (sym address)
+          (subst (λ (m : Made). IsRoot m a 0 []) (sym is) (empty_root give are b.made a size slots none at read))));
+    }

@@ -1,0 +1,158 @@
+-- The leaves that were made are subtrees.
+use Rattle.std.proofs.Common.{◌≡◌, ℕ, suc, ◌+◌, ◌%◌, ◌^◌, ◌<◌, ◌≤◌, ◌||◌, ltb, Bool, true, List, [], ◌∷◌, ◌++◌, length, map, get_or, refl, sym, ◌∙◌, ap, subst, arith, ⊎_elim}
+use Rattle.std.specs.Prelude.{All}
+use Rattle.std.specs.List.{flat_map, sum_by}
+use Rattle.std.proofs.lemmas.Bool.{or_right, lt-ltb, cases_lt}
+use Rattle.std.proofs.lemmas.List.{length-map, length_push, map-append}
+use Rattle.std.proofs.lemmas.List.Sums.{sum_by-cons}
+use Rattle.std.proofs.lemmas.List.Elements.{All-nil, All-cons, All-head, All-tail}
+use Rattle.outside.specs.History.{Image}
+use Rattle.btr_node.specs.Draft.{node_bytes}
+use Rattle.btr_node.specs.Head.{count, behind_head}
+use Rattle.btr_node.specs.Inner.{first_keys}
+use Rattle.btr_node.specs.Leaf.{Item, IsLeaf, item_layout, heads_in, items_in}
+use Rattle.btr_node.specs.NodeSize.{IsNodeSize}
+use Rattle.btr_node.specs.Records.{records_in}
+use Rattle.btr_node.specs.declared.child.Child.{Child}
+use Rattle.btr_node.proofs.Rows.{length-records_in}
+use Rattle.btr_walk.specs.Laws.{IsSubtree, AreSubtrees, LeavesGiveItems, SubtreesAreTrees}
+use Rattle.btr_walk.specs.Map.{identity, is_mapped, node_at}
+use Rattle.btr_walk.specs.Node.{want, child_pointer}
+use Rattle.btr_walk.specs.declared.tree.Form.{Form}
+use Rattle.btr_walk.specs.declared.tree.Pointer.{Pointer}
+use Rattle.btr_tree.specs.Building.{Made, AreSlots, slot, pointer_to, begun_at, with_node, ReadsBack}
+use Rattle.btr_tree.specs.Builder.{Building, pushed, first_key, child_of, children_of, IsInHand, IsNextSlot, Stands, item_size}
+use Rattle.btr_tree.specs.Counting.{tree_nodes}
+use Rattle.btr_tree.specs.Packing.{packed_from, packed, weight, capacity, level_sizes}
+use Rattle.btr_tree.specs.Roots.{HasRoots, IsExtended, IsRoot, lengths_of}
+use Rattle.btr_tree.proofs.Groups.{packed-fits, packed-next, packed-none}
+use Rattle.btr_tree.proofs.Raising.{slot_mapped, stand_last}
+use Rattle.btr_tree.proofs.Standing.{leaves_more, children_more, full_more, lists_are, pushed_same, next_is}
+
+-- a leaf has as many items as it says
+count_is : (bytes : List ℕ) → length (items_in bytes) ≡ count bytes
+unfolding items_in heads_in
+count_is bytes = length-map (records_in 25 item_layout (count bytes) (behind_head bytes)) _ ∙ length-records_in 25 item_layout (count bytes) (behind_head bytes)
+
+leaves_subtrees : (law : LeavesGiveItems) (image : Image) (form : Form) (owner generation : ℕ) (bare : Bool) (slots : List ℕ) (nodes : List (List ℕ)) → IsNodeSize form.nodesize
+    → All (λ a. a % form.nodesize ≡ 0) slots → All (λ a. a < 2 ^ 64) slots → length nodes ≤ length slots
+    → ((i : ℕ) → i < length nodes → node_at image identity form.nodesize (slot slots i) ≡ get_or nodes i [])
+    → ((i : ℕ) → i < length nodes → IsLeaf (want form owner (pointer_to generation 0 (slot slots i))) (get_or nodes i []))
+    → All (λ items. 1 ≤ length items) (map items_in nodes)
+    → AreSubtrees image identity form owner bare (map (child_pointer 0) (children_of generation slots (map items_in nodes))) (map items_in nodes)
+leaves_subtrees law image form owner generation bare [] [] size aligned small few stand leaf full = tt
+leaves_subtrees law image form owner generation bare [] (n ∷ nodes) size aligned small few stand leaf full = absurd (omega arith)
+leaves_subtrees law image form owner generation bare (a ∷ slots) [] size aligned small few stand leaf full = tt
+leaves_subtrees law image form owner generation bare (a ∷ slots) (n ∷ nodes) size aligned small few stand leaf full =
+    let p : Pointer = pointer_to generation 0 a in
+    let node : node_at image identity form.nodesize a ≡ n = stand 0 (omega arith) in
+    let mapped : is_mapped identity form.nodesize a ≡ true = slot_mapped form.nodesize a size (All-head (λ b. b % form.nodesize ≡ 0) a slots aligned) (All-head (λ b. b < 2 ^ 64) a slots small) in
+    let here : IsLeaf (want form owner p) (node_at image identity form.nodesize a) = subst (IsLeaf (want form owner p)) (sym node) (leaf 0 (omega arith)) in
+    let many : 1 ≤ length (items_in n) = All-head (λ items. 1 ≤ length items) (items_in n) (map items_in nodes) full in
+    let some : (bare || ltb 0 (count (node_at image identity form.nodesize a))) ≡ true =
+    or_right bare (ltb 0 (count (node_at image identity form.nodesize a))) (lt-ltb 0 (count (node_at image identity form.nodesize a)) (omega (arith, count_is n, many, ap count node))) in (
+      subst (λ is. IsSubtree image identity form owner bare p is) (ap items_in node) (law image identity form owner bare p mapped here some),
+      leaves_subtrees law image form owner generation bare slots nodes size (All-tail (λ b. b % form.nodesize ≡ 0) a slots aligned) (All-tail (λ b. b < 2 ^ 64) a slots small) (omega arith)
+          (λ i h. stand (suc i) (omega arith)) (λ i h. leaf (suc i) (omega arith)) (All-tail (λ items. 1 ≤ length items) (items_in n) (map items_in nodes) full),
+    )
+
+children_keys : (generation : ℕ) (slots : List ℕ) (lists : List (List Item)) → length lists ≤ length slots → first_keys (children_of generation slots lists) ≡ map first_key lists
+children_keys generation [] [] few = refl
+children_keys generation [] (l ∷ lists) few = absurd (omega arith)
+children_keys generation (a ∷ slots) [] few = refl
+children_keys generation (a ∷ slots) (l ∷ lists) few = ap (λ ks. first_key l ∷ ks) (children_keys generation slots lists (omega arith))
+
+pub length-children_of : (generation : ℕ) (slots : List ℕ) (lists : List (List Item)) → length lists ≤ length slots → length (children_of generation slots lists) ≡ length lists
+length-children_of generation [] [] few = refl
+length-children_of generation [] (l ∷ lists) few = absurd (omega arith)
+length-children_of generation (a ∷ slots) [] few = refl
+length-children_of generation (a ∷ slots) (l ∷ lists) few = ap suc (length-children_of generation slots lists (omega arith))
+
+children_made : (generation : ℕ) (slots : List ℕ) (lists : List (List Item)) → All (λ c. c.generation ≡ generation) (children_of generation slots lists)
+children_made generation [] lists = All-nil (λ (c : Child). c.generation ≡ generation)
+children_made generation (a ∷ slots) [] = All-nil (λ (c : Child). c.generation ≡ generation)
+children_made generation (a ∷ slots) (l ∷ lists) =
+    All-cons (λ c. c.generation ≡ generation) (child_of generation a l) (children_of generation slots lists) refl (children_made generation slots lists)
+
+flat_same : (nodes : List (List ℕ)) → flat_map (λ is. is) (map items_in nodes) ≡ flat_map items_in nodes
+flat_same [] = refl
+flat_same (n ∷ nodes) = ap (λ is. items_in n ++ is) (flat_same nodes)
+
+-- once the last leaf is made
+module _ (law : LeavesGiveItems) (b : Building) (child : Child) (so_far : Stands b) (hand : IsInHand b child) (read : ReadsBack b.made.draft (node_bytes b.made.draft)) where
+  abbrev m : Made
+  m = with_node b.made (node_bytes b.made.draft)
+
+  few : length m.nodes ≤ length m.slots
+  few = omega (arith, hand.slot_left, length_push b.made.nodes (node_bytes b.made.draft))
+
+  few_lists : length (map items_in m.nodes) ≤ length m.slots
+  few_lists = omega (arith, few, length-map m.nodes items_in)
+
+  pub leaf_roots : HasRoots m 0 (b.children ++ child ∷ []) (pushed b)
+  leaf_roots =
+      subst (λ cs. HasRoots m 0 cs (pushed b)) (sym (children_more b child so_far hand read))
+      (record {
+        lists = map items_in m.nodes;
+        roots = record {
+          keys = children_keys m.generation m.slots (map items_in m.nodes) few_lists;
+          full = full_more b child so_far hand read;
+          one_generation = children_made m.generation m.slots (map items_in m.nodes);
+          subtrees = λ image bare stand.
+              leaves_subtrees law image m.form m.owner m.generation bare m.slots m.nodes so_far.nodesize so_far.slots.aligned so_far.slots.small few stand (leaves_more b child so_far hand read)
+              (full_more b child so_far hand read);
+        };
+        items_are = flat_same m.nodes ∙ pushed_same b child so_far hand read;
+      })
+
+  pub leaf_count : (length m.nodes ≡ length (b.children ++ child ∷ [])) × (length m.nodes ≤ length m.slots)
+  leaf_count =
+      (sym (ap length (children_more b child so_far hand read) ∙ (length-children_of m.generation m.slots (map items_in m.nodes) few_lists ∙ length-map m.nodes items_in)), few)
+
+  -- the leaves are those that packing the items gives
+  pub packed_count : length (packed item_size (capacity b.made.form.nodesize) (pushed b)) ≡ length m.nodes
+  packed_count = ap length so_far.packing ∙ (sym (ap length (lists_are b child so_far hand read)) ∙ length-map m.nodes items_in)
+
+-- packing goes by the lengths alone
+same_sum : (items : List Item) → sum_by weight (lengths_of items) ≡ sum_by item_size items
+same_sum [] = refl
+same_sum (i ∷ items) = omega (arith, sum_by-cons weight (length i.1) (lengths_of items), sum_by-cons item_size i items, same_sum items)
+
+packed_lengths : (room : ℕ) (begun items : List Item) → length (packed_from item_size room begun items) ≡ length (packed_from weight room (lengths_of begun) (lengths_of items))
+packed_lengths room begun [] = ap length (packed-none item_size room begun) ∙ sym (ap length (packed-none weight room (lengths_of begun)))
+packed_lengths room begun (i ∷ items) =
+    ⊎_elim
+    (λ (next : room < sum_by item_size begun + item_size i).
+    ap length (packed-next item_size room begun i items next)
+    ∙ (ap suc (packed_lengths room (i ∷ []) items)
+    ∙ sym (ap length (packed-next weight room (lengths_of begun) (length i.1) (lengths_of items) (omega (arith, next, same_sum begun))))))
+    (λ (fits : sum_by item_size begun + item_size i ≤ room).
+    ap length (packed-fits item_size room begun i items fits)
+    ∙ (packed_lengths room (begun ++ i ∷ []) items
+    ∙ (ap (λ ls. length (packed_from weight room ls (lengths_of items))) (map-append (λ (item : Item). length item.1) begun (i ∷ []))
+    ∙ sym (ap length (packed-fits weight room (lengths_of begun) (length i.1) (lengths_of items) (omega (arith, fits, same_sum begun)))))))
+    (cases_lt room (sum_by item_size begun + item_size i))
+
+pub packed_same : (room : ℕ) (items : List Item) → length (packed item_size room items) ≡ length (packed weight room (lengths_of items))
+packed_same room items = packed_lengths room [] items
+
+pub empty_nodes : (n : ℕ) → tree_nodes n [] ≡ 1
+unfolding packed_from level_sizes
+empty_nodes n = refl
+
+pub extended_node : (m : Made) (bytes : List ℕ) → IsExtended m (with_node m bytes)
+extended_node m bytes = record { more = bytes ∷ []; draft = m.draft; is = refl }
+
+-- an empty leaf is the tree without items
+pub empty_root : (give : LeavesGiveItems) (are : SubtreesAreTrees) (m : Made) (a : ℕ) → IsNodeSize m.form.nodesize → AreSlots m.form.nodesize m.slots → m.nodes ≡ [] → IsNextSlot m a
+    → ReadsBack (begun_at m 0 a).draft (node_bytes (begun_at m 0 a).draft) → IsRoot (with_node (begun_at m 0 a) (node_bytes (begun_at m 0 a).draft)) a 0 []
+empty_root give are m a size slots none at read = λ image stand.
+    let bytes : List ℕ = node_bytes (begun_at m 0 a).draft in
+    let p : Pointer = pointer_to m.generation 0 a in
+    let next = next_is m a at in
+    let aligned : a % m.form.nodesize ≡ 0 = subst (λ (x : ℕ). x % m.form.nodesize ≡ 0) next.0 (slots.aligned (length m.nodes) 0 next.1) in
+    let small : a < 2 ^ 64 = subst (λ (x : ℕ). x < 2 ^ 64) next.0 (slots.small (length m.nodes) 0 next.1) in
+    let node : node_at image identity m.form.nodesize a ≡ bytes = sym (ap (node_at image identity m.form.nodesize) next.0) ∙ stand_last image m.form.nodesize m.slots m.nodes bytes stand in
+    let leaf : IsLeaf (want m.form m.owner p) (node_at image identity m.form.nodesize a) = subst (IsLeaf (want m.form m.owner p)) (sym node) (read.leaf refl) in
+    let below = give image identity m.form m.owner true p (slot_mapped m.form.nodesize a size aligned small) leaf refl in
+    are image identity m.form m.owner p [] (subst (λ is. IsSubtree image identity m.form m.owner true p is) (ap items_in node ∙ read.items refl) below) refl

@@ -1,0 +1,12 @@
+pub mod Climbing
+pub mod Completing
+pub mod FullGroups
+pub mod Groups
+pub mod KeyOrder
+pub mod Leaves
+pub mod OnDisk
+pub mod PiecesOf
+pub mod Raising
+pub mod RaisingLoop
+pub mod Sizes
+pub mod Standing

@@ -1,0 +1,199 @@
+-- A level of a tree from the one below it.
+use Rattle.std.proofs.Common.{◌≡◌, ℕ, zero, suc, ◌+◌, ◌*◌, ◌/◌, ◌%◌, ◌^◌, ◌<◌, ◌≤◌, leb, ltb, eqb, Bool, true, List, [], ◌∷◌, ◌++◌, length, map, take, drop, get_or, refl, sym, ◌∙◌, ap, subst, arith, ⊎_elim}
+use Rattle.std.specs.Prelude.{All}
+use Rattle.std.specs.List.{flat_map}
+use Rattle.std.proofs.lemmas.Bool.{and_from, le-leb, lt-ltb, eq-eqb}
+use Rattle.std.proofs.lemmas.List.{take-append-drop, take_more, map-append, take-map, drop-map, length_push, get_or_append_left, get_or_push, get_or-take, get_or-drop, length-take, length-drop}
+use Rattle.outside.specs.History.{Image}
+use Rattle.btr_node.specs.Inner.{IsInner, children_in, first_keys}
+use Rattle.btr_node.specs.Leaf.{Item}
+use Rattle.btr_node.specs.NodeSize.{IsNodeSize}
+use Rattle.btr_node.specs.Order.{Ascends, ascends}
+use Rattle.btr_node.specs.declared.child.Child.{Child}
+use Rattle.btr_node.proofs.Ascending.{first_ascends, second_ascends}
+use Rattle.btr_walk.specs.Laws.{IsSubtree, AreSubtrees, ChildrenGiveItems}
+use Rattle.btr_keys.specs.declared.key.Key.{Key}
+use Rattle.std.proofs.lemmas.Option.{get_or_from_slice_get, slice_get_within}
+use Rattle.btr_tree.proofs.Standing.{all_push}
+use Rattle.btr_walk.specs.Map.{holds, identity, are_mapped, is_mapped, node_at}
+use Rattle.btr_walk.specs.Node.{want, child_pointer}
+use Rattle.btr_walk.specs.declared.tree.Form.{Form}
+use Rattle.btr_walk.specs.declared.tree.Pointer.{Pointer}
+use Rattle.btr_tree.specs.Building.{Made, AreSlots, slot, StandAt, pointer_to, IsParent}
+use Rattle.btr_tree.specs.Builder.{first_key}
+use Rattle.btr_tree.specs.Roots.{AreRoots}
+
+-- the keys of the first children ascend, and of any part
+pub front_ascends : (part : List Child) (i : ℕ) (d : Child) → Ascends (first_keys part) → i < length part → Ascends (first_keys (take i part) ++ (get_or part i d).key ∷ [])
+front_ascends part i d h inside =
+    let cut : first_keys part ≡ first_keys (take (i + 1) part) ++ first_keys (drop (i + 1) part) =
+    sym (ap first_keys (take-append-drop (i + 1) part)) ∙ map-append (λ (c : Child). c.key) (take (i + 1) part) (drop (i + 1) part) in
+    let one : first_keys (take (i + 1) part) ≡ first_keys (take i part) ++ (get_or part i d).key ∷ [] =
+    ap first_keys (take_more part i d inside) ∙ map-append (λ (c : Child). c.key) (take i part) (get_or part i d ∷ []) in
+    sym (ap ascends one) ∙ first_ascends (first_keys (take (i + 1) part)) (first_keys (drop (i + 1) part)) (sym (ap ascends cut) ∙ h)
+
+pub part_ascends : (children : List Child) (s n : ℕ) → Ascends (first_keys children) → Ascends (first_keys (take n (drop s children)))
+part_ascends children s n h =
+    let rest : List Child = drop s children in
+    let cut : first_keys children ≡ first_keys (take s children) ++ first_keys rest = sym (ap first_keys (take-append-drop s children)) ∙ map-append (λ (c : Child). c.key) (take s children) rest in
+    let cut' : first_keys rest ≡ first_keys (take n rest) ++ first_keys (drop n rest) = sym (ap first_keys (take-append-drop n rest)) ∙ map-append (λ (c : Child). c.key) (take n rest) (drop n rest) in
+    first_ascends (first_keys (take n rest)) (first_keys (drop n rest)) (sym (ap ascends cut') ∙ second_ascends (first_keys (take s children)) (first_keys rest) (sym (ap ascends cut) ∙ h))
+
+-- a node lies in the map that gives each address itself
+are_mapped_all : (n a : ℕ) → a + 4096 * n ≤ 2 ^ 64 → are_mapped identity n a ≡ true
+are_mapped_all zero a fits = refl
+are_mapped_all (suc n) a fits =
+    let inside : holds (record { logical = 0; length = 2 ^ 64; physical = 0 }) a ≡ true = and_from (leb 0 a) (ltb a (0 + 2 ^ 64)) (le-leb 0 a (omega arith)) (lt-ltb a (0 + 2 ^ 64) (omega arith)) in
+    rw inside (are_mapped_all n (a + 4096) (omega arith))
+
+record Fits (n a : ℕ) : Type 0 where
+  whole : a % 4096 ≡ 0
+  within : a + 4096 * (n / 4096) ≤ 2 ^ 64
+
+node_fits : (n a : ℕ) → IsNodeSize n → a % n ≡ 0 → a < 2 ^ 64 → Fits n a
+node_fits n a size aligned small =
+    ⊎_elim (λ (e : n ≡ 4096). by 4096 e (λ h. record { whole = h; within = omega arith }))
+    (λ rest. ⊎_elim (λ (e : n ≡ 8192). by 8192 e (λ h. record { whole = omega arith; within = omega arith }))
+    (λ rest'. ⊎_elim (λ (e : n ≡ 16384). by 16384 e (λ h. record { whole = omega arith; within = omega arith }))
+    (λ rest''. ⊎_elim (λ (e : n ≡ 32768). by 32768 e (λ h. record { whole = omega arith; within = omega arith }))
+    (λ (e : n ≡ 65536). by 65536 e (λ h. record { whole = omega arith; within = omega arith })) rest'') rest') rest) size
+  where
+    by : (k : ℕ) → n ≡ k → (a % k ≡ 0 → Fits k a) → Fits n a
+    by k e turn = subst (λ (j : ℕ). Fits j a) (sym e) (turn (subst (λ (j : ℕ). a % j ≡ 0) e aligned))
+
+pub slot_mapped : (n a : ℕ) → IsNodeSize n → a % n ≡ 0 → a < 2 ^ 64 → is_mapped identity n a ≡ true
+unfolding is_mapped
+slot_mapped n a size aligned small =
+    let fits = node_fits n a size aligned small in
+    and_from (eqb (a % 4096) 0) (are_mapped identity (n / 4096) a) (eq-eqb (a % 4096) 0 fits.whole) (are_mapped_all (n / 4096) a fits.within)
+
+-- where more nodes stand, the fewer do
+pub stand_fewer : (image : Image) (n : ℕ) (slots : List ℕ) (nodes : List (List ℕ)) (bytes : List ℕ) → StandAt image n slots (nodes ++ bytes ∷ []) → StandAt image n slots nodes
+stand_fewer image n slots nodes bytes stand = λ i h.
+    stand i (omega (arith, length_push nodes bytes, h)) ∙ get_or_append_left nodes (bytes ∷ []) [] i h
+
+pub stand_last : (image : Image) (n : ℕ) (slots : List ℕ) (nodes : List (List ℕ)) (bytes : List ℕ) → StandAt image n slots (nodes ++ bytes ∷ [])
+    → node_at image identity n (slot slots (length nodes)) ≡ bytes
+stand_last image n slots nodes bytes stand = stand (length nodes) (omega (arith, length_push nodes bytes)) ∙ get_or_push nodes bytes [] (length nodes) refl
+
+module _ (image : Image) (form : Form) (owner : ℕ) (bare : Bool) where
+  abbrev Are : List Pointer → List (List Item) → Type 0
+  Are = AreSubtrees image identity form owner bare
+
+  subtrees_push : (ps : List Pointer) (lists : List (List Item)) (p : Pointer) (items : List Item) → Are ps lists → IsSubtree image identity form owner bare p items → Are (ps ++ p ∷ []) (lists ++ items ∷ [])
+  subtrees_push [] [] p items are is = (is, tt)
+  subtrees_push [] (l ∷ lists) p items are is = absurd are
+  subtrees_push (q ∷ ps) [] p items are is = absurd are
+  subtrees_push (q ∷ ps) (l ∷ lists) p items are is = (are.0, subtrees_push ps lists p items are.1 is)
+
+  subtrees_take : (n : ℕ) (ps : List Pointer) (lists : List (List Item)) → Are ps lists → Are (take n ps) (take n lists)
+  subtrees_take zero ps lists are = tt
+  subtrees_take (suc n) [] [] are = tt
+  subtrees_take (suc n) [] (l ∷ lists) are = absurd are
+  subtrees_take (suc n) (q ∷ ps) [] are = absurd are
+  subtrees_take (suc n) (q ∷ ps) (l ∷ lists) are = (are.0, subtrees_take n ps lists are.1)
+
+  subtrees_drop : (n : ℕ) (ps : List Pointer) (lists : List (List Item)) → Are ps lists → Are (drop n ps) (drop n lists)
+  subtrees_drop zero ps lists are = are
+  subtrees_drop (suc n) [] [] are = tt
+  subtrees_drop (suc n) [] (l ∷ lists) are = absurd are
+  subtrees_drop (suc n) (q ∷ ps) [] are = absurd are
+  subtrees_drop (suc n) (q ∷ ps) (l ∷ lists) are = subtrees_drop n ps lists are.1
+
+-- a part of some roots
+pub part_roots : (m : Made) (level s n : ℕ) (children : List Child) (lists : List (List Item)) → AreRoots m level children lists → AreRoots m level (take n (drop s children)) (take n (drop s lists))
+part_roots m level s n children lists roots = record {
+  keys =
+      sym (take-map (λ (c : Child). c.key) n (drop s children)) ∙ (ap (take n) (sym (drop-map (λ (c : Child). c.key) s children) ∙ (ap (drop s) roots.keys ∙ drop-map first_key s lists)) ∙ take-map first_key n (drop s lists));
+  full = λ k d h.
+      let few : k < n = omega (arith, h, length-take n (drop s lists)) in
+      let inside : s + k < length lists = omega (arith, h, length-take n (drop s lists), length-drop s lists) in
+      let at : get_or (take n (drop s lists)) k d ≡ get_or lists (s + k) d = get_or-take n (drop s lists) k d few ∙ get_or-drop s lists k d in
+      subst (λ (items : List Item). 1 ≤ length items) (sym at) (roots.full (s + k) d inside);
+  one_generation = λ k d h.
+      let few : k < n = omega (arith, h, length-take n (drop s children)) in
+      let inside : s + k < length children = omega (arith, h, length-take n (drop s children), length-drop s children) in
+      let at : get_or (take n (drop s children)) k d ≡ get_or children (s + k) d = get_or-take n (drop s children) k d few ∙ get_or-drop s children k d in
+      subst (λ (c : Child). c.generation ≡ m.generation) (sym at) (roots.one_generation (s + k) d inside);
+  subtrees = λ image bare stand.
+      let ps : List Pointer = map (child_pointer level) children in
+      let same : take n (drop s ps) ≡ map (child_pointer level) (take n (drop s children)) = ap (take n) (drop-map (child_pointer level) s children) ∙ take-map (child_pointer level) n (drop s children) in
+      subst (λ qs. AreSubtrees image identity m.form m.owner bare qs (take n (drop s lists))) same
+      (subtrees_take image m.form m.owner bare n (drop s ps) (drop s lists) (subtrees_drop image m.form m.owner bare s ps lists (roots.subtrees image bare stand)));
+}
+
+-- one more root
+record IsOneRoot (m : Made) (level : ℕ) (child : Child) (items : List Item) : Type 0 where
+  key : child.key ≡ first_key items
+  some : 1 ≤ length items
+  subtree : (image : Image) (bare : Bool) → StandAt image m.form.nodesize m.slots m.nodes → IsSubtree image identity m.form m.owner bare (child_pointer level child) items
+
+unfoldable pub flat : List (List Item) → List Item
+flat lists = flat_map (λ items. items) lists
+
+pub flat-is : (lists : List (List Item)) → flat_map (λ items. items) lists ≡ flat lists
+unfolding flat
+flat-is lists = refl
+
+head_key : (part : List Child) (lists : List (List Item)) (d : Child) → first_keys part ≡ map first_key lists → All (λ items. 1 ≤ length items) lists → 1 ≤ length part
+    → ((get_or part 0 d).key ≡ first_key (flat lists)) × (1 ≤ length (flat lists))
+unfolding flat
+head_key [] lists d keys full some = absurd (omega arith)
+head_key (c ∷ part) [] d keys full some = absurd (omega (arith, ap length keys))
+head_key (c ∷ part) ([] ∷ lists) d keys full some = absurd (let none : 1 ≤ length {A = Item} [] = full 0 [] (omega arith) in omega arith)
+head_key (c ∷ part) ((i ∷ items) ∷ lists) d keys full some = (cc, omega arith)
+
+module _ (law : ChildrenGiveItems) (m : Made) (level : ℕ) (part : List Child) (lists : List (List Item)) (child : Child) (new : Made) (size : IsNodeSize m.form.nodesize)
+    (slots : AreSlots m.form.nodesize m.slots) (some : 1 ≤ length part) (roots : AreRoots m level part lists) (parent : IsParent m (suc level) part child new) where
+  abbrev p : Pointer
+  p = pointer_to m.generation (suc level) parent.address
+
+  abbrev grown : Made
+  grown = record m { nodes = m.nodes ++ parent.bytes ∷ []; draft = parent.draft }
+
+  slot_is : slot m.slots (length m.nodes) ≡ parent.address
+  slot_is = get_or_from_slice_get m.slots (length m.nodes) parent.address 0 parent.next
+
+  mapped : is_mapped identity m.form.nodesize parent.address ≡ true
+  mapped =
+      let inside = slice_get_within m.slots (length m.nodes) parent.address parent.next in
+      let aligned : parent.address % m.form.nodesize ≡ 0 = subst (λ (a : ℕ). a % m.form.nodesize ≡ 0) slot_is (slots.aligned (length m.nodes) 0 inside) in
+      let small : parent.address < 2 ^ 64 = subst (λ (a : ℕ). a < 2 ^ 64) slot_is (slots.small (length m.nodes) 0 inside) in
+      slot_mapped m.form.nodesize parent.address size aligned small
+
+  below_parent : (image : Image) (bare : Bool) → StandAt image m.form.nodesize m.slots (m.nodes ++ parent.bytes ∷ []) → IsSubtree image identity m.form m.owner bare p (flat lists)
+  unfolding flat
+  below_parent image bare stand =
+      let node : node_at image identity m.form.nodesize parent.address ≡ parent.bytes =
+      sym (ap (node_at image identity m.form.nodesize) slot_is) ∙ stand_last image m.form.nodesize m.slots m.nodes parent.bytes stand in
+      let inner : IsInner (want m.form m.owner p) (node_at image identity m.form.nodesize parent.address) = subst (IsInner (want m.form m.owner p)) (sym node) parent.inner in
+      let links : children_in (node_at image identity m.form.nodesize parent.address) ≡ part = ap children_in node ∙ parent.links in
+      let are : AreSubtrees image identity m.form m.owner bare (map (child_pointer level) (children_in (node_at image identity m.form.nodesize parent.address))) lists =
+      subst (λ cs. AreSubtrees image identity m.form m.owner bare (map (child_pointer level) cs) lists) (sym links)
+      (roots.subtrees image bare (stand_fewer image m.form.nodesize m.slots m.nodes parent.bytes stand)) in
+      law image identity m.form m.owner bare p level lists refl mapped inner are
+
+  one_root : IsOneRoot grown (suc level) child (flat lists)
+  one_root =
+      let head = head_key part lists child roots.keys roots.full some in
+      record {
+        key = ap (λ (c : Child). c.key) parent.child_is ∙ head.0;
+        some = head.1;
+        subtree = λ image bare stand.
+            subst (λ (q : Pointer). IsSubtree image identity m.form m.owner bare q (flat lists)) (sym (ap (child_pointer (suc level)) parent.child_is)) (below_parent image bare stand);
+      }
+
+  pub roots_more : (parents : List Child) (plists : List (List Item)) → AreRoots m (suc level) parents plists → AreRoots new (suc level) (parents ++ child ∷ []) (plists ++ flat lists ∷ [])
+  roots_more parents plists so_far =
+      subst (λ (x : Made). AreRoots x (suc level) (parents ++ child ∷ []) (plists ++ flat lists ∷ [])) (sym parent.is)
+      (record {
+        keys =
+            map-append (λ (c : Child). c.key) parents (child ∷ [])
+            ∙ (ap (λ ks. ks ++ child.key ∷ []) so_far.keys ∙ (ap (λ (k : Key). map first_key plists ++ k ∷ []) one_root.key ∙ sym (map-append first_key plists (flat lists ∷ []))));
+        full = all_push (λ items. 1 ≤ length items) plists (flat lists) so_far.full one_root.some;
+        one_generation = all_push (λ c. c.generation ≡ m.generation) parents child so_far.one_generation (ap (λ (c : Child). c.generation) parent.child_is);
+        subtrees = λ image bare stand.
+            subst (λ qs. AreSubtrees image identity m.form m.owner bare qs (plists ++ flat lists ∷ [])) (sym (map-append (child_pointer (suc level)) parents (child ∷ [])))
+            (subtrees_push image m.form m.owner bare (map (child_pointer (suc level)) parents) plists (child_pointer (suc level) child) (flat lists)
+            (so_far.subtrees image bare (stand_fewer image m.form.nodesize m.slots m.nodes parent.bytes stand)) (one_root.subtree image bare stand));
+      })

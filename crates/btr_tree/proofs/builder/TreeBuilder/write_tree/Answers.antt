@@ -1,0 +1,16 @@
+use Rattle.std.proofs.Common.{◌∙◌, ap, subst}
+use Rattle.outside.specs.History.{WritesOnly}
+use Rattle.btr_tree.specs.Building.{Made}
+use Rattle.btr_tree.specs.Builder.{Building}
+use Rattle.btr_tree.specs.Writing.{IsInSlots}
+use Rattle.btr_tree.proofs.builder.TreeBuilder.write_tree.Goals as goal
+
+pub returns-in_err-write-clause-only : goal.returns-in_err-write-clause-only
+returns-in_err-write-clause-only g c = λ tells.
+    subst (λ (m : Made). WritesOnly (λ b _. IsInSlots m.form.nodesize m.slots b) (g.D.Disk.history c.args.disk.now) (g.D.Disk.history c.write.new.disk))
+    (ap (λ (b : Building). b.made) c.self.view_is ∙ c.in-Ok.ensures.done.extended.is) (c.write.ensures.only tells)
+
+pub returns-clause-only : goal.returns-clause-only
+returns-clause-only g c = λ tells.
+    subst (λ (m : Made). WritesOnly (λ b _. IsInSlots m.form.nodesize m.slots b) (g.D.Disk.history c.args.disk.now) (g.D.Disk.history c.write.new.disk))
+    (ap (λ (b : Building). b.made) c.self.view_is ∙ c.in-Ok.ensures.done.extended.is) (c.write.ensures.only tells)

@@ -1,0 +1,114 @@
+-- A tree that is being written: the nodes that were made, and the one in hand.
+use Rattle.std.specs.Prelude.{◌≡◌, ◌≢◌, ℕ, zero, suc, ◌*◌, ◌%◌, ◌^◌, ◌≤◌, ◌<◌, false, List, [], ◌∷◌, ◌++◌, length, take, drop, slice_index_or, Some}
+use Rattle.std.specs.List.{slice_get}
+use Rattle.std.specs.List.{All, AllPairs}
+use Rattle.outside.specs.History.{Image}
+use Rattle.btr_keys.specs.declared.key.Key.{Key}
+use Rattle.btr_node.specs.Draft.{Draft, started_for}
+use Rattle.btr_node.specs.Inner.{IsInner, children_in}
+use Rattle.btr_node.specs.Leaf.{IsLeaf, items_in}
+use Rattle.btr_node.specs.NodeSize.{IsNodeSize}
+use Rattle.btr_node.specs.declared.child.Child.{Child}
+use Rattle.btr_node.specs.declared.expect.Expect.{Expect}
+use Rattle.btr_walk.specs.Map.{identity, node_at}
+use Rattle.btr_walk.specs.Node.{want}
+use Rattle.btr_walk.specs.declared.tree.Form.{Form}
+use Rattle.btr_walk.specs.declared.tree.Pointer.{Pointer}
+
+-- the first n pieces of this size
+abbrev pub pieces_of : ℕ → ℕ → List ℕ → List (List ℕ)
+pieces_of size zero bytes = []
+pieces_of size (suc n) bytes = take size bytes ∷ pieces_of size n (drop size bytes)
+
+-- What is made of a tree: its nodes in the order of their slots, and the node in hand. A slot is the address of a node.
+pub record Made : Type 0 where
+  pub form : Form
+  pub owner : ℕ
+  pub generation : ℕ
+  -- the identifier of the chunk tree
+  pub chunk_tree : List ℕ
+  pub slots : List ℕ
+  pub nodes : List (List ℕ)
+  pub draft : Draft
+
+-- the pointer to a node that a tree of this generation has
+abbrev pub pointer_to : ℕ → ℕ → ℕ → Pointer
+pointer_to generation level address = record { address = address; level = level; generation = generation }
+
+-- what the parent of a node will say of it
+abbrev pub expected_at : Made → ℕ → ℕ → Expect
+expected_at m level address = want m.form m.owner (pointer_to m.generation level address)
+
+-- the next node is begun
+abbrev pub begun_at : Made → ℕ → ℕ → Made
+begun_at m level address =
+    record m { draft = started_for m.form.nodesize (expected_at m level address) m.chunk_tree }
+
+-- the node in hand is made
+abbrev pub with_node : Made → List ℕ → Made
+with_node m bytes = record m { nodes = m.nodes ++ bytes ∷ [] }
+
+-- slot i, or 0 past the end
+abbrev pub slot : List ℕ → ℕ → ℕ
+slot slots i = slice_index_or slots i 0
+
+-- slots are distinct multiples of the node size
+pub record AreSlots (nodesize : ℕ) (slots : List ℕ) : Type 0 where
+  pub aligned : All (λ a. a % nodesize ≡ 0) slots
+  pub apart : AllPairs (λ a b. a ≢ b) slots
+  pub small : All (λ a. a < 2 ^ 64) slots
+
+-- the nodes stand on the disk, each at its slot
+abbrev pub StandAt : Image → ℕ → List ℕ → List (List ℕ) → Type 0
+StandAt image nodesize slots nodes = (i : ℕ) → i < length nodes → node_at image identity nodesize (slot slots i) ≡ slice_index_or nodes i []
+
+-- what the fields keep: a whole number of nodes, each with a slot
+pub record IsStock (nodesize writersize count : ℕ) (bytes slots : List ℕ) : Type 0 where
+  pub size : IsNodeSize nodesize
+  pub same : writersize ≡ nodesize
+  pub whole : length bytes ≡ nodesize * count
+  pub few : count ≤ length slots
+
+-- nothing is made yet
+pub record IsFresh (form : Form) (owner generation : ℕ) (chunk_tree slots : List ℕ) (m : Made) : Type 0 where
+  pub form_is : m.form ≡ form
+  pub owner_is : m.owner ≡ owner
+  pub generation_is : m.generation ≡ generation
+  pub chunk_tree_is : m.chunk_tree ≡ chunk_tree
+  pub slots_are : m.slots ≡ slots
+  pub no_nodes : m.nodes ≡ []
+  pub idle : m.draft.started ≡ false
+  pub no_items : m.draft.items ≡ []
+
+-- one item, or one child more in the node in hand
+abbrev pub with_item : Made → Key → List ℕ → Made
+with_item m key body = record m { draft = record m.draft { items = m.draft.items ++ (key, body) ∷ [] } }
+
+abbrev pub with_child : Made → Child → Made
+with_child m child = record m { draft = record m.draft { children = m.draft.children ++ child ∷ [] } }
+
+-- the bytes of a node are on the grammar, with what was put in
+pub record ReadsBack (draft : Draft) (bytes : List ℕ) : Type 0 where
+  pub size : length bytes ≡ draft.nodesize
+  pub leaf : draft.want.level ≡ 0 → IsLeaf draft.want bytes
+  pub items : draft.want.level ≡ 0 → items_in bytes ≡ draft.items
+  pub inner : 1 ≤ draft.want.level → IsInner draft.want bytes
+  pub links : 1 ≤ draft.want.level → children_in bytes ≡ draft.children
+
+-- the children begin an inner node in hand
+abbrev pub filled : Made → ℕ → ℕ → List Child → Made
+filled m level address children =
+    record m {
+      draft = record (started_for m.form.nodesize (expected_at m level address) m.chunk_tree) { children = children };
+    }
+
+-- A node of this level was made at the next slot, with these children, and it is this child of the level above.
+pub record IsParent (old : Made) (level : ℕ) (part : List Child) (child : Child) (new : Made) : Type 0 where
+  pub address : ℕ
+  pub bytes : List ℕ
+  pub draft : Draft
+  pub next : slice_get old.slots (length old.nodes) ≡ Some address
+  pub is : new ≡ record old { nodes = old.nodes ++ bytes ∷ []; draft = draft }
+  pub inner : IsInner (expected_at old level address) bytes
+  pub links : children_in bytes ≡ part
+  pub child_is : child ≡ record { key = (slice_index_or part 0 child).key; address = address; generation = old.generation }

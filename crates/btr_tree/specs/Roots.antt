@@ -1,0 +1,79 @@
+-- Subtrees of a tree that is being written.
+use Rattle.std.specs.Prelude.{◌≡◌, ℕ, suc, ◌+◌, ◌≤◌, Bool, List, ◌++◌, length, map, Some}
+use Rattle.std.specs.List.{All, flat_map, sum}
+use Rattle.std.specs.Int.{div_ceil}
+use Rattle.outside.specs.History.{Image}
+use Rattle.btr_node.specs.Draft.{Draft}
+use Rattle.btr_node.specs.Inner.{first_keys}
+use Rattle.btr_node.specs.Leaf.{Item, keys_of}
+use Rattle.btr_node.specs.Order.{Ascends}
+use Rattle.btr_node.specs.declared.child.Child.{Child}
+use Rattle.btr_walk.specs.Laws.{AreSubtrees}
+use Rattle.btr_walk.specs.Map.{identity}
+use Rattle.btr_walk.specs.Node.{child_pointer}
+use Rattle.btr_walk.specs.Tree.{tree_items}
+use Rattle.btr_tree.specs.Building.{Made, StandAt, pointer_to}
+use Rattle.btr_tree.specs.Builder.{Building, pushed, first_key}
+use Rattle.btr_tree.specs.Counting.{tree_nodes}
+use Rattle.btr_tree.specs.Packing.{fan_out, tree_levels}
+use Rattle.btr_tree.specs.declared.climb.Root.{Root}
+
+-- Each child is the root of a subtree that has these items and some at all, on every disk on which the nodes stand.
+pub record AreRoots (m : Made) (level : ℕ) (children : List Child) (lists : List (List Item)) : Type 0 where
+  pub keys : first_keys children ≡ map first_key lists
+  pub full : All (λ items. 1 ≤ length items) lists
+  pub one_generation : All (λ child. child.generation ≡ m.generation) children
+  pub subtrees : (image : Image) (bare : Bool) → StandAt image m.form.nodesize m.slots m.nodes
+      → AreSubtrees image identity m.form m.owner bare (map (child_pointer level) children) lists
+
+-- nodes were added, and nothing else changed but the node in hand
+pub record IsExtended (old new : Made) : Type 0 where
+  pub more : List (List ℕ)
+  pub draft : Draft
+  pub is : new ≡ record old { nodes = old.nodes ++ more; draft = draft }
+
+-- the roots of subtrees of the next level, with the same items
+pub record HasRoots (m : Made) (level : ℕ) (children : List Child) (items : List Item) : Type 0 where
+  pub lists : List (List Item)
+  pub roots : AreRoots m level children lists
+  pub items_are : flat_map (λ is. is) lists ≡ items
+
+-- The nodes of the level above were made: as many as hold the children, each one full but for the last.
+pub record IsRaised (old : Made) (children : List Child) (level : ℕ) (new : Made) (parents : List Child) : Type 0 where
+  pub extended : IsExtended old new
+  pub count : length parents ≡ div_ceil (length children) (fan_out old.form.nodesize)
+  pub made : length new.nodes ≡ length old.nodes + length parents
+  pub few : length new.nodes ≤ length new.slots
+  pub roots : (below : ℕ) (items : List Item) → level ≡ suc below → HasRoots old below children items → HasRoots new level parents items
+
+-- roots of subtrees whose keys ascend
+pub record IsForest (m : Made) (level : ℕ) (children : List Child) : Type 0 where
+  pub items : List Item
+  pub roots : HasRoots m level children items
+  pub order : Ascends (keys_of items)
+
+-- the tree of a root has these items, on every disk on which the nodes stand
+abbrev pub IsRoot : Made → ℕ → ℕ → List Item → Type 0
+IsRoot m address level items =
+    (image : Image) → StandAt image m.form.nodesize m.slots m.nodes
+    → tree_items image identity m.form (pointer_to m.generation level address) m.owner ≡ Some items
+
+-- The root was made above these leaves: it has their items, and the nodes are as many as the levels of such a tree have.
+pub record IsClimbed (old : Made) (leaves : List Child) (new : Made) (root : Root) : Type 0 where
+  pub extended : IsExtended old new
+  pub few : length new.nodes ≤ length new.slots
+  pub count : length new.nodes ≡ sum (tree_levels old.form.nodesize (length leaves))
+  pub nodes_are : root.nodes ≡ length new.nodes
+  pub root_is : (items : List Item) → HasRoots old 0 leaves items → Ascends (keys_of items) → IsRoot new root.address root.level items
+
+-- the lengths of the bodies of items
+abbrev pub lengths_of : List Item → List ℕ
+lengths_of items = map (λ item. length item.1) items
+
+-- The tree of the items that were pushed is made: its nodes are as many as packing the items gives.
+pub record IsCompleted (old new : Building) (root : Root) : Type 0 where
+  pub extended : IsExtended old.made new.made
+  pub few : length new.made.nodes ≤ length new.made.slots
+  pub count : length new.made.nodes ≡ tree_nodes old.made.form.nodesize (lengths_of (pushed old))
+  pub nodes_are : root.nodes ≡ length new.made.nodes
+  pub root_is : IsRoot new.made root.address root.level (pushed old)

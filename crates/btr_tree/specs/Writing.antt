@@ -1,0 +1,15 @@
+-- The blocks of nodes.
+use Rattle.std.specs.Prelude.{◌≡◌, ℕ, ◌+◌, ◌*◌, ◌/◌, ◌≤◌, ◌<◌, List, take, drop, Any}
+use Rattle.outside.specs.History.{Image, block_at}
+
+-- a block of the node of so many bytes at an address
+abbrev pub IsInNode : ℕ → ℕ → ℕ → Type 0
+IsInNode size address b = (address / 4096 ≤ b) × (b < address / 4096 + size / 4096)
+
+-- a block of a node at one of the slots
+abbrev pub IsInSlots : ℕ → List ℕ → ℕ → Type 0
+IsInSlots size slots b = Any (λ address. IsInNode size address b) slots
+
+-- the first n blocks from a number on hold these bytes
+abbrev pub HoldBytes : Image → ℕ → ℕ → List ℕ → Type 0
+HoldBytes image first n bytes = (j : ℕ) → j < n → block_at image (first + j) ≡ take 4096 (drop (4096 * j) bytes)

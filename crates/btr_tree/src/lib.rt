@@ -1,0 +1,30 @@
+//! The trees that are written, and how many nodes they take.
+//!
+//! A [`TreeBuilder`] is given [`Slots`] for nodes, takes the items of a tree in the order of their keys by
+//! [`TreeBuilder::push`], and writes the tree by [`TreeBuilder::finish`], whose answer is the [`Root`]. A [`Counter`] takes
+//! the lengths of a tree's items and says how many nodes the tree has. [`node_bound`] bounds that number by the sum of the
+//! items' bytes alone.
+#![tactic(auto)]
+
+mod answer;
+mod bound;
+mod builder;
+mod climb;
+mod counter;
+mod laws;
+mod levels;
+mod nodes;
+mod parents;
+mod slots;
+mod write;
+
+pub use answer::TreeAnswer;
+pub use bound::node_bound;
+pub use builder::TreeBuilder;
+pub use climb::Root;
+pub use counter::Counter;
+pub use laws::packing_is_full;
+pub use slots::Slots;
+
+#[cfg(test)]
+mod tests;

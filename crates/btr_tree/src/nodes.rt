@@ -1,0 +1,210 @@
+ghost use Rattle.std.specs.Prelude.{◌≡◌, ◌≤◌, ◌<◌, ◌+◌, ◌*◌, ◌^◌, ◌++◌, ◌∷◌, [], Some, All, length, drop, slice_get, IfOk, OnOk, OnErr, IsTrue};
+ghost use Rattle.outside.specs.Fault.{HasCause};
+ghost use Rattle.outside.specs.History.{reads, WritesOnly};
+ghost use Rattle.btr_tree.specs.Writing.{IsInSlots};
+ghost use Rattle.btr_node.specs.Draft.{room, node_bytes};
+ghost use Rattle.btr_node.specs.Inner.{first_keys};
+ghost use Rattle.btr_node.specs.Leaf.{keys_of};
+ghost use Rattle.btr_node.specs.NodeSize.{IsNodeSize};
+ghost use Rattle.btr_node.specs.Order.{Ascends};
+ghost use Rattle.btr_tree.specs.Building.{IsFresh, begun_at, with_node, with_item, with_child, ReadsBack, AreSlots, StandAt};
+ghost use Rattle.btr_tree.specs.Packing.{fan_out};
+
+use crate::Slots;
+use crate::bound::HEAD_SIZE;
+use crate::counter::CHILD_SIZE;
+use crate::write::write_node;
+use btr_keys::Key;
+use btr_node::{Child, Expect, NodeWriter};
+use btr_walk::Form;
+use outside::{Access, Disk, Fault, Memory};
+use std::alloc::Global;
+use std::marker::Model;
+
+/// The nodes of a tree that were made, and the one in hand.
+#[derive(Drop)]
+pub struct Nodes {
+    form: Form,
+    owner: u64,
+    generation: u64,
+    chunk_tree: [u8; 16],
+    slots: Slots,
+    writer: NodeWriter,
+    bytes: Vec<u8>,
+    count: usize,
+}
+
+impl Model for Nodes {
+    ghost use Rattle.btr_tree.specs.Building.{Made, IsStock, pieces_of};
+
+    ghost Value = { Made };
+
+    ghost view = { λ n. record {
+      form = n.form;
+      owner = n.owner;
+      generation = n.generation;
+      chunk_tree = n.chunk_tree;
+      slots = n.slots;
+      nodes = pieces_of n.form.nodesize n.count n.bytes.items;
+      draft = n.writer;
+    } };
+
+    ghost invariant = { λ n. IsStock n.form.nodesize n.writer.nodesize n.count n.bytes.items n.slots };
+}
+
+impl Nodes {
+    /// No node yet, of a tree with this number and generation.
+    pub fn new(
+        alloc: Global,
+        form: Form,
+        owner: u64,
+        generation: u64,
+        chunk_tree: [u8; 16],
+        slots: Slots,
+    ) -> Result<Nodes, Memory>
+        requires { IsNodeSize form.nodesize }
+        ensures { IfOk result (IsFresh form owner generation chunk_tree slots) }
+    {
+        Ok(Nodes {
+            form,
+            owner,
+            generation,
+            chunk_tree,
+            slots,
+            writer: NodeWriter::new(alloc, form.nodesize)?,
+            bytes: Vec::new(alloc),
+            count: 0,
+        })
+    }
+
+    /// How many nodes were made.
+    pub fn len(&self) -> usize
+        ensures { result ≡ length self.now.nodes }
+    {
+        self.count
+    }
+
+    /// The slot of the next node, if one is left.
+    pub fn next_slot(&self) -> Option<u64>
+        ensures { result ≡ slice_get self.now.slots (length self.now.nodes) }
+    {
+        if self.count < self.slots.len() {
+            Some(self.slots.get(self.count))
+        } else {
+            None
+        }
+    }
+
+    /// The generation of the nodes.
+    pub fn generation(&self) -> u64
+        ensures { result ≡ self.now.generation }
+    {
+        self.generation
+    }
+
+    /// How many children an inner node has at most.
+    pub fn fan_out(&self) -> usize
+        ensures exact { result ≡ fan_out self.now.form.nodesize }
+        ensures wide { 121 ≤ result }
+        ensures narrow { result < 2 ^ 16 }
+    {
+        (self.form.nodesize as usize - HEAD_SIZE as usize) / CHILD_SIZE as usize
+    }
+
+    /// Begins a node of this level at a slot.
+    pub fn begin(&mut self, level: u8, address: u64)
+        ensures { self.new ≡ begun_at self.old level address }
+    {
+        let want = Expect {
+            address,
+            fsid: self.form.fsid,
+            owner: self.owner,
+            level,
+            generation: self.generation,
+            sums: self.form.sums,
+        };
+        self.writer.start(&want, self.chunk_tree);
+    }
+
+    /// How many bytes are left in the node in hand.
+    pub fn room(&self) -> usize
+        ensures { result ≡ room self.now.draft }
+    {
+        self.writer.room()
+    }
+
+    /// Puts an item into the leaf in hand, which has room for it.
+    pub fn put_item(&mut self, key: Key, body: &[u8])
+        requires started { IsTrue self.old.draft.started }
+        requires leaf { self.old.draft.want.level ≡ 0 }
+        requires order { Ascends (keys_of self.old.draft.items ++ key ∷ []) }
+        requires room { 25 + length body.now ≤ room self.old.draft }
+        ensures { self.new ≡ with_item self.old key body.now }
+    {
+        let _ = self.writer.push(key, body);
+    }
+
+    /// Puts a child into the inner node in hand, which has room for it.
+    pub fn put_child(&mut self, child: Child)
+        requires started { IsTrue self.old.draft.started }
+        requires inner { 1 ≤ self.old.draft.want.level }
+        requires order { Ascends (first_keys self.old.draft.children ++ child.key ∷ []) }
+        requires room { 33 ≤ room self.old.draft }
+        ensures { self.new ≡ with_child self.old child }
+    {
+        let _ = self.writer.push_child(child);
+    }
+
+    /// Makes the node in hand. The node in hand stays as it is.
+    pub fn seal(&mut self) -> Result<(), Memory>
+        requires started { IsTrue self.old.draft.started }
+        requires children { 1 ≤ self.old.draft.want.level → 1 ≤ length self.old.draft.children }
+        requires slot { length self.old.nodes < length self.old.slots }
+        ensures ok { OnOk result (self.new ≡ with_node self.old (node_bytes self.old.draft)) }
+        ensures err { OnErr result (self.new ≡ self.old) }
+        ensures read { OnOk result (ReadsBack self.old.draft (node_bytes self.old.draft)) }
+    {
+        append_node(&mut self.bytes, &mut self.writer)?;
+        self.count += 1;
+        Ok(())
+    }
+
+    /// The slots that no node took, in order.
+    pub fn rest(self) -> Slots
+        ensures { result ≡ drop (length self.nodes) self.slots }
+    {
+        self.slots.without_first(self.count)
+    }
+
+    /// Writes the nodes to their slots.
+    pub fn write<D: Disk>(&self, disk: &mut D) -> Result<(), Fault>
+        requires open { D.opened disk.old ≡ Some Access.Write }
+        requires slots { AreSlots self.now.form.nodesize self.now.slots }
+        requires in_range { All (λ a. a + self.now.form.nodesize ≤ 4096 * D.size disk.old) self.now.slots }
+        ensures open { D.opened disk.new ≡ D.opened disk.old }
+        ensures size { D.size disk.new ≡ D.size disk.old }
+        ensures only { IsTrue D.tells → WritesOnly (λ b _. IsInSlots self.now.form.nodesize self.now.slots b) (D.history disk.old) (D.history disk.new) }
+        ensures written { IsTrue D.tells → OnOk result (StandAt (reads (D.history disk.new)) self.now.form.nodesize self.now.slots self.now.nodes) }
+        ensures cause { HasCause (D.faults disk.old) (D.faults disk.new) result }
+    {
+        let size = self.form.nodesize as usize;
+        for k in 0..self.count {
+            let at = size * k;
+            write_node(disk, self.slots.get(k), &self.bytes[at..at + size])?;
+        }
+        Ok(())
+    }
+}
+
+/// Appends the bytes of the node in hand. Without memory they are not appended.
+fn append_node(bytes: &mut Vec<u8>, writer: &mut NodeWriter) -> Result<(), Memory>
+    requires started { IsTrue writer.old.started }
+    requires children { 1 ≤ writer.old.want.level → 1 ≤ length writer.old.children }
+    ensures ok { OnOk result (bytes.new.items ≡ bytes.old.items ++ node_bytes writer.old) }
+    ensures err { OnErr result (bytes.new.items ≡ bytes.old.items) }
+    ensures read { ReadsBack writer.old (node_bytes writer.old) }
+    ensures same { writer.new ≡ writer.old }
+{
+    bytes.extend_from_slice(writer.finish())?;
+    Ok(())
+}

@@ -1,0 +1,83 @@
+ghost use Rattle.std.specs.Prelude.{◌≡◌, ◌≤◌, ◌+◌};
+ghost use Rattle.btr_node.specs.NodeSize.{IsNodeSize};
+
+use crate::{Counter, Slots, TreeAnswer, TreeBuilder, node_bound};
+use btr_keys::Key;
+use csum_kinds::SumKind;
+use outside::{Access, Disk};
+use outside_mem::MemDisk;
+use std::test::Fail;
+use vol_block::Ids;
+
+/// A counter of so many items with bodies of one length.
+fn counted(nodesize: u32, items: u64, length: usize) -> Counter
+    requires size { IsNodeSize nodesize }
+    requires few { items ≤ 1000 }
+    requires fits { length + 126 ≤ nodesize }
+{
+    let mut tree = Counter::new(nodesize);
+    for _ in 0..items {
+        tree.add(length);
+    }
+    tree
+}
+
+// The numbers of nodes are those of a slow program in another language, which packs the items into lists.
+#[test]
+fn nodes_of_trees(rt: HostRuntime) {
+    assert_eq!(rt; counted(16384, 88, 160).finish(), 1);
+    assert_eq!(rt; counted(16384, 89, 160).finish(), 3);
+    assert_eq!(rt; counted(4096, 0, 0).finish(), 1);
+    assert_eq!(rt; counted(4096, 2, 3970).finish(), 3);
+    assert_eq!(rt; counted(4096, 1000, 1000).finish(), 338);
+    assert_eq!(rt; counted(8192, 1000, 2000).finish(), 337);
+    assert_eq!(rt; counted(32768, 1000, 3970).finish(), 126);
+    assert_eq!(rt; counted(65536, 1000, 3970).finish(), 64);
+}
+
+#[test]
+fn nodes_of_levels(rt: HostRuntime) {
+    let counter = counted(4096, 122, 3970);
+    assert_eq!(rt; counter.finish(), 125);
+    assert_eq!(rt; counter.level_nodes(0), 122);
+    assert_eq!(rt; counter.level_nodes(1), 2);
+    assert_eq!(rt; counter.level_nodes(2), 1);
+    assert_eq!(rt; counter.level_nodes(3), 0);
+    assert_eq!(rt; counter.level_nodes(255), 0);
+}
+
+#[test]
+fn bounds(rt: HostRuntime) {
+    assert_eq!(rt; node_bound(0, 16384), 10);
+    assert_eq!(rt; node_bound(20631, 16384), 12);
+}
+
+const IDS: Ids = Ids {
+    fsid: [0x11; 16],
+    device: [0x22; 16],
+    chunk_tree: [0x33; 16],
+    subvolume: [0x44; 16],
+};
+
+fn key(objectid: u64) -> Key
+    ensures { result ≡ record { objectid = objectid; kind = 1; offset = 0 } }
+{
+    Key {
+        objectid,
+        kind: 1,
+        offset: 0,
+    }
+}
+
+#[test]
+fn no_slot_for_a_leaf(rt: HostRuntime) -> Result<(), Fail> {
+    let mut disk = MemDisk::new(rt.alloc(), 32)?;
+    disk.open("", Access::Write)?;
+    let slots = Slots::new(rt.alloc());
+    let mut tree = TreeBuilder::new(rt.alloc(), 5, 1, slots, IDS, 4096, SumKind::Crc32c)?;
+    let pushed = tree.push(&mut disk, key(256), b"body");
+    assert_eq!(rt; pushed, Err(TreeAnswer::OutOfSlots));
+    assert!(rt; tree.spent());
+    assert_eq!(rt; disk.writes(), 0);
+    Ok(())
+}

@@ -1,0 +1,17 @@
+use Rattle.std.proofs.Common.{◌≡◌, ◌≤◌, ◌+◌, ◌*◌, ◌/◌, ℕ, length, IsTrue}
+use Rattle.outside.specs.History.{Image}
+use Rattle.reiser_files.specs.Pieces.{OverlaysNamed, joined_at}
+use Rattle.reiser_files.specs.States.{HoldsBytes}
+use Rattle.reiser_files.proofs.marker.FileMarker.put_pointers.Given as goal
+
+abbrev pub invariant-loop-j : goal.invariant-loop-j
+invariant-loop-j g l = record {
+  kept : g.S.BlockSource.kept l.fn.src l.src;
+  later : g.S.BlockSource.faults l.fn.src ≤ g.S.BlockSource.faults l.src;
+  size : l.self.size ≡ l.fn.self.size;
+  next : l.fn.self.next ≤ l.first → l.self.next ≤ l.first + l.j;
+  none : length l.body / 4 ≡ 0 → l.self ≡ l.fn.self;
+  -- the blocks of the pointers before pointer j have gone over
+  bytes : IsTrue g.S.BlockSource.tells → (image : Image) → g.S.BlockSource.blocks l.fn.src ≡ image → (f g' : ℕ → ℕ) → OverlaysNamed image l.fn.self.size l.first l.body f g'
+      → l.fn.self.next ≤ l.first → HoldsBytes l.fn.self f → HoldsBytes l.self (joined_at (4096 * (l.first + l.j)) g' f);
+}

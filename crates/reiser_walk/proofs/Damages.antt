@@ -1,0 +1,16 @@
+-- A rule that fails is among the damages.
+use Rattle.std.proofs.Common.{◌≡◌, ℕ, Bool, false, ◌++◌, Contains, refl, arith}
+use Rattle.std.proofs.lemmas.List.Elements.{Contains-append_left, Contains-append_right}
+use Rattle.outside.specs.declared.refusal.VolumeRefusal.TheVariants.{Damaged}
+use Rattle.outside.specs.declared.rule.Rule.{Rule}
+use Rattle.outside.specs.declared.rule.Rule.TheVariants.{KeyOrder, Body}
+use Rattle.reiser_walk.specs.Rules.{unless}
+
+pub unless_in : (test : Bool) (b : ℕ) (r : Rule) → test ≡ false → Contains (unless test b r) (Damaged b r)
+unless_in test b r e = rw e (0, omega arith, refl)
+
+pub order_in : (above body : Bool) (b : ℕ) → above ≡ false → Contains (unless above b KeyOrder ++ unless body b Body) (Damaged b KeyOrder)
+order_in above body b e = Contains-append_left _ _ _ (unless_in above b KeyOrder e)
+
+pub body_in : (above body : Bool) (b : ℕ) → body ≡ false → Contains (unless above b KeyOrder ++ unless body b Body) (Damaged b Body)
+body_in above body b e = Contains-append_right (unless above b KeyOrder) _ _ (unless_in body b Body e)

@@ -1,0 +1,11 @@
+pub mod Claims
+pub mod Counting
+pub mod Damages
+pub mod Events
+pub mod Given
+pub mod Lists
+pub mod Paths
+pub mod Rules
+pub mod Standing
+pub mod Taking
+pub mod Walking

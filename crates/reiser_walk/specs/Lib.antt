@@ -1,0 +1,10 @@
+pub mod Answers
+pub mod Bodies
+pub mod Hand
+pub mod Items
+pub mod Laws
+pub mod Marks
+pub mod Rules
+pub mod Stats
+pub mod Tree
+pub mod Walks

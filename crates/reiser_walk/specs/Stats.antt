@@ -1,0 +1,22 @@
+-- How many objects a tree has.
+use Rattle.std.specs.Prelude.{ℕ, Bool, true, false, count_by}
+use Rattle.outside.specs.History.{Image}
+use Rattle.reiser_node.specs.declared.head.ItemKind.{ItemKind}
+use Rattle.reiser_node.specs.declared.head.ItemKind.TheVariants.{Stat, Indirect, Direct, Directory}
+use Rattle.reiser_walk.specs.declared.tree.Tree.{Tree}
+use Rattle.reiser_walk.specs.Items.{Item}
+use Rattle.reiser_walk.specs.Tree.{items_of}
+
+abbrev pub is_stat_kind : ItemKind → Bool
+is_stat_kind Stat = true
+is_stat_kind Indirect = false
+is_stat_kind Direct = false
+is_stat_kind Directory = false
+
+-- each object has one stat item
+abbrev pub is_stat : Item → Bool
+is_stat i = is_stat_kind i.head.kind
+
+-- the stat items of the tree of a volume of n blocks
+abbrev pub stat_count : Tree → Image → ℕ → ℕ
+stat_count tree image n = count_by is_stat (items_of tree image n)

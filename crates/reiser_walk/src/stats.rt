@@ -1,0 +1,48 @@
+ghost use Rattle.std.specs.Prelude.{◌≡◌, ◌≤◌, ◌<◌, ◌^◌, [], false, length, IsTrue, IfOk, IfErr, OnOk};
+ghost use Rattle.outside.specs.Fault.{HasCauseOf};
+ghost use Rattle.outside.specs.History.{Image};
+ghost use Rattle.reiser_walk.specs.Answers.{IsTreeAnswer, Blames};
+ghost use Rattle.reiser_walk.specs.Rules.{tree_damages};
+ghost use Rattle.reiser_walk.specs.Stats.{is_stat_kind, stat_count};
+ghost use Rattle.reiser_walk.specs.Walks.{Walks, block_count};
+
+use crate::Walker;
+use outside::{BlockSource, VolAnswer};
+use reiser_bitmap::Bitmap;
+use reiser_node::ItemKind;
+
+/// How many stat items the tree has that a walker is about to walk, if it keeps each rule: one for each object.
+///
+/// This is also the pattern for all that goes over the items of a tree: what was counted so far is a word on the items
+/// that the walker has given, and at the end these are the items of the tree.
+pub fn count_stats<S: BlockSource>(
+    walker: &mut Walker,
+    src: &mut S,
+    map: &Bitmap,
+) -> Result<u64, VolAnswer>
+    requires unspent { walker.old.spent ≡ false }
+    requires same { block_count walker.old ≡ length map.now }
+    requires few { length map.now < 2 ^ 32 }
+    requires source { length map.now ≤ S.size src.old }
+    ensures kept { S.kept src.old src.new }
+    ensures cause { HasCauseOf VolAnswer.Fault (S.faults src.old) (S.faults src.new) result }
+    ensures answers { IfErr result IsTreeAnswer }
+    ensures count { IsTrue S.tells → (image : Image) → S.blocks src.old ≡ image → Walks walker.old image map.now [] →
+        IfOk result (λ n. n ≡ stat_count walker.old.tree image (length map.now)) }
+    ensures sound { IsTrue S.tells → (image : Image) → S.blocks src.old ≡ image → Walks walker.old image map.now [] → OnOk result (tree_damages walker.old.tree image map.now ≡ []) }
+    ensures damage { IsTrue S.tells → (image : Image) → S.blocks src.old ≡ image → Walks walker.old image map.now [] → IfErr result (Blames walker.old.tree image map.now) }
+{
+    let mut count = 0;
+    while walker.advance(src, map)? {
+        if is_stat(walker.head().kind) {
+            count += 1;
+        }
+    }
+    Ok(count)
+}
+
+fn is_stat(kind: ItemKind) -> bool
+    ensures { result ≡ is_stat_kind kind }
+{
+    matches!(kind, ItemKind::Stat)
+}

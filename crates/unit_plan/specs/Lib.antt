@@ -1,0 +1,4 @@
+pub mod Choice
+pub mod Chunks
+pub mod Laws
+pub mod Needed

@@ -1,0 +1,78 @@
+-- The space that a conversion needs, in units of 1 MiB. The bytes of each tree are an upper bound of what its items take,
+-- by the counts alone.
+use Rattle.std.specs.Prelude.{ℕ, ◌+◌, ◌*◌, ◌/◌, ◌^◌, ◌<◌}
+use Rattle.std.specs.Int.{div_ceil}
+use Rattle.csum_kinds.specs.declared.kind.SumKind.{SumKind}
+use Rattle.csum_kinds.specs.declared.kind.SumKind.TheVariants.{Crc32c}
+use Rattle.btr_tree.specs.Counting.{node_bound}
+use Rattle.unit_plan.specs.declared.counts.Counts.{Counts}
+use Rattle.unit_plan.specs.declared.need.Need.{Need}
+use Rattle.unit_plan.specs.declared.options.Options.{Options}
+
+-- a bound of the nodes of a tree whose items take so many bytes, at nodes of 16 KiB, of which 64 fill a unit
+abbrev pub nodes_for : ℕ → ℕ
+nodes_for bytes = node_bound bytes 16384
+
+-- No plan has more chunks: each run of free units may begin a chunk, and one may begin behind it; a few more begin where
+-- roles change without that; and every 1024 units a chunk is cut.
+abbrev pub chunk_bound : ℕ → ℕ → ℕ
+chunk_bound runs blocks = 2 * runs + 8 + div_ceil blocks (2 ^ 18)
+
+-- inodes, names and file extents of the tree of files
+abbrev pub file_tree_bytes : Counts → ℕ
+file_tree_bytes c = 400 + 185 * c.objects + 153 * c.names + 3 * c.letters + 78 * c.pieces + 46 * c.inlines + c.inline_bytes
+
+-- the tree of the saved image
+abbrev pub image_tree_bytes : Counts → ℕ
+image_tree_bytes c = 1000 + 78 * c.pieces
+
+-- a checksum for each block of data, and items of 900 blocks at most
+abbrev pub checksum_tree_bytes : SumKind → Counts → ℕ
+checksum_tree_bytes Crc32c c = 4 * c.piece_blocks + 25 * (c.pieces + c.piece_blocks / 900)
+
+-- trees whose size goes by the number of chunks
+abbrev pub device_tree_bytes : ℕ → ℕ
+device_tree_bytes chunks = 73 * chunks
+
+abbrev pub chunk_tree_bytes : ℕ → ℕ
+chunk_tree_bytes chunks = 105 * chunks + 123
+
+abbrev pub chunk_nodes : Counts → ℕ
+chunk_nodes c = nodes_for (chunk_tree_bytes (chunk_bound c.runs c.blocks))
+
+-- the nodes of all trees but the chunk tree and the extent tree; the root tree has 8192 bytes at most, and the tree for
+-- relocation 1000
+abbrev pub other_nodes : SumKind → Counts → ℕ
+other_nodes sums c =
+    nodes_for (file_tree_bytes c) + nodes_for (image_tree_bytes c) + nodes_for (checksum_tree_bytes sums c)
+    + nodes_for (device_tree_bytes (chunk_bound c.runs c.blocks)) + nodes_for 8192 + nodes_for 1000
+
+-- an extent for each piece and each node of the other trees, and a block group for each chunk
+abbrev pub extent_tree_bytes : SumKind → Counts → ℕ
+extent_tree_bytes sums c = 107 * c.pieces + 49 * chunk_bound c.runs c.blocks + 58 * (other_nodes sums c + chunk_nodes c)
+
+-- the extent tree has extents of its own nodes too
+abbrev pub extent_nodes : SumKind → Counts → ℕ
+extent_nodes sums c = 2 * nodes_for (extent_tree_bytes sums c) + 16
+
+abbrev pub need : Counts → Options → Need
+need c options =
+    record {
+      system = div_ceil (chunk_nodes c) 64;
+      metadata = div_ceil (other_nodes options.sums c + extent_nodes options.sums c) 64;
+      data_ = div_ceil (c.copies + c.tails) 256;
+    }
+
+-- what the counts of a volume of at most 2^29 blocks keep
+pub record AreSmall (c : Counts) : Type 0 where
+  pub blocks : c.blocks < 2 ^ 50
+  pub runs : c.runs < 2 ^ 50
+  pub pieces : c.pieces < 2 ^ 50
+  pub piece_blocks : c.piece_blocks < 2 ^ 50
+  pub copies : c.copies < 2 ^ 50
+  pub tails : c.tails < 2 ^ 50
+  pub objects : c.objects < 2 ^ 50
+  pub names : c.names < 2 ^ 50
+  pub letters : c.letters < 2 ^ 50
+  pub inlines : c.inlines < 2 ^ 50
+  pub inline_bytes : c.inline_bytes < 2 ^ 50
