@@ -1,0 +1,7 @@
+pub mod Reading
+pub mod Summaries
+pub mod Broken
+pub mod Checking
+pub mod Ordered
+pub mod Reaching
+pub mod Tables

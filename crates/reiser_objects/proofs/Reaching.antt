@@ -1,0 +1,162 @@
+-- How the set of named objects grows, and that in the end it is whole.
+use Rattle.std.proofs.Common.{◌≡◌, ℕ, zero, suc, ◌+◌, ◌<◌, ◌≤◌, ◌==◌, Bool, true, false, not, cond, ◌||◌, List, [], ◌∷◌, length, filter, take, drop, get_or, Option, Some, None, is_some, Contains, ◌⊎◌, inl, inr, ⊎_elim, refl, sym, ap, subst, ◌∙◌, true≢false, if◌then◌else◌, arith}
+use Rattle.std.proofs.lemmas.List.Elements.{Contains-get_or, Contains-push_cases, Contains-append_cases, Contains-append_right}
+use Rattle.std.proofs.lemmas.List.{take_more}
+use Rattle.std.proofs.lemmas.List.Sums.{sum_by-le-sum_by, sum_by-take-drop, sum_by-drop_more}
+use Rattle.outside.specs.declared.answer.VolAnswer.{VolAnswer}
+use Rattle.outside.specs.declared.answer.VolAnswer.TheVariants.{Refused}
+use Rattle.outside.specs.declared.refusal.VolumeRefusal.TheVariants.{Damaged}
+use Rattle.outside.specs.declared.rule.Rule.TheVariants.{ObjectForm}
+use Rattle.fs_rows.specs.declared.row.Kind.TheVariants.{Directory, File, Symlink, Character, Block, Fifo, Socket}
+use Rattle.reiser_walk.specs.Items.{Item}
+use Rattle.reiser_objects.specs.declared.key.ObjectKey.{ObjectKey}
+use Rattle.reiser_objects.specs.declared.naming.Naming.{Naming}
+use Rattle.reiser_objects.specs.declared.stat.ObjectStat.{ObjectStat}
+use Rattle.reiser_objects.specs.Keys.{same_key, root}
+use Rattle.reiser_objects.specs.Kinds.{kind_of_code, is_directory_mode}
+use Rattle.reiser_objects.specs.Items.{stat_of_object}
+use Rattle.reiser_objects.specs.Names.{is_followed, namings, followed, IsNamed, IsReachedBy}
+use Rattle.reiser_objects.specs.Rules.{other_root, no_stat}
+use Rattle.reiser_objects.specs.Reach.{Refuses, Keys, IsSeen, AreSeen, Closes, waiting, Keeps, Follows, Spreads}
+use Rattle.reiser_objects.specs.declared.table.Objects.{Objects}
+use Rattle.reiser_objects.specs.Table.{HasNoted}
+use Rattle.reiser_objects.proofs.Tables.{same_key-true}
+
+-- the head of a list is an element
+pub head_is : {X : Type 0} (y : X) (ys : List X) (x : X) → y ≡ x → Contains (y ∷ ys) x
+head_is y ys x e = (0, omega arith, e)
+
+only : {X : Type 0} (y x : X) → Contains (y ∷ []) x → y ≡ x
+only y x c = ⊎_elim (λ none. absurd (omega (arith, none.1))) (λ e. e) (Contains-push_cases [] y x c)
+
+module _ {X : Type 0} (p : X → Bool) where
+  -- an element that passes is among those that do
+  pub Contains-filter : (xs : List X) (x : X) → Contains xs x → p x ≡ true → Contains (filter p xs) x
+  Contains-filter [] x h pass = absurd (omega (arith, h.1))
+  Contains-filter (y ∷ xs) x h pass = by (p y) refl (λ other. Contains-filter xs x other pass)
+    where
+      by : (b : Bool) → p y ≡ b → (Contains xs x → Contains (filter p xs) x) → Contains (if b then y ∷ filter p xs else filter p xs) x
+      by true e more = ⊎_elim (λ own. head_is y (filter p xs) x (only y x own)) (λ other. Contains-append_right (y ∷ []) (filter p xs) x (more other)) (Contains-append_cases (y ∷ []) xs x h)
+      by false e more = ⊎_elim (λ own. absurd (true≢false (sym pass ∙ (ap p (sym (only y x own)) ∙ e)))) (λ other. more other) (Contains-append_cases (y ∷ []) xs x h)
+
+  -- and the other way round
+  pub from_filter : (xs : List X) (x : X) → Contains (filter p xs) x → Contains xs x × (p x ≡ true)
+  from_filter [] x h = absurd (omega (arith, h.1))
+  from_filter (y ∷ xs) x h = by (p y) refl (λ other. from_filter xs x other) h
+    where
+      onto : Contains xs x × (p x ≡ true) → Contains (y ∷ xs) x × (p x ≡ true)
+      onto r = (Contains-append_right (y ∷ []) xs x r.0, r.1)
+
+      by : (b : Bool) → p y ≡ b → (Contains (filter p xs) x → Contains xs x × (p x ≡ true)) → Contains (if b then y ∷ filter p xs else filter p xs) x → Contains (y ∷ xs) x × (p x ≡ true)
+      by true e more h = ⊎_elim (λ own. (head_is y xs x (only y x own), sym (ap p (only y x own)) ∙ e)) (λ other. onto (more other)) (Contains-append_cases (y ∷ []) (filter p xs) x h)
+      by false e more h = onto (more h)
+
+-- an entry that counts names an object without stat data
+pub unstated : (items : List Item) (n : Naming) (e : VolAnswer) → Contains (namings items) n → is_followed n ≡ true → IsNamed items n.dir → is_some (stat_of_object items n.target) ≡ false → e ≡ Refused (Damaged n.leaf ObjectForm) → (root_block : ℕ) → Refuses root_block items e
+unstated items n e among counts named none is root_block =
+    subst (Refuses root_block items) (sym is) (no_stat n (Contains-filter is_followed (namings items) n among counts) named (nothing (stat_of_object items n.target) none) refl)
+  where
+    nothing : (s : Option ObjectStat) → is_some s ≡ false → s ≡ None
+    nothing None h = refl
+    nothing (Some s) h = cc
+
+or_cases : (a b : Bool) → (a || b) ≡ true → (a ≡ true) ⊎ (b ≡ true)
+or_cases true b h = inl refl
+or_cases false b h = inr h
+
+-- what an entry that counts names is seen
+pub seen_more : (items : List Item) (n : Naming) (old new : Keys) → Contains (namings items) n → is_followed n ≡ true → old n.dir ≡ true → is_some (stat_of_object items n.target) ≡ true
+    → AreSeen items old → ((q : ObjectKey) → new q ≡ (same_key n.target q || old q)) → AreSeen items new
+seen_more items n old new among counts dir stated seen grows key has =
+    ⊎_elim (λ own. subst (IsSeen items) (same_key-true n.target key own) here) (λ before. seen key before) (or_cases (same_key n.target key) (old key) (sym (grows key) ∙ has))
+  where
+    here : IsSeen items n.target
+    here = let d = (seen n.dir dir).named in record { named = (suc d.0, (n, Contains-filter is_followed (namings items) n among counts, refl, d.1)); has_stat = stated }
+
+-- no other code is that of a directory
+not_directory : (a b c d e f : Bool) → (if a then Some File else (if b then Some Symlink else (if c then Some Character else (if d then Some Block else (if e then Some Fifo else (if f then Some Socket else None)))))) ≡ Some Directory → ⊥
+not_directory true b c d e f h = cc
+not_directory false true c d e f h = cc
+not_directory false false true d e f h = cc
+not_directory false false false true e f h = cc
+not_directory false false false false true f h = cc
+not_directory false false false false false true h = cc
+not_directory false false false false false false h = cc
+
+-- the code of a directory
+pub code_of_directory : (code : ℕ) (b : Bool) → (code == 4) ≡ b → kind_of_code code ≡ Some Directory → b ≡ true
+code_of_directory code true is kind = refl
+code_of_directory code false is kind =
+    absurd (not_directory (code == 8) (code == 10) (code == 2) (code == 6) (code == 1) (code == 12)
+    (sym (ap (λ (b : Bool). if b then Some Directory else (if code == 8 then Some File else (if code == 10 then Some Symlink else (if code == 2 then Some Character else (if code == 6 then Some Block else (if code == 1 then Some Fifo else (if code == 12 then Some Socket else None))))))) is) ∙ kind))
+
+-- a root that is no directory
+pub other_root_refused : (items : List Item) (root_block : ℕ) (stat : ObjectStat) (e : VolAnswer) → stat_of_object items root ≡ Some stat → is_directory_mode stat.fields.mode ≡ false → e ≡ Refused (Damaged stat.leaf ObjectForm) → Refuses root_block items e
+other_root_refused items root_block stat e has other is =
+    subst (Refuses root_block items) (sym is) (other_root stat has (λ kind. true≢false (sym (code_of_directory _ _ refl kind) ∙ other)) refl)
+
+abbrev weight : Keys → Naming → ℕ
+weight has n = cond (not (has n.target)) 1 0
+
+-- fewer or as many entries are waiting where a set only grows
+waiting_grows : (ns : List Naming) (old new : Keys) → Keeps old new → waiting ns new ≤ waiting ns old
+waiting_grows ns old new keeps = sum_by-le-sum_by _ _ ns (λ n. one (old n.target) (new n.target) (keeps n.target))
+  where
+    one : (a b : Bool) → (a ≡ true → b ≡ true) → cond (not b) 1 0 ≤ cond (not a) 1 0
+    one true true h = omega arith
+    one false true h = omega arith
+    one false false h = omega arith
+    one true false h = absurd (true≢false (sym (h refl)))
+
+-- fewer where it gains what one of them names
+waiting_falls : (ns : List Naming) (n : Naming) (old new : Keys) → Keeps old new → Contains ns n → old n.target ≡ false → new n.target ≡ true → waiting ns new < waiting ns old
+waiting_falls ns n old new keeps among before after =
+    let k : ℕ = among.0 in
+    let early = waiting_grows (take k ns) old new keeps in
+    let late = waiting_grows (drop (k + 1) ns) old new keeps in
+    let was : weight old (get_or ns k n) ≡ 1 = ap (λ (m : Naming). weight old m) among.2 ∙ ap (λ (b : Bool). cond (not b) 1 0) before in
+    let is : weight new (get_or ns k n) ≡ 0 = ap (λ (m : Naming). weight new m) among.2 ∙ ap (λ (b : Bool). cond (not b) 1 0) after in
+    omega (arith, early, late, was, is, sum_by-take-drop (weight old) ns k, sum_by-take-drop (weight new) ns k, sum_by-drop_more (weight old) ns k n among.1, sum_by-drop_more (weight new) ns k n among.1)
+
+or_false_left : (a b : Bool) → (a || b) ≡ false → a ≡ false
+or_false_left true b h = h
+or_false_left false b h = refl
+
+or_false_right : (a b : Bool) → (a || b) ≡ false → b ≡ false
+or_false_right true b h = cc
+or_false_right false b h = h
+
+unchanged_closes : (n : Naming) (old new : Keys) → ((key : ObjectKey) → new key ≡ old key) → Closes old n → Closes new n
+unchanged_closes n old new same closed counts dir = same n.target ∙ closed counts (sym (same n.dir) ∙ dir)
+
+-- one more entry was followed
+pub spread_more : (all : List Naming) (i : ℕ) (n : Naming) (first old new : Keys) (before more : Bool) → get_or all i n ≡ n → i < length all
+    → Spreads all (take i all) first old before → Follows n old new more → Spreads all (take (i + 1) all) first new (before || more)
+spread_more all i n first old new before more at within s f = record {
+  keeps = λ key has. f.keeps key (s.keeps key has);
+  less = omega (arith, waiting_grows all old new f.keeps, s.less);
+  fewer = fewer before more s f;
+  same = λ none key. f.same (or_false_right before more none) key ∙ s.same (or_false_left before more none) key;
+  closed = λ none m among.
+      ⊎_elim (λ old_one. unchanged_closes m old new (f.same (or_false_right before more none)) (s.closed (or_false_left before more none) m old_one))
+      (λ this. subst (Closes new) (sym at ∙ this) (f.closed (or_false_right before more none)))
+      (Contains-push_cases (take i all) (get_or all i n) m (subst (λ (l : List Naming). Contains l m) (take_more all i n within) among));
+}
+  where
+    fewer : (b m : Bool) → Spreads all (take i all) first old b → Follows n old new m → (b || m) ≡ true → waiting all new < waiting all first
+    fewer true m s f h = omega (arith, waiting_grows all old new f.keeps, s.fewer refl)
+    fewer false true s f h = omega (arith, waiting_falls all n old new f.keeps (i, within, at) (f.before refl) (f.after refl), s.less)
+    fewer false false s f h = cc
+
+-- a set that holds the root and that no entry leaves holds each named object
+pub closed_is_whole : (items : List Item) (has : Keys) → has root ≡ true → ((n : Naming) → Contains (namings items) n → Closes has n) → (key : ObjectKey) → IsNamed items key → has key ≡ true
+closed_is_whole items has root_in closed key named = by named.0 key named.1
+  where
+    by : (steps : ℕ) (k : ObjectKey) → IsReachedBy (followed items) steps k → has k ≡ true
+    by zero k is = ap has is ∙ root_in
+    by (suc steps) k r = let f = from_filter is_followed (namings items) r.0 r.1 in sym (ap has r.2) ∙ closed r.0 f.0 f.1 (by steps r.0.dir r.3)
+
+-- the naming at an index is one of the items that were noted
+pub indexed_naming : (t : Objects) (items : List Item) (i : ℕ) (n : Naming) → HasNoted t items → i < length t.namings.items → n ≡ get_or t.namings.items i n → Contains (namings items) n
+indexed_naming t items i n noted within at =
+    subst (λ (ns : List Naming). Contains ns n) noted.namings (subst (Contains t.namings.items) (sym at) (Contains-get_or t.namings.items i n within))

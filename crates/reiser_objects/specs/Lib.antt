@@ -1,0 +1,10 @@
+pub mod Items
+pub mod Keys
+pub mod Kinds
+pub mod Laws
+pub mod Names
+pub mod Reach
+pub mod Read
+pub mod Rules
+pub mod Summary
+pub mod Table

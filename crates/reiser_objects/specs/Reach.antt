@@ -1,0 +1,91 @@
+-- How the objects that the root reaches are found: a set of keys that grows along the entries.
+use Rattle.std.specs.Prelude.{◌≡◌, ℕ, ◌≤◌, ◌<◌, Bool, true, false, not, List, Contains, is_some, count_by}
+use Rattle.outside.specs.declared.answer.VolAnswer.{VolAnswer}
+use Rattle.outside.specs.declared.answer.VolAnswer.TheVariants.{Refused, Fault, Memory}
+use Rattle.outside.specs.declared.refusal.VolumeRefusal.{VolumeRefusal}
+use Rattle.outside.specs.declared.refusal.VolumeRefusal.TheVariants.{NotVolume, Unclean, Unsupported, Short, JournalPending, Damaged, HasAttributes, PendingLinks, NameTaken, NameTooLong, HashCrowd}
+use Rattle.outside.specs.declared.rule.Rule.{Rule}
+use Rattle.outside.specs.declared.rule.Rule.TheVariants.{ObjectForm, Overlap, SizeRange}
+use Rattle.std.specs.Prelude.{[], ◌∷◌}
+use Rattle.reiser_walk.specs.Items.{Item}
+use Rattle.reiser_objects.specs.declared.key.ObjectKey.{ObjectKey}
+use Rattle.reiser_objects.specs.declared.naming.Naming.{Naming}
+use Rattle.reiser_objects.specs.Keys.{root}
+use Rattle.reiser_objects.specs.Items.{stat_of_object}
+use Rattle.reiser_objects.specs.Names.{is_followed, IsNamed}
+use Rattle.reiser_objects.specs.Rules.{IsDirectory, IsObjectsRefusal}
+
+-- the rules of objects
+abbrev pub object_rules : List Rule
+object_rules = ObjectForm ∷ Overlap ∷ SizeRange ∷ []
+
+-- a refusal that names a rule of objects, or a save link
+abbrev pub IsObjectsRule : VolumeRefusal → Type 0
+IsObjectsRule NotVolume = ⊥
+IsObjectsRule (Unclean state) = ⊥
+IsObjectsRule (Unsupported feature value) = ⊥
+IsObjectsRule (Short volume device) = ⊥
+IsObjectsRule (JournalPending trans) = ⊥
+IsObjectsRule (Damaged block rule) = Contains object_rules rule
+IsObjectsRule (HasAttributes dir object) = ⊥
+IsObjectsRule (PendingLinks object) = Unit {0}
+IsObjectsRule (NameTaken dir object) = ⊥
+IsObjectsRule (NameTooLong dir object length) = ⊥
+IsObjectsRule (HashCrowd dir object hash) = ⊥
+
+-- what is answered of objects, whatever their items are
+abbrev pub IsObjectsAnswer : VolAnswer → Type 0
+IsObjectsAnswer (Refused refusal) = IsObjectsRule refusal
+IsObjectsAnswer Fault = ⊥
+IsObjectsAnswer Memory = Unit {0}
+
+-- the refusal is one of these items, or there was no memory
+abbrev pub Refuses : ℕ → List Item → VolAnswer → Type 0
+Refuses root_block items (Refused refusal) = IsObjectsRefusal root_block items refusal
+Refuses root_block items Fault = ⊥
+Refuses root_block items Memory = Unit {0}
+
+-- a set of keys, as a test
+abbrev pub Keys : Type 0
+Keys = ObjectKey → Bool
+
+-- the object is named, and has stat data
+pub record IsSeen (items : List Item) (key : ObjectKey) : Type 0 where
+  pub named : IsNamed items key
+  pub has_stat : is_some (stat_of_object items key) ≡ true
+
+abbrev pub AreSeen : List Item → Keys → Type 0
+AreSeen items has = (key : ObjectKey) → has key ≡ true → IsSeen items key
+
+-- where the entry counts and its directory is in the set, what it names is too
+abbrev pub Closes : Keys → Naming → Type 0
+Closes has n = is_followed n ≡ true → has n.dir ≡ true → has n.target ≡ true
+
+-- how many entries name an object that is not in the set
+abbrev pub waiting : List Naming → Keys → ℕ
+waiting ns has = count_by (λ n. not (has n.target)) ns
+
+abbrev pub Keeps : Keys → Keys → Type 0
+Keeps old new = (key : ObjectKey) → old key ≡ true → new key ≡ true
+
+-- one entry was followed: what it names is new, or nothing changed
+pub record Follows (n : Naming) (old new : Keys) (more : Bool) : Type 0 where
+  pub keeps : Keeps old new
+  pub before : more ≡ true → old n.target ≡ false
+  pub after : more ≡ true → new n.target ≡ true
+  pub same : more ≡ false → (key : ObjectKey) → new key ≡ old key
+  pub closed : more ≡ false → Closes new n
+
+-- some of all entries were followed: fewer are waiting, or nothing changed
+pub record Spreads (all some : List Naming) (old new : Keys) (more : Bool) : Type 0 where
+  pub keeps : Keeps old new
+  pub less : waiting all new ≤ waiting all old
+  pub fewer : more ≡ true → waiting all new < waiting all old
+  pub same : more ≡ false → (key : ObjectKey) → new key ≡ old key
+  pub closed : more ≡ false → (n : Naming) → Contains some n → Closes new n
+
+-- the keys of exactly the named objects, which all have stat data
+pub record IsReach (items : List Item) (has : Keys) : Type 0 where
+  pub seen : AreSeen items has
+  pub whole : (key : ObjectKey) → IsNamed items key → has key ≡ true
+  pub root_directory : IsDirectory items root

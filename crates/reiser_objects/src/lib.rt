@@ -1,0 +1,24 @@
+//! The objects of a ReiserFS volume: what the items of its tree say of each, and which of them the root reaches.
+#![tactic(auto)]
+
+mod check;
+mod key;
+mod kinds;
+mod laws;
+mod naming;
+mod object;
+mod reach;
+mod read;
+mod stat;
+mod table;
+
+pub use key::ObjectKey;
+pub use laws::refusals_break_rules;
+pub use naming::Naming;
+pub use object::Object;
+pub use reach::{ROOT, is_followed};
+pub use stat::ObjectStat;
+pub use table::Objects;
+
+#[cfg(test)]
+mod tests;

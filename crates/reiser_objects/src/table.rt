@@ -1,0 +1,165 @@
+ghost use Rattle.std.specs.Prelude.{◌≡◌, ℕ, ◌++◌, ◌∷◌, [], List, OnOk, map, filter, if◌then◌else◌};
+ghost use Rattle.reiser_items.specs.Entries.{entry_value};
+ghost use Rattle.reiser_walk.specs.Items.{Item};
+ghost use Rattle.reiser_objects.specs.Items.{stat_of_object, is_directory_at};
+ghost use Rattle.reiser_objects.specs.Keys.{key_of, items_of};
+ghost use Rattle.reiser_objects.specs.Names.{is_listed, naming_by, namings_in};
+ghost use Rattle.reiser_objects.specs.Summary.{Summarises};
+ghost use Rattle.reiser_objects.specs.Table.{HasNoted, IsBehind, first_save_link};
+
+use crate::kinds::is_directory_mode;
+use crate::{Naming, Object, ObjectKey, ObjectStat};
+use fs_rows::Name;
+use indexmap::IndexMap;
+use outside::Memory;
+use reiser_items::{Entries, Entry};
+use reiser_node::{ItemHead, ItemKind};
+use std::alloc::Global;
+use vol_block::BlockNo;
+
+/// The objects of a tree, and the names that its directories give.
+#[derive(Drop)]
+pub struct Objects {
+    map: IndexMap<ObjectKey, Object>,
+    pub namings: Vec<Naming>,
+    pub save_link: Option<u32>,
+}
+
+impl Objects {
+    /// No objects.
+    pub fn new(alloc: Global) -> Objects
+        ensures { HasNoted result [] }
+    {
+        Objects {
+            map: IndexMap::new(alloc),
+            namings: Vec::new(alloc),
+            save_link: None,
+        }
+    }
+
+    /// Notes one more item of the tree, which stands in a leaf.
+    pub fn note(
+        &mut self,
+        alloc: Global,
+        leaf: BlockNo,
+        head: &ItemHead,
+        body: &[u8],
+    ) -> Result<(), Memory>
+        ensures { (items : List Item) → HasNoted self.old items
+            → IsBehind items (record { leaf = leaf; head = head.now; body = body.now })
+            → OnOk result (HasNoted self.new (items ++ record { leaf = leaf; head = head.now; body = body.now } ∷ [])) }
+    {
+        let key = ObjectKey {
+            dir: head.dir,
+            object: head.object,
+        };
+        let object = self.object_or_new(key).with(leaf, head, body);
+        self.map.insert(key, object)?;
+        note_entries(&mut self.namings, alloc, leaf, head, body)?;
+        self.save_link = self.save_link.or(save_link_in(head));
+        Ok(())
+    }
+
+    /// The stat data of an object, if it has any.
+    pub fn stat(&self, key: ObjectKey) -> Option<ObjectStat>
+        ensures { (items : List Item) → HasNoted self.now items → result ≡ stat_of_object items key }
+    {
+        self.object_or_new(key).stat
+    }
+
+    /// Whether an object is a directory.
+    pub fn is_directory(&self, key: ObjectKey) -> bool
+        ensures { (items : List Item) → HasNoted self.now items → result ≡ is_directory_at items key }
+    {
+        match self.stat(key) {
+            Some(stat) => is_directory_mode(stat.fields.mode),
+            None => false,
+        }
+    }
+
+    /// What is kept of an object, if anything is.
+    pub fn object_or_new(&self, key: ObjectKey) -> Object
+        ensures { (items : List Item) → HasNoted self.now items → Summarises result (items_of key items) }
+    {
+        match self.map.get(&key) {
+            Some(object) => *object,
+            None => Object::new(),
+        }
+    }
+}
+
+/// The object of a save link.
+fn save_link_in(head: &ItemHead) -> Option<u32>
+    ensures { (leaf : ℕ) (body : List ℕ) → result ≡ first_save_link (record { leaf = leaf; head = head.now; body = body } ∷ []) }
+{
+    if head.dir == 0xFFFF_FFFF {
+        Some(head.object)
+    } else {
+        None
+    }
+}
+
+/// Notes the entries that count of a directory item; of another item, or one off the grammar of entries, none.
+fn note_entries(
+    namings: &mut Vec<Naming>,
+    alloc: Global,
+    leaf: BlockNo,
+    head: &ItemHead,
+    body: &[u8],
+) -> Result<(), Memory>
+    ensures { OnOk result (namings.new.items ≡ namings.old.items ++ namings_in (record { leaf = leaf; head = head.now; body = body.now })) }
+{
+    match head.kind {
+        ItemKind::Directory => {}
+        ItemKind::Stat | ItemKind::Indirect | ItemKind::Direct => return Ok(()),
+    }
+    let Some(entries) = Entries::read(body, head.count) else {
+        return Ok(());
+    };
+    let dir = ObjectKey {
+        dir: head.dir,
+        object: head.object,
+    };
+    note_all(namings, alloc, leaf, dir, &entries)
+}
+
+/// Notes those entries of a directory that count.
+fn note_all(
+    namings: &mut Vec<Naming>,
+    alloc: Global,
+    leaf: BlockNo,
+    dir: ObjectKey,
+    entries: &Entries<'_>,
+) -> Result<(), Memory>
+    ensures { OnOk result (namings.new.items ≡ namings.old.items ++ map (naming_by leaf dir) (filter is_listed entries.now)) }
+{
+    for i in 0..entries.len() {
+        note_entry(namings, alloc, leaf, dir, &entries.get(i))?;
+    }
+    Ok(())
+}
+
+/// Notes an entry of a directory, if it counts.
+fn note_entry(
+    namings: &mut Vec<Naming>,
+    alloc: Global,
+    leaf: BlockNo,
+    dir: ObjectKey,
+    entry: &Entry<'_>,
+) -> Result<(), Memory>
+    ensures { OnOk result (namings.new.items ≡ namings.old.items ++ (if is_listed (entry_value entry.now) then naming_by leaf dir (entry_value entry.now) ∷ [] else [])) }
+{
+    if !entry.visible || entry.offset == 1 || entry.offset == 2 {
+        return Ok(());
+    }
+    namings.push(Naming {
+        leaf,
+        dir,
+        target: ObjectKey {
+            dir: entry.dir,
+            object: entry.object,
+        },
+        name: Name::new(alloc, entry.name)?,
+    })?;
+    Ok(())
+}
