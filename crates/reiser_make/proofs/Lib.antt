@@ -1,0 +1,13 @@
+pub mod Counting
+pub mod Entering
+pub mod Finding
+pub mod Growing
+pub mod Laying
+pub mod Lists
+pub mod Nesting
+pub mod Packing
+pub mod Placed
+pub mod Placing
+pub mod Rising
+pub mod Storing
+pub mod Walking

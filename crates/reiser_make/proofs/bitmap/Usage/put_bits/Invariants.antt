@@ -1,0 +1,6 @@
+use Rattle.std.proofs.Common.{◌≡◌, take}
+use Rattle.reiser_make.specs.Bitmap.{marks}
+use Rattle.reiser_make.proofs.bitmap.Usage.put_bits.Given as goal
+
+abbrev pub invariant-loop-j : goal.invariant-loop-j
+invariant-loop-j l = take l.j l.into ≡ marks l.self.needed l.self.blocks l.first l.j

@@ -1,0 +1,7 @@
+use Rattle.std.proofs.Common.{◌≡◌, take, map}
+use Rattle.std.specs.List.{range_with_len}
+use Rattle.reiser_make.specs.Shape.{file_byte}
+use Rattle.reiser_make.proofs.body.put_bytes.Given as goal
+
+abbrev pub invariant-loop-at : goal.invariant-loop-at
+invariant-loop-at l = take l.at l.into ≡ map (file_byte l.i l.sparse) (range_with_len l.from l.at)

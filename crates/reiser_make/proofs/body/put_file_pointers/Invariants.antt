@@ -1,0 +1,6 @@
+use Rattle.std.proofs.Common.{◌≡◌, ◌*◌, take}
+use Rattle.reiser_make.specs.Items.{pointers_bytes}
+use Rattle.reiser_make.proofs.body.put_file_pointers.Given as goal
+
+abbrev pub invariant-loop-k : goal.invariant-loop-k
+invariant-loop-k l = take (4 * l.k) l.into ≡ pointers_bytes l.first l.sparse l.k

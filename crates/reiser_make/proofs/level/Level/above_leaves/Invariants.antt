@@ -1,0 +1,6 @@
+use Rattle.std.proofs.Common.{◌≡◌}
+use Rattle.reiser_make.specs.Levels.{level_of}
+use Rattle.reiser_make.proofs.level.Level.above_leaves.Given as goal
+
+abbrev pub invariant-loop : goal.invariant-loop
+invariant-loop l = l.level ≡ level_of l.count l.counter

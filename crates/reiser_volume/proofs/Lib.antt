@@ -1,0 +1,10 @@
+pub mod Againing
+pub mod Assembly
+pub mod Attributes
+pub mod Counting
+pub mod Crowding
+pub mod Eaches
+pub mod Extending
+pub mod Lists
+pub mod Seeing
+pub mod Sums

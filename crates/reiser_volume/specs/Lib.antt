@@ -1,0 +1,14 @@
+pub mod Again
+pub mod Bytes
+pub mod Counts
+pub mod Crowds
+pub mod Extended
+pub mod Links
+pub mod Names
+pub mod Once
+pub mod Passes
+pub mod Private
+pub mod Refuses
+pub mod Rows
+pub mod Tally
+pub mod Volume

@@ -1,0 +1,65 @@
+-- Which ReiserFS volumes are accepted, and how each other one is refused: the groups of rules one after the other.
+use Rattle.std.specs.Prelude.{◌≡◌, ℕ, List, Bool, [], length, Some, Contains}
+use Rattle.outside.specs.History.{Image, block_at}
+use Rattle.outside.specs.declared.refusal.VolumeRefusal.{VolumeRefusal}
+use Rattle.outside.specs.declared.refusal.VolumeRefusal.TheVariants.{JournalPending}
+use Rattle.fs_rows.specs.Rows.{WholeRow}
+use Rattle.reiser_bitmap.specs.Layout.{bitmap_of}
+use Rattle.reiser_bitmap.specs.Bits.{has}
+use Rattle.reiser_bitmap.specs.System.{system_blocks, NamesFreeBlock}
+use Rattle.reiser_super.specs.declared.superblock.Super.{Super}
+use Rattle.reiser_super.specs.Superblock.{super_of}
+use Rattle.reiser_super.specs.Rules.{superblock_refusal, IsCleanSuper}
+use Rattle.reiser_super.specs.Journal.{pending_transactions, IsClean}
+use Rattle.reiser_walk.specs.declared.tree.Tree.{Tree}
+use Rattle.reiser_walk.specs.Items.{Item}
+use Rattle.reiser_walk.specs.Rules.{tree_damages}
+use Rattle.reiser_walk.specs.Tree.{items_of}
+use Rattle.reiser_objects.specs.Rules.{AreObjects, IsObjectsRefusal}
+use Rattle.reiser_volume.specs.Names.{AreNames, IsNamesRefusal}
+use Rattle.reiser_volume.specs.Rows.{AreReiserRows}
+use Rattle.std.specs.Prelude.{true}
+
+abbrev pub superblock : Image → Super
+superblock image = super_of (block_at image 16)
+
+-- the used blocks, as the bitmap marks them
+abbrev pub used_of : Image → List Bool
+used_of image = bitmap_of (superblock image).blocks image
+
+abbrev pub tree_of : Super → Tree
+tree_of s = record { root = s.root; height = s.height; journal_first = s.journal_first; journal_size = s.journal_size }
+
+-- the items of the volume's tree, in order
+abbrev pub volume_items : Image → List Item
+volume_items image = items_of (tree_of (superblock image)) image (superblock image).blocks
+
+-- the bitmap marks the volume's own blocks
+abbrev pub MarksSystem : Image → Type 0
+MarksSystem image =
+    let s = superblock image in
+    (b : ℕ) → Contains (system_blocks s.blocks s.journal_first s.journal_size) b → has (used_of image) b ≡ true
+
+abbrev pub IsSoundTree : Image → Type 0
+IsSoundTree image = tree_damages (tree_of (superblock image)) image (used_of image) ≡ []
+
+-- An accepted volume: each rule holds.
+pub record IsAccepted (image : Image) : Type 0 where
+  pub clean : IsClean image
+  pub system : MarksSystem image
+  pub tree : IsSoundTree image
+  pub objects : AreObjects (volume_items image)
+  pub names : AreNames (volume_items image)
+
+-- A refusal is that of the first group of which a rule fails.
+pub data IsRefusal (image : Image) (r : VolumeRefusal) : Type 0 where
+  superblock_rule : superblock_refusal (block_at image 16) (length image) ≡ Some r → IsRefusal image r
+  journal_rule : (trans : ℕ) → IsCleanSuper (block_at image 16) (length image) → Contains (pending_transactions (superblock image) image) trans → r ≡ JournalPending trans → IsRefusal image r
+  bitmap_rule : IsClean image → NamesFreeBlock (used_of image) (superblock image).journal_first (superblock image).journal_size r → IsRefusal image r
+  tree_rule : IsClean image → MarksSystem image → Contains (tree_damages (tree_of (superblock image)) image (used_of image)) r → IsRefusal image r
+  objects_rule : IsClean image → MarksSystem image → IsSoundTree image → IsObjectsRefusal (superblock image).root (volume_items image) r → IsRefusal image r
+  names_rule : IsClean image → MarksSystem image → IsSoundTree image → AreObjects (volume_items image) → IsNamesRefusal (volume_items image) r → IsRefusal image r
+
+-- the rows of a volume
+abbrev pub AreRowsOf : Image → List WholeRow → Type 0
+AreRowsOf image rows = AreReiserRows image (superblock image).flags (volume_items image) rows

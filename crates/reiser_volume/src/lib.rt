@@ -1,0 +1,18 @@
+//! A ReiserFS volume: the definitions of an accepted volume, of its refusals, its rows and its bytes, and the looks at its
+//! names.
+//!
+//! A caller that has the objects of a tree and the keys of those that are named ([`reiser_objects::Objects::check`]) calls
+//! [`check_all_names`], which says whether all the rules of names are kept, or refuses by one that fails.
+#![tactic(auto)]
+
+mod again;
+mod counts;
+mod crowd;
+mod each;
+mod extended;
+mod names;
+mod once;
+mod one;
+mod private;
+
+pub use names::check_all_names;
