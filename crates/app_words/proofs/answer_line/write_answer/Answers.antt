@@ -1,8 +1,8 @@
 use Rattle.std.proofs.Common.{sym, subst}
 use Rattle.outside.specs.declared.answer.Answer.{Answer}
 use Rattle.outside.specs.Fault.{Takes}
-use Rattle.volume_app.specs.Refusal.{answer_line}
-use Rattle.volume_app.proofs.refusal_line.write_answer.Goals as goal
+use Rattle.app_words.specs.Lines.{answer_line}
+use Rattle.app_words.proofs.answer_line.write_answer.Goals as goal
 
 pub returns-in-Fault-clause-taken : goal.returns-in-Fault-clause-taken
 returns-in-Fault-clause-taken g c = λ tells.

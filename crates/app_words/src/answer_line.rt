@@ -1,6 +1,6 @@
 ghost use Rattle.std.specs.Prelude.{◌≡◌, ◌++◌, ◌∷◌, [], IsTrue, codes, decimal};
 ghost use Rattle.outside.specs.Fault.{HasCause, Takes};
-ghost use Rattle.volume_app.specs.Refusal.{answer_line, words_to_end, volume_words, btr_words, feature_number, rule_number, btr_rule_number};
+ghost use Rattle.app_words.specs.Lines.{answer_line, answer_status, words_to_end, volume_words, btr_words, feature_number, rule_number, btr_rule_number};
 
 use outside::{Answer, BtrRefusal, BtrRule, Fault, Feature, Rule, Sink, VolumeRefusal};
 use sink_text::Piece::{Decimal, Plain};
@@ -50,6 +50,19 @@ pub fn write_answer<E: Sink>(answer: &Answer, err: &mut E) -> Result<(), Fault>
         ),
         Answer::Fault => err.write(b"device fault\n"),
         Answer::Memory => err.write(b"out of memory\n"),
+    }
+}
+
+/// The status of a program that was not done for this cause: 3 for a device fault, 4 for want of memory, 6 for too little room,
+/// and 1 for each refusal.
+pub fn answer_status(answer: &Answer) -> u8
+    ensures { result ≡ answer_status answer.now }
+{
+    match answer {
+        Answer::Fault => 3,
+        Answer::Memory => 4,
+        Answer::NoSpace { .. } => 6,
+        _ => 1,
     }
 }
 

@@ -1,6 +1,6 @@
--- The words of a refusal: its number, its name, and the numbers that it keeps, in decimal.
+-- The line of an answer, and its status. The words of a refusal are its number, its name, and the numbers that it keeps, in
+-- decimal.
 use Rattle.std.specs.Prelude.{ℕ, List, [], ◌∷◌, ◌++◌, codes, decimal}
-use Rattle.volume_app.specs.Texts.{words_then}
 use Rattle.outside.specs.declared.rule.Feature.{Feature}
 use Rattle.outside.specs.declared.rule.Feature.TheVariants as features
 use Rattle.outside.specs.declared.rule.Rule.{Rule}
@@ -62,6 +62,12 @@ btr_rule_number btr_rules.NameForm = 11
 btr_rule_number btr_rules.ExtentForm = 12
 btr_rule_number btr_rules.DirTwice = 13
 
+-- A line is a first word and further words, each of these after a space, with a line feed at the end. Here with the
+-- text that comes after it.
+abbrev pub words_then : List (List ℕ) → List ℕ → List ℕ
+words_then [] rest = 10 ∷ rest
+words_then (word ∷ words) rest = 32 ∷ (word ++ words_then words rest)
+
 -- the words to the line's end
 abbrev pub words_to_end : List (List ℕ) → List ℕ
 words_to_end words = words_then words []
@@ -97,3 +103,16 @@ answer_line (ImageDamaged refusal) = codes "refused" ++ words_to_end (codes "19"
 answer_line (ReservedUsed block) = codes "refused" ++ words_to_end (codes "20" ∷ codes "reserved" ∷ decimal block ∷ [])
 answer_line Fault = codes "device fault" ++ 10 ∷ []
 answer_line Memory = codes "out of memory" ++ 10 ∷ []
+
+-- 3 for a device fault, 4 for want of memory, 6 for too little room, and 1 for each refusal
+abbrev pub answer_status : Answer → ℕ
+answer_status (Volume refusal) = 1
+answer_status (Btr refusal) = 1
+answer_status (NoSpace needed free run_needed longest_run) = 6
+answer_status WrongFormat = 1
+answer_status ImageMissing = 1
+answer_status (ImageMoved block) = 1
+answer_status (ImageDamaged refusal) = 1
+answer_status (ReservedUsed block) = 1
+answer_status Fault = 3
+answer_status Memory = 4

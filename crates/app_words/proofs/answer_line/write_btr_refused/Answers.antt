@@ -1,8 +1,8 @@
 use Rattle.std.proofs.Common.{◌++◌, codes, sym, subst}
 use Rattle.outside.specs.declared.refusal.BtrRefusal.{BtrRefusal}
 use Rattle.outside.specs.Fault.{Takes}
-use Rattle.volume_app.specs.Refusal.{words_to_end, btr_words}
-use Rattle.volume_app.proofs.refusal_line.write_btr_refused.Goals as goal
+use Rattle.app_words.specs.Lines.{words_to_end, btr_words}
+use Rattle.app_words.proofs.answer_line.write_btr_refused.Goals as goal
 
 pub returns-in-Unsupported-clause-taken : goal.returns-in-Unsupported-clause-taken
 returns-in-Unsupported-clause-taken g c = λ tells.
