@@ -3,6 +3,14 @@ use Rattle.std.proofs.Common.{◌≡◌, ℕ, zero, suc, ◌+◌, ◌<◌, ◌�
 use Rattle.std.proofs.lemmas.List.Sums.{sum_by-cons, sum_by-append, get_or-le-sum_by}
 use Rattle.std.proofs.lemmas.List.Elements.{Contains-append_right}
 
+pub and_true : (a : Bool) → (a && true) ≡ a
+and_true true = refl
+and_true false = refl
+
+pub and_false : (a : Bool) → (a && false) ≡ false
+and_false true = refl
+and_false false = refl
+
 pub count_cons : {X : Type 0} (p : X → Bool) (x : X) (xs : List X) → count_by p (x ∷ xs) ≡ cond (p x) 1 0 + count_by p xs
 count_cons p x xs = sum_by-cons (λ y. cond (p y) 1 0) x xs
 
@@ -15,17 +23,19 @@ count_map p f (x ∷ xs) = count_cons p (f x) (map f xs) ∙ (ap (λ (n : ℕ). 
 
 pub count_filter : {X : Type 0} (p q : X → Bool) (xs : List X) → count_by p (filter q xs) ≡ count_by (λ x. q x && p x) xs
 count_filter p q [] = refl
-count_filter p q (x ∷ xs) = by (q x) refl
+count_filter {X} p q (x ∷ xs) = by (q x) refl (count_filter p q xs)
   where
-    by : (b : Bool) → q x ≡ b → count_by p (filter q (x ∷ xs)) ≡ count_by (λ y. q y && p y) (x ∷ xs)
-    by true is =
+    zero_more : (n : ℕ) → n ≡ 0 + n
+    zero_more n = omega arith
+
+    by : (b : Bool) → q x ≡ b → count_by p (filter q xs) ≡ count_by (λ y. q y && p y) xs → count_by p (filter q (x ∷ xs)) ≡ count_by (λ y. q y && p y) (x ∷ xs)
+    by true is rest =
         ap (λ (b : Bool). count_by p (cond b (x ∷ filter q xs) (filter q xs))) is
-        ∙ (count_cons p x (filter q xs) ∙ (ap (λ (n : ℕ). cond (p x) 1 0 + n) (count_filter p q xs)
+        ∙ (count_cons p x (filter q xs) ∙ (ap (λ (n : ℕ). cond (p x) 1 0 + n) rest
         ∙ (ap (λ (b : Bool). cond (b && p x) 1 0 + count_by (λ y. q y && p y) xs) (sym is) ∙ sym (count_cons (λ y. q y && p y) x xs))))
-    by false is =
+    by false is rest =
         ap (λ (b : Bool). count_by p (cond b (x ∷ filter q xs) (filter q xs))) is
-        ∙ (count_filter p q xs
-        ∙ (ap (λ (b : Bool). cond (b && p x) 1 0 + count_by (λ y. q y && p y) xs) (sym is) ∙ sym (count_cons (λ y. q y && p y) x xs)))
+        ∙ (rest ∙ (zero_more (count_by (λ y. q y && p y) xs) ∙ (ap (λ (b : Bool). cond (b && p x) 1 0 + count_by (λ y. q y && p y) xs) (sym is) ∙ sym (count_cons (λ y. q y && p y) x xs))))
 
 pub count_flat : {X Y : Type 0} (p : Y → Bool) (f : X → List Y) (xs : List X) → count_by p (flat_map f xs) ≡ sum_by (λ x. count_by p (f x)) xs
 count_flat p f [] = refl
@@ -41,23 +51,19 @@ count_none p (x ∷ xs) none =
 -- what no two elements pass
 pub count_once : {X : Type 0} (p : X → Bool) (xs : List X) → AllPairs (λ a b. p a ≡ true → p b ≡ true → ⊥) xs → count_by p xs ≤ 1
 count_once p [] pairs = omega arith
-count_once {X} p (x ∷ xs) pairs = by (p x) refl
+count_once {X} p (x ∷ xs) pairs = by (p x) refl (count_once p xs (λ i j d below within. pairs (suc i) (suc j) d (omega arith) (omega arith)))
   where
-    tail : AllPairs (λ a b. p a ≡ true → p b ≡ true → ⊥) xs
-    tail i j d below within = pairs (suc i) (suc j) d (omega arith) (omega arith)
+    not_both : p x ≡ true → (y : X) → Contains xs y → (b : Bool) → p y ≡ b → b ≡ false
+    not_both is y among true own = absurd (pairs 0 (suc among.0) y (omega arith) (omega (arith, among.1)) is (ap p among.2 ∙ own))
+    not_both is y among false own = refl
 
-    by : (b : Bool) → p x ≡ b → count_by p (x ∷ xs) ≤ 1
-    by true is =
-        let others : count_by p xs ≡ 0 = count_none p xs (λ y among. not_both y among (p y) refl) in
+    by : (b : Bool) → p x ≡ b → count_by p xs ≤ 1 → count_by p (x ∷ xs) ≤ 1
+    by true is rest =
+        let others : count_by p xs ≡ 0 = count_none p xs (λ y among. not_both is y among (p y) refl) in
         let head : count_by p (x ∷ xs) ≡ cond (p x) 1 0 + count_by p xs = count_cons p x xs in
         let now : ◌≡◌ {A = ℕ} (cond (p x) 1 0) 1 = ap (λ (b : Bool). cond b 1 0) is in
         omega (arith, others, head, now)
-      where
-        not_both : (y : X) → Contains xs y → (b : Bool) → p y ≡ b → b ≡ false
-        not_both y among true own = absurd (pairs 0 (suc among.0) y (omega arith) (omega (arith, among.1)) is (ap p among.2 ∙ own))
-        not_both y among false own = refl
-    by false is =
-        let rest : count_by p xs ≤ 1 = count_once p xs tail in
+    by false is rest =
         let head : count_by p (x ∷ xs) ≡ cond (p x) 1 0 + count_by p xs = count_cons p x xs in
         let now : ◌≡◌ {A = ℕ} (cond (p x) 1 0) 0 = ap (λ (b : Bool). cond b 1 0) is in
         omega (arith, rest, head, now)
@@ -77,7 +83,7 @@ count_twice p (x ∷ xs) (suc i) (suc j) d below within first second =
     let rest : 2 ≤ count_by p xs = count_twice p xs i j d (omega arith) (omega arith) first second in
     omega (arith, head, rest)
 
-sum_zero : {X : Type 0} (f : X → ℕ) (xs : List X) → ((x : X) → f x ≡ 0) → sum_by f xs ≡ 0
+pub sum_zero : {X : Type 0} (f : X → ℕ) (xs : List X) → ((x : X) → f x ≡ 0) → sum_by f xs ≡ 0
 sum_zero f [] zeros = refl
 sum_zero f (x ∷ xs) zeros =
     let head : sum_by f (x ∷ xs) ≡ f x + sum_by f xs = sum_by-cons f x xs in
@@ -105,3 +111,12 @@ pairs_at_most q r xs (y ∷ ys) few =
     let rest : sum_by (λ x. count_by (q x) ys) xs ≤ count_by r ys = pairs_at_most q r xs ys (λ z among. few z (Contains-append_right (y ∷ []) ys z among)) in
     let all : count_by r (y ∷ ys) ≡ cond (r y) 1 0 + count_by r ys = count_cons r y ys in
     omega (arith, split, head, rest, all)
+
+-- tests that agree count alike
+pub count_same : {X : Type 0} (p q : X → Bool) (xs : List X) → ((x : X) → p x ≡ q x) → count_by p xs ≡ count_by q xs
+count_same p q xs same = λ j. count_by (λ x. same x j) xs
+
+-- a test that holds of one element at most, beside one that is the same for all
+pub count_and : {X : Type 0} (p : X → Bool) (b : Bool) (xs : List X) → count_by p xs ≤ 1 → count_by (λ x. p x && b) xs ≤ cond b 1 0
+count_and p true xs few = let same = count_same (λ x. p x && true) p xs (λ x. and_true (p x)) in omega (arith, few, same)
+count_and p false xs few = let none = count_none (λ x. p x && false) xs (λ x among. and_false (p x)) in omega (arith, none)

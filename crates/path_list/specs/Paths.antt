@@ -1,5 +1,5 @@
 -- The paths of a tree as a list.
-use Rattle.std.specs.Prelude.{◌≡◌, ℕ, Bool, List, length, count_by, Contains}
+use Rattle.std.specs.Prelude.{◌≡◌, Bool, List, length, count_by, Contains}
 use Rattle.std.specs.List.{AllAdjacentBelow, position_or_len}
 use Rattle.std.specs.declared.cmp.Ordering.TheVariants.{Less}
 use Rattle.fs_rows.specs.Rows.{NameList, path_cmp}

@@ -1,5 +1,5 @@
 -- The first path to an object, and the number of paths to it.
-use Rattle.std.specs.Prelude.{◌≡◌, ◌<◌, ◌+◌, ℕ, Bool, List, count_by, Option, Some, None}
+use Rattle.std.specs.Prelude.{◌≡◌, ◌<◌, ◌+◌, ℕ, Bool, List, length, count_by, Option, Some, None}
 use Rattle.std.specs.List.{position_or_len}
 use Rattle.indexmap.specs.IndexMap.{IndexMap, get}
 use Rattle.path_list.specs.declared.found.Found.{Found}
@@ -17,8 +17,8 @@ numbered all f = record { path = f.path; target = f.target; least = position_or_
 
 -- what is known of an object: nothing where no path leads to it
 abbrev pub IsPlace : List Found → NodeId → Option Place → Type 0
-IsPlace all node None = count_by (finds node) all ≡ 0
-IsPlace all node (Some place) = (place.first ≡ position_or_len (finds node) all) × (place.names ≡ count_by (finds node) all) × (0 < count_by (finds node) all)
+IsPlace all node None = (position_or_len (finds node) all ≡ length all) × (count_by (finds node) all ≡ 0)
+IsPlace all node (Some place) = (position_or_len (finds node) all < length all) × (place.first ≡ position_or_len (finds node) all) × (place.names ≡ count_by (finds node) all)
 
 -- the map has the place of each object
 pub record HasPlaces {S : Type 0} (places : IndexMap NodeId Place S) (all : List Found) : Type 0 where

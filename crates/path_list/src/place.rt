@@ -1,4 +1,4 @@
-ghost use Rattle.std.specs.Prelude.{◌≡◌, ◌<◌, ◌^◌, List, map, IfOk, IfSome, IsSome};
+ghost use Rattle.std.specs.Prelude.{◌≡◌, ◌<◌, List, map, IfOk, IfSome, IsSome};
 ghost use Rattle.indexmap.specs.IndexMap.{get};
 ghost use Rattle.path_list.specs.declared.found.Found.{Found as FoundOf};
 ghost use Rattle.path_list.specs.Links.{same_node};
@@ -46,7 +46,7 @@ fn note_all(alloc: Global, found: &Vec<Found>) -> Result<IndexMap<NodeId, Place>
 
 /// The place of an object with one path more, which is number `i`.
 fn with_one_more(place: Option<Place>, i: usize) -> Place
-    requires { IfSome place (λ p. p.names < 2 ^ 63) }
+    requires { IfSome place (λ p. p.names < u64.MAX) }
     ensures { result ≡ with_one_more place i }
 {
     match place {
