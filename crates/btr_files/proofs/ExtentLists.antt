@@ -21,7 +21,7 @@ pub none_right : {A : Type 0} (xs ys : List A) → xs ++ ys ≡ [] → ys ≡ []
 none_right [] ys h = h
 none_right (x ∷ xs) ys h = absurd (cc h)
 
-holds_unless : (t : Bool) (r : BtrRefusal) → unless t r ≡ [] → t ≡ true
+pub holds_unless : (t : Bool) (r : BtrRefusal) → unless t r ≡ [] → t ≡ true
 holds_unless true r h = refl
 holds_unless false r h = absurd (cc h)
 

@@ -1,4 +1,5 @@
 use Rattle.std.proofs.Common.{◌≡◌, ◌-◌, ◌+◌, ◌*◌, ◌/◌, ◌∙◌, ◌<◌, ℕ, min, refl, sym, ap, subst, arith}
+use Rattle.std.specs.Int.{div_ceil}
 use Rattle.btr_walk.specs.Map.{place}
 use Rattle.btr_walk.specs.Walks.{LieOn}
 use Rattle.btr_files.specs.Blocks.{block_or_zeros}
@@ -45,6 +46,10 @@ loop-j-preserved g c =
 
 pub returns-clause-bytes : goal.returns-clause-bytes
 returns-clause-bytes g c = λ tells image is whole some aligned f g' over low held.
+    let most : ℕ = c.args.range.now.num_bytes / 4096 in
     let count : c.loop-j.j ≡ c.count_below-j-end.result = omega (arith, c.loop-j-test.false, c.loop-j.auto.j-end) in
-    held_same c.loop-j.self _ g' (blocks_end c.args.offset c.args.self.now.size c.loop-j.j c.args.range.now _ f g' some aligned over (count ∙ (c.count_below-j-end.ensures ∙ ap (λ (d : ℕ). min (c.args.range.now.num_bytes / 4096) (d - c.args.offset / 4096)) c.block_count.ensures.exact)))
-    (c.loop-j.invariant.bytes tells image is whole some aligned f g' over low held)
+    let all : c.count_below-j-end.result ≡ min (c.args.range.now.num_bytes / 4096) (div_ceil c.args.self.now.size 4096 - c.args.offset / 4096) =
+    c.count_below-j-end.ensures ∙ ap (λ (d : ℕ). min most (d - c.args.offset / 4096)) c.block_count.ensures.exact in
+    let over_all : (n : ℕ) → joined_at (4096 * (c.args.offset / 4096 + c.loop-j.j)) g' f n ≡ g' n =
+    blocks_end c.args.offset c.args.self.now.size c.loop-j.j c.args.range.now _ f g' some aligned over (count ∙ all) in
+    held_same c.loop-j.self _ g' over_all (c.loop-j.invariant.bytes tells image is whole some aligned f g' over low held)
