@@ -6,7 +6,6 @@ pub mod Opens
 pub mod RootItems
 pub mod InodeItems
 pub mod EntryItems
-pub mod Unmapped
 pub mod Gathering
 pub mod OneExtent
 pub mod Stages

@@ -10,12 +10,13 @@ use Rattle.btr_walk.specs.Events.{TreeItem}
 use Rattle.btr_walk.proofs.Events.{none_both}
 use Rattle.btr_reader.specs.declared.gathered.Gathered.{Gathered}
 use Rattle.btr_reader.specs.declared.image_map.Piece.{Piece}
-use Rattle.btr_reader.specs.Extents.{is_extent_of, extents_of, extent_length, covered_by, end_after, covered_after, has_form, extent_refusals, refusals_at, extents_refusals, extents_end, extents_covered}
+use Rattle.btr_files.specs.Extents.{is_extent_of, extents_of, extent_length, covered_by, end_after, covered_after, has_form, extent_refusals, refusals_at, extents_refusals, extents_end, extents_covered}
 use Rattle.btr_reader.specs.Image.{content_is_inline, is_inline}
 use Rattle.btr_reader.specs.Opening.{IsAmong}
 use Rattle.btr_reader.specs.Pieces.{pieces_place, pieces_of, any_inline, Gathers}
 use Rattle.btr_reader.proofs.Among.{among_left}
-use Rattle.btr_reader.proofs.Gathering.{extents_refusals-append, extents_end-append, extents_covered-append, form_of_sound, behind_end, aligned_of, one_more, extents_of-one}
+use Rattle.btr_files.proofs.ExtentLists.{extents_refusals-append, extents_end-append, extents_covered-append, form_of_sound, behind_end, aligned_of, extents_of-one}
+use Rattle.btr_reader.proofs.Gathering.{one_more}
 
 -- what is wrong with an extent behind others is wrong with all
 pub item_refused : (ranges : List MapRange) (ino : ℕ) (given : List TreeItem) (i : TreeItem) (o : Option FileExtentValue) (end covered : ℕ) (r : BtrRefusal) → is_extent_of ino i ≡ true → file_extent_of i.body ≡ o

@@ -15,7 +15,7 @@ use Rattle.btr_walk.specs.Events.{TreeItem}
 use Rattle.btr_walk.specs.Walks.{found, wrong}
 use Rattle.btr_reader.specs.declared.gathered.Gathered.{Gathered}
 use Rattle.btr_reader.specs.declared.image_map.ImageMap.{ImageMap}
-use Rattle.btr_reader.specs.Extents.{extents_of, extents_refusals}
+use Rattle.btr_files.specs.Extents.{extents_of, extents_refusals}
 use Rattle.btr_reader.specs.Image.{ImageFile, is_file, is_called, entry_named, image_entry, saved_entry, pointer_in, tree_number, inode_number, file_if_image, image_at, image_in, items_at, image_below, saved_image, entry_refusals, after_pointer, after_root, if_there, own_refusals, file_refusals, image_refusals_in, refusals_below, image_refusals}
 use Rattle.btr_reader.specs.Inodes.{inode_item}
 use Rattle.btr_reader.specs.Links.{namings}

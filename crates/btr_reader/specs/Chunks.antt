@@ -12,6 +12,7 @@ use Rattle.btr_keys.specs.declared.key.Key.{Key}
 use Rattle.btr_space_items.specs.Chunk.{chunk_of}
 use Rattle.btr_walk.specs.declared.map.MapRange.{MapRange}
 use Rattle.btr_walk.specs.Events.{TreeItem}
+use Rattle.btr_files.specs.Extents.{unless}
 use Rattle.btr_reader.specs.declared.chunk.ChunkAt.{ChunkAt}
 
 -- the key of a chunk, whose offset is the logical address
@@ -43,10 +44,6 @@ chunks_within (suc n) (b ∷ bs) =
 
 abbrev pub array_chunks : List ℕ → Option (List ChunkAt)
 array_chunks bytes = chunks_within (length bytes) bytes
-
--- what is answered where a test fails
-abbrev pub unless : Bool → BtrRefusal → List BtrRefusal
-unless test refusal = if test then [] else refusal ∷ []
 
 -- its address, its length and its place are multiples of 4096, and it ends within the device of so many blocks
 abbrev pub lies_on : ℕ → ChunkAt → Bool

@@ -23,7 +23,7 @@ use Rattle.btr_reader.specs.Opening.{tree_of, or_later}
 use Rattle.btr_reader.specs.Roots.{root_item, pointer_of}
 use Rattle.btr_reader.specs.Inodes.{inode_item}
 use Rattle.btr_reader.specs.Links.{Naming, namings, is_index, index_entry}
-use Rattle.btr_reader.specs.Extents.{extents_of, extents_refusals, is_hole, covers}
+use Rattle.btr_files.specs.Extents.{extents_of, extents_refusals, is_hole, covers}
 use Rattle.btr_reader.specs.Rows.{roots_on}
 
 -- the first one of two

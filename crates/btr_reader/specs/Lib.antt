@@ -3,7 +3,6 @@ pub mod Opening
 pub mod Roots
 pub mod Inodes
 pub mod Links
-pub mod Extents
 pub mod Rows
 pub mod Image
 pub mod Pieces

@@ -10,7 +10,7 @@ use Rattle.btr_walk.specs.Events.{TreeItem}
 use Rattle.btr_reader.specs.declared.image_map.Piece.{Piece}
 use Rattle.btr_reader.specs.declared.image_map.ImageMap.{ImageMap}
 use Rattle.btr_reader.specs.declared.gathered.Gathered.{Gathered}
-use Rattle.btr_reader.specs.Extents.{is_hole, extents_end, extents_covered, extents_refusals}
+use Rattle.btr_files.specs.Extents.{is_hole, extents_end, extents_covered, extents_refusals}
 use Rattle.btr_reader.specs.Image.{ImageFile, is_inline, file_block, image_place}
 
 -- block b of the file is in the piece

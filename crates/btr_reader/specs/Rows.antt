@@ -22,7 +22,7 @@ use Rattle.btr_reader.specs.Opening.{tree_of, root_tree}
 use Rattle.btr_reader.specs.Roots.{root_item, pointer_of}
 use Rattle.btr_reader.specs.Inodes.{inode_item, inode_on, kind_of_mode, HasKind, IsDirectory}
 use Rattle.btr_reader.specs.Links.{Naming, namings, followed, is_index, index_entry, is_name, names_inode, names_tree, IsNamed, Target, inode, tree, Leads}
-use Rattle.btr_reader.specs.Extents.{extents_of, file_bytes, extents_refusals}
+use Rattle.btr_files.specs.Extents.{extents_of, file_bytes, extents_refusals}
 
 abbrev pub time_of : Stamp → Time
 time_of s = record { sec = s.sec; nsec = s.nsec }

@@ -6,14 +6,14 @@ ghost use Rattle.btr_node.specs.NodeSize.{IsNodeSize};
 ghost use Rattle.btr_walk.specs.declared.map.MapRange.{MapRange as RangeOf};
 ghost use Rattle.btr_walk.specs.Events.{TreeItem};
 ghost use Rattle.btr_walk.specs.Walks.{LieOn, found, wrong};
-ghost use Rattle.btr_reader.specs.Extents.{extent_length, covered_by, is_extent_key, extents_of, extents_refusals};
+ghost use Rattle.btr_files.specs.Extents.{extent_length, covered_by, is_extent_key, extents_of, extents_refusals};
 ghost use Rattle.btr_reader.specs.Image.{content_is_inline};
 ghost use Rattle.btr_reader.specs.Opening.{IsAmong, IsNoFault};
 ghost use Rattle.btr_reader.specs.Pieces.{range_pieces, pieces_of, Gathers};
 
-use crate::extents::{Reach, check_extent, covered_by, extent_length, is_hole};
 use crate::gathered::Gathered;
 use crate::image_map::Piece;
+use btr_files::{Reach, check_extent, covered_by, extent_length, is_hole};
 use btr_keys::{DiskRange, ExtentContent, FileExtent, Key};
 use btr_walk::{MapRange, Tree, TreeWalker};
 use outside::{BlockSource, BtrAnswer, BtrRefusal, BtrRule, Memory};

@@ -1,5 +1,5 @@
-use crate::extents::Reach;
 use crate::image_map::Piece;
+use btr_files::Reach;
 
 /// What is gathered of the extents of a file, one after the other.
 #[derive(Drop)]

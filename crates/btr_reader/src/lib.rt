@@ -5,7 +5,6 @@ mod bootstrap;
 mod chunk;
 mod chunk_tree;
 mod entries;
-mod extents;
 mod gather;
 mod gathered;
 mod image;
@@ -18,7 +17,6 @@ mod volume;
 
 pub use chunk::ChunkAt;
 pub use entries::find_entry;
-pub use extents::{Reach, check_extent};
 pub use image_map::{ImageMap, Piece};
 pub use inodes::{InodeFound, find_inode};
 pub use roots::{RootFound, find_root};

@@ -6,7 +6,7 @@ use Rattle.btr_walk.specs.declared.map.MapRange.{MapRange}
 use Rattle.btr_walk.specs.declared.tree.Tree.{Tree}
 use Rattle.btr_walk.specs.Events.{TreeItem}
 use Rattle.btr_walk.specs.Walks.{Blames, found, wrong}
-use Rattle.btr_reader.specs.Extents.{extents_of, extents_refusals}
+use Rattle.btr_files.specs.Extents.{extents_of, extents_refusals}
 use Rattle.btr_reader.specs.Opening.{IsAmong}
 use Rattle.btr_reader.specs.Pieces.{Gathers}
 use Rattle.btr_reader.proofs.Among.{blames_among, among_left, among_right, given_first}

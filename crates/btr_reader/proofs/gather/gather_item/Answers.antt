@@ -4,7 +4,7 @@ use Rattle.outside.specs.declared.refusal.BtrRefusal.TheVariants.{BadBtrfs}
 use Rattle.outside.specs.declared.rule.BtrRule.TheVariants.{Body}
 use Rattle.btr_keys.specs.FileExtent.{file_extent_value, file_extent_of}
 use Rattle.btr_keys.specs.declared.key.Key.{Key}
-use Rattle.btr_reader.specs.Extents.{is_extent_key, is_extent_of}
+use Rattle.btr_files.specs.Extents.{is_extent_key, is_extent_of}
 use Rattle.btr_reader.proofs.OneExtent.{item_refused, gathers_one}
 use Rattle.btr_reader.proofs.gather.gather_item.Goals as goal
 

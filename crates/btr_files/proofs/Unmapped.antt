@@ -5,7 +5,7 @@ use Rattle.outside.specs.declared.refusal.BtrRefusal.TheVariants.{BadBtrfs}
 use Rattle.outside.specs.declared.rule.BtrRule.TheVariants.{Unmapped}
 use Rattle.btr_walk.specs.declared.map.MapRange.{MapRange}
 use Rattle.btr_walk.specs.Map.{place}
-use Rattle.btr_reader.specs.Extents.{at_unmapped, unmapped_in}
+use Rattle.btr_files.specs.Extents.{at_unmapped, unmapped_in}
 
 unmapped_more : (ranges : List MapRange) (n i a : ℕ) → i < n
     → unmapped_in ranges (n - i) (a + 4096 * i) ≡ at_unmapped (place ranges (a + 4096 * i)) (a + 4096 * i) ++ unmapped_in ranges (n - (i + 1)) (a + 4096 * (i + 1))

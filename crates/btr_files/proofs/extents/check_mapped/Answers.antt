@@ -1,5 +1,5 @@
-use Rattle.btr_reader.proofs.Unmapped.{mapped_on, unmapped_at}
-use Rattle.btr_reader.proofs.extents.check_mapped.Goals as goal
+use Rattle.btr_files.proofs.Unmapped.{mapped_on, unmapped_at}
+use Rattle.btr_files.proofs.extents.check_mapped.Goals as goal
 
 pub loop-i-preserved : goal.loop-i-preserved
 loop-i-preserved c =

@@ -12,7 +12,6 @@ use Rattle.btr_keys.specs.declared.key.Key.{Key}
 use Rattle.btr_walk.specs.declared.map.MapRange.{MapRange}
 use Rattle.btr_walk.specs.Map.{place}
 use Rattle.btr_walk.specs.Events.{TreeItem}
-use Rattle.btr_reader.specs.Chunks.{unless}
 
 -- the extents of a file, in the order of their places in it
 abbrev pub is_extent_key : ℕ → Key → Bool
@@ -62,6 +61,10 @@ file_byte image ranges (i ∷ extents) k = byte_from image ranges i (file_extent
 -- the bytes of a file or a symlink of this size
 abbrev pub file_bytes : Image → List MapRange → List TreeItem → ℕ → ℕ → List ℕ
 file_bytes image ranges items ino size = map (file_byte image ranges (extents_of items ino)) (range_with_len 0 size)
+
+-- what is answered where a test fails
+abbrev pub unless : Bool → BtrRefusal → List BtrRefusal
+unless test refusal = if test then [] else refusal ∷ []
 
 -- from byte `offset` of the file on: whole blocks in the file and on the device, and within the disk extent
 abbrev pub range_is_aligned : ℕ → DiskRange → Bool

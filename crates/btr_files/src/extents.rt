@@ -1,6 +1,6 @@
 ghost use Rattle.std.specs.Prelude.{◌≡◌, ◌<◌, ◌+◌, ◌*◌, ◌^◌, [], IfErr, OnOk, Contains};
 ghost use Rattle.btr_keys.specs.FileExtent.{content_value, file_extent_value};
-ghost use Rattle.btr_reader.specs.Extents.{extent_length, range_covers, covered_by, range_is_aligned, is_aligned, has_form, is_hole, unmapped_in, range_refusals, place_refusals, extent_refusals};
+ghost use Rattle.btr_files.specs.Extents.{extent_length, range_covers, covered_by, range_is_aligned, is_aligned, has_form, is_hole, unmapped_in, range_refusals, place_refusals, extent_refusals};
 
 use btr_keys::{DiskRange, ExtentContent, FileExtent};
 use btr_walk::{MapRange, place};

@@ -1,0 +1,136 @@
+-- A function that goes over into another one from the front.
+use Rattle.std.proofs.Common.{◌≡◌, ℕ, ◌+◌, ◌-◌, ◌*◌, ◌/◌, ◌%◌, ◌<◌, ◌≤◌, min, eqb, ltb, leb, true, false, ◌&&◌, ◌||◌, if◌then◌else◌, List, get_or, sym, ap, ◌∙◌, arith, inl, inr}
+use Rattle.std.proofs.lemmas.Bool.Decides.{nat_tests}
+use Rattle.std.proofs.lemmas.Bool.{cond-true, cond-false, lt-ltb, le-ltb, cases_lt}
+use Rattle.std.specs.Int.{div_ceil}
+use Rattle.outside.specs.History.{Image}
+use Rattle.btr_keys.specs.FileExtent.{Regular}
+use Rattle.btr_keys.specs.declared.file_extent.DiskRange.{DiskRange}
+use Rattle.btr_walk.specs.declared.map.MapRange.{MapRange}
+use Rattle.btr_walk.specs.Map.{place}
+use Rattle.btr_files.specs.declared.file.FileBytes.{FileBytes}
+use Rattle.btr_files.specs.Blocks.{AreInBlocks, block_or_zeros}
+use Rattle.btr_files.specs.Bytes.{block_by}
+use Rattle.btr_files.specs.Extents.{is_hole, byte_of_place, content_byte, range_is_aligned}
+use Rattle.btr_files.specs.Parts.{Appends, ReplacesBlock, joined_at}
+use Rattle.btr_files.specs.States.{HoldsBytes}
+use Rattle.btr_files.proofs.Functions.{same_block}
+use Rattle.btr_files.proofs.Holding.{replaced}
+use Rattle.btr_files.proofs.Copies.{unchanged}
+use Rattle.btr_files.proofs.ExtentLists.{first, second}
+use Rattle.btr_files.proofs.Places.{byte_in_block}
+
+pub joined_below : (at : ℕ) (g f : ℕ → ℕ) (n : ℕ) → n < at → joined_at at g f n ≡ g n
+joined_below at g f n h = cond-true (ltb n at) (g n) (f n) (lt-ltb n at h)
+
+pub joined_above : (at : ℕ) (g f : ℕ → ℕ) (n : ℕ) → at ≤ n → joined_at at g f n ≡ f n
+joined_above at g f n h = cond-false (ltb n at) (g n) (f n) (le-ltb n at h)
+
+-- nothing has gone over yet, where both agree so far
+pub joined_start : (at : ℕ) (g f : ℕ → ℕ) → ((n : ℕ) → n < at → g n ≡ f n) → (n : ℕ) → f n ≡ joined_at at g f n
+joined_start at g f below n =
+    elim (cases_lt n at) as (λ _. f n ≡ joined_at at g f n) [
+      | inl h ↦ sym (joined_below at g f n h ∙ below n h)
+      | inr h ↦ sym (joined_above at g f n h)
+    ]
+
+-- all has gone over, where both agree from there on
+pub joined_end : (at : ℕ) (g f : ℕ → ℕ) → ((n : ℕ) → at ≤ n → g n ≡ f n) → (n : ℕ) → joined_at at g f n ≡ g n
+joined_end at g f above n =
+    elim (cases_lt n at) as (λ _. joined_at at g f n ≡ g n) [
+      | inl h ↦ joined_below at g f n h
+      | inr h ↦ joined_above at g f n h ∙ sym (above n h)
+    ]
+
+-- it goes further, over a part on which both agree
+pub joined_on : (at to : ℕ) (g f : ℕ → ℕ) → at ≤ to → ((n : ℕ) → at ≤ n → n < to → g n ≡ f n) → (n : ℕ) → joined_at at g f n ≡ joined_at to g f n
+joined_on at to g f up same n =
+    elim (cases_lt n at) as (λ _. joined_at at g f n ≡ joined_at to g f n) [
+      | inl h ↦ joined_below at g f n h ∙ sym (joined_below to g f n (omega (arith, h, up)))
+      | inr h ↦
+          elim (cases_lt n to) as (λ _. joined_at at g f n ≡ joined_at to g f n) [
+            | inl h' ↦ joined_above at g f n h ∙ sym (joined_below to g f n h' ∙ same n h h')
+            | inr h' ↦ joined_above at g f n h ∙ sym (joined_above to g f n h')
+          ]
+    ]
+
+-- outside of a part nothing changes where it goes over that part
+pub joined_outside_below : (at to : ℕ) (g f : ℕ → ℕ) → at ≤ to → (n : ℕ) → n < at → joined_at to g f n ≡ joined_at at g f n
+joined_outside_below at to g f up n h = joined_below to g f n (omega (arith, h, up)) ∙ sym (joined_below at g f n h)
+
+pub joined_outside_above : (at to : ℕ) (g f : ℕ → ℕ) → at ≤ to → (n : ℕ) → to ≤ n → joined_at to g f n ≡ joined_at at g f n
+joined_outside_above at to g f up n h = joined_above to g f n h ∙ sym (joined_above at g f n (omega (arith, h, up)))
+
+-- the block in hand, before and after it has gone over
+pub block_before : (g f : ℕ → ℕ) (k : ℕ) → block_by (joined_at (4096 * k) g f) k ≡ block_by f k
+block_before g f k = same_block (joined_at (4096 * k) g f) f k (λ n from to. joined_above (4096 * k) g f n from)
+
+pub block_after : (g f : ℕ → ℕ) (k : ℕ) → block_by g k ≡ block_by (joined_at (4096 * (k + 1)) g f) k
+block_after g f k = same_block g (joined_at (4096 * (k + 1)) g f) k (λ n from to. sym (joined_below (4096 * (k + 1)) g f n (omega (arith, to))))
+
+-- one more block of bytes
+pub piece_added : (m m' : FileBytes) (f g : ℕ → ℕ) (k : ℕ) → m'.marker ≡ m.marker → m'.next ≡ m.next → m.next ≡ k → m'.block.bytes ≡ block_by g k → HoldsBytes m (joined_at (4096 * k) g f)
+    → HoldsBytes m' (joined_at (4096 * (k + 1)) g f)
+piece_added m m' f g k marker next at is held =
+    let up : 4096 * k ≤ 4096 * (k + 1) = omega arith in
+    replaced m m' (joined_at (4096 * k) g f) (joined_at (4096 * (k + 1)) g f) marker next (λ n h. joined_outside_below (4096 * k) (4096 * (k + 1)) g f up n (omega (arith, h, at)))
+    (λ n h. joined_outside_above (4096 * k) (4096 * (k + 1)) g f up n (omega (arith, h, at)))
+    (is ∙ block_after g f k ∙ ap (λ (j : ℕ). block_by (joined_at (4096 * (k + 1)) g f) j) (sym at)) held
+
+-- what a range that is aligned is a multiple of
+record InBlocks (offset : ℕ) (r : DiskRange) : Type 0 where
+  at : offset % 4096 ≡ 0
+  many : r.num_bytes % 4096 ≡ 0
+  disk : (r.disk_bytenr + r.offset) % 4096 ≡ 0
+
+in_blocks : (offset : ℕ) (r : DiskRange) → is_hole r ≡ false → range_is_aligned offset r ≡ true → InBlocks offset r
+in_blocks offset r some h =
+    let whole : eqb (offset % 4096) 0 ≡ true = first (eqb (offset % 4096) 0) _ h in
+    let rest = second (eqb (offset % 4096) 0) _ h in
+    let counted : eqb (r.num_bytes % 4096) 0 ≡ true = first (eqb (r.num_bytes % 4096) 0) _ rest in
+    let placed = ap (λ t. t || ((eqb (r.disk_bytenr % 4096) 0) && ((eqb (r.offset % 4096) 0) && leb (r.offset + r.num_bytes) r.disk_num_bytes))) (sym some) ∙ second (eqb (r.num_bytes % 4096) 0) _ rest in
+    let address : eqb (r.disk_bytenr % 4096) 0 ≡ true = first (eqb (r.disk_bytenr % 4096) 0) _ placed in
+    let inner : eqb (r.offset % 4096) 0 ≡ true = first (eqb (r.offset % 4096) 0) _ (second (eqb (r.disk_bytenr % 4096) 0) _ placed) in
+    let a : r.disk_bytenr % 4096 ≡ 0 = grind (arith, nat_tests, address) in
+    let b : r.offset % 4096 ≡ 0 = grind (arith, nat_tests, inner) in
+    record { at = grind (arith, nat_tests, whole); many = grind (arith, nat_tests, counted); disk = omega (arith, a, b) }
+
+-- a byte of a range in its block
+range_byte : (image : Image) (ranges : List MapRange) (r : DiskRange) (offset j i : ℕ) → AreInBlocks ranges → is_hole r ≡ false → InBlocks offset r → i < 4096
+    → content_byte image ranges (Regular r) (4096 * j + i) ≡ get_or (block_or_zeros image (place ranges (r.disk_bytenr + r.offset + 4096 * j))) i 0
+range_byte image ranges r offset j i whole some straight low =
+    let a : ℕ = r.disk_bytenr + r.offset in
+    let there : r.disk_bytenr + r.offset + (4096 * j + i) ≡ r.disk_bytenr + r.offset + 4096 * j + i = omega arith in
+    ap (λ t. if t then 0 else byte_of_place image (place ranges (r.disk_bytenr + r.offset + (4096 * j + i)))) some
+    ∙ ap (λ (b : ℕ). byte_of_place image (place ranges b)) there
+    ∙ byte_in_block image ranges (r.disk_bytenr + r.offset + 4096 * j) i whole (omega (arith, straight.disk)) low
+
+-- one block of a range
+pub block_replaces : (image : Image) (ranges : List MapRange) (offset size : ℕ) (r : DiskRange) (f g : ℕ → ℕ) (j : ℕ) → AreInBlocks ranges → is_hole r ≡ false → range_is_aligned offset r ≡ true
+    → Appends offset (min r.num_bytes (size - offset)) (content_byte image ranges (Regular r)) f g → j < r.num_bytes / 4096
+    → ReplacesBlock size (offset / 4096 + j) (block_or_zeros image (place ranges (r.disk_bytenr + r.offset + 4096 * j))) (joined_at (4096 * (offset / 4096 + j)) g f) (joined_at (4096 * (offset / 4096 + (j + 1))) g f)
+block_replaces image ranges offset size r f g j whole some aligned over within =
+    let straight : InBlocks offset r = in_blocks offset r some aligned in
+    let from : ℕ = 4096 * (offset / 4096 + j) in
+    let to : ℕ = 4096 * (offset / 4096 + (j + 1)) in
+    let up : from ≤ to = omega arith in
+    record {
+      inside = λ i low below.
+          let n : ℕ = 4096 * (offset / 4096 + j) + i in
+          let high : n < to = omega (arith, low) in
+          let is : n - offset ≡ 4096 * j + i = omega (arith, straight.at) in
+          joined_below to g f n high
+          ∙ over.inside n (omega (arith, straight.at)) (omega (arith, straight.at, straight.many, low, within, below))
+          ∙ ap (content_byte image ranges (Regular r)) is
+          ∙ range_byte image ranges r offset j i whole some straight low;
+      past = λ i low past. joined_below to g f (4096 * (offset / 4096 + j) + i) (omega (arith, low)) ∙ over.after _ (omega (arith, past, straight.at));
+      below = λ n h. joined_outside_below from to g f up n h;
+      above = λ n h. joined_outside_above from to g f up n (omega (arith, h));
+    }
+
+-- all blocks below the size have gone over
+pub blocks_end : (offset size count : ℕ) (r : DiskRange) (part f g : ℕ → ℕ) → is_hole r ≡ false → range_is_aligned offset r ≡ true → Appends offset (min r.num_bytes (size - offset)) part f g
+    → count ≡ min (r.num_bytes / 4096) (div_ceil size 4096 - offset / 4096) → (n : ℕ) → joined_at (4096 * (offset / 4096 + count)) g f n ≡ g n
+blocks_end offset size count r part f g some aligned over is =
+    let straight : InBlocks offset r = in_blocks offset r some aligned in
+    joined_end (4096 * (offset / 4096 + count)) g f (λ n h. unchanged over n (omega (arith, is, h, straight.at, straight.many)))
