@@ -27,8 +27,8 @@ use Rattle.reiser_objects.specs.Names.{IsNamed}
 use Rattle.reiser_objects.specs.Reach.{IsReach}
 use Rattle.reiser_objects.proofs.Broken.{some_same}
 use Rattle.reiser_objects.proofs.Tables.{same_key-true}
-use Rattle.reiser_volume.specs.Links.{AreNamedKeys, object_cmp}
-use Rattle.reiser_volume.specs.Opened.{HasStats}
+use Rattle.reiser_volume.specs.Links.{AreNamedKeys, TellsNamed, object_cmp}
+use Rattle.reiser_volume.specs.Known.{HasStats, is_known}
 use Rattle.reiser_volume.proofs.Uniqueness.{same_decides, same_laws, flips}
 
 or_true : (a : Bool) → (a || (true || false)) ≡ true
@@ -113,15 +113,17 @@ module _ {S T : Type 0} (items : List Item) (table : IndexMap ObjectKey ObjectSt
   pub stat_found : (key : ObjectKey) → Contains (keys table) key → get same_key table key ≡ stat_of_object items key
   stat_found key among = has key ∙ ap (λ (b : Bool). if b then stat_of_object items key else None) (found key among)
 
+  -- and what is named is in the table
+  known : (key : ObjectKey) → IsNamed items key → is_known table key ≡ true
+  known key is = let whole = reach.whole key is in ap is_some (has key ∙ ap (λ (b : Bool). if b then stat_of_object items key else None) whole) ∙ (reach.seen key whole).has_stat
+
+  pub known_named : TellsNamed items (is_known table)
+  known_named key = (λ there. (reach.seen key (found key (Contains-keys_from_lookup same_key-true key table.entries there))).named, known key)
+
   pub keys_found : IsUnique same_key table → AreNamedKeys items (keys table)
   keys_found once = record {
     once = AllPairs-from_IsDistinct same_decides (keys table) once;
-    exact = λ key. (
-      λ among. (reach.seen key (found key among)).named,
-      λ is. let whole = reach.whole key is in
-          Contains-keys_from_lookup same_key-true key table.entries
-          (ap is_some (has key ∙ ap (λ (b : Bool). if b then stat_of_object items key else None) whole) ∙ (reach.seen key whole).has_stat),
-    );
+    exact = λ key. (λ among. (reach.seen key (found key among)).named, λ is. Contains-keys_from_lookup same_key-true key table.entries (known key is));
   }
 
 -- the entry at a place has the stat data of the key there

@@ -4,6 +4,7 @@ pub mod Bytes
 pub mod Counts
 pub mod Crowds
 pub mod Extended
+pub mod Known
 pub mod Laws
 pub mod Links
 pub mod Names

@@ -2,25 +2,23 @@ ghost use Rattle.std.specs.Prelude.{◌≡◌, ◌∷◌, ◌++◌, [], List, If
 ghost use Rattle.std.specs.Result.{MatchResult};
 ghost use Rattle.std.specs.List.Sorted.{IsStrictlySortedBy};
 ghost use Rattle.indexmap.specs.IndexMap.{keys, get, IsUnique};
-ghost use Rattle.indexmap.specs.IndexSet.{contains};
 ghost use Rattle.outside.specs.History.{Image};
 ghost use Rattle.reiser_walk.specs.Items.{Item};
 ghost use Rattle.reiser_objects.specs.declared.key.ObjectKey.{ObjectKey as KeyOf};
 ghost use Rattle.reiser_objects.specs.Keys.{same_key};
 ghost use Rattle.reiser_objects.specs.Table.{HasNoted};
 ghost use Rattle.reiser_volume.specs.Answers.{IsVerdict, RefusesVolume};
+ghost use Rattle.reiser_volume.specs.Known.{HasStats};
 ghost use Rattle.reiser_volume.specs.Links.{object_cmp};
-ghost use Rattle.reiser_volume.specs.Opened.{HasStats, IsFound, IsOpened};
-ghost use Rattle.reiser_volume.specs.Passes.{link_list};
+ghost use Rattle.reiser_volume.specs.Opened.{IsFound, IsOpened};
 ghost use Rattle.reiser_volume.specs.Volume.{IsAccepted, volume_items};
 
 use crate::Volume;
-use crate::crowd::is_link;
 use crate::names::check_all_names;
 use indexmap::{IndexMap, IndexSet};
 use outside::{Memory, VolAnswer};
 use reiser_bitmap::Bitmap;
-use reiser_objects::{Naming, ObjectKey, ObjectStat, Objects};
+use reiser_objects::{ObjectKey, ObjectStat, Objects};
 use reiser_super::Super;
 use std::alloc::Global;
 
@@ -38,12 +36,11 @@ pub fn gather(
     let named = objects.check(alloc, sup.root)?;
     check_all_names(alloc, &objects, &named)?;
     let table = table_of(alloc, &objects, &named)?;
-    let links = links_of(objects, &named);
     Ok(Volume {
         sup,
         bitmap,
+        objects,
         named: table,
-        links,
     })
 }
 
@@ -89,13 +86,4 @@ fn sort(table: &mut IndexMap<ObjectKey, ObjectStat>) -> Result<(), Memory>
 {
     table.sort_keys()?;
     Ok(())
-}
-
-/// The links among the entries.
-fn links_of(objects: Objects, named: &IndexSet<ObjectKey>) -> Vec<Naming>
-    ensures { result.items ≡ link_list (contains same_key named.now) objects.namings.items }
-{
-    let mut links = objects.namings;
-    links.retain(|naming| is_link(named, naming));
-    links
 }

@@ -3,10 +3,12 @@ ghost use Rattle.std.specs.Option.{MatchOption};
 ghost use Rattle.indexmap.specs.IndexMap.{keys, get};
 ghost use Rattle.reiser_objects.specs.declared.key.ObjectKey.{ObjectKey as KeyOf};
 ghost use Rattle.reiser_objects.specs.Keys.{same_key};
+ghost use Rattle.reiser_volume.specs.Known.{is_known};
+ghost use Rattle.reiser_volume.specs.Passes.{is_link};
 
 use indexmap::IndexMap;
 use reiser_bitmap::Bitmap;
-use reiser_objects::{Naming, ObjectKey, ObjectStat};
+use reiser_objects::{Naming, ObjectKey, ObjectStat, Objects, is_followed};
 use reiser_super::Super;
 
 /// A ReiserFS volume that keeps all rules: what is known of it without further reads.
@@ -17,8 +19,8 @@ use reiser_super::Super;
 pub struct Volume {
     pub(crate) sup: Super,
     pub(crate) bitmap: Bitmap,
+    pub(crate) objects: Objects,
     pub(crate) named: IndexMap<ObjectKey, ObjectStat>,
-    pub(crate) links: Vec<Naming>,
 }
 
 impl Volume {
@@ -67,10 +69,19 @@ impl Volume {
         self.named.get_index_of(&key)
     }
 
-    /// The links: the entries that give the named objects their names, in the order of the directories' items.
-    pub fn links(&self) -> &[Naming]
-        ensures { result.now ≡ self.now.links.items }
+    /// What the items of the tree say: of each object, named or not, with the entries of the directories in the order
+    /// of their items.
+    pub fn objects(&self) -> &Objects
+        ensures { result.now ≡ self.now.objects }
     {
-        &self.links
+        &self.objects
+    }
+
+    /// Whether an entry is a link: one that gives a named object a name. The private directory of the root is no part
+    /// of the tree.
+    pub fn is_link(&self, naming: &Naming) -> bool
+        ensures { result ≡ is_link (is_known self.now.named) naming.now }
+    {
+        is_followed(naming) && self.named.contains_key(&naming.dir)
     }
 }

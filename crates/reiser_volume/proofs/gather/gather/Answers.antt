@@ -1,15 +1,11 @@
-use Rattle.std.proofs.Common.{◌≡◌, List, filter, sym, subst, true}
+use Rattle.std.proofs.Common.{filter, sym, subst}
 use Rattle.std.proofs.lemmas.Result.{err_from_is_err_and}
-use Rattle.indexmap.specs.IndexMap.{keys}
-use Rattle.indexmap.specs.IndexSet.{contains}
 use Rattle.outside.specs.declared.answer.VolAnswer.{VolAnswer}
-use Rattle.reiser_objects.specs.declared.naming.Naming.{Naming}
-use Rattle.reiser_objects.specs.Keys.{same_key}
 use Rattle.reiser_volume.specs.Answers.{RefusesVolume}
-use Rattle.reiser_volume.specs.Links.{AreLinks}
+use Rattle.reiser_volume.specs.Known.{is_known}
 use Rattle.reiser_volume.specs.Volume.{volume_items}
 use Rattle.reiser_volume.proofs.Refusals.{objects_refused, names_refused}
-use Rattle.reiser_volume.proofs.Tabling.{keys_found, stat_found}
+use Rattle.reiser_volume.proofs.Tabling.{keys_found, known_named, stat_found}
 use Rattle.reiser_volume.proofs.Uniqueness.{links_found}
 use Rattle.reiser_volume.proofs.gather.gather.Goals as goal
 
@@ -34,8 +30,7 @@ pub returns-clause-gathered : goal.returns-clause-gathered
 returns-clause-gathered c = λ image found noted.
     let items = volume_items image in
     let reach = c.in_ok-named.ensures.named items noted in
-    let stats = c.in_ok-table.ensures.stats items noted in
-    let test = contains same_key c.in_ok-named.named in (
+    let stats = c.in_ok-table.ensures.stats items noted in (
       record {
         clean = found.clean;
         system = found.system;
@@ -49,8 +44,8 @@ returns-clause-gathered c = λ image found noted.
         are_keys = keys_found items c.in_ok-table.table c.in_ok-named.named stats reach c.in_ok-table.ensures.once;
         ascends = c.in_ok-table.ensures.ascends;
         stats = stat_found items c.in_ok-table.table c.in_ok-named.named stats reach;
-        visible = filter (λ n. test n.dir) c.args.objects.namings.items;
-        are_links = subst (λ (l : List Naming). AreLinks items (filter (λ n. test n.dir) c.args.objects.namings.items) l) (sym c.links_of-links.ensures)
-            (links_found items c.args.objects.namings.items test noted.namings (λ key. (λ h. (reach.seen key h).named, reach.whole key)));
+        noted = noted;
+        visible = filter (λ n. is_known c.in_ok-table.table n.dir) c.args.objects.namings.items;
+        are_links = links_found items c.args.objects.namings.items (is_known c.in_ok-table.table) noted.namings (known_named items c.in_ok-table.table c.in_ok-named.named stats reach);
       },
     )
