@@ -12,7 +12,6 @@ mod refusal_line;
 mod tests;
 mod texts;
 mod top;
-mod tree;
 
 pub use command::{Command, read_words};
 pub use ending::Ending;
