@@ -143,13 +143,20 @@ no_pending s image empty =
 empty_block : (s : Shape) (blocks b : ℕ) → 18 ≤ b → system_block s blocks b ≡ zeros
 empty_block s blocks b low = grind (arith, low)
 
+-- the superblock behind a make
+pub super_made : (number : ℕ) (old : Bool) (blocks : ℕ) (image : Image) → Fits number old blocks image
+    → HasFields (shape number old) blocks (block_at (made (shape number old) blocks image) 16)
+super_made number old blocks image fits =
+    let s : Shape = shape number old in
+    let long : 8210 < needed s = system_below (total s) 8210 (total_some s) (omega arith) in
+    let block : block_at (made s blocks image) 16 ≡ super_bytes s blocks = system_is s blocks 16 image (omega arith) (omega (arith, long, fits.needed_low, fits.inside)) in
+    subst (λ (bytes : List ℕ). HasFields s blocks bytes) (sym block) (has_fields s blocks fits.needed_low fits.blocks_low)
+
 pub clean : (number : ℕ) (old : Bool) (blocks : ℕ) (image : Image) → Fits number old blocks image → IsClean (made (shape number old) blocks image)
 clean number old blocks image fits =
     let s : Shape = shape number old in
     let long : 8210 < needed s = system_below (total s) 8210 (total_some s) (omega arith) in
-    let block : block_at (made s blocks image) 16 ≡ super_bytes s blocks = system_is s blocks 16 image (omega arith) (omega (arith, long, fits.needed_low, fits.inside)) in
-    let has : HasFields s blocks (block_at (made s blocks image) 16) =
-    subst (λ (bytes : List ℕ). HasFields s blocks bytes) (sym block) (has_fields s blocks fits.needed_low fits.blocks_low) in
+    let has : HasFields s blocks (block_at (made s blocks image) 16) = super_made number old blocks image fits in
     let device : length (made s blocks image) ≡ length image = length-laid_over (volume_blocks s blocks) image in
     record {
       superblock = clean_super s blocks (length (made s blocks image)) _ fits.needed_low fits.blocks_low (omega (arith, fits.inside, device)) has;
