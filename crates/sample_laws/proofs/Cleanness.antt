@@ -162,7 +162,7 @@ clean number old blocks image fits =
       superblock = clean_super s blocks (length (made s blocks image)) _ fits.needed_low fits.blocks_low (omega (arith, fits.inside, device)) has;
       journal = no_pending (super_of (block_at (made s blocks image) 16)) (made s blocks image)
           (λ place low.
-              let b : ℕ = (super_of (block_at (made s blocks image) 16)).journal_first + place in
-              system_is s blocks b image (omega (arith, low, has.fixed_ones.first, has.fixed_ones.size)) (omega (arith, low, has.fixed_ones.first, has.fixed_ones.size, long, fits.needed_low, fits.inside))
-              ∙ empty_block s blocks b (omega (arith, has.fixed_ones.first)));
+          let b : ℕ = (super_of (block_at (made s blocks image) 16)).journal_first + place in
+          system_is s blocks b image (omega (arith, low, has.fixed_ones.first, has.fixed_ones.size)) (omega (arith, low, has.fixed_ones.first, has.fixed_ones.size, long, fits.needed_low, fits.inside))
+          ∙ empty_block s blocks b (omega (arith, has.fixed_ones.first)));
     }
