@@ -7,7 +7,6 @@
 mod command;
 mod ending;
 mod inspect;
-mod refusal_line;
 #[cfg(test)]
 mod tests;
 mod texts;
