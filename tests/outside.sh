@@ -211,6 +211,10 @@ linux_volumes() {
         name=$(basename "$packed" .img.zst)
         zstd -dqf "$packed" -o packed
         run inspect packed
+        if [ "$name" = xattr-volume ]; then
+            same "inspect of the volume $name" '1|refused 7 attributes|' "$status|${err% * *}|$(cat "$work/.out")"
+            continue
+        fi
         same "inspect of the volume $name" "0||$(expected_super packed)" "$status|$err|$(head -8 "$work/.out")"
         same "used blocks of the volume $name" 'adds up' "$(used_adds_up)"
     done

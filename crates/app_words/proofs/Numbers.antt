@@ -60,4 +60,3 @@ pub unread_is : (most : ℕ) (word : List ℕ) → most < 2 ^ 64 → begins_with
 unread_is most word low plain not_read =
     let same = no_plus word plain in
     unread most word (is_numeral word) refl low (λ numeral small. not_read (subst (λ (w : List ℕ). IsNumeral 10 w × (digits_value 10 w < 2 ^ 64)) (sym same) (numeral, small)))
-

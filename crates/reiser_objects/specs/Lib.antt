@@ -2,6 +2,7 @@ pub mod Items
 pub mod Keys
 pub mod Kinds
 pub mod Laws
+pub mod Leaves
 pub mod Names
 pub mod Reach
 pub mod Read

@@ -63,6 +63,7 @@ with_item o i = record {
   covered = max o.covered (end_of i);
   overlap = option_or o.overlap (overlap_at o.covered i);
   off_form = option_or o.off_form (if has_form i then None else Some i.leaf);
+  first = o.first;
 }
 
 -- An object of this kind may have what the summary tells of.

@@ -5,6 +5,7 @@ mod check;
 mod key;
 mod kinds;
 mod laws;
+mod leaves;
 mod naming;
 mod object;
 mod reach;
@@ -14,6 +15,7 @@ mod table;
 
 pub use key::ObjectKey;
 pub use laws::refusals_break_rules;
+pub use leaves::LeafList;
 pub use naming::Naming;
 pub use object::Object;
 pub use reach::{ROOT, is_followed};

@@ -24,12 +24,15 @@ pub struct Object {
     pub overlap: Option<BlockNo>,
     /// The leaf of its first directory item that is off the grammar of entries.
     pub off_form: Option<BlockNo>,
+    /// The number of the leaf of its first item in the list of leaves.
+    pub first: usize,
 }
 
 impl Object {
-    /// An object without items.
-    pub fn new() -> Object
-        ensures { Summarises result [] }
+    /// An object without items, whose first item is to stand in the leaf of this number.
+    pub fn new(first: usize) -> Object
+        ensures none { Summarises result [] }
+        ensures first { result.first ≡ first }
     {
         Object {
             stat: None,
@@ -39,6 +42,7 @@ impl Object {
             covered: 0,
             overlap: None,
             off_form: None,
+            first,
         }
     }
 
@@ -63,6 +67,7 @@ impl Object {
                 .overlap
                 .or(overlap_at(self.covered, first, count, leaf)),
             off_form: self.off_form.or(off_form_at(leaf, head, body)),
+            first: self.first,
         }
     }
 }

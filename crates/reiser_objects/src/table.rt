@@ -1,14 +1,17 @@
 ghost use Rattle.std.specs.Prelude.{◌≡◌, ℕ, ◌++◌, ◌∷◌, [], List, OnOk, map, filter, if◌then◌else◌};
+ghost use Rattle.std.specs.Option.{MatchOption, option_map_or};
+ghost use Rattle.indexmap.specs.IndexMap.{get};
 ghost use Rattle.reiser_items.specs.Entries.{entry_value};
 ghost use Rattle.reiser_walk.specs.Items.{Item};
 ghost use Rattle.reiser_objects.specs.Items.{stat_of_object, is_directory_at};
-ghost use Rattle.reiser_objects.specs.Keys.{key_of, items_of};
+ghost use Rattle.reiser_objects.specs.Keys.{key_of, items_of, same_key};
+ghost use Rattle.reiser_objects.specs.Leaves.{IsFirstLeaf};
 ghost use Rattle.reiser_objects.specs.Names.{is_listed, naming_by, namings_in};
 ghost use Rattle.reiser_objects.specs.Summary.{Summarises};
-ghost use Rattle.reiser_objects.specs.Table.{HasNoted, IsBehind, first_save_link};
+ghost use Rattle.reiser_objects.specs.Table.{HasNoted, IsBehind, Tells, first_save_link};
 
 use crate::kinds::is_directory_mode;
-use crate::{Naming, Object, ObjectKey, ObjectStat};
+use crate::{LeafList, Naming, Object, ObjectKey, ObjectStat};
 use fs_rows::Name;
 use indexmap::IndexMap;
 use outside::Memory;
@@ -23,6 +26,7 @@ pub struct Objects {
     map: IndexMap<ObjectKey, Object>,
     pub namings: Vec<Naming>,
     pub save_link: Option<u32>,
+    pub leaves: LeafList,
 }
 
 impl Objects {
@@ -34,6 +38,7 @@ impl Objects {
             map: IndexMap::new(alloc),
             namings: Vec::new(alloc),
             save_link: None,
+            leaves: LeafList::new(alloc),
         }
     }
 
@@ -53,7 +58,8 @@ impl Objects {
             dir: head.dir,
             object: head.object,
         };
-        let object = self.object_or_new(key).with(leaf, head, body);
+        let place = self.leaves.add(leaf)?;
+        let object = object_at(&self.map, key, place).with(leaf, head, body);
         self.map.insert(key, object)?;
         note_entries(&mut self.namings, alloc, leaf, head, body)?;
         self.save_link = self.save_link.or(save_link_in(head));
@@ -81,10 +87,30 @@ impl Objects {
     pub fn object_or_new(&self, key: ObjectKey) -> Object
         ensures { (items : List Item) → HasNoted self.now items → Summarises result (items_of key items) }
     {
+        object_at(&self.map, key, 0)
+    }
+
+    /// The number in `leaves` of the leaf that holds the first item of an object; None where it has no item.
+    ///
+    /// Where the items ascend by their keys, those of the object are all in this leaf and in some that follow it.
+    pub fn first_leaf(&self, key: ObjectKey) -> Option<usize>
+        ensures { (items : List Item) → HasNoted self.now items → MatchOption result (items_of key items ≡ []) (IsFirstLeaf key items) }
+    {
         match self.map.get(&key) {
-            Some(object) => *object,
-            None => Object::new(),
+            Some(object) => Some(object.first),
+            None => None,
         }
+    }
+}
+
+/// What is kept of an object; where nothing is, one without items, whose first is to stand in the leaf of this number.
+fn object_at(map: &IndexMap<ObjectKey, Object>, key: ObjectKey, place: usize) -> Object
+    ensures summary { (items : List Item) → Tells (get same_key map.now key) items → Summarises result items }
+    ensures first { result.first ≡ option_map_or (λ o. o.first) (get same_key map.now key) place }
+{
+    match map.get(&key) {
+        Some(object) => *object,
+        None => Object::new(place),
     }
 }
 

@@ -36,26 +36,8 @@ use Rattle.reiser_volume.specs.Once.{DifferInName, BlamesTwice}
 use Rattle.reiser_volume.specs.Passes as pass
 use Rattle.reiser_volume.specs.Passes.{is_link, link_list, IsGoodName, BlamesName, HasForms, BlamesObject, is_symlink_mode}
 use Rattle.reiser_volume.specs.Private.{HasNoAttributes, BlamesPrivate}
-use Rattle.reiser_volume.specs.Refuses.{RefusesNames}
-
-filter_both : {X : Type 0} (p q : X → Bool) (xs : List X) → filter (λ x. q x && p x) xs ≡ filter q (filter p xs)
-filter_both p q [] = refl
-filter_both p q (x ∷ xs) = outer (p x) (filter_both p q xs)
-  where
-    both : (b : Bool) → filter (λ y. q y && p y) xs ≡ filter q (filter p xs)
-        → (if b && true then x ∷ filter (λ y. q y && p y) xs else filter (λ y. q y && p y) xs) ≡ (if b then x ∷ filter q (filter p xs) else filter q (filter p xs))
-    both true same = ap (λ l. x ∷ l) same
-    both false same = same
-
-    none : (b : Bool) → filter (λ y. q y && p y) xs ≡ filter q (filter p xs)
-        → (if b && false then x ∷ filter (λ y. q y && p y) xs else filter (λ y. q y && p y) xs) ≡ filter q (filter p xs)
-    none true same = same
-    none false same = same
-
-    outer : (a : Bool) → filter (λ y. q y && p y) xs ≡ filter q (filter p xs)
-        → (if q x && a then x ∷ filter (λ y. q y && p y) xs else filter (λ y. q y && p y) xs) ≡ filter q (if a then x ∷ filter p xs else filter p xs)
-    outer true same = both (q x) same
-    outer false same = none (q x) same
+use Rattle.reiser_volume.specs.Refuses.{RefusesNames, IsNamesAnswer}
+use Rattle.reiser_volume.proofs.Uniqueness.{same_decides, links_found}
 
 -- a symlink, as a test and as a fact
 not_symlink : (a b d e f g : Bool) → (if a then Some Directory else (if b then Some File else (if d then Some Character else (if e then Some Block else (if f then Some Fifo else (if g then Some Socket else None)))))) ≡ Some Symlink → ⊥
@@ -94,9 +76,6 @@ and_both : (a b : Bool) → (a && b) ≡ true → (a ≡ true) × (b ≡ true)
 and_both true b h = (refl, h)
 and_both false b h = absurd (true≢false (sym h))
 
-same_decides : (a b : ObjectKey) → Decides (same_key a b) (a ≡ b)
-same_decides a b = (same_key-true a b, λ e. ap (same_key a) (sym e) ∙ same_key-self a)
-
 module _ {S : Type 0} (items : List Item) (ns : List Naming) (named : IndexSet ObjectKey S) (ns_is : ns ≡ namings items) (reach : IsReach items (contains same_key named)) (unique : IsUnique same_key named) where
   abbrev has : Keys
   has = contains same_key named
@@ -108,7 +87,7 @@ module _ {S : Type 0} (items : List Item) (ns : List Naming) (named : IndexSet O
   links = link_list has ns
 
   linked : AreLinks items visible links
-  linked = record { has = has; exact = λ key. (λ h. (reach.seen key h).named, reach.whole key); are_visible = ap (filter (λ n. has n.dir)) ns_is; are_links = filter_both (λ n. has n.dir) is_followed ns }
+  linked = links_found items ns has ns_is (λ key. (λ h. (reach.seen key h).named, reach.whole key))
 
   keyed : AreNamedKeys items named.keys
   keyed = record {
@@ -222,3 +201,25 @@ module _ {S : Type 0} (items : List Item) (ns : List Naming) (named : IndexSet O
       extended_crowds = extendeds;
     };
   }
+
+-- what an unconditional blame answers
+pub name_answer : (h : Keys) (n : Naming) (r : VolumeRefusal) → BlamesName h n r → IsNamesAnswer (Refused r)
+name_answer h n r (pass.bad dir bad is) = subst (λ (x : VolumeRefusal). IsNamesAnswer (Refused x)) (sym is) tt
+name_answer h n r (pass.link dir counts (pass.long size is)) = subst (λ (x : VolumeRefusal). IsNamesAnswer (Refused x)) (sym is) tt
+name_answer h n r (pass.link dir counts (pass.to_root to is)) = subst (λ (x : VolumeRefusal). IsNamesAnswer (Refused x)) (sym is) tt
+name_answer h n r (pass.link dir counts (pass.taken at name is)) = subst (λ (x : VolumeRefusal). IsNamesAnswer (Refused x)) (sym is) tt
+
+pub twice_answer : (ns : List Naming) (e : VolAnswer) → BlamesTwice ns e → IsNamesAnswer e
+twice_answer ns (Refused r) b = subst (λ (x : VolumeRefusal). IsNamesAnswer (Refused x)) (sym b.1.4) tt
+twice_answer ns Fault b = b
+twice_answer ns Memory b = tt
+
+pub crowd_answer : (ns : List Naming) (e : VolAnswer) → BlamesCrowd ns e → IsNamesAnswer e
+crowd_answer ns (Refused r) b = subst (λ (x : VolumeRefusal). IsNamesAnswer (Refused x)) (sym b.1.2) tt
+crowd_answer ns Fault b = b
+crowd_answer ns Memory b = tt
+
+pub extended_answer : (keys : List ObjectKey) (ns : List Naming) (e : VolAnswer) → BlamesExtended keys ns e → IsNamesAnswer e
+extended_answer keys ns (Refused r) b = subst (λ (x : VolumeRefusal). IsNamesAnswer (Refused x)) (sym b.1.2) tt
+extended_answer keys ns Fault b = b
+extended_answer keys ns Memory b = tt

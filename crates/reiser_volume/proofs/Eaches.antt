@@ -1,6 +1,6 @@
 -- Results that are passed on.
 use Rattle.std.proofs.Common.{◌≡◌, ◌≤◌, List, Option, Some, None, Result, Ok, Err, true, sym, subst, ◌∙◌}
-use Rattle.std.specs.Result.{MatchResult, OnOk, IfErr}
+use Rattle.std.specs.Result.{MatchResult, OnOk, IfOk, IfErr}
 use Rattle.outside.specs.declared.refusal.VolumeRefusal.{VolumeRefusal}
 use Rattle.reiser_walk.specs.Items.{Item}
 use Rattle.reiser_objects.specs.declared.key.ObjectKey.{ObjectKey}
@@ -31,3 +31,15 @@ no_stat_forms items key o s none there = record {
 pub both_ways : {T E : Type 0} (P Q : Type 0) (R S : E → Type 0) (r : Result T E) → OnOk r P → IfErr r R → (P → Q) → ((e : E) → R e → S e) → MatchResult r (λ _. Q) S
 both_ways P Q R S (Ok x) h k f g = f h
 both_ways P Q R S (Err e) h k f g = g e k
+
+pub if_err_to : {T E : Type 0} (r : Result T E) (R S : E → Type 0) → ((e : E) → R e → S e) → IfErr r R → IfErr r S
+if_err_to (Ok x) R S f h = h
+if_err_to (Err e) R S f h = f e h
+
+pub match_ok : {T E : Type 0} (P Q : T → Type 0) (R : E → Type 0) (r : Result T E) → MatchResult r P R → ((x : T) → P x → Q x) → IfOk r Q
+match_ok P Q R (Ok x) h f = f x h
+match_ok P Q R (Err e) h f = tt
+
+pub match_err : {T E : Type 0} (P : T → Type 0) (R : E → Type 0) (r : Result T E) → MatchResult r P R → IfErr r R
+match_err P R (Ok x) h = tt
+match_err P R (Err e) h = h

@@ -1,11 +1,15 @@
 pub mod Again
+pub mod Answers
 pub mod Bytes
 pub mod Counts
 pub mod Crowds
 pub mod Extended
+pub mod Known
+pub mod Laws
 pub mod Links
 pub mod Names
 pub mod Once
+pub mod Opened
 pub mod Passes
 pub mod Private
 pub mod Refuses

@@ -1,4 +1,4 @@
-ghost use Rattle.std.specs.Prelude.{◌≡◌, ◌++◌, ◌∷◌, [], ◌||◌, not, List, AllPairs, OnOk, IfOk, if◌then◌else◌};
+ghost use Rattle.std.specs.Prelude.{IfErr, ◌≡◌, ◌++◌, ◌∷◌, [], ◌||◌, not, List, AllPairs, OnOk, IfOk, if◌then◌else◌};
 ghost use Rattle.std.specs.Result.{MatchResult};
 ghost use Rattle.indexmap.specs.IndexSet.{contains};
 ghost use Rattle.reiser_walk.specs.Items.{Item};
@@ -8,6 +8,7 @@ ghost use Rattle.reiser_objects.specs.Keys.{same_key};
 ghost use Rattle.reiser_objects.specs.Table.{HasNoted};
 ghost use Rattle.reiser_volume.specs.Again.{NamesAnother, HasDirectories, BlamesAgain};
 ghost use Rattle.reiser_volume.specs.Passes.{is_link, link_list};
+ghost use Rattle.reiser_volume.specs.Refuses.{IsNamesAnswer};
 
 use crate::crowd::is_link;
 use indexmap::IndexSet;
@@ -21,8 +22,9 @@ pub fn check_directories(
     objects: &Objects,
     named: &IndexSet<ObjectKey>,
 ) -> Result<(), VolAnswer>
-    ensures { (items : List Item) → HasNoted objects.now items → let links = link_list (contains same_key named.now) objects.now.namings.items in
+    ensures checked { (items : List Item) → HasNoted objects.now items → let links = link_list (contains same_key named.now) objects.now.namings.items in
         MatchResult result (λ _. AllPairs (NamesAnother items) links) (BlamesAgain items links) }
+    ensures answers { IfErr result IsNamesAnswer }
 {
     let mut seen = IndexSet::new(alloc);
     for naming in &objects.namings {
@@ -38,9 +40,10 @@ fn see_link(
     named: &IndexSet<ObjectKey>,
     naming: &Naming,
 ) -> Result<(), VolAnswer>
-    ensures { (items : List Item) (links : List NamingOf) → HasNoted objects.now items → HasDirectories items seen.old links
+    ensures checked { (items : List Item) (links : List NamingOf) → HasNoted objects.now items → HasDirectories items seen.old links
         → let more = if is_link (contains same_key named.now) naming.now then naming.now ∷ [] else [] in
         MatchResult result (λ _. HasDirectories items seen.new (links ++ more)) (BlamesAgain items (links ++ more)) }
+    ensures answers { IfErr result IsNamesAnswer }
 {
     if is_link(named, naming) {
         see_target(seen, objects, naming)
@@ -55,8 +58,9 @@ fn see_target(
     objects: &Objects,
     naming: &Naming,
 ) -> Result<(), VolAnswer>
-    ensures { (items : List Item) (links : List NamingOf) → HasNoted objects.now items → HasDirectories items seen.old links
+    ensures checked { (items : List Item) (links : List NamingOf) → HasNoted objects.now items → HasDirectories items seen.old links
         → MatchResult result (λ _. HasDirectories items seen.new (links ++ naming.now ∷ [])) (BlamesAgain items (links ++ naming.now ∷ [])) }
+    ensures answers { IfErr result IsNamesAnswer }
 {
     if !objects.is_directory(naming.target) {
         return Ok(());

@@ -1,4 +1,4 @@
-ghost use Rattle.std.specs.Prelude.{◌≡◌, ◌≤◌, ◌<◌, ◌+◌, ◌^◌, ◌++◌, ◌∷◌, [], ℕ, true, List, OnOk, IfOk, if◌then◌else◌};
+ghost use Rattle.std.specs.Prelude.{IfErr, ◌≡◌, ◌≤◌, ◌<◌, ◌+◌, ◌^◌, ◌++◌, ◌∷◌, [], ℕ, true, List, OnOk, IfOk, if◌then◌else◌};
 ghost use Rattle.std.specs.Result.{MatchResult};
 ghost use Rattle.indexmap.specs.IndexSet.{contains};
 ghost use Rattle.reiser_walk.specs.Items.{Item};
@@ -9,6 +9,7 @@ ghost use Rattle.reiser_objects.specs.Table.{HasNoted};
 ghost use Rattle.reiser_volume.specs.Counts.{CountsNames, BlamesCount, is_counted, names_of};
 ghost use Rattle.reiser_volume.specs.Passes.{is_link, link_list};
 ghost use Rattle.reiser_volume.specs.Tally.{tally, capped};
+ghost use Rattle.reiser_volume.specs.Refuses.{IsNamesAnswer};
 
 use crate::crowd::is_link;
 use indexmap::{IndexMap, IndexSet};
@@ -22,8 +23,9 @@ pub fn check_counts(
     objects: &Objects,
     named: &IndexSet<ObjectKey>,
 ) -> Result<(), VolAnswer>
-    ensures { (items : List Item) → HasNoted objects.now items → let links = link_list (contains same_key named.now) objects.now.namings.items in
+    ensures checked { (items : List Item) → HasNoted objects.now items → let links = link_list (contains same_key named.now) objects.now.namings.items in
         MatchResult result (λ _. (key : KeyOf) → is_counted items key ≡ true → names_of links key < 2 ^ 32) (BlamesCount items links) }
+    ensures answers { IfErr result IsNamesAnswer }
 {
     let mut counts = IndexMap::new(alloc);
     for naming in &objects.namings {
@@ -39,9 +41,10 @@ fn count_link(
     named: &IndexSet<ObjectKey>,
     naming: &Naming,
 ) -> Result<(), VolAnswer>
-    ensures { (items : List Item) (links : List NamingOf) → HasNoted objects.now items → CountsNames items counts.old links
+    ensures checked { (items : List Item) (links : List NamingOf) → HasNoted objects.now items → CountsNames items counts.old links
         → let more = if is_link (contains same_key named.now) naming.now then naming.now ∷ [] else [] in
         MatchResult result (λ _. CountsNames items counts.new (links ++ more)) (BlamesCount items (links ++ more)) }
+    ensures answers { IfErr result IsNamesAnswer }
 {
     if is_link(named, naming) {
         count_target(counts, objects, naming)
@@ -56,8 +59,9 @@ fn count_target(
     objects: &Objects,
     naming: &Naming,
 ) -> Result<(), VolAnswer>
-    ensures { (items : List Item) (links : List NamingOf) → HasNoted objects.now items → CountsNames items counts.old links
+    ensures checked { (items : List Item) (links : List NamingOf) → HasNoted objects.now items → CountsNames items counts.old links
         → MatchResult result (λ _. CountsNames items counts.new (links ++ naming.now ∷ [])) (BlamesCount items (links ++ naming.now ∷ [])) }
+    ensures answers { IfErr result IsNamesAnswer }
 {
     if objects.is_directory(naming.target) {
         return Ok(());

@@ -1,4 +1,4 @@
-ghost use Rattle.std.specs.Prelude.{◌≡◌, ◌≤◌, true, List};
+ghost use Rattle.std.specs.Prelude.{IfErr, ◌≡◌, ◌≤◌, true, List};
 ghost use Rattle.std.specs.Result.{MatchResult};
 ghost use Rattle.indexmap.specs.IndexSet.{contains, IsUnique};
 ghost use Rattle.reiser_walk.specs.Items.{Item};
@@ -6,6 +6,7 @@ ghost use Rattle.reiser_objects.specs.declared.key.ObjectKey.{ObjectKey as KeyOf
 ghost use Rattle.reiser_objects.specs.Keys.{same_key};
 ghost use Rattle.reiser_objects.specs.Table.{HasNoted};
 ghost use Rattle.reiser_volume.specs.Passes.{HasForms, BlamesObject, BlamesTarget, is_symlink_mode};
+ghost use Rattle.reiser_volume.specs.Refuses.{IsRefusalOfNames};
 
 use indexmap::IndexSet;
 use outside::{Rule, VolumeRefusal};
@@ -17,6 +18,7 @@ pub fn check_each(objects: &Objects, named: &IndexSet<ObjectKey>) -> Result<(), 
     ensures once { IsUnique same_key named.now }
     ensures checked { (items : List Item) → HasNoted objects.now items
         → MatchResult result (λ _. (key : KeyOf) → contains same_key named.now key ≡ true → HasForms items key) (λ r. (key : KeyOf) × (contains same_key named.now key ≡ true) × BlamesObject items key r) }
+    ensures answers { IfErr result IsRefusalOfNames }
 {
     for key in named.as_slice() {
         check_object(objects, *key)?;
@@ -26,7 +28,8 @@ pub fn check_each(objects: &Objects, named: &IndexSet<ObjectKey>) -> Result<(), 
 
 /// The same of one object.
 fn check_object(objects: &Objects, key: ObjectKey) -> Result<(), VolumeRefusal>
-    ensures { (items : List Item) → HasNoted objects.now items → MatchResult result (λ _. HasForms items key) (BlamesObject items key) }
+    ensures checked { (items : List Item) → HasNoted objects.now items → MatchResult result (λ _. HasForms items key) (BlamesObject items key) }
+    ensures answers { IfErr result IsRefusalOfNames }
 {
     let object = objects.object_or_new(key);
     match object.off_form {
@@ -43,7 +46,8 @@ fn check_object(objects: &Objects, key: ObjectKey) -> Result<(), VolumeRefusal>
 
 /// Whether the target of a symlink with this stat data is short.
 fn check_target(key: ObjectKey, stat: &ObjectStat) -> Result<(), VolumeRefusal>
-    ensures { MatchResult result (λ _. is_symlink_mode stat.now.fields.mode ≡ true → stat.now.fields.size ≤ 3900) (BlamesTarget key stat.now) }
+    ensures checked { MatchResult result (λ _. is_symlink_mode stat.now.fields.mode ≡ true → stat.now.fields.size ≤ 3900) (BlamesTarget key stat.now) }
+    ensures answers { IfErr result IsRefusalOfNames }
 {
     if stat.fields.mode / 4096 == 10 && stat.fields.size > 3900 {
         return Err(VolumeRefusal::NameTooLong {

@@ -10,9 +10,15 @@ mod counts;
 mod crowd;
 mod each;
 mod extended;
+mod gather;
+mod laws;
 mod names;
 mod once;
 mod one;
+mod open;
 mod private;
+mod volume;
 
+pub use laws::{links_are_one, names_refusals_break_rules, refusals_break_rules};
 pub use names::check_all_names;
+pub use volume::Volume;

@@ -1,4 +1,4 @@
-ghost use Rattle.std.specs.Prelude.{List};
+ghost use Rattle.std.specs.Prelude.{List, IfErr};
 ghost use Rattle.std.specs.Result.{MatchResult};
 ghost use Rattle.indexmap.specs.IndexSet.{contains};
 ghost use Rattle.reiser_walk.specs.Items.{Item};
@@ -6,7 +6,7 @@ ghost use Rattle.reiser_objects.specs.Keys.{same_key};
 ghost use Rattle.reiser_objects.specs.Reach.{IsReach};
 ghost use Rattle.reiser_objects.specs.Table.{HasNoted};
 ghost use Rattle.reiser_volume.specs.Names.{AreNames};
-ghost use Rattle.reiser_volume.specs.Refuses.{RefusesNames};
+ghost use Rattle.reiser_volume.specs.Refuses.{RefusesNames, IsNamesAnswer};
 
 use crate::again::check_directories;
 use crate::counts::check_counts;
@@ -27,7 +27,8 @@ pub fn check_all_names(
     objects: &Objects,
     named: &IndexSet<ObjectKey>,
 ) -> Result<(), VolAnswer>
-    ensures { (items : List Item) → HasNoted objects.now items → IsReach items (contains same_key named.now) → MatchResult result (λ _. AreNames items) (RefusesNames items) }
+    ensures checked { (items : List Item) → HasNoted objects.now items → IsReach items (contains same_key named.now) → MatchResult result (λ _. AreNames items) (RefusesNames items) }
+    ensures answers { IfErr result IsNamesAnswer }
 {
     check_each(objects, named)?;
     check_names(objects, named)?;

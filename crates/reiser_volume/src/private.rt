@@ -8,6 +8,7 @@ ghost use Rattle.reiser_objects.specs.Keys.{same_key};
 ghost use Rattle.reiser_objects.specs.Names.{is_followed};
 ghost use Rattle.reiser_objects.specs.Table.{HasNoted};
 ghost use Rattle.reiser_volume.specs.Private.{IsReadable, IsOnly, IsExtra, AreTargets, BlamesTargets, BlamesBelow, BlamesPrivate, HoldsNoAttribute, HasNoAttributes};
+ghost use Rattle.reiser_volume.specs.Refuses.{IsNamesAnswer};
 
 use crate::again::add;
 use indexmap::IndexSet;
@@ -20,7 +21,8 @@ const XATTRS: &[u8; 6] = b"xattrs";
 
 /// Whether the private directory of the root, if there is one, holds no attribute.
 pub fn check_private(alloc: Global, objects: &Objects) -> Result<(), VolAnswer>
-    ensures { (items : List Item) → HasNoted objects.now items → MatchResult result (λ _. (n : NamingOf) → Contains objects.now.namings.items n → is_followed n ≡ false → HasNoAttributes items n.target) (BlamesPrivate items objects.now.namings.items) }
+    ensures checked { (items : List Item) → HasNoted objects.now items → MatchResult result (λ _. (n : NamingOf) → Contains objects.now.namings.items n → is_followed n ≡ false → HasNoAttributes items n.target) (BlamesPrivate items objects.now.namings.items) }
+    ensures answers { IfErr result IsNamesAnswer }
 {
     for naming in &objects.namings {
         check_entry(alloc, objects, naming)?;
@@ -30,8 +32,9 @@ pub fn check_private(alloc: Global, objects: &Objects) -> Result<(), VolAnswer>
 
 /// The same of what one entry names, if it is that of the private directory.
 fn check_entry(alloc: Global, objects: &Objects, naming: &Naming) -> Result<(), VolAnswer>
-    ensures { (items : List Item) → HasNoted objects.now items → MatchResult result (λ _. is_followed naming.now ≡ false → HasNoAttributes items naming.now.target)
+    ensures checked { (items : List Item) → HasNoted objects.now items → MatchResult result (λ _. is_followed naming.now ≡ false → HasNoAttributes items naming.now.target)
         (λ e. (is_followed naming.now ≡ false) × BlamesBelow items (HasNoAttributes items naming.now.target) naming.now.target e) }
+    ensures answers { IfErr result IsNamesAnswer }
 {
     if is_followed(naming) {
         return Ok(());
@@ -41,7 +44,8 @@ fn check_entry(alloc: Global, objects: &Objects, naming: &Naming) -> Result<(), 
 
 /// Whether the private directory is empty, or has one entry, `xattrs`, that holds no attribute.
 fn check_directory(alloc: Global, objects: &Objects, dir: ObjectKey) -> Result<(), VolAnswer>
-    ensures { (items : List Item) → HasNoted objects.now items → MatchResult result (λ _. HasNoAttributes items dir) (BlamesBelow items (HasNoAttributes items dir) dir) }
+    ensures checked { (items : List Item) → HasNoted objects.now items → MatchResult result (λ _. HasNoAttributes items dir) (BlamesBelow items (HasNoAttributes items dir) dir) }
+    ensures answers { IfErr result IsNamesAnswer }
 {
     if !is_readable(objects, dir) {
         return Err(attributes(dir));
@@ -59,8 +63,9 @@ fn check_only(
     dir: ObjectKey,
     only: Option<ObjectKey>,
 ) -> Result<(), VolAnswer>
-    ensures { (items : List Item) → HasNoted objects.now items → IsReadable items dir → IsOnly (filter (λ n. same_key n.dir dir) objects.now.namings.items) only
+    ensures checked { (items : List Item) → HasNoted objects.now items → IsReadable items dir → IsOnly (filter (λ n. same_key n.dir dir) objects.now.namings.items) only
         → MatchResult result (λ _. HasNoAttributes items dir) (BlamesBelow items (HasNoAttributes items dir) dir) }
+    ensures answers { IfErr result IsNamesAnswer }
 {
     match only {
         None => Ok(()),
@@ -70,7 +75,8 @@ fn check_only(
 
 /// Whether a directory holds only empty directories, as attributes leave them behind.
 fn check_inner(alloc: Global, objects: &Objects, dir: ObjectKey) -> Result<(), VolAnswer>
-    ensures { (items : List Item) → HasNoted objects.now items → MatchResult result (λ _. HoldsNoAttribute items dir) (BlamesBelow items (HoldsNoAttribute items dir) dir) }
+    ensures checked { (items : List Item) → HasNoted objects.now items → MatchResult result (λ _. HoldsNoAttribute items dir) (BlamesBelow items (HoldsNoAttribute items dir) dir) }
+    ensures answers { IfErr result IsNamesAnswer }
 {
     if !is_readable(objects, dir) {
         return Err(attributes(dir));
@@ -85,8 +91,9 @@ fn targets(
     objects: &Objects,
     dir: ObjectKey,
 ) -> Result<IndexSet<ObjectKey>, VolAnswer>
-    ensures { (items : List Item) → HasNoted objects.now items → let ns = filter (λ n. same_key n.dir dir) objects.now.namings.items in
+    ensures checked { (items : List Item) → HasNoted objects.now items → let ns = filter (λ n. same_key n.dir dir) objects.now.namings.items in
         MatchResult result (λ inside. AreTargets items ns (contains same_key inside)) (BlamesTargets items ns) }
+    ensures answers { IfErr result IsNamesAnswer }
 {
     let mut inside = IndexSet::new(alloc);
     for naming in &objects.namings {
@@ -102,9 +109,10 @@ fn add_target(
     dir: ObjectKey,
     naming: &Naming,
 ) -> Result<(), VolAnswer>
-    ensures { (items : List Item) (ns : List NamingOf) → HasNoted objects.now items → AreTargets items ns (contains same_key inside.old)
+    ensures checked { (items : List Item) (ns : List NamingOf) → HasNoted objects.now items → AreTargets items ns (contains same_key inside.old)
         → let more = if same_key naming.now.dir dir then naming.now ∷ [] else [] in
         MatchResult result (λ _. AreTargets items (ns ++ more) (contains same_key inside.new)) (BlamesTargets items (ns ++ more)) }
+    ensures answers { IfErr result IsNamesAnswer }
 {
     if naming.dir != dir {
         return Ok(());
@@ -118,8 +126,9 @@ fn add_target(
 
 /// Whether none of these directories has an entry.
 fn check_empty(objects: &Objects, inside: &IndexSet<ObjectKey>) -> Result<(), VolAnswer>
-    ensures { MatchResult result (λ _. (n : NamingOf) → Contains objects.now.namings.items n → contains same_key inside.now n.dir ≡ false)
+    ensures checked { MatchResult result (λ _. (n : NamingOf) → Contains objects.now.namings.items n → contains same_key inside.now n.dir ≡ false)
         (λ e. (n : NamingOf) × Contains objects.now.namings.items n × (contains same_key inside.now n.dir ≡ true) × (e ≡ VolAnswer.Refused (VolumeRefusal.HasAttributes n.target.dir n.target.object))) }
+    ensures answers { IfErr result IsNamesAnswer }
 {
     for naming in &objects.namings {
         if inside.contains(&naming.dir) {

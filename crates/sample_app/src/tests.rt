@@ -89,12 +89,7 @@ fn sizes_that_are_too_small(rt: HostRuntime) -> Result<(), Fail> {
             1,
             "refused 4 short 536870912 8212\n",
         ),
-        (
-            &["0", "8211", "x"],
-            8212,
-            6,
-            "refused 15 space 8212 8211\n",
-        ),
+        (&["0", "8211", "x"], 8212, 6, "refused 15 space 8212 8211\n"),
         (
             &["--old", "0", "8211", "x"],
             8212,

@@ -106,11 +106,7 @@ fn make_on_device<D: Disk>(alloc: Global, order: &Order<'_>, disk: &mut D) -> En
 }
 
 /// Makes the volume, and waits until it has reached the device.
-fn write_ordered<D: Disk>(
-    alloc: Global,
-    order: &Order<'_>,
-    disk: &mut D,
-) -> Result<(), MakeAnswer>
+fn write_ordered<D: Disk>(alloc: Global, order: &Order<'_>, disk: &mut D) -> Result<(), MakeAnswer>
     requires inside { order.now.blocks ≤ D.size disk.old }
     requires open { D.opened disk.old ≡ Some Access.Write }
     ensures size { D.size disk.new ≡ D.size disk.old }
@@ -127,11 +123,7 @@ fn write_ordered<D: Disk>(
 }
 
 /// Makes the volume in the version that is ordered.
-fn make_ordered<D: Disk>(
-    alloc: Global,
-    order: &Order<'_>,
-    disk: &mut D,
-) -> Result<(), MakeAnswer>
+fn make_ordered<D: Disk>(alloc: Global, order: &Order<'_>, disk: &mut D) -> Result<(), MakeAnswer>
     requires inside { order.now.blocks ≤ D.size disk.old }
     requires open { D.opened disk.old ≡ Some Access.Write }
     ensures open { D.opened disk.new ≡ D.opened disk.old }

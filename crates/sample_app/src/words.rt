@@ -32,12 +32,7 @@ fn three_words(old: bool, words: &[String]) -> Option<Order<'_>>
     ensures { option_map seen result ≡ three_words old (map string_bytes words.now) }
 {
     match words {
-        [number, blocks, path] => order_of(
-            old,
-            number.as_str(),
-            blocks.as_str(),
-            path.as_str(),
-        ),
+        [number, blocks, path] => order_of(old, number.as_str(), blocks.as_str(), path.as_str()),
         _ => None,
     }
 }

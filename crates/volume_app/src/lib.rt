@@ -11,7 +11,6 @@ mod inspect;
 mod tests;
 mod texts;
 mod top;
-mod tree;
 
 pub use command::{Command, read_words};
 pub use ending::Ending;

@@ -15,19 +15,19 @@ loop-naming-preserved c = λ items noted.
     let within : c.loop-naming.naming-index < length c.args.objects.now.namings.items = omega (arith, c.loop-naming-test.true, ap length c.deref-naming-items.ensures.value) in
     let at = c.naming-item.is ∙ ap (λ (l : List Naming). get_or l c.loop-naming.naming-index c.naming-item.result) c.deref-naming-items.ensures.value in
     subst (λ (l : List Naming). HasDirectories items c.see_link.new.seen l) (sym (kept_step (is_link (contains same_key c.args.named.now)) c.args.objects.now.namings.items c.loop-naming.naming-index c.naming-item.result within at))
-    (c.in_ok-see_link.ensures items _ noted (c.loop-naming.invariant items noted))
+    (c.in_ok-see_link.ensures.checked items _ noted (c.loop-naming.invariant items noted))
 
-pub returns-in_err-see_link : goal.returns-in_err-see_link
-returns-in_err-see_link c = λ items noted.
+pub returns-in_err-see_link-clause-checked : goal.returns-in_err-see_link-clause-checked
+returns-in_err-see_link-clause-checked c = λ items noted.
     let within : c.loop-naming.naming-index < length c.args.objects.now.namings.items = omega (arith, c.loop-naming-test.true, ap length c.deref-naming-items.ensures.value) in
     let at = c.naming-item.is ∙ ap (λ (l : List Naming). get_or l c.loop-naming.naming-index c.naming-item.result) c.deref-naming-items.ensures.value in
     let p = is_link (contains same_key c.args.named.now) in
     let rest : List Naming = filter p (drop (c.loop-naming.naming-index + 1) c.args.objects.now.namings.items) in
     let whole = kept_split p c.args.objects.now.namings.items (c.loop-naming.naming-index + 1) ∙ ap (λ (l : List Naming). l ++ rest) (kept_step p c.args.objects.now.namings.items c.loop-naming.naming-index c.naming-item.result within at) in
     let err = err_from_is_err_and c.from_residual.result c.from_residual.ensures.1 in
-    rw err.1 (subst (λ (e : VolAnswer). BlamesAgain items (link_list (contains same_key c.args.named.now) c.args.objects.now.namings.items) e) (sym err.2) (again_of_part items _ rest _ _ whole (c.in_err-see_link.ensures items _ noted (c.loop-naming.invariant items noted))))
+    rw err.1 (subst (λ (e : VolAnswer). BlamesAgain items (link_list (contains same_key c.args.named.now) c.args.objects.now.namings.items) e) (sym err.2) (again_of_part items _ rest _ _ whole (c.in_err-see_link.ensures.checked items _ noted (c.loop-naming.invariant items noted))))
 
-pub returns : goal.returns
-returns c = λ items noted.
+pub returns-clause-checked : goal.returns-clause-checked
+returns-clause-checked c = λ items noted.
     let all : length c.args.objects.now.namings.items ≤ c.loop-naming.naming-index = omega (arith, c.loop-naming-test.false, ap length c.deref-naming-items.ensures.value) in
     subst (λ (l : List Naming). AllPairs (NamesAnother items) l) (kept_all (is_link (contains same_key c.args.named.now)) c.args.objects.now.namings.items c.loop-naming.naming-index all) (c.loop-naming.invariant items noted).once

@@ -4,18 +4,18 @@ use Rattle.reiser_volume.specs.Counts.{is_counted}
 use Rattle.reiser_volume.proofs.Counting.{uncounted, counted_more, counted_over, counts_it, not_counted}
 use Rattle.reiser_volume.proofs.counts.count_target.Goals as goal
 
-pub returns-then-is_directory : goal.returns-then-is_directory
-returns-then-is_directory c = λ items links noted has.
+pub returns-then-is_directory-clause-checked : goal.returns-then-is_directory-clause-checked
+returns-then-is_directory-clause-checked c = λ items links noted has.
     uncounted items c.args.counts.now links c.args.naming.now has (not_counted items c.args.naming.now.target (sym (c.is_directory.ensures items noted) ∙ c.if-is_directory.true))
 
-pub returns-else-branch : goal.returns-else-branch
-returns-else-branch c = λ items links noted has.
+pub returns-else-branch-clause-checked : goal.returns-else-branch-clause-checked
+returns-else-branch-clause-checked c = λ items links noted has.
     let other : is_directory_at items c.args.naming.now.target ≡ false = sym (c.is_directory.ensures items noted) ∙ c.if-is_directory.false in
     let counted = counts_it items c.args.naming.now.target c.in-Some.stat (sym (c.stat.ensures items noted) ∙ c.in-Some.is) other in
     counted_more items c.args.counts.now links c.args.naming.now has c.add.new.counts c.in_ok-add-in-Some.field-0 counted c.in_ok-add-in-Some.ensures.count c.in_ok-add-in-Some.ensures.counts (omega (arith, c.if-branch.false))
 
-pub returns-then-branch : goal.returns-then-branch
-returns-then-branch c = λ items links noted has.
+pub returns-then-branch-clause-checked : goal.returns-then-branch-clause-checked
+returns-then-branch-clause-checked c = λ items links noted has.
     let other : is_directory_at items c.args.naming.now.target ≡ false = sym (c.is_directory.ensures items noted) ∙ c.if-is_directory.false in
     let there = sym (c.stat.ensures items noted) ∙ c.in-Some.is in
     let counted = counts_it items c.args.naming.now.target c.in-Some.stat there other in

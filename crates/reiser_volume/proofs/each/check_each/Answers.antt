@@ -20,13 +20,13 @@ returns-in_err-check_object-clause-checked c = λ items noted.
     rw err.1 (
       get_or c.as_slice-key-items.result.now c.loop-key.key-index (record { dir = 0; object = 0 }),
       subst (λ (keys : List ObjectKey). list_any (same_key (get_or c.as_slice-key-items.result.now c.loop-key.key-index (record { dir = 0; object = 0 }))) keys ≡ true) c.as_slice-key-items.ensures.keys found,
-      subst (BlamesObject items (get_or c.as_slice-key-items.result.now c.loop-key.key-index (record { dir = 0; object = 0 }))) (sym err.2) (c.in_err-check_object.ensures items noted),
+      subst (BlamesObject items (get_or c.as_slice-key-items.result.now c.loop-key.key-index (record { dir = 0; object = 0 }))) (sym err.2) (c.in_err-check_object.ensures.checked items noted),
     )
 
 pub loop-key-preserved : goal.loop-key-preserved
 loop-key-preserved c = λ items noted.
     each_more (HasForms items) c.as_slice-key-items.result.now c.loop-key.key-index (get_or c.as_slice-key-items.result.now c.loop-key.key-index (record { dir = 0; object = 0 })) (c.loop-key.invariant items noted) c.loop-key-test.true
-    (get_or_default c.as_slice-key-items.result.now c.loop-key.key-index _ _ c.loop-key-test.true) (c.in_ok-check_object.ensures items noted)
+    (get_or_default c.as_slice-key-items.result.now c.loop-key.key-index _ _ c.loop-key-test.true) (c.in_ok-check_object.ensures.checked items noted)
 
 pub returns-clause-checked : goal.returns-clause-checked
 returns-clause-checked c = λ items noted key found.

@@ -6,14 +6,14 @@ use Rattle.reiser_volume.specs.Passes.{HasForms, BlamesObject, BlamesTarget, is_
 use Rattle.reiser_volume.proofs.Eaches.{passed_on, forms_of, no_stat_forms}
 use Rattle.reiser_volume.proofs.each.check_object.Goals as goal
 
-pub returns-in-Some : goal.returns-in-Some
-returns-in-Some c = λ items noted.
+pub returns-in-Some-clause-checked : goal.returns-in-Some-clause-checked
+returns-in-Some-clause-checked c = λ items noted.
     let e = (c.object_or_new-object.ensures items noted).off_form c.in-Some.block c.in-Some.is in
     off_form e.0 e.1 e.2 (ap (λ (b : ℕ). Damaged b EntryForm) e.3)
 
-pub returns-in-Some-stat : goal.returns-in-Some-stat
-returns-in-Some-stat c = λ items noted.
+pub returns-in-Some-stat-clause-checked : goal.returns-in-Some-stat-clause-checked
+returns-in-Some-stat-clause-checked c = λ items noted.
     let s = c.object_or_new-object.ensures items noted in
-    passed_on (λ _. is_symlink_mode c.in-Some-stat.stat.fields.mode ≡ true → c.in-Some-stat.stat.fields.size ≤ 3900) (λ _. HasForms items c.args.key) (BlamesTarget c.args.key c.in-Some-stat.stat) (BlamesObject items c.args.key) c.check_target.result c.check_target.ensures
+    passed_on (λ _. is_symlink_mode c.in-Some-stat.stat.fields.mode ≡ true → c.in-Some-stat.stat.fields.size ≤ 3900) (λ _. HasForms items c.args.key) (BlamesTarget c.args.key c.in-Some-stat.stat) (BlamesObject items c.args.key) c.check_target.result c.check_target.ensures.checked
     (λ _ short. forms_of items c.args.key c.object_or_new-object.result c.in-Some-stat.stat s c.in-None.is c.in-Some-stat.is short)
     (λ r blamed. long_target c.in-Some-stat.stat (sym s.stat ∙ c.in-Some-stat.is) blamed)

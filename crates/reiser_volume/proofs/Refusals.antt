@@ -1,0 +1,283 @@
+-- What is refused of a volume, group by group, and that an accepted one is not refused.
+use Rattle.std.proofs.Common.{◌≡◌, ℕ, ◌≤◌, ◌<◌, ◌&&◌, Bool, true, false, cond, List, [], ◌∷◌, length, Option, Some, None, Contains, All, refl, sym, ap, subst, ◌∙◌, true≢false, arith}
+use Rattle.std.specs.Prelude.{nat_lt, Result, Ok, Err, IfErr}
+use Rattle.std.proofs.lemmas.Bool.Decides.{nat_tests}
+use Rattle.std.proofs.lemmas.List.Elements.{All-cons, All-contains}
+use Rattle.std.proofs.lemmas.List.FromFn.{length-map-range_with_len}
+use Rattle.outside.specs.History.{Image, block_at}
+use Rattle.outside.specs.declared.answer.VolAnswer.{VolAnswer}
+use Rattle.outside.specs.declared.answer.VolAnswer.TheVariants.{Refused, Fault, Memory}
+use Rattle.outside.specs.declared.refusal.VolumeRefusal.{VolumeRefusal}
+use Rattle.outside.specs.declared.refusal.VolumeRefusal.TheVariants.{NotVolume, Unclean, Unsupported, Short, JournalPending, Damaged, HasAttributes, PendingLinks, NameTaken, NameTooLong, HashCrowd}
+use Rattle.outside.specs.declared.rule.Rule.{Rule}
+use Rattle.outside.specs.declared.rule.Rule.TheVariants.{SuperField, SystemFree, NodeHead, Layout, KeyOrder, BlockFree, BlockRange, BlockTwice, Body, EntryForm, ObjectForm, Overlap, NameTwice, DirTwice, SizeRange, Reread}
+use Rattle.vol_block.specs.Format.{has_reiser_magic}
+use Rattle.reiser_bitmap.specs.Bits.{has}
+use Rattle.reiser_bitmap.specs.Layout.{is_marked, bitmap_of}
+use Rattle.reiser_bitmap.specs.System.{system_blocks, NamesFreeBlock}
+use Rattle.reiser_super.specs.declared.superblock.Super.{Super}
+use Rattle.reiser_super.specs.Superblock.{super_of}
+use Rattle.reiser_super.specs.Rules.{IsCleanSuper, superblock_refusal, superblock_rules, first_refusal}
+use Rattle.reiser_super.specs.Journal.{IsClean, pending_transactions}
+use Rattle.reiser_super.specs.State.{IsPendingIn, IsJournalAnswer}
+use Rattle.reiser_super.proofs.Clean.{none_from_clean}
+use Rattle.reiser_bitmap.specs.Answers.{IsNoRefusal}
+use Rattle.reiser_walk.specs.declared.tree.Tree.{Tree}
+use Rattle.reiser_walk.specs.Answers.{IsTreeRule, IsTreeRefusal}
+use Rattle.reiser_walk.specs.Rules.{tree_damages}
+use Rattle.reiser_walk.specs.Tree.{items_of}
+use Rattle.reiser_objects.specs.declared.table.Objects.{Objects}
+use Rattle.reiser_objects.specs.Table.{HasNoted}
+use Rattle.reiser_objects.specs.Read.{IsReadAnswer, BlamesTree}
+use Rattle.reiser_objects.specs.Reach.{Refuses, IsObjectsRule, IsObjectsAnswer, object_rules}
+use Rattle.reiser_objects.specs.Rules.{AreObjects, IsObjectsRefusal}
+use Rattle.reiser_objects.proofs.Broken as objects
+use Rattle.reiser_volume.specs.Answers.{IsVolumeRule, NamesVolumeRule, IsVolumeAnswer, IsVerdict, RefusesVolume, IsSuperOf, IsBitmapOf}
+use Rattle.reiser_volume.specs.Opened.{IsFound}
+use Rattle.reiser_volume.specs.Refuses.{RefusesNames, IsNamesRule, IsNamesAnswer}
+use Rattle.reiser_volume.specs.Volume.{IsAccepted, IsRefusal, superblock, used_of, tree_of, volume_items, superblock_rule, journal_rule, bitmap_rule, tree_rule, objects_rule, names_rule}
+use Rattle.reiser_volume.proofs.Broken.{names_broken}
+
+in_none : {X : Type 0} (xs : List X) (x : X) → xs ≡ [] → Contains xs x → ⊥
+in_none xs x none is = omega (arith, is.1, ap length none)
+
+used_length : (image : Image) → length (used_of image) ≡ (superblock image).blocks
+used_length image = length-map-range_with_len (is_marked image) 0 (superblock image).blocks
+
+free_named : (image : Image) (r : VolumeRefusal) → IsAccepted image → NamesFreeBlock (used_of image) (superblock image).journal_first (superblock image).journal_size r → ⊥
+free_named image r a names =
+    true≢false (sym (a.system names.0 (subst (λ (n : ℕ). Contains (system_blocks n (superblock image).journal_first (superblock image).journal_size) names.0) (used_length image) names.2)) ∙ names.3)
+
+-- an accepted volume is not refused
+pub not_refused : (image : Image) (r : VolumeRefusal) → IsRefusal image r → IsAccepted image → ⊥
+not_refused image r (superblock_rule is) a =
+    let both : None ≡ Some r = sym (none_from_clean _ _ a.clean.superblock) ∙ is in
+    cc
+not_refused image r (journal_rule trans clean waits is) a = in_none _ trans a.clean.journal waits
+not_refused image r (bitmap_rule clean names) a = free_named image r a names
+not_refused image r (tree_rule clean marks among) a = in_none _ r a.tree among
+not_refused image r (objects_rule clean marks sound is) a = objects.broken (superblock image).root (volume_items image) r is a.objects
+not_refused image r (names_rule clean marks sound are is) a = names_broken (volume_items image) r is a.names
+
+-- a device that is too short to have a superblock
+no_block : (b magic : Bool) (o : Option VolumeRefusal) → b ≡ false → cond (b && magic) o (Some NotVolume) ≡ Some NotVolume
+no_block false magic o is = refl
+no_block true magic o is = absurd (true≢false is)
+
+pub short_refused : (image : Image) → length image ≤ 16 → IsRefusal image NotVolume
+short_refused image short =
+    let no : nat_lt 16 (length image) ≡ false = grind (arith, nat_tests) in
+    superblock_rule (no_block (nat_lt 16 (length image)) (has_reiser_magic (block_at image 16)) _ no)
+
+pub super_found : (image : Image) (bytes : List ℕ) (device : ℕ) (s : Super) → s ≡ super_of bytes → IsCleanSuper bytes device → bytes ≡ block_at image 16 → device ≡ length image → IsSuperOf image s
+super_found image bytes device s fields clean same size = record {
+  fields = fields ∙ ap super_of same;
+  clean = subst (λ (b : List ℕ). IsCleanSuper b (length image)) same (subst (λ (n : ℕ). IsCleanSuper bytes n) size clean);
+}
+
+pub super_refused : (image : Image) (bytes : List ℕ) (device : ℕ) (r : VolumeRefusal) → Some r ≡ superblock_refusal bytes device → bytes ≡ block_at image 16 → device ≡ length image → IsRefusal image r
+super_refused image bytes device r is same size =
+    superblock_rule (subst (λ (b : List ℕ). superblock_refusal b (length image) ≡ Some r) same (subst (λ (n : ℕ). superblock_refusal bytes n ≡ Some r) size (sym is)))
+
+module _ (image : Image) (s : Super) (found : IsSuperOf image s) where
+  pub journal_refused : (e : VolAnswer) → IsPendingIn (pending_transactions s image) e → RefusesVolume image e
+  journal_refused (Refused (JournalPending trans)) pending = journal_rule trans found.clean (subst (λ (t : Super). Contains (pending_transactions t image) trans) found.fields pending) refl
+  journal_refused (Refused NotVolume) pending = absurd pending
+  journal_refused (Refused (Unclean state)) pending = absurd pending
+  journal_refused (Refused (Unsupported feature value)) pending = absurd pending
+  journal_refused (Refused (Short volume device)) pending = absurd pending
+  journal_refused (Refused (Damaged block rule)) pending = absurd pending
+  journal_refused (Refused (HasAttributes dir object)) pending = absurd pending
+  journal_refused (Refused (PendingLinks object)) pending = absurd pending
+  journal_refused (Refused (NameTaken dir object)) pending = absurd pending
+  journal_refused (Refused (NameTooLong dir object length)) pending = absurd pending
+  journal_refused (Refused (HashCrowd dir object hash)) pending = absurd pending
+  journal_refused Fault pending = tt
+  journal_refused Memory pending = tt
+
+  clean_found : pending_transactions s image ≡ [] → IsClean image
+  clean_found none = record { superblock = found.clean; journal = subst (λ (t : Super). pending_transactions t image ≡ []) found.fields none }
+
+  loaded : (used : List Bool) → used ≡ used_of image → (P : List Bool → Super → Type 0) → P used s → P (used_of image) (superblock image)
+  loaded used is P h = subst (λ (u : List Bool). P u (superblock image)) is (subst (λ (t : Super). P used t) found.fields h)
+
+  bits_found : (used : List Bool) → used ≡ bitmap_of s.blocks image → used ≡ used_of image
+  bits_found used is = is ∙ ap (λ (t : Super). bitmap_of t.blocks image) found.fields
+
+  pub bitmap_refused : (used : List Bool) (r : VolumeRefusal) → pending_transactions s image ≡ [] → used ≡ bitmap_of s.blocks image → NamesFreeBlock used s.journal_first s.journal_size r → IsRefusal image r
+  bitmap_refused used r none is names = bitmap_rule (clean_found none) (loaded used (bits_found used is) (λ u t. NamesFreeBlock u t.journal_first t.journal_size r) names)
+
+  pub bitmap_found : (used : List Bool) → pending_transactions s image ≡ [] → used ≡ bitmap_of s.blocks image → All (λ b. has used b ≡ true) (system_blocks (length used) s.journal_first s.journal_size) → IsBitmapOf image used
+  bitmap_found used none is all = record {
+    clean = clean_found none;
+    system = λ b among. All-contains (λ b. has (used_of image) b ≡ true) _ b
+        (loaded used (bits_found used is) (λ u t. All (λ b. has u b ≡ true) (system_blocks (length u) t.journal_first t.journal_size)) all)
+        (subst (λ (n : ℕ). Contains (system_blocks n (superblock image).journal_first (superblock image).journal_size) b) (sym (used_length image)) among);
+    bits = bits_found used is;
+  }
+
+module _ (image : Image) (s : Super) (used : List Bool) (found : IsFound image s used) where
+  pub objects_refused : (e : VolAnswer) → Refuses s.root (volume_items image) e → RefusesVolume image e
+  objects_refused (Refused r) is = objects_rule found.clean found.system found.tree (subst (λ (t : Super). IsObjectsRefusal t.root (volume_items image) r) found.fields is)
+  objects_refused Fault is = tt
+  objects_refused Memory is = tt
+
+  pub names_refused : (e : VolAnswer) → AreObjects (volume_items image) → RefusesNames (volume_items image) e → RefusesVolume image e
+  names_refused (Refused r) are is = names_rule found.clean found.system found.tree are is
+  names_refused Fault are is = tt
+  names_refused Memory are is = tt
+
+module _ (image : Image) (s : Super) (used : List Bool) (found : IsSuperOf image s) (marked : IsBitmapOf image used) where
+  pub tree_refused : (e : VolAnswer) → BlamesTree (tree_of s) image used e → RefusesVolume image e
+  tree_refused (Refused r) is =
+      tree_rule marked.clean marked.system
+      (subst (λ (u : List Bool). Contains (tree_damages (tree_of (superblock image)) image u) r) marked.bits (subst (λ (t : Super). Contains (tree_damages (tree_of t) image used) r) found.fields is))
+  tree_refused Fault is = tt
+  tree_refused Memory is = tt
+
+  pub tree_found : tree_damages (tree_of s) image used ≡ [] → IsFound image s used
+  tree_found none = record {
+    fields = found.fields;
+    clean = marked.clean;
+    system = marked.system;
+    bits = marked.bits;
+    tree = subst (λ (u : List Bool). tree_damages (tree_of (superblock image)) image u ≡ []) marked.bits (subst (λ (t : Super). tree_damages (tree_of t) image used ≡ []) found.fields none);
+  }
+
+  pub items_found : (objects : Objects) → length used ≡ s.blocks → HasNoted objects (items_of (tree_of s) image (length used)) → HasNoted objects (volume_items image)
+  items_found objects size noted = subst (λ (t : Super). HasNoted objects (items_of (tree_of t) image t.blocks)) found.fields (subst (λ (n : ℕ). HasNoted objects (items_of (tree_of s) image n)) size noted)
+
+-- what each group answers, whatever the source gives
+abbrev all_known : List (Bool × VolumeRefusal) → Type 0
+all_known [] = Unit {0}
+all_known (rule ∷ rules) = NamesVolumeRule rule.1 × all_known rules
+
+one_of : (b : Bool) (o : Option VolumeRefusal) (e r : VolumeRefusal) → NamesVolumeRule e → (o ≡ Some r → NamesVolumeRule r) → cond b o (Some e) ≡ Some r → NamesVolumeRule r
+one_of true o e r known behind is = behind is
+one_of false o e r known behind is = let same : e ≡ r = cc in subst NamesVolumeRule same known
+
+first_known : (rules : List (Bool × VolumeRefusal)) (r : VolumeRefusal) → all_known rules → first_refusal rules ≡ Some r → NamesVolumeRule r
+first_known [] r known is = let never : None ≡ Some r = is in absurd cc
+first_known (rule ∷ rules) r known is = one_of rule.0 (first_refusal rules) rule.1 r known.0 (first_known rules r known.1) is
+
+pub super_known : (bytes : List ℕ) (device : ℕ) (r : VolumeRefusal) → Some r ≡ superblock_refusal bytes device → NamesVolumeRule r
+super_known bytes device r is =
+    let known : all_known (superblock_rules bytes device) = (tt, (tt, (tt, (tt, (tt, (tt, (tt, (tt, (tt, tt))))))))) in
+    first_known (superblock_rules bytes device) r known (sym is)
+
+pub journal_known : (e : VolAnswer) → IsJournalAnswer e → IsVolumeAnswer e
+journal_known (Refused (JournalPending trans)) is = tt
+journal_known (Refused NotVolume) is = absurd is
+journal_known (Refused (Unclean state)) is = absurd is
+journal_known (Refused (Unsupported feature value)) is = absurd is
+journal_known (Refused (Short volume device)) is = absurd is
+journal_known (Refused (Damaged block rule)) is = absurd is
+journal_known (Refused (HasAttributes dir object)) is = absurd is
+journal_known (Refused (PendingLinks object)) is = absurd is
+journal_known (Refused (NameTaken dir object)) is = absurd is
+journal_known (Refused (NameTooLong dir object length)) is = absurd is
+journal_known (Refused (HashCrowd dir object hash)) is = absurd is
+journal_known Fault is = tt
+journal_known Memory is = tt
+
+pub load_known : (e : VolAnswer) → IsNoRefusal e → IsVolumeAnswer e
+load_known (Refused r) is = absurd is
+load_known Fault is = tt
+load_known Memory is = tt
+
+pub system_known : (used : List Bool) (first size : ℕ) (r : VolumeRefusal) → NamesFreeBlock used first size r → NamesVolumeRule r
+system_known used first size r is = subst NamesVolumeRule (sym is.1) tt
+
+tree_rule_known : (rule : Rule) → IsTreeRule rule → IsVolumeRule rule
+tree_rule_known SuperField is = tt
+tree_rule_known SystemFree is = tt
+tree_rule_known NodeHead is = tt
+tree_rule_known Layout is = tt
+tree_rule_known KeyOrder is = tt
+tree_rule_known BlockFree is = tt
+tree_rule_known BlockRange is = tt
+tree_rule_known BlockTwice is = tt
+tree_rule_known Body is = tt
+tree_rule_known EntryForm is = tt
+tree_rule_known ObjectForm is = tt
+tree_rule_known Overlap is = tt
+tree_rule_known NameTwice is = tt
+tree_rule_known DirTwice is = tt
+tree_rule_known SizeRange is = tt
+tree_rule_known Reread is = is
+
+names_rule_known : (rule : Rule) → IsNamesRule rule → IsVolumeRule rule
+names_rule_known SuperField is = tt
+names_rule_known SystemFree is = tt
+names_rule_known NodeHead is = tt
+names_rule_known Layout is = tt
+names_rule_known KeyOrder is = tt
+names_rule_known BlockFree is = tt
+names_rule_known BlockRange is = tt
+names_rule_known BlockTwice is = tt
+names_rule_known Body is = tt
+names_rule_known EntryForm is = tt
+names_rule_known ObjectForm is = tt
+names_rule_known Overlap is = tt
+names_rule_known NameTwice is = tt
+names_rule_known DirTwice is = tt
+names_rule_known SizeRange is = tt
+names_rule_known Reread is = is
+
+objects_rule_known : (rule : Rule) → Contains object_rules rule → IsVolumeRule rule
+objects_rule_known rule among =
+    All-contains IsVolumeRule object_rules rule (All-cons IsVolumeRule ObjectForm (Overlap ∷ SizeRange ∷ []) tt (All-cons IsVolumeRule Overlap (SizeRange ∷ []) tt (All-cons IsVolumeRule SizeRange [] tt (λ k d within. absurd (omega (arith, within)))))) among
+
+pub tree_known : (e : VolAnswer) → IsReadAnswer e → IsVolumeAnswer e
+tree_known (Refused (Damaged block rule)) is = tree_rule_known rule is
+tree_known (Refused NotVolume) is = tt
+tree_known (Refused (Unclean state)) is = tt
+tree_known (Refused (Unsupported feature value)) is = tt
+tree_known (Refused (Short volume device)) is = tt
+tree_known (Refused (JournalPending trans)) is = tt
+tree_known (Refused (HasAttributes dir object)) is = tt
+tree_known (Refused (PendingLinks object)) is = tt
+tree_known (Refused (NameTaken dir object)) is = tt
+tree_known (Refused (NameTooLong dir object length)) is = tt
+tree_known (Refused (HashCrowd dir object hash)) is = tt
+tree_known Fault is = tt
+tree_known Memory is = tt
+
+pub objects_known : (e : VolAnswer) → IsObjectsAnswer e → IsVerdict e
+objects_known (Refused (Damaged block rule)) is = objects_rule_known rule is
+objects_known (Refused NotVolume) is = tt
+objects_known (Refused (Unclean state)) is = tt
+objects_known (Refused (Unsupported feature value)) is = tt
+objects_known (Refused (Short volume device)) is = tt
+objects_known (Refused (JournalPending trans)) is = tt
+objects_known (Refused (HasAttributes dir object)) is = tt
+objects_known (Refused (PendingLinks object)) is = tt
+objects_known (Refused (NameTaken dir object)) is = tt
+objects_known (Refused (NameTooLong dir object length)) is = tt
+objects_known (Refused (HashCrowd dir object hash)) is = tt
+objects_known Fault is = is
+objects_known Memory is = tt
+
+pub names_known : (e : VolAnswer) → IsNamesAnswer e → IsVerdict e
+names_known (Refused (Damaged block rule)) is = names_rule_known rule is
+names_known (Refused NotVolume) is = tt
+names_known (Refused (Unclean state)) is = tt
+names_known (Refused (Unsupported feature value)) is = tt
+names_known (Refused (Short volume device)) is = tt
+names_known (Refused (JournalPending trans)) is = tt
+names_known (Refused (HasAttributes dir object)) is = tt
+names_known (Refused (PendingLinks object)) is = tt
+names_known (Refused (NameTaken dir object)) is = tt
+names_known (Refused (NameTooLong dir object length)) is = tt
+names_known (Refused (HashCrowd dir object hash)) is = tt
+names_known Fault is = is
+names_known Memory is = tt
+
+pub verdict_known : (e : VolAnswer) → IsVerdict e → IsVolumeAnswer e
+verdict_known (Refused r) is = is
+verdict_known Fault is = tt
+verdict_known Memory is = tt
+
+-- what was read has no fault
+pub no_fault : {T : Type 0} (r : Result T VolAnswer) → IfErr r IsVerdict → r ≡ Err Fault → ⊥
+no_fault r known is = subst (λ (o : Result _ VolAnswer). IfErr o IsVerdict) is known

@@ -1,0 +1,51 @@
+use Rattle.std.proofs.Common.{filter, sym, subst}
+use Rattle.std.proofs.lemmas.Result.{err_from_is_err_and}
+use Rattle.outside.specs.declared.answer.VolAnswer.{VolAnswer}
+use Rattle.reiser_volume.specs.Answers.{RefusesVolume}
+use Rattle.reiser_volume.specs.Known.{is_known}
+use Rattle.reiser_volume.specs.Volume.{volume_items}
+use Rattle.reiser_volume.proofs.Refusals.{objects_refused, names_refused}
+use Rattle.reiser_volume.proofs.Tabling.{keys_found, known_named, stat_found}
+use Rattle.reiser_volume.proofs.Uniqueness.{links_found}
+use Rattle.reiser_volume.proofs.gather.gather.Goals as goal
+
+pub returns-in_err-named-clause-gathered : goal.returns-in_err-named-clause-gathered
+returns-in_err-named-clause-gathered c = λ image found noted.
+    let err = err_from_is_err_and c.from_residual.result c.from_residual.ensures.1 in
+    rw err.1 (subst (λ (e : VolAnswer). RefusesVolume image e) (sym err.2) (objects_refused image c.args.sup c.args.bitmap found c.in_err-named.field-0.0 (c.in_err-named.ensures.refused (volume_items image) noted)))
+
+pub returns-in_err-check_all_names-clause-gathered : goal.returns-in_err-check_all_names-clause-gathered
+returns-in_err-check_all_names-clause-gathered c = λ image found noted.
+    let items = volume_items image in
+    let err = err_from_is_err_and c.from_residual-in_err-check_all_names.result c.from_residual-in_err-check_all_names.ensures.1 in
+    rw err.1 (subst (λ (e : VolAnswer). RefusesVolume image e) (sym err.2)
+    (names_refused image c.args.sup c.args.bitmap found c.in_err-check_all_names.field-0.0 (c.in_ok-named.ensures.sound items noted) (c.in_err-check_all_names.ensures.checked items noted (c.in_ok-named.ensures.named items noted))))
+
+pub returns-in_err-table-clause-gathered : goal.returns-in_err-table-clause-gathered
+returns-in_err-table-clause-gathered c = λ image found noted.
+    let err = err_from_is_err_and c.from_residual-in_err-table.result c.from_residual-in_err-table.ensures.1 in
+    rw err.1 (subst (λ (e : VolAnswer). RefusesVolume image e) (sym err.2) tt)
+
+pub returns-clause-gathered : goal.returns-clause-gathered
+returns-clause-gathered c = λ image found noted.
+    let items = volume_items image in
+    let reach = c.in_ok-named.ensures.named items noted in
+    let stats = c.in_ok-table.ensures.stats items noted in (
+      record {
+        clean = found.clean;
+        system = found.system;
+        tree = found.tree;
+        objects = c.in_ok-named.ensures.sound items noted;
+        names = c.in_ok-check_all_names.ensures.checked items noted reach;
+      },
+      record {
+        sup = found.fields;
+        bitmap = found.bits;
+        are_keys = keys_found items c.in_ok-table.table c.in_ok-named.named stats reach c.in_ok-table.ensures.once;
+        ascends = c.in_ok-table.ensures.ascends;
+        stats = stat_found items c.in_ok-table.table c.in_ok-named.named stats reach;
+        noted = noted;
+        visible = filter (λ n. is_known c.in_ok-table.table n.dir) c.args.objects.namings.items;
+        are_links = links_found items c.args.objects.namings.items (is_known c.in_ok-table.table) noted.namings (known_named items c.in_ok-table.table c.in_ok-named.named stats reach);
+      },
+    )

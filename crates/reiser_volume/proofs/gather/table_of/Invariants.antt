@@ -1,0 +1,8 @@
+use Rattle.std.proofs.Common.{List, take}
+use Rattle.reiser_walk.specs.Items.{Item}
+use Rattle.reiser_objects.specs.Table.{HasNoted}
+use Rattle.reiser_volume.specs.Known.{HasStats}
+use Rattle.reiser_volume.proofs.gather.table_of.Given as goal
+
+abbrev pub invariant-loop-key : goal.invariant-loop-key
+invariant-loop-key l = (items : List Item) → HasNoted l.objects items → HasStats items l.table (take l.key-index l.key-items)

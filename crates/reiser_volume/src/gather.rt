@@ -1,0 +1,89 @@
+ghost use Rattle.std.specs.Prelude.{◌≡◌, ◌∷◌, ◌++◌, [], List, IfOk, IfErr, OnOk};
+ghost use Rattle.std.specs.Result.{MatchResult};
+ghost use Rattle.std.specs.List.Sorted.{IsStrictlySortedBy};
+ghost use Rattle.indexmap.specs.IndexMap.{keys, get, IsUnique};
+ghost use Rattle.outside.specs.History.{Image};
+ghost use Rattle.reiser_walk.specs.Items.{Item};
+ghost use Rattle.reiser_objects.specs.declared.key.ObjectKey.{ObjectKey as KeyOf};
+ghost use Rattle.reiser_objects.specs.Keys.{same_key};
+ghost use Rattle.reiser_objects.specs.Table.{HasNoted};
+ghost use Rattle.reiser_volume.specs.Answers.{IsVerdict, RefusesVolume};
+ghost use Rattle.reiser_volume.specs.Known.{HasStats};
+ghost use Rattle.reiser_volume.specs.Links.{object_cmp};
+ghost use Rattle.reiser_volume.specs.Opened.{IsFound, IsOpened};
+ghost use Rattle.reiser_volume.specs.Volume.{IsAccepted, volume_items};
+
+use crate::Volume;
+use crate::names::check_all_names;
+use indexmap::{IndexMap, IndexSet};
+use outside::{Memory, VolAnswer};
+use reiser_bitmap::Bitmap;
+use reiser_objects::{ObjectKey, ObjectStat, Objects};
+use reiser_super::Super;
+use std::alloc::Global;
+
+/// The volume of these objects, where they and their names keep all rules.
+pub fn gather(
+    alloc: Global,
+    sup: Super,
+    bitmap: Bitmap,
+    objects: Objects,
+) -> Result<Volume, VolAnswer>
+    ensures gathered { (image : Image) → IsFound image sup bitmap → HasNoted objects (volume_items image)
+        → MatchResult result (λ volume. IsAccepted image × IsOpened volume image) (RefusesVolume image) }
+    ensures answers { IfErr result IsVerdict }
+{
+    let named = objects.check(alloc, sup.root)?;
+    check_all_names(alloc, &objects, &named)?;
+    let table = table_of(alloc, &objects, &named)?;
+    Ok(Volume {
+        sup,
+        bitmap,
+        objects,
+        named: table,
+    })
+}
+
+/// The named objects with their stat data, ascending.
+fn table_of(
+    alloc: Global,
+    objects: &Objects,
+    named: &IndexSet<ObjectKey>,
+) -> Result<IndexMap<ObjectKey, ObjectStat>, Memory>
+    ensures stats { (items : List Item) → HasNoted objects.now items → IfOk result (λ table. HasStats items table named.now.keys) }
+    ensures once { IfOk result (IsUnique same_key) }
+    ensures ascends { IfOk result (λ table. IsStrictlySortedBy object_cmp (keys table)) }
+{
+    let mut table = IndexMap::new(alloc);
+    for key in named.as_slice() {
+        add_stat(&mut table, objects, *key)?;
+    }
+    sort(&mut table)?;
+    Ok(table)
+}
+
+/// Adds an object with its stat data. A named object without stat data was refused before.
+fn add_stat(
+    table: &mut IndexMap<ObjectKey, ObjectStat>,
+    objects: &Objects,
+    key: ObjectKey,
+) -> Result<(), Memory>
+    ensures { (items : List Item) (seen : List KeyOf) → HasNoted objects.now items → HasStats items table.old seen → OnOk result (HasStats items table.new (seen ++ key ∷ [])) }
+{
+    match objects.stat(key) {
+        Some(stat) => {
+            table.insert(key, stat)?;
+            Ok(())
+        }
+        None => Ok(()),
+    }
+}
+
+fn sort(table: &mut IndexMap<ObjectKey, ObjectStat>) -> Result<(), Memory>
+    ensures once { IsUnique same_key table.new }
+    ensures same { (q : KeyOf) → get same_key table.new q ≡ get same_key table.old q }
+    ensures ascends { OnOk result (IsStrictlySortedBy object_cmp (keys table.new)) }
+{
+    table.sort_keys()?;
+    Ok(())
+}
