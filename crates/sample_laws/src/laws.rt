@@ -1,4 +1,4 @@
-ghost use Rattle.sample_laws.specs.Laws.{SamplesAreClean, SamplesMarkUsed, SamplesMarkSystem};
+ghost use Rattle.sample_laws.specs.Laws.{SamplesAreClean, SamplesMarkUsed, SamplesMarkSystem, LeavesReadBack};
 
 /// The superblock of a sample is that of a clean volume, and no transaction waits in its journal.
 pub fn samples_are_clean()
@@ -13,4 +13,9 @@ pub fn samples_mark_used()
 /// The bitmap of a sample marks the blocks that the volume keeps for itself.
 pub fn samples_mark_system()
     ensures { SamplesMarkSystem }
+{}
+
+/// A leaf that was written of items that have room in it reads as these items.
+pub fn leaves_read_back()
+    ensures { LeavesReadBack }
 {}

@@ -5,4 +5,4 @@
 
 mod laws;
 
-pub use laws::{samples_are_clean, samples_mark_system, samples_mark_used};
+pub use laws::{leaves_read_back, samples_are_clean, samples_mark_system, samples_mark_used};
