@@ -9,3 +9,4 @@ pub mod EntryItems
 pub mod Gathering
 pub mod OneExtent
 pub mod Stages
+pub mod MapBlocks

@@ -7,3 +7,4 @@ pub mod Rows
 pub mod Image
 pub mod Pieces
 pub mod Reading
+pub mod Laws

@@ -11,6 +11,7 @@ mod image;
 mod image_map;
 mod image_place;
 mod inodes;
+mod laws;
 mod open;
 mod roots;
 mod volume;
@@ -19,6 +20,7 @@ pub use chunk::ChunkAt;
 pub use entries::find_entry;
 pub use image_map::{ImageMap, Piece};
 pub use inodes::{InodeFound, find_inode};
+pub use laws::opened_maps_are_in_blocks;
 pub use roots::{RootFound, find_root};
 pub use volume::Btrfs;
 

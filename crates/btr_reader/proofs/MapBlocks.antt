@@ -1,0 +1,92 @@
+-- The ranges of a map begin and end with blocks.
+use Rattle.std.proofs.Common.{◌≡◌, ℕ, ◌%◌, eqb, nat_lt, true, List, [], ◌∷◌, ◌++◌, length, map, Option, Some, None, refl, sym, ◌∙◌, subst, arith}
+use Rattle.std.proofs.lemmas.Bool.Decides.{nat_tests}
+use Rattle.std.proofs.lemmas.List.Elements.{All-nil, All-cons, All-append}
+use Rattle.outside.specs.History.{Image}
+use Rattle.outside.specs.declared.refusal.BtrRefusal.{BtrRefusal}
+use Rattle.outside.specs.declared.refusal.BtrRefusal.TheVariants.{BadBtrfs, Unsupported}
+use Rattle.outside.specs.declared.rule.BtrRule.TheVariants.{ChunkForm}
+use Rattle.outside.specs.declared.rule.Feature.TheVariants.{ChunkType}
+use Rattle.btr_super.specs.declared.superblock.Super.{Super}
+use Rattle.btr_walk.specs.declared.map.MapRange.{MapRange}
+use Rattle.btr_walk.specs.Events.{TreeItem}
+use Rattle.btr_walk.specs.Walks.{wrong, found}
+use Rattle.btr_files.specs.Blocks.{IsInBlocks, AreInBlocks}
+use Rattle.btr_files.specs.Extents.{unless}
+use Rattle.btr_files.proofs.ExtentLists.{none_left, none_right, holds_unless, first, second}
+use Rattle.btr_reader.specs.declared.chunk.ChunkAt.{ChunkAt}
+use Rattle.btr_reader.specs.Chunks.{range_of, lies_on, chunk_refusals, beside_refusals, chunks_refusals, chunk_in, with_chunk, chunk_item_refusals, with_items, items_refusals}
+use Rattle.btr_reader.specs.Opening.{chunk_tree, root_tree, boot_chunks, boot_ranges, boot_refusals, map_from, or_later, trees_refusals, IsOpened}
+use Rattle.btr_reader.proofs.Opens.{opening_is}
+
+on_device : (device : ℕ) (c : ChunkAt) → chunk_refusals device c ≡ [] → lies_on device c ≡ true
+on_device device c none =
+    let plain : List BtrRefusal = unless (nat_lt c.chunk.kind 8) (Unsupported ChunkType c.chunk.kind) in
+    let single : List BtrRefusal = unless (eqb c.chunk.num_stripes 1) (Unsupported ChunkType c.chunk.num_stripes) in
+    let placed : List BtrRefusal = unless (lies_on device c) (BadBtrfs c.logical ChunkForm) in
+    holds_unless (lies_on device c) (BadBtrfs c.logical ChunkForm) (none_right single placed (none_right plain (single ++ placed) none))
+
+is_in_blocks : (device : ℕ) (c : ChunkAt) → lies_on device c ≡ true → IsInBlocks (range_of c)
+is_in_blocks device c h =
+    let logical : eqb (c.logical % 4096) 0 ≡ true = first (eqb (c.logical % 4096) 0) _ h in
+    let rest = second (eqb (c.logical % 4096) 0) _ h in
+    let long : eqb (c.chunk.length % 4096) 0 ≡ true = first (eqb (c.chunk.length % 4096) 0) _ rest in
+    let place : eqb (c.chunk.stripe.offset % 4096) 0 ≡ true = first (eqb (c.chunk.stripe.offset % 4096) 0) _ (second (eqb (c.chunk.length % 4096) 0) _ rest) in
+    record { logical = grind (arith, nat_tests, logical); length = grind (arith, nat_tests, long); physical = grind (arith, nat_tests, place) }
+
+-- a chunk with which nothing is wrong
+chunk_in_blocks : (device : ℕ) (others : List MapRange) (c : ChunkAt) → beside_refusals device others c ≡ [] → IsInBlocks (range_of c)
+chunk_in_blocks device others c none =
+    is_in_blocks device c (on_device device c (none_left (chunk_refusals device c) _ none))
+
+chunks_in_blocks : (device : ℕ) (others : List MapRange) (cs : List ChunkAt) → chunks_refusals device others cs ≡ [] → AreInBlocks (map range_of cs)
+chunks_in_blocks device others [] none = All-nil IsInBlocks
+chunks_in_blocks device others (c ∷ cs) none =
+    let own : List BtrRefusal = beside_refusals device others c in
+    let rest : List BtrRefusal = chunks_refusals device (others ++ range_of c ∷ []) cs in
+    All-cons IsInBlocks (range_of c) (map range_of cs) (chunk_in_blocks device others c (none_left own rest none))
+    (chunks_in_blocks device (others ++ range_of c ∷ []) cs (none_right own rest none))
+
+boot_in_blocks : (device : ℕ) (chunks : Option (List ChunkAt)) → boot_refusals device chunks ≡ [] → AreInBlocks (boot_ranges chunks)
+boot_in_blocks device None none = All-nil IsInBlocks
+boot_in_blocks device (Some chunks) none = chunks_in_blocks device [] chunks none
+
+-- a map after an item of the chunk tree
+with_chunk_in_blocks : (device : ℕ) (ranges : List MapRange) (logical : ℕ) (o : Option (Option ChunkAt)) → chunk_item_refusals device ranges logical o ≡ [] → AreInBlocks ranges
+    → AreInBlocks (with_chunk ranges o)
+with_chunk_in_blocks device ranges logical None none all = all
+with_chunk_in_blocks device ranges logical (Some None) none all = all
+with_chunk_in_blocks device ranges logical (Some (Some c)) none all =
+    All-append IsInBlocks ranges (range_of c ∷ []) all (All-cons IsInBlocks (range_of c) [] (chunk_in_blocks device ranges c none) (All-nil IsInBlocks))
+
+with_items_in_blocks : (device : ℕ) (boot ranges : List MapRange) (items : List TreeItem) → items_refusals device boot ranges items ≡ [] → AreInBlocks ranges
+    → AreInBlocks (with_items boot ranges items)
+with_items_in_blocks device boot ranges [] none all = all
+with_items_in_blocks device boot ranges (i ∷ items) none all =
+    let o : Option (Option ChunkAt) = chunk_in boot i.key i.body in
+    let own : List BtrRefusal = chunk_item_refusals device ranges i.key.offset o in
+    let rest : List BtrRefusal = items_refusals device boot (with_chunk ranges o) items in
+    with_items_in_blocks device boot (with_chunk ranges o) items (none_right own rest none)
+    (with_chunk_in_blocks device ranges i.key.offset o (none_left own rest none) all)
+
+first_none : (xs ys : List BtrRefusal) → or_later xs ys ≡ [] → xs ≡ []
+first_none [] ys none = refl
+first_none (x ∷ xs) ys none = none
+
+later_none : (xs ys : List BtrRefusal) → or_later xs ys ≡ [] → ys ≡ []
+later_none [] ys none = none
+later_none (x ∷ xs) ys none = absurd (cc none)
+
+-- the map of a volume that was opened
+pub opened_in_blocks : (image : Image) (s : Super) (ranges : List MapRange) → IsOpened image s ranges → AreInBlocks ranges
+opened_in_blocks image s ranges opened =
+    let device : ℕ = length image in
+    let boot : List MapRange = boot_ranges (boot_chunks s) in
+    let all : or_later (boot_refusals (length image) (boot_chunks s)) (trees_refusals image s (boot_ranges (boot_chunks s))) ≡ [] = sym (opening_is image s opened.super) ∙ opened.sound in
+    let array : boot_refusals (length image) (boot_chunks s) ≡ [] = first_none (boot_refusals device (boot_chunks s)) (trees_refusals image s boot) all in
+    let trees : trees_refusals image s (boot_ranges (boot_chunks s)) ≡ [] = later_none (boot_refusals device (boot_chunks s)) (trees_refusals image s boot) all in
+    let nodes : List BtrRefusal = wrong image boot (chunk_tree s) in
+    let items : List BtrRefusal = items_refusals device boot boot (found image boot (chunk_tree s)) in
+    let sound : items_refusals (length image) (boot_ranges (boot_chunks s)) (boot_ranges (boot_chunks s)) (found image (boot_ranges (boot_chunks s)) (chunk_tree s)) ≡ [] =
+    none_right nodes items (first_none (nodes ++ items) (wrong image (map_from image s boot) (root_tree s)) trees) in
+    subst AreInBlocks (sym opened.map_is) (with_items_in_blocks device boot boot (found image boot (chunk_tree s)) sound (boot_in_blocks device (boot_chunks s) array))

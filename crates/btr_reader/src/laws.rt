@@ -1,0 +1,8 @@
+// Laws of the definitions, each the contract of a function that does nothing.
+ghost use Rattle.btr_reader.specs.Laws.{OpenedMapsAreInBlocks};
+
+/// The ranges of the map of an opened volume begin and end with blocks, so that the bytes of a block of addresses lie in
+/// one block of the device.
+pub fn opened_maps_are_in_blocks()
+    ensures { OpenedMapsAreInBlocks }
+{}
