@@ -11,3 +11,6 @@ mod summary;
 
 pub use laws::readable_has_no_refusal;
 pub use summary::Summary;
+
+#[cfg(test)]
+mod tests;
