@@ -15,7 +15,8 @@ pub fn superblock(sample: &Sample) -> Block {
         log_root: sample.log_root,
         log_root_transid: 0,
         total_bytes: BLOCKS * 4096,
-        bytes_used: 3 * 16384,
+        // Linux takes no superblock that has less than six nodes.
+        bytes_used: 6 * 16384,
         root_dir_objectid: 6,
         num_devices: 1,
         sectorsize: 4096,

@@ -1,4 +1,4 @@
-ghost use Rattle.std.specs.Prelude.{◌≡◌, ◌<◌, ◌≤◌, IsTrue, length};
+ghost use Rattle.std.specs.Prelude.{◌≡◌, IsTrue};
 ghost use Rattle.outside.specs.Fault.{HasCause, Takes};
 ghost use Rattle.sink_text.specs.Text.{piece_text};
 ghost use Rattle.btr_summary.specs.Text.{label_of, label_text, image_text, summary_text};
