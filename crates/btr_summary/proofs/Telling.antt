@@ -1,5 +1,5 @@
 -- What is told of a volume that was opened, and how a volume is refused.
-use Rattle.std.proofs.Common.{◌≡◌, ◌⊎◌, inl, inr, ℕ, ◌-◌, ◌^◌, ◌<◌, ◌≤◌, List, [], ◌∷◌, Option, Some, None, Result, Ok, Err, Contains, refl, sym, ◌∙◌, ap, subst, arith}
+use Rattle.std.proofs.Common.{◌≡◌, inl, inr, ℕ, ◌-◌, ◌^◌, ◌<◌, ◌≤◌, List, [], ◌∷◌, Option, Some, None, Result, Ok, Contains, refl, sym, ◌∙◌, ap, subst, arith}
 use Rattle.std.specs.Option.{option_map}
 use Rattle.outside.specs.Fault.{Rose}
 use Rattle.outside.specs.History.{Image, block_at}
@@ -65,11 +65,6 @@ summary_is image s ranges map opened reads =
     let blocks : option_map (λ (m : ImageMap). m.blocks) map ≡ image_length image =
     length_is ranges map (saved_image image s ranges) reads.0 ∙ ap (option_map (λ (f : ImageFile). f.blocks)) (file_is image s ranges opened) in
     ap (summary_with s) blocks ∙ ap (λ (t : Super). summary_with t (image_length image)) (opened_super image s ranges opened)
-
-pub opening_refuses : (image : Image) (e : BtrAnswer) → IsAmong (opening_refusals image) e → BtrfsRefuses image e
-opening_refuses image (Refused r) among = inl among
-opening_refuses image Fault among = tt
-opening_refuses image Memory among = tt
 
 among_way : (image : Image) (e : BtrAnswer) → opening_refusals image ≡ [] → IsAmong (way_refusals image) e → BtrfsRefuses image e
 among_way image (Refused r) opens among = inr (opens, among)

@@ -1,5 +1,4 @@
-use Rattle.std.proofs.Common.{◌≡◌, ◌∙◌, Err, sym, ap, length}
-use Rattle.outside.specs.History.{Image}
+use Rattle.std.proofs.Common.{◌∙◌, Err, sym, ap, length}
 use Rattle.outside.specs.declared.answer.BtrAnswer.{BtrAnswer}
 use Rattle.btr_super.specs.declared.superblock.Super.{Super}
 use Rattle.btr_summary.specs.Readable.{summary_with}
