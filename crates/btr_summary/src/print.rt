@@ -1,0 +1,66 @@
+ghost use Rattle.std.specs.Prelude.{◌≡◌, IsTrue};
+ghost use Rattle.outside.specs.Fault.{HasCause, Takes};
+ghost use Rattle.sink_text.specs.Text.{piece_text};
+ghost use Rattle.btr_summary.specs.Text.{label_of, label_text, image_text, summary_text};
+
+use crate::summary::Summary;
+use outside::{Fault, Sink};
+use sink_text::Piece::{Decimal, Escaped, Hyphenated, Plain};
+use sink_text::{Piece, write_pieces};
+
+impl Summary {
+    /// Prints the seven lines `format`, `fsid`, `blocks`, `generation`, `nodesize`, `label` and `image`. After a fault the
+    /// sink gained a first part of them.
+    pub fn print<O: Sink>(&self, out: &mut O) -> Result<(), Fault>
+        ensures taken { IsTrue O.tells → Takes (O.taken out.old) (summary_text self.now) result (O.taken out.new) }
+        ensures cause { HasCause (O.faults out.old) (O.faults out.new) result }
+    {
+        let pieces = [
+            Plain(b"format btrfs\nfsid "),
+            Hyphenated(self.fsid),
+            Plain(b"\nblocks "),
+            Decimal(self.blocks),
+            Plain(b"\ngeneration "),
+            Decimal(self.generation),
+            Plain(b"\nnodesize "),
+            Decimal(u64::from(self.nodesize)),
+            Plain(b"\nlabel "),
+            label_piece(label_of(&self.label)),
+            Plain(b"\nimage "),
+            image_piece(self.image),
+            Plain(b"\n"),
+        ];
+        write_pieces(&pieces, out)
+    }
+}
+
+/// How a label is printed: a dash where it is empty.
+fn label_piece(label: &[u8]) -> Piece<'_>
+    ensures { piece_text result ≡ label_text label.now }
+{
+    match label {
+        [] => Plain(b"-"),
+        _ => Escaped(label),
+    }
+}
+
+/// How the length of the saved image is printed: a dash where it is missing.
+fn image_piece(blocks: Option<u64>) -> Piece<'static>
+    ensures { piece_text result ≡ image_text blocks }
+{
+    match blocks {
+        Some(blocks) => Decimal(blocks),
+        None => Plain(b"-"),
+    }
+}
+
+/// The label without the zeros that fill it up.
+fn label_of(label: &[u8; 256]) -> &[u8]
+    ensures { result.now ≡ label_of label.now }
+{
+    let mut end = 0;
+    while end < label.len() && label[end] != 0 {
+        end += 1;
+    }
+    &label[..end]
+}
