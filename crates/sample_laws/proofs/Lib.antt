@@ -1,5 +1,7 @@
 pub mod Blocks
 pub mod Cleanness
-pub mod Marked
 pub mod Heads
 pub mod Leaves
+pub mod Marked
+pub mod Nodes
+pub mod Places

@@ -1,4 +1,5 @@
-ghost use Rattle.sample_laws.specs.Laws.{SamplesAreClean, SamplesMarkUsed, SamplesMarkSystem, LeavesReadBack};
+ghost use Rattle.sample_laws.specs.Laws.{SamplesAreClean, SamplesMarkUsed, SamplesMarkSystem, SamplesHoldTheirBlocks};
+ghost use Rattle.sample_laws.specs.Nodes.{LeavesReadBack, InnerNodesReadBack};
 
 /// The superblock of a sample is that of a clean volume, and no transaction waits in its journal.
 pub fn samples_are_clean()
@@ -18,4 +19,14 @@ pub fn samples_mark_system()
 /// A leaf that was written of items that have room in it reads as these items.
 pub fn leaves_read_back()
     ensures { LeavesReadBack }
+{}
+
+/// An inner node that was written of children that have room in it names these children.
+pub fn inner_nodes_read_back()
+    ensures { InnerNodesReadBack }
+{}
+
+/// A sample has each block of its layout in the place that the layout gives it.
+pub fn samples_hold_their_blocks()
+    ensures { SamplesHoldTheirBlocks }
 {}

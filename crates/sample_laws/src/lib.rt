@@ -5,4 +5,7 @@
 
 mod laws;
 
-pub use laws::{leaves_read_back, samples_are_clean, samples_mark_system, samples_mark_used};
+pub use laws::{
+    inner_nodes_read_back, leaves_read_back, samples_are_clean, samples_hold_their_blocks,
+    samples_mark_system, samples_mark_used,
+};
