@@ -1,7 +1,11 @@
 pub mod Blocks
 pub mod Cleanness
 pub mod Heads
+pub mod Held
+pub mod Leafing
 pub mod Leaves
 pub mod Marked
 pub mod Nodes
 pub mod Places
+pub mod Small
+pub mod Writable

@@ -1,14 +1,17 @@
 -- Nodes that are written, and what they read as.
-use Rattle.std.specs.Prelude.{◌≡◌, ◌≤◌, ◌<◌, ℕ, ◌^◌, List, length, All, Some, slice_index_or}
-use Rattle.reiser_make.specs.Inner.{inner_bytes}
+use Rattle.std.specs.Prelude.{◌≡◌, ◌≤◌, ◌<◌, ℕ, ◌+◌, ◌^◌, Bool, List, length, All, Some, slice_index_or}
+use Rattle.outside.specs.History.{Image, block_at}
+use Rattle.reiser_make.specs.Inner.{inner_bytes, node_place, leaf_at, level_nodes, root_level}
+use Rattle.reiser_make.specs.Inner as inner
 use Rattle.reiser_make.specs.Items.{body_bytes}
-use Rattle.reiser_make.specs.Leaf.{leaf_bytes, taken, node_room}
-use Rattle.reiser_make.specs.Shape.{Shape}
+use Rattle.reiser_make.specs.Leaf.{leaves, leaf_bytes, taken, node_room}
+use Rattle.reiser_make.specs.Shape.{Shape, shape}
 use Rattle.reiser_make.specs.declared.inner.Child.{Child}
 use Rattle.reiser_make.specs.declared.item.Item.{Item}
 use Rattle.reiser_node.specs.Head.{head_at}
 use Rattle.reiser_node.specs.Inner.{IsInner, children, child_at}
 use Rattle.reiser_node.specs.Leaf.{IsLeaf, count, head_place, body_at}
+use Rattle.sample_laws.specs.Laws.{Fits, made}
 
 -- the numbers of an item have room in its head, and its body has the length that the head says
 pub record IsWritable (s : Shape) (item : Item) : Type 0 where
@@ -43,3 +46,16 @@ pub record NamesChildren (level : ℕ) (all : List Child) (bytes : List ℕ) : T
 abbrev pub InnerNodesReadBack : Type 0
 InnerNodesReadBack =
     (level : ℕ) (all : List Child) → 2 ≤ level → level ≤ 6 → All IsNamed all → 2 ≤ length all → length all ≤ 170 → NamesChildren level all (inner_bytes level all)
+
+-- Each leaf of a sample reads as the items that the layout puts into it.
+abbrev pub SampleLeavesReadBack : Type 0
+SampleLeavesReadBack =
+    (number : ℕ) (old : Bool) (blocks : ℕ) (image : Image) → Fits number old blocks image
+    → let s = shape number old in (m : ℕ) → m < length (leaves s) → ReadsAs s (leaf_at s m) (block_at (made s blocks image) (node_place s 1 m))
+
+-- Each node above a level names its children of that level.
+abbrev pub SampleInnerNodesReadBack : Type 0
+SampleInnerNodesReadBack =
+    (number : ℕ) (old : Bool) (blocks : ℕ) (image : Image) → Fits number old blocks image
+    → let s = shape number old in (below m : ℕ) → 1 ≤ below → below < root_level (length (leaves s)) → m < level_nodes (length (leaves s)) (below + 1)
+    → NamesChildren (below + 1) (inner.children s below m) (block_at (made s blocks image) (node_place s (below + 1) m))

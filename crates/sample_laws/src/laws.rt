@@ -1,5 +1,5 @@
 ghost use Rattle.sample_laws.specs.Laws.{SamplesAreClean, SamplesMarkUsed, SamplesMarkSystem, SamplesHoldTheirBlocks};
-ghost use Rattle.sample_laws.specs.Nodes.{LeavesReadBack, InnerNodesReadBack};
+ghost use Rattle.sample_laws.specs.Nodes.{LeavesReadBack, InnerNodesReadBack, SampleLeavesReadBack, SampleInnerNodesReadBack};
 
 /// The superblock of a sample is that of a clean volume, and no transaction waits in its journal.
 pub fn samples_are_clean()
@@ -29,4 +29,14 @@ pub fn inner_nodes_read_back()
 /// A sample has each block of its layout in the place that the layout gives it.
 pub fn samples_hold_their_blocks()
     ensures { SamplesHoldTheirBlocks }
+{}
+
+/// Each leaf of a sample reads as the items that the layout puts into it.
+pub fn sample_leaves_read_back()
+    ensures { SampleLeavesReadBack }
+{}
+
+/// Each inner node of a sample names its children.
+pub fn sample_inner_nodes_read_back()
+    ensures { SampleInnerNodesReadBack }
 {}
