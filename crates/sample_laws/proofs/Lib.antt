@@ -8,4 +8,5 @@ pub mod Marked
 pub mod Nodes
 pub mod Places
 pub mod Small
+pub mod Walked
 pub mod Writable

@@ -1,5 +1,6 @@
 ghost use Rattle.sample_laws.specs.Laws.{SamplesAreClean, SamplesMarkUsed, SamplesMarkSystem, SamplesHoldTheirBlocks};
 ghost use Rattle.sample_laws.specs.Nodes.{LeavesReadBack, InnerNodesReadBack, SampleLeavesReadBack, SampleInnerNodesReadBack};
+ghost use Rattle.sample_laws.specs.Walk.{SamplesAreWalked};
 
 /// The superblock of a sample is that of a clean volume, and no transaction waits in its journal.
 pub fn samples_are_clean()
@@ -39,4 +40,9 @@ pub fn sample_leaves_read_back()
 /// Each inner node of a sample names its children.
 pub fn sample_inner_nodes_read_back()
     ensures { SampleInnerNodesReadBack }
+{}
+
+/// A walk of a sample meets the nodes of its layout, each with what the layout puts into it.
+pub fn samples_are_walked()
+    ensures { SamplesAreWalked }
 {}
