@@ -2,6 +2,7 @@ pub mod Blocks
 pub mod Cleanness
 pub mod Heads
 pub mod Held
+pub mod Items
 pub mod Leafing
 pub mod Leaves
 pub mod Marked

@@ -1,6 +1,6 @@
 ghost use Rattle.sample_laws.specs.Laws.{SamplesAreClean, SamplesMarkUsed, SamplesMarkSystem, SamplesHoldTheirBlocks};
 ghost use Rattle.sample_laws.specs.Nodes.{LeavesReadBack, InnerNodesReadBack, SampleLeavesReadBack, SampleInnerNodesReadBack};
-ghost use Rattle.sample_laws.specs.Walk.{SamplesAreWalked};
+ghost use Rattle.sample_laws.specs.Walk.{SamplesAreWalked, SamplesHoldTheirItems};
 
 /// The superblock of a sample is that of a clean volume, and no transaction waits in its journal.
 pub fn samples_are_clean()
@@ -45,4 +45,9 @@ pub fn sample_inner_nodes_read_back()
 /// A walk of a sample meets the nodes of its layout, each with what the layout puts into it.
 pub fn samples_are_walked()
     ensures { SamplesAreWalked }
+{}
+
+/// The items that a walk of a sample meets are those of the layout, in their order, with their heads and bodies.
+pub fn samples_hold_their_items()
+    ensures { SamplesHoldTheirItems }
 {}
