@@ -3,6 +3,7 @@ pub mod Cleanness
 pub mod Heads
 pub mod Held
 pub mod Items
+pub mod Kept
 pub mod Leafing
 pub mod Leaves
 pub mod Marked

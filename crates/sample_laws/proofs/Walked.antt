@@ -70,13 +70,13 @@ opened true false x y first second = cc
 opened false b x y first second = cc
 
 module _ (number : ℕ) (old : Bool) (blocks : ℕ) (image : Image) (fits : Fits number old blocks image) where
-  abbrev s : Shape
+  abbrev pub s : Shape
   s = shape number old
 
-  abbrev volume : Image
+  abbrev pub volume : Image
   volume = made s blocks image
 
-  abbrev leaf_count : ℕ
+  abbrev pub leaf_count : ℕ
   leaf_count = length (leaves s)
 
   inside : (level m : ℕ) → 1 ≤ level → level ≤ root_level leaf_count → m < level_nodes leaf_count level → nat_lt (node_place s level m) blocks ≡ true
@@ -85,9 +85,9 @@ module _ (number : ℕ) (old : Bool) (blocks : ℕ) (image : Image) (fits : Fits
       let within : node_place s level m < blocks = omega (arith, below, fits.needed_low) in
       grind (arith, nat_tests, within)
 
-  names : (k m : ℕ) → suc (suc k) ≤ root_level leaf_count → m < level_nodes leaf_count (suc (suc k))
+  pub names_children : (k m : ℕ) → suc (suc k) ≤ root_level leaf_count → m < level_nodes leaf_count (suc (suc k))
       → NamesChildren (suc (suc k)) (children s (suc k) m) (block_at volume (node_place s (suc (suc k)) m))
-  names k m high lt =
+  names_children k m high lt =
       let same : suc k + 1 ≡ suc (suc k) = omega arith in
       subst (λ (l : ℕ). NamesChildren l (children s (suc k) m) (block_at volume (node_place s l m))) same
       (inner_held number old blocks image fits (suc k) m (omega arith) (omega (arith, high)) (subst (λ (l : ℕ). m < level_nodes leaf_count l) (sym same) lt))
@@ -113,7 +113,7 @@ module _ (number : ℕ) (old : Bool) (blocks : ℕ) (image : Image) (fits : Fits
       let n : ℕ = level_nodes leaf_count (suc k) in
       let first : ℕ = first_child n m in
       let total : ℕ = child_count n m in
-      let named : NamesChildren (suc (suc k)) (children s (suc k) m) bytes = names k m high lt in
+      let named : NamesChildren (suc (suc k)) (children s (suc k) m) bytes = names_children k m high lt in
       let many : 1 < n = many_nodes leaf_count (suc k) (omega arith) (omega (arith, high)) in
       let has : HasChildren n m = has_children n m (omega (arith, many)) lt in
       let size : length (children s (suc k) m) ≡ total = length-map-range_with_len (child s (suc k)) first total in

@@ -1,5 +1,5 @@
 -- Each item of a sample has room in a leaf, its numbers in a head, and a body of the length that its head says.
-use Rattle.std.proofs.Common.{◌≡◌, ℕ, zero, suc, ◌+◌, ◌-◌, ◌*◌, ◌^◌, ◌≤◌, ◌<◌, Bool, true, false, cond, ◌==◌, List, [], ◌∷◌, ◌++◌, length, map, get_or, refl, ◌∙◌, ap, arith, length-append, All}
+use Rattle.std.proofs.Common.{◌≡◌, inr, ℕ, zero, suc, ◌+◌, ◌-◌, ◌*◌, ◌^◌, ◌≤◌, ◌<◌, Bool, true, false, cond, ◌==◌, List, [], ◌∷◌, ◌++◌, length, map, get_or, refl, ◌∙◌, ap, arith, length-append, All}
 use Rattle.std.specs.Prelude.{nat_lt}
 use Rattle.std.specs.List.{range_with_len, flat_map}
 use Rattle.std.proofs.lemmas.List.FromFn.{length-map-range_with_len}
@@ -8,6 +8,7 @@ use Rattle.byteorder.specs.Endian.{little_bytes}
 use Rattle.reiser_items.specs.Entries.{EntryValue}
 use Rattle.reiser_items.specs.Stat.{stat_length}
 use Rattle.reiser_items.specs.declared.stat.StatData.{StatData}
+use Rattle.reiser_walk.specs.Laws.{FitsHead}
 use Rattle.reiser_make.specs.Content.{IsSmallContent}
 use Rattle.reiser_make.specs.Directory.{padded, entry_heads, entry_names, entries_length, entries_bytes, directory_entry, root_entries, file_entry, directory_entries}
 use Rattle.reiser_make.specs.Items.{items, items_from, items_of, items_of_content, stat_item, directory_items, pointer_items, byte_items, body_bytes, pointers_of_content, rest_of_content}
@@ -27,6 +28,7 @@ use Rattle.sample_laws.specs.Nodes.{IsWritable}
 pub record IsGood (s : Shape) (item : Item) : Type 0 where
   pub writable : IsWritable s item
   pub fits : item.head.length ≤ 4048
+  pub body : FitsHead item.head (body_bytes s item.head.old item.body)
 
 abbrev pub AreGood : Shape → List Item → Type 0
 AreGood s [] = Unit {0}
@@ -60,7 +62,7 @@ stat_low false = omega arith
 
 stat_good : (s : Shape) (old : Bool) (id : ObjectId) (stat : StatData) → HasRoomFor id → IsGood s (stat_item old id stat)
 stat_good s old id stat room =
-    record { writable = record { dir = room.dir; object = room.object; offset = omega arith; count = omega arith; body = stat_sized s old stat }; fits = omega (arith, stat_low old) }
+    record { writable = record { dir = room.dir; object = room.object; offset = omega arith; count = omega arith; body = stat_sized s old stat }; fits = omega (arith, stat_low old); body = inr ((refl, stat_sized s old stat), omega arith) }
 
 -- entries whose names take eight bytes
 abbrev AreEights : List EntryValue → Type 0
@@ -100,7 +102,7 @@ names_sized s old k =
 directory_good : (s : Shape) (id : ObjectId) (nlink count : ℕ) (body : Body) → HasRoomFor id → count ≤ 102 → length (body_bytes s true body) ≡ 24 * count → AreGood s (directory_items s.old id nlink count body)
 directory_good s id nlink count body room few sized = (
   stat_good s s.old id _ room,
-  (record { writable = record { dir = room.dir; object = room.object; offset = omega arith; count = omega (arith, few); body = sized }; fits = omega (arith, few) }, tt),
+  (record { writable = record { dir = room.dir; object = room.object; offset = omega arith; count = omega (arith, few); body = sized }; fits = omega (arith, few); body = inr (tt, omega arith) }, tt),
 )
 
 pointers_sized : (first : ℕ) (sparse : Bool) (a n : ℕ) → length (flat_map (λ k. little_bytes 4 (pointer first sparse k)) (range_with_len a n)) ≡ 4 * n
@@ -131,16 +133,16 @@ unfolding items_of_content
 content_good s i Name here small room = tt
 content_good s i Symlink here small room = (
   stat_good s s.old (file_id (length s.names) i) _ room,
-  (record { writable = record { dir = room.dir; object = room.object; offset = omega arith; count = omega arith; body = target_sized s true (i - 1) }; fits = omega arith }, tt),
+  (record { writable = record { dir = room.dir; object = room.object; offset = omega arith; count = omega arith; body = target_sized s true (i - 1) }; fits = omega arith; body = inr (omega arith, omega arith) }, tt),
 )
 content_good s i (File whole rest sparse) here small room =
     let id : ObjectId = file_id (length s.names) i in (
       stat_good s s.old id _ room,
       good-append s (pointer_items s.old id i whole) (byte_items s.old id i whole rest)
           (either_good s (whole == 0) [] _ tt
-          (record { writable = record { dir = room.dir; object = room.object; offset = omega arith; count = omega arith; body = pointers_body s i s.old (File whole rest sparse) whole rest sparse here refl }; fits = omega (arith, small.blocks) }, tt))
+          (record { writable = record { dir = room.dir; object = room.object; offset = omega arith; count = omega arith; body = pointers_body s i s.old (File whole rest sparse) whole rest sparse here refl }; fits = omega (arith, small.blocks); body = inr ((refl, omega (arith, pointers_body s i s.old (File whole rest sparse) whole rest sparse here refl)), omega arith) }, tt))
           (either_good s (rest == 0) [] _ tt
-          (record { writable = record { dir = room.dir; object = room.object; offset = omega (arith, small.blocks); count = omega arith; body = rest_body s i s.old (File whole rest sparse) whole rest sparse here refl }; fits = omega (arith, small.bytes) }, tt)),
+          (record { writable = record { dir = room.dir; object = room.object; offset = omega (arith, small.blocks); count = omega arith; body = rest_body s i s.old (File whole rest sparse) whole rest sparse here refl }; fits = omega (arith, small.bytes); body = inr (omega arith, omega (arith, small.blocks)) }, tt)),
     )
 
 module _ (s : Shape) (few : length s.names ≤ 4000) (small : AreSmall s.names) where

@@ -1,7 +1,7 @@
 -- What a walk meets in the tree of a sample.
-use Rattle.std.specs.Prelude.{◌≡◌, ℕ, zero, suc, Bool, List, [], ◌∷◌, length, map}
+use Rattle.std.specs.Prelude.{◌≡◌, ℕ, zero, suc, Bool, List, [], ◌∷◌, length, map, All}
 use Rattle.std.specs.List.{range_with_len, flat_map}
-use Rattle.outside.specs.History.{Image}
+use Rattle.outside.specs.History.{Image, block_at}
 use Rattle.reiser_make.specs.Inner.{node_place, leaf_at, level_nodes, root_level, first_child, child_count}
 use Rattle.reiser_make.specs.Items as laid
 use Rattle.reiser_make.specs.Items.{body_bytes}
@@ -11,7 +11,8 @@ use Rattle.reiser_make.specs.declared.item.Item as parts
 use Rattle.reiser_node.specs.declared.head.ItemHead.{ItemHead}
 use Rattle.reiser_super.specs.declared.superblock.Super.{Super}
 use Rattle.reiser_walk.specs.Items.{Item, Event, node, item_events}
-use Rattle.reiser_walk.specs.Tree.{tree_events, items_of}
+use Rattle.reiser_walk.specs.Laws.{IsNode, FitsHead}
+use Rattle.reiser_walk.specs.Tree.{tree_events, items_of, visits}
 use Rattle.reiser_walk.specs.declared.tree.Tree.{Tree}
 use Rattle.sample_laws.specs.Laws.{Fits, made, superblock, used_of}
 
@@ -56,3 +57,17 @@ SamplesHoldTheirItems =
     (number : ℕ) (old : Bool) (blocks : ℕ) (image : Image) → Fits number old blocks image
     → let s = shape number old in let volume = made s blocks image in
     map content (items_of (tree_of (superblock volume)) volume (length (used_of volume))) ≡ map (laid_content s) (laid.items s)
+
+-- each node that is visited is on the grammar of its level
+abbrev pub SamplesKeepGrammar : Type 0
+SamplesKeepGrammar =
+    (number : ℕ) (old : Bool) (blocks : ℕ) (image : Image) → Fits number old blocks image
+    → let volume = made (shape number old) blocks image in
+    All (λ v. IsNode v.level (block_at volume v.to.block)) (visits (tree_of (superblock volume)) volume (length (used_of volume)))
+
+-- each body fits its head
+abbrev pub SamplesFitTheirHeads : Type 0
+SamplesFitTheirHeads =
+    (number : ℕ) (old : Bool) (blocks : ℕ) (image : Image) → Fits number old blocks image
+    → let volume = made (shape number old) blocks image in
+    All (λ i. FitsHead i.head i.body) (items_of (tree_of (superblock volume)) volume (length (used_of volume)))

@@ -1,6 +1,6 @@
 ghost use Rattle.sample_laws.specs.Laws.{SamplesAreClean, SamplesMarkUsed, SamplesMarkSystem, SamplesHoldTheirBlocks};
 ghost use Rattle.sample_laws.specs.Nodes.{LeavesReadBack, InnerNodesReadBack, SampleLeavesReadBack, SampleInnerNodesReadBack};
-ghost use Rattle.sample_laws.specs.Walk.{SamplesAreWalked, SamplesHoldTheirItems};
+ghost use Rattle.sample_laws.specs.Walk.{SamplesAreWalked, SamplesHoldTheirItems, SamplesKeepGrammar, SamplesFitTheirHeads};
 
 /// The superblock of a sample is that of a clean volume, and no transaction waits in its journal.
 pub fn samples_are_clean()
@@ -50,4 +50,14 @@ pub fn samples_are_walked()
 /// The items that a walk of a sample meets are those of the layout, in their order, with their heads and bodies.
 pub fn samples_hold_their_items()
     ensures { SamplesHoldTheirItems }
+{}
+
+/// Each node that a walk of a sample visits is on the grammar of its level.
+pub fn samples_keep_grammar()
+    ensures { SamplesKeepGrammar }
+{}
+
+/// Each body of an item of a sample fits its head.
+pub fn samples_fit_their_heads()
+    ensures { SamplesFitTheirHeads }
 {}
