@@ -34,7 +34,7 @@ pub later_keeps : (ps : List Placed) (image : Image) (b : ℕ) → Away b ps →
 later_keeps [] image b away = refl
 later_keeps (p ∷ ps) image b away = later_keeps ps (slice_set image p.0 p.1) b away.1 ∙ get_or-set_other image p.0 b p.1 [] away.0
 
-length-set : {A : Type 0} (xs : List A) (i : ℕ) (y : A) → length (slice_set xs i y) ≡ length xs
+pub length-set : {A : Type 0} (xs : List A) (i : ℕ) (y : A) → length (slice_set xs i y) ≡ length xs
 length-set [] i y = refl
 length-set (x ∷ xs) zero y = refl
 length-set (x ∷ xs) (suc i) y = ap suc (length-set xs i y)

@@ -58,7 +58,7 @@ root_from_high : (levels level n : ℕ) → root_from levels level n ≤ level +
 root_from_high zero level n = omega arith
 root_from_high (suc levels) level n = either_low (nat_le n 1) level (root_from levels (level + 1) (nodes_above n)) (level + suc levels) (omega arith) (omega (arith, root_from_high levels (level + 1) (nodes_above n)))
 
-root_high : (leaves : ℕ) → root_level leaves ≤ 6
+pub root_high : (leaves : ℕ) → root_level leaves ≤ 6
 unfolding root_level
 root_high leaves = omega (arith, root_from_high 5 1 leaves)
 

@@ -1,5 +1,5 @@
 -- A leaf that was written reads back.
-use Rattle.std.proofs.Common.{◌≡◌, ℕ, zero, suc, ◌+◌, ◌-◌, ◌*◌, ◌^◌, ◌≤◌, ◌<◌, Bool, List, [], ◌∷◌, ◌++◌, length, take, drop, replicate, get_or, refl, sym, ◌∙◌, ap, subst, arith, append_assoc, append-nil, length-append, length-take, length-drop, Some, None, All}
+use Rattle.std.proofs.Common.{◌≡◌, ℕ, zero, suc, ◌+◌, ◌-◌, ◌*◌, ◌≤◌, ◌<◌, List, [], ◌∷◌, ◌++◌, length, take, drop, replicate, get_or, refl, sym, ◌∙◌, ap, subst, arith, append_assoc, append-nil, length-append, length-take, length-drop, Some, None, All}
 use Rattle.std.specs.Prelude.{Option, IsSome, slice_range}
 use Rattle.std.proofs.Math.Seq.{drop-cons, drop-append_seam, take-append_seam, take-length}
 use Rattle.std.proofs.lemmas.List.{take-append-drop, take_more, get_or-take, get_or-drop, length-replicate}
@@ -7,7 +7,7 @@ use Rattle.std.proofs.lemmas.List.Sums.{sum_by-cons, sum_by-append}
 use Rattle.byteorder.specs.Numbers.{little_number-reads_back}
 use Rattle.vol_block.specs.Volume.{field}
 use Rattle.reiser_node.specs.Head.{head_at, head_of_kind, kind_at}
-use Rattle.reiser_node.specs.Leaf.{level, count, head_place, body_length, location, body_end, body_at, IsItem, IsLeaf}
+use Rattle.reiser_node.specs.Leaf.{level, count, head_place, body_length, location, body_end, body_at, IsItem}
 use Rattle.reiser_node.specs.declared.head.ItemHead.{ItemHead}
 use Rattle.reiser_node.specs.declared.head.ItemKind.{ItemKind}
 use Rattle.reiser_make.specs.Items.{body_bytes}
@@ -16,7 +16,7 @@ use Rattle.reiser_make.specs.Shape.{Shape}
 use Rattle.reiser_make.specs.declared.item.Item.{Item}
 use Rattle.reiser_make.proofs.Storing.{lengths, head_size}
 use Rattle.sample_laws.proofs.Heads.{HasRoomIn, field_behind, head_behind, head_reads, length_reads, location_reads}
-use Rattle.sample_laws.specs.Laws.{IsWritable, ReadsAs, LeavesReadBack}
+use Rattle.sample_laws.specs.Nodes.{IsWritable, ReadsAs, LeavesReadBack}
 
 heads_split : (end : ℕ) (xs ys : List Item) → heads_bytes end (xs ++ ys) ≡ heads_bytes end xs ++ heads_bytes (end - lengths xs) ys
 heads_split end [] ys = ap (λ n. heads_bytes n ys) (let same : end ≡ end - lengths [] = omega arith in same)
@@ -161,8 +161,19 @@ module _ (s : Shape) (items : List Item) (right : AreWritable s items) (room : t
 
     body_place : length ahead ≡ begin
     body_place =
-        omega (arith, length-append front (heads_bytes 4096 items ++ (gap ++ bodies s rest)), length_front, length-append (heads_bytes 4096 items) (gap ++ bodies s rest), length_heads 4096 items,
-        length-append gap (bodies s rest), length-replicate {A = ℕ} (node_room - taken items) 0, length_bodies s rest right_rest, taken_parts items, sizes, few)
+        omega (
+          arith,
+          length-append front (heads_bytes 4096 items ++ (gap ++ bodies s rest)),
+          length_front,
+          length-append (heads_bytes 4096 items) (gap ++ bodies s rest),
+          length_heads 4096 items,
+          length-append gap (bodies s rest),
+          length-replicate {A = ℕ} (node_room - taken items) 0,
+          length_bodies s rest right_rest,
+          taken_parts items,
+          sizes,
+          few,
+        )
 
     pub body_is : body_at bytes i ≡ own_body
     body_is =

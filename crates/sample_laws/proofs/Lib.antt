@@ -1,5 +1,14 @@
 pub mod Blocks
 pub mod Cleanness
-pub mod Marked
 pub mod Heads
+pub mod Held
+pub mod Items
+pub mod Kept
+pub mod Leafing
 pub mod Leaves
+pub mod Marked
+pub mod Nodes
+pub mod Places
+pub mod Small
+pub mod Walked
+pub mod Writable

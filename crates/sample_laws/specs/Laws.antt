@@ -1,18 +1,13 @@
 -- What sample volumes are to whoever reads them.
-use Rattle.std.specs.Prelude.{◌≡◌, ◌≤◌, ◌<◌, ℕ, ◌^◌, Bool, true, List, length, All, Some, slice_index_or, Contains}
+use Rattle.std.specs.Prelude.{◌≡◌, ◌≤◌, ◌<◌, ℕ, ◌^◌, Bool, true, List, length, Contains}
 use Rattle.outside.specs.History.{Image, block_at}
 use Rattle.reiser_bitmap.specs.Bits.{has}
 use Rattle.reiser_bitmap.specs.Layout.{bitmap_of}
 use Rattle.reiser_bitmap.specs.System.{system_blocks}
 use Rattle.reiser_make.specs.Inner.{needed}
-use Rattle.reiser_make.specs.Items.{body_bytes}
-use Rattle.reiser_make.specs.Layout.{laid_over, volume_blocks}
-use Rattle.reiser_make.specs.Leaf.{leaf_bytes, taken, node_room}
+use Rattle.reiser_make.specs.Layout.{Placed, laid_over, volume_blocks}
 use Rattle.reiser_make.specs.Places.{is_taken}
 use Rattle.reiser_make.specs.Shape.{Shape, shape}
-use Rattle.reiser_make.specs.declared.item.Item.{Item}
-use Rattle.reiser_node.specs.Head.{head_at}
-use Rattle.reiser_node.specs.Leaf.{IsLeaf, count, head_place, body_at}
 use Rattle.reiser_super.specs.Journal.{IsClean}
 use Rattle.reiser_super.specs.Superblock.{super_of}
 use Rattle.reiser_super.specs.declared.superblock.Super.{Super}
@@ -56,21 +51,7 @@ SamplesMarkSystem =
     (number : ℕ) (old : Bool) (blocks : ℕ) (image : Image) → Fits number old blocks image
     → (b : ℕ) → Contains (own_blocks (superblock (made (shape number old) blocks image))) b → has (used_of (made (shape number old) blocks image)) b ≡ true
 
--- the numbers of an item have room in its head, and its body has the length that the head says
-pub record IsWritable (s : Shape) (item : Item) : Type 0 where
-  pub dir : item.head.dir < 2 ^ 32
-  pub object : item.head.object < 2 ^ 32
-  pub offset : item.head.offset < 2 ^ 32
-  pub count : item.head.count < 2 ^ 16
-  pub body : length (body_bytes s item.head.old item.body) ≡ item.head.length
-
--- a leaf reads as these items: it is on the grammar, and has so many, each with its head and its body
-pub record ReadsAs (s : Shape) (items : List Item) (bytes : List ℕ) : Type 0 where
-  pub leaf : IsLeaf bytes
-  pub count : count bytes ≡ length items
-  pub heads : (i : ℕ) (d : Item) → i < length items → head_at bytes (head_place i) ≡ Some (slice_index_or items i d).head
-  pub bodies : (i : ℕ) (d : Item) → i < length items → body_at bytes i ≡ body_bytes s (slice_index_or items i d).head.old (slice_index_or items i d).body
-
--- a leaf that was written of items that have room in it reads as these
-abbrev pub LeavesReadBack : Type 0
-LeavesReadBack = (s : Shape) (items : List Item) → All (IsWritable s) items → 1 ≤ length items → taken items ≤ node_room → ReadsAs s items (leaf_bytes s items)
+-- Each block of the layout is where the layout puts it: no two of them go to one place.
+abbrev pub SamplesHoldTheirBlocks : Type 0
+SamplesHoldTheirBlocks =
+    (s : Shape) (blocks : ℕ) (image : Image) (p : Placed) → Contains (volume_blocks s blocks) p → p.0 < length image → block_at (made s blocks image) p.0 ≡ p.1

@@ -1,4 +1,6 @@
-ghost use Rattle.sample_laws.specs.Laws.{SamplesAreClean, SamplesMarkUsed, SamplesMarkSystem, LeavesReadBack};
+ghost use Rattle.sample_laws.specs.Laws.{SamplesAreClean, SamplesMarkUsed, SamplesMarkSystem, SamplesHoldTheirBlocks};
+ghost use Rattle.sample_laws.specs.Nodes.{LeavesReadBack, InnerNodesReadBack, SampleLeavesReadBack, SampleInnerNodesReadBack};
+ghost use Rattle.sample_laws.specs.Walk.{SamplesAreWalked, SamplesHoldTheirItems, SamplesKeepGrammar, SamplesFitTheirHeads};
 
 /// The superblock of a sample is that of a clean volume, and no transaction waits in its journal.
 pub fn samples_are_clean()
@@ -18,4 +20,44 @@ pub fn samples_mark_system()
 /// A leaf that was written of items that have room in it reads as these items.
 pub fn leaves_read_back()
     ensures { LeavesReadBack }
+{}
+
+/// An inner node that was written of children that have room in it names these children.
+pub fn inner_nodes_read_back()
+    ensures { InnerNodesReadBack }
+{}
+
+/// A sample has each block of its layout in the place that the layout gives it.
+pub fn samples_hold_their_blocks()
+    ensures { SamplesHoldTheirBlocks }
+{}
+
+/// Each leaf of a sample reads as the items that the layout puts into it.
+pub fn sample_leaves_read_back()
+    ensures { SampleLeavesReadBack }
+{}
+
+/// Each inner node of a sample names its children.
+pub fn sample_inner_nodes_read_back()
+    ensures { SampleInnerNodesReadBack }
+{}
+
+/// A walk of a sample meets the nodes of its layout, each with what the layout puts into it.
+pub fn samples_are_walked()
+    ensures { SamplesAreWalked }
+{}
+
+/// The items that a walk of a sample meets are those of the layout, in their order, with their heads and bodies.
+pub fn samples_hold_their_items()
+    ensures { SamplesHoldTheirItems }
+{}
+
+/// Each node that a walk of a sample visits is on the grammar of its level.
+pub fn samples_keep_grammar()
+    ensures { SamplesKeepGrammar }
+{}
+
+/// Each body of an item of a sample fits its head.
+pub fn samples_fit_their_heads()
+    ensures { SamplesFitTheirHeads }
 {}

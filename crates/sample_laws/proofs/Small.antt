@@ -1,0 +1,67 @@
+-- What the names of a sample stand for is small.
+use Rattle.std.proofs.Common.{◌≡◌, ℕ, zero, suc, ◌+◌, Bool, true, false, cond, ◌==◌, List, [], ◌∷◌, length, get_or, refl, arith}
+use Rattle.reiser_make.specs.Content.{contents, contents_from, content_of, file_of, is_further_name, is_symlink, IsSmallContent, state_after}
+use Rattle.reiser_make.specs.Draw.{drawn, next_state}
+use Rattle.reiser_make.specs.declared.content.Content.{Content}
+use Rattle.reiser_make.specs.declared.content.Content.TheVariants.{Name, Symlink, File}
+
+abbrev pub AreSmall : List Content → Type 0
+AreSmall [] = Unit {0}
+AreSmall (x ∷ xs) = IsSmallContent x × AreSmall xs
+
+either : (b : Bool) (x y : Content) → IsSmallContent x → IsSmallContent y → IsSmallContent (cond b x y)
+either true x y first second = first
+either false x y first second = second
+
+few_bytes : (state : ℕ) → IsSmallContent (File 0 (drawn 2049 state) false)
+unfolding drawn
+few_bytes state = record { blocks = omega arith; bytes = omega arith }
+
+more_bytes : (state : ℕ) → IsSmallContent (File 0 (2049 + drawn 1500 state) false)
+unfolding drawn
+more_bytes state = record { blocks = omega arith; bytes = omega arith }
+
+blocks_and_rest : (state behind : ℕ) → IsSmallContent (File (1 + drawn 8 state) (1 + drawn 3000 behind) false)
+unfolding drawn
+blocks_and_rest state behind = record { blocks = omega arith; bytes = omega arith }
+
+whole_blocks : (state : ℕ) → IsSmallContent (File (1 + drawn 20 state) 0 false)
+unfolding drawn
+whole_blocks state = record { blocks = omega arith; bytes = omega arith }
+
+holes : (state : ℕ) → IsSmallContent (File (2 + drawn 10 state) 0 true)
+unfolding drawn
+holes state = record { blocks = omega arith; bytes = omega arith }
+
+file_small : (class state : ℕ) → IsSmallContent (file_of class state)
+file_small class state =
+    either (class == 0) _ _ (few_bytes (next_state state))
+    (either (class == 1) _ _ (more_bytes (next_state state))
+    (either (class == 2) _ _ (blocks_and_rest (next_state state) (next_state (next_state state)))
+    (either (class == 3) _ _ (whole_blocks (next_state state)) (holes (next_state state)))))
+
+content_small : (i state : ℕ) → IsSmallContent (content_of i state)
+unfolding content_of
+content_small i state = either (is_further_name i) Name _ tt (either (is_symlink i) Symlink _ tt (file_small (drawn 5 (next_state state)) (next_state state)))
+
+from_small : (n i state : ℕ) → AreSmall (contents_from n i state)
+from_small zero i state = tt
+from_small (suc n) i state = (content_small i state, from_small n (i + 1) (state_after i state))
+
+pub contents_small : (number : ℕ) → AreSmall (contents number)
+unfolding contents
+contents_small number = from_small number 0 number
+
+length_from : (n i state : ℕ) → length (contents_from n i state) ≡ n
+length_from zero i state = refl
+length_from (suc n) i state = omega (arith, length_from n (i + 1) (state_after i state))
+
+pub length_contents : (number : ℕ) → length (contents number) ≡ number
+unfolding contents
+length_contents number = length_from number 0 number
+
+-- also past the end, where a name is taken for a further one
+pub small_at : (names : List Content) → AreSmall names → (i : ℕ) → IsSmallContent (get_or names i Name)
+small_at [] small i = tt
+small_at (x ∷ xs) small zero = small.0
+small_at (x ∷ xs) small (suc i) = small_at xs small.1 i

@@ -1,0 +1,5 @@
+use Rattle.sample_laws.proofs.Items.{samples_items}
+use Rattle.sample_laws.proofs.laws.samples_hold_their_items.Goals as goal
+
+pub returns : goal.returns
+returns c = samples_items
