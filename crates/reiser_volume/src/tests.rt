@@ -3,6 +3,7 @@ ghost use Rattle.std.specs.Prelude.{◌≡◌, None, IfOk, length};
 
 mod sample;
 
+use crate::gather::sorted;
 use crate::{Volume, check_all_names};
 use outside::{Access, BlockSource, Disk, Memory, Rule, VolAnswer, VolumeRefusal};
 use outside_mem::MemDisk;
@@ -300,7 +301,7 @@ fn all_names_of_good_objects(rt: HostRuntime) -> Result<(), Fail> {
     assert!(rt; disk.len() >= 2048);
     let map = Bitmap::load(alloc, &mut disk, 2048)?;
     let objects = Objects::read(alloc, &mut disk, &map, 51, 2, 18, 32)?;
-    let named = objects.check(alloc, 51)?;
+    let named = sorted(objects.check(alloc, 51)?)?;
     assert!(rt; named.contains(&ROOT));
     assert_eq!(rt; check_all_names(alloc, &objects, &named), Ok(()));
     Ok(())
