@@ -1,8 +1,4 @@
-use Rattle.std.proofs.Common.{◌≡◌, ℕ, ◌+◌, ◌≤◌, Bool, Some, ◌&&◌, not, count_by, sym, ap, ◌∙◌, arith, if◌then◌else◌}
-use Rattle.std.specs.List.{list_any}
-use Rattle.std.specs.Ordering.{is_lt}
-use Rattle.reiser_objects.specs.Keys.{same_key, root}
-use Rattle.reiser_volume.specs.Links.{object_cmp}
+use Rattle.std.proofs.Common.{Bool, sym, ap, ◌∙◌, arith, if◌then◌else◌}
 use Rattle.reiser_volume.proofs.Numbering.{keys_before}
 use Rattle.reiser_volume.proofs.extended.count_before.Goals as goal
 
