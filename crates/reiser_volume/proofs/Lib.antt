@@ -7,6 +7,7 @@ pub mod Crowding
 pub mod Eaches
 pub mod Extending
 pub mod Lists
+pub mod Numbering
 pub mod Refusals
 pub mod Seeing
 pub mod Sums

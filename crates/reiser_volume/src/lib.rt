@@ -22,3 +22,6 @@ mod volume;
 pub use laws::{links_are_one, names_refusals_break_rules, refusals_break_rules};
 pub use names::check_all_names;
 pub use volume::Volume;
+
+#[cfg(test)]
+mod tests;
