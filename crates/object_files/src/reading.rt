@@ -34,7 +34,7 @@ impl ObjectItems {
     /// Goes on to the next item of the object: true where it stands now, and false after the last.
     ///
     /// The leaves are those of the objects that the reader is of. A refusal names a block that is no leaf of the volume
-    /// any more: the device was changed since the walk.
+    /// any more: the device was changed since the walk. Nothing is said of a reader after false or an error.
     pub fn advance<S: BlockSource>(
         &mut self,
         src: &mut S,
