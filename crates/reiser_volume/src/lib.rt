@@ -17,7 +17,9 @@ mod once;
 mod one;
 mod open;
 mod private;
+mod row;
 mod volume;
+mod ways;
 
 pub use laws::{links_are_one, names_refusals_break_rules, refusals_break_rules};
 pub use names::check_all_names;
