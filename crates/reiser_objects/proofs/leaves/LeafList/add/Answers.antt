@@ -1,5 +1,5 @@
-use Rattle.std.proofs.Common.{◌∙◌, List, ℕ, ◌++◌, ◌∷◌, [], sym, ap, subst, false, ◌≡◌}
-use Rattle.reiser_objects.specs.Leaves.{without_repeats, ends_with}
+use Rattle.std.proofs.Common.{◌∙◌, List, ℕ, ◌++◌, ◌∷◌, [], sym, ap}
+use Rattle.reiser_objects.specs.Leaves.{ends_with}
 use Rattle.reiser_objects.proofs.Repeats.{repeat_stays, new_added}
 use Rattle.reiser_objects.proofs.leaves.LeafList.add.Goals as goal
 

@@ -1,0 +1,9 @@
+use Rattle.std.proofs.Common.{◌≤◌, List, ℕ, length, ap, arith}
+use Rattle.object_files.specs.Holds.{object_items}
+use Rattle.object_files.proofs.Files.{file_items}
+use Rattle.object_files.proofs.calls.file_tail.Goals as goal
+
+pub returns-clause-tail : goal.returns-clause-tail
+returns-clause-tail g c = λ tells tree image used is holds.
+    let room : length image ≤ g.S.BlockSource.size c.args.src.now = omega (arith, g.met.S.BlockSource.size_is c.args.src.now tells, ap (length {A = List ℕ}) is) in
+    c.gather_items.ensures.tail tells image is (object_items tree image used c.args.key) (file_items c.args.objects.now c.args.key tree image used (g.S.BlockSource.size c.args.src.now) room holds) (c.new.ensures.begins tree image used holds)

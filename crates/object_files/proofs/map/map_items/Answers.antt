@@ -1,0 +1,44 @@
+use Rattle.std.proofs.Common.{◌∙◌, ◌++◌, ◌∷◌, ℕ, List, [], sym, ap, subst, arith}
+use Rattle.std.proofs.lemmas.Result.{err_from_is_err_and}
+use Rattle.reiser_walk.specs.Items.{Item}
+use Rattle.reiser_files.specs.Runs.{file_runs}
+use Rattle.reiser_objects.specs.Keys.{items_of}
+use Rattle.object_files.specs.Answers.{IsFaultOrMemory}
+use Rattle.object_files.specs.Reads.{ahead, standing}
+use Rattle.object_files.proofs.Files.{next_follows, stands_head, stands_body, fault_of}
+use Rattle.object_files.proofs.map.map_items.Goals as goal
+
+pub returns-in_err-advance-clause-map : goal.returns-in_err-advance-clause-map
+returns-in_err-advance-clause-map g c = λ tells image is all are reads.
+    let same = g.met.S.BlockSource.kept_blocks c.args.src.now c.loop-mapper.src tells c.loop-mapper.invariant.kept ∙ is in
+    let told = c.loop-mapper.invariant.told tells image is all are reads in
+    let fault = fault_of _ (c.in_err-advance.ensures.comes tells image same told.0 all told.1) in
+    let err = err_from_is_err_and c.from_residual.result c.from_residual.ensures.1 in
+    rw err.1 (subst IsFaultOrMemory (sym err.2) fault)
+
+pub loop-mapper-preserved : goal.loop-mapper-preserved
+loop-mapper-preserved g c =
+    let before = c.loop-mapper.invariant in
+    record {
+      kept = g.met.S.BlockSource.kept_trans _ _ _ before.kept c.advance.ensures.kept;
+      later = omega (arith, before.later, c.advance.ensures.cause.later);
+      size = c.add_item.ensures.size ∙ before.size;
+      told = λ tells image is all are reads.
+          let same = g.met.S.BlockSource.kept_blocks c.args.src.now c.loop-mapper.src tells before.kept ∙ is in
+          let told = before.told tells image is all are reads in
+          let came = rw c.if-branch.true at (c.in_ok-advance.ensures.comes tells image same told.0 all told.1) in
+          let later : List Item = items_of c.advance.new.self.key (ahead image c.args.leaves.now c.advance.new.self) in (
+            told.0 ++ came.0 ∷ [],
+            came.1,
+            c.in_ok-add_item.ensures.given told.0 came.0 (stands_head (standing c.advance.new.self) came.0 c.head.result came.2 c.head.ensures) (stands_body (standing c.advance.new.self) came.0 c.body.result.now came.2 c.body.ensures)
+                (next_follows (g.S.BlockSource.size c.args.src.now) all told.0 came.0 later are came.1.whole) told.2,
+          );
+    }
+
+pub returns-clause-map : goal.returns-clause-map
+returns-clause-map g c = λ tells image is all are reads.
+    let same = g.met.S.BlockSource.kept_blocks c.args.src.now c.loop-mapper.src tells c.loop-mapper.invariant.kept ∙ is in
+    let told = c.loop-mapper.invariant.told tells image is all are reads in
+    let over = rw c.if-branch.false at (c.in_ok-advance.ensures.comes tells image same told.0 all told.1) in
+    c.in_ok-map.ensures told.0 told.2
+    ∙ (ap (λ (xs : List Item). file_runs xs c.loop-mapper.mapper.size) over ∙ ap (λ (n : ℕ). file_runs all n) c.loop-mapper.invariant.size)

@@ -1,0 +1,61 @@
+ghost use Rattle.std.specs.Prelude.{◌≡◌, ◌++◌, ◌∷◌, [], List, true, Some, IsTrue, IfErr};
+ghost use Rattle.std.specs.Result.{MatchResult};
+ghost use Rattle.outside.specs.Fault.{HasCauseOf};
+ghost use Rattle.outside.specs.History.{Image};
+ghost use Rattle.fs_rows.specs.Mark.{mark_of_bytes};
+ghost use Rattle.reiser_walk.specs.Items.{Item};
+ghost use Rattle.reiser_files.specs.Bytes.{file_bytes, MayFollow};
+ghost use Rattle.reiser_files.specs.Pieces.{are_inside};
+ghost use Rattle.reiser_files.specs.States.{MarksFile};
+ghost use Rattle.object_files.specs.Answers.{IsReadAnswer, IsFault};
+ghost use Rattle.object_files.specs.Holds.{AreFileItems};
+ghost use Rattle.object_files.specs.Reads.{Reads, HasItem, standing};
+
+use crate::ObjectItems;
+use crate::open::changed;
+use outside::{BlockSource, VolAnswer};
+use reiser_files::{FileMarker, are_inside};
+use reiser_objects::LeafList;
+
+/// The mark of a file of `size` bytes, whose items a reader is about to give.
+pub fn mark_items<S: BlockSource>(
+    src: &mut S,
+    leaves: &LeafList,
+    mut items: ObjectItems,
+    size: u64,
+) -> Result<[u8; 32], VolAnswer>
+    ensures kept { S.kept src.old src.new }
+    ensures cause { HasCauseOf VolAnswer.Fault (S.faults src.old) (S.faults src.new) result }
+    ensures answers { IfErr result IsReadAnswer }
+    ensures mark { IsTrue S.tells → (image : Image) → S.blocks src.old ≡ image → (all : List Item) → AreFileItems (S.size src.old) all → Reads items leaves.now image [] all →
+        MatchResult result (λ mark. mark ≡ mark_of_bytes (file_bytes image all size)) IsFault }
+{
+    let mut marker = FileMarker::new(size);
+    while items.advance(src, leaves)? {
+        mark_item(&mut marker, src, &items)?;
+    }
+    Ok(marker.finish())
+}
+
+/// Gives a marker the item that stands.
+fn mark_item<S: BlockSource>(
+    marker: &mut FileMarker,
+    src: &mut S,
+    items: &ObjectItems,
+) -> Result<(), VolAnswer>
+    requires stands { HasItem items.now }
+    ensures kept { S.kept src.old src.new }
+    ensures cause { HasCauseOf VolAnswer.Fault (S.faults src.old) (S.faults src.new) result }
+    ensures answers { IfErr result IsReadAnswer }
+    ensures size { marker.new.size ≡ marker.old.size }
+    ensures given { IsTrue S.tells → (image : Image) → S.blocks src.old ≡ image → (given : List Item) (i : Item) → standing items.now ≡ Some i →
+        MayFollow given i → are_inside i.head.kind i.body (S.size src.old) ≡ true → MarksFile marker.old image given →
+        MatchResult result (λ _. MarksFile marker.new image (given ++ i ∷ [])) IsFault }
+{
+    let head = items.head();
+    if !are_inside(&head, items.body(), src.len()) {
+        return Err(changed(items.leaf()));
+    }
+    marker.add_item(src, &head, items.body())?;
+    Ok(())
+}

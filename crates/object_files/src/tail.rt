@@ -1,0 +1,38 @@
+ghost use Rattle.std.specs.Prelude.{◌≡◌, ◌<◌, ◌*◌, ◌^◌, [], List, IsTrue, IfErr};
+ghost use Rattle.std.specs.Result.{MatchResult};
+ghost use Rattle.outside.specs.Fault.{HasCauseOf};
+ghost use Rattle.outside.specs.History.{Image};
+ghost use Rattle.reiser_walk.specs.Items.{Item};
+ghost use Rattle.reiser_files.specs.Bytes.{tail_block};
+ghost use Rattle.object_files.specs.Answers.{IsReadAnswer, IsFault};
+ghost use Rattle.object_files.specs.Holds.{AreFileItems};
+ghost use Rattle.object_files.specs.Reads.{Reads};
+
+use crate::ObjectItems;
+use outside::{BlockSource, VolAnswer};
+use reiser_files::put_tail;
+use reiser_objects::LeafList;
+use vol_block::Block;
+
+/// Gathers what the direct items, which a reader is about to give, hold of block `k` of a file of `size` bytes.
+pub fn gather_items<S: BlockSource>(
+    src: &mut S,
+    leaves: &LeafList,
+    mut items: ObjectItems,
+    size: u64,
+    k: u64,
+    into: &mut Block,
+) -> Result<(), VolAnswer>
+    requires { 4096 * k < 2 ^ 64 }
+    ensures kept { S.kept src.old src.new }
+    ensures cause { HasCauseOf VolAnswer.Fault (S.faults src.old) (S.faults src.new) result }
+    ensures answers { IfErr result IsReadAnswer }
+    ensures tail { IsTrue S.tells → (image : Image) → S.blocks src.old ≡ image → (all : List Item) → AreFileItems (S.size src.old) all → Reads items leaves.now image [] all →
+        MatchResult result (λ _. into.new.bytes ≡ tail_block all size k) IsFault }
+{
+    *into = Block::zero();
+    while items.advance(src, leaves)? {
+        put_tail(into, k, size, &items.head(), items.body());
+    }
+    Ok(())
+}
