@@ -1,5 +1,5 @@
 -- The links of a volume as those of a tree of paths.
-use Rattle.std.specs.Prelude.{ℕ, ◌<◌, ◌%◌, ◌^◌, List, map}
+use Rattle.std.specs.Prelude.{◌<◌, ◌%◌, ◌^◌, List, map}
 use Rattle.std.specs.List.{All}
 use Rattle.path_list.specs.declared.link.Link.{Link}
 use Rattle.path_list.specs.declared.link.PathTo.{PathTo}

@@ -30,7 +30,7 @@ pub fn content<S: BlockSource>(
     ensures cause { HasCauseOf VolAnswer.Fault (S.faults src.old) (S.faults src.new) result }
     ensures answers { IfErr result IsFileAnswer }
     ensures content { IsTrue S.tells → (image : Image) → S.blocks src.old ≡ image → IsOf image volume.now key → IsKnownAt (volume_items image) key known.now → (bytes : List ℕ) → bytes ≡ bytes_at image (volume_items image) key known.now.stat known.now.kind →
-        MatchOption first (Unit {0}) (λ row. IsContent known.now.kind bytes row.now.length row.now.mark row.now.target) →
+        MatchOption first.entry (Unit {0}) (λ row. IsContent known.now.kind bytes row.now.length row.now.mark row.now.target) →
         MatchResult result (λ c. IsContent known.now.kind bytes c.length c.mark c.target) IsFaultOrMemory }
 {
     match first {

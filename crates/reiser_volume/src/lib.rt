@@ -6,6 +6,7 @@
 #![tactic(auto)]
 
 mod again;
+mod content;
 mod counts;
 mod crowd;
 mod each;
@@ -18,6 +19,7 @@ mod one;
 mod open;
 mod private;
 mod row;
+mod rows;
 mod volume;
 mod ways;
 

@@ -101,7 +101,7 @@ fn first_row<'a>(rows: &'a Rows, path: &PathTo) -> Option<&'a Row>
 fn spot(alloc: Global, path: &PathTo, first: Option<&Row>) -> Result<Spot, Memory>
     ensures path { IfOk result (λ spot. spot.path ≡ path.now.path) }
     ensures names { IfOk result (λ spot. spot.names ≡ path.now.names) }
-    ensures least { IfOk result (λ spot. MatchOption first (spot.least ≡ path.now.path) (λ row. spot.least ≡ row.now.path)) }
+    ensures least { IfOk result (λ spot. MatchOption first.entry (spot.least ≡ path.now.path) (λ row. spot.least ≡ row.now.path)) }
 {
     let least = match first {
         Some(row) => copy_path(alloc, &row.path)?,
@@ -120,13 +120,13 @@ fn known(volume: &Volume, key: ObjectKey) -> Result<Known, VolAnswer>
     ensures cause { (before : ℕ) → HasCauseOf VolAnswer.Fault before before result }
     ensures known { (image : Image) → IsOf image volume.now key → MatchResult result (IsKnownAt (volume_items image) key) (λ _. ⊥) }
 {
-    let Some(stat) = volume.named.get(&key) else {
+    let Some(stat) = volume.objects.stat(key) else {
         return Err(changed(volume.sup.root));
     };
     let Some(kind) = kind_of_mode(stat.fields.mode) else {
         return Err(changed(stat.leaf));
     };
-    Ok(Known { stat: *stat, kind })
+    Ok(Known { stat, kind })
 }
 
 /// What is answered where a block reads otherwise than when the volume was opened.
