@@ -6,9 +6,13 @@ pub mod Counting
 pub mod Crowding
 pub mod Eaches
 pub mod Extending
+pub mod Holding
+pub mod Leading
 pub mod Lists
 pub mod Numbering
+pub mod Placed
 pub mod Refusals
+pub mod Rowed
 pub mod Seeing
 pub mod Sums
 pub mod Tabling

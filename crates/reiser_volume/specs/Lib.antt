@@ -1,12 +1,12 @@
 pub mod Again
 pub mod Answers
-pub mod Bytes
 pub mod Counts
 pub mod Crowds
 pub mod Extended
 pub mod Known
 pub mod Laws
 pub mod Links
+pub mod Made
 pub mod Names
 pub mod Once
 pub mod Opened
@@ -16,3 +16,4 @@ pub mod Refuses
 pub mod Rows
 pub mod Tally
 pub mod Volume
+pub mod Ways
