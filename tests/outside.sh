@@ -7,6 +7,7 @@ set -uo pipefail
 top=$(cd "$(dirname "$(readlink -f "${BASH_SOURCE[0]}")")/.." && pwd)
 work=$(mktemp -d)
 program=$top/crates/reiserconv/out/reiserconv
+maker=$top/crates/sample_volume/out/sample_volume
 trap 'rm -rf "$work"' EXIT
 passed=0
 failed=0
@@ -210,6 +211,10 @@ linux_volumes() {
         name=$(basename "$packed" .img.zst)
         zstd -dqf "$packed" -o packed
         run inspect packed
+        if [ "$name" = xattr-volume ]; then
+            same "inspect of the volume $name" '1|refused 7 attributes|' "$status|${err% * *}|$(cat "$work/.out")"
+            continue
+        fi
         same "inspect of the volume $name" "0||$(expected_super packed)" "$status|$err|$(head -8 "$work/.out")"
         same "used blocks of the volume $name" 'adds up' "$(used_adds_up)"
     done
@@ -257,10 +262,86 @@ loop_device() {
     losetup --detach "$device"
 }
 
+# ---- sample volumes --------------------------------------------------------------------------------------------------
+
+# makes BLOCKS WORDS..: runs the maker on a new file of so many blocks; its status, output and line are as those of run
+makes() {
+    rm -f made
+    truncate -s $(($1 * 4096)) made
+    shift
+    "$maker" "$@" made >"$work/.out" 2>"$work/.err"
+    status=$?
+    out=$(cat "$work/.out")
+    err=$(cat "$work/.err")
+}
+
+# unmade NAME STATUS LINE BLOCKS WORDS..: the maker ends so, and writes nothing
+unmade() {
+    local name=$1 want=$2 line=$3
+    shift 3
+    makes "$@"
+    same "$name" "$want|$line||" "$status|$err|$out|$(tr -d '\0' <made)"
+}
+
+maker_usage='usage: sample_volume [--old] NUMBER BLOCKS PATH'
+maker_statuses() {
+    unmade 'a sample without words' 2 "$maker_usage" 16
+    unmade 'a sample of too large a number' 2 "$maker_usage" 16 4001 16
+    unmade 'a sample of too many blocks' 2 "$maker_usage" 16 0 536870913
+    unmade 'a number with a plus' 2 "$maker_usage" 16 +1 16
+    unmade 'an option behind the number' 2 "$maker_usage" 16 0 --old 16
+    unmade 'a file that is shorter than the volume' 1 'refused 4 short 8213 8212' 8212 0 8213
+    unmade 'a volume that is one block too small' 6 'refused 15 space 8212 8211' 8212 0 8211
+    unmade 'a volume that is far too small' 6 'refused 15 space 22884 12288' 12288 4000 12288
+    unmade 'a volume of old items that is far too small' 6 'refused 15 space 22877 12288' 12288 --old 4000 12288
+    "$maker" 0 8212 "$work/nothing" >"$work/.out" 2>"$work/.err"
+    same 'a sample at a path that is not there' '3|device fault|' "$?|$(cat "$work/.err")|$(cat "$work/.out")"
+    "$top/sample_volume" 0 1 zeros >"$work/.out" 2>"$work/.err"
+    same 'the script of the maker passes on status and streams' '6|refused 15 space 8212 1|' "$?|$(cat "$work/.err")|$(cat "$work/.out")"
+    makes 8300 0 8212
+    same 'a sample on a longer file' '0||0' "$status|$err|$(tail -c +$((8212 * 4096 + 1)) made | tr -d '\0' | wc -c)"
+}
+
+# what reiserfsck says of a copy: its status, its verdict, and how many directories and other names it found
+checked() {
+    local said status
+    cp --sparse=always "$1" copied
+    said=$(reiserfsck --check -y copied 2>&1)
+    status=$?
+    printf '%s|%s|%s|%s' "$status" "$(printf '%s\n' "$said" | grep -c '^No corruptions found')" \
+        "$(printf '%s\n' "$said" | sed -n 's/.*Directories \([0-9]*\).*/\1/p')" "$(printf '%s\n' "$said" | sed -n 's/.*Other files \([0-9]*\).*/\1/p')"
+}
+
+# the samples of tests/samples.table
+samples() {
+    local number blocks items free root height units directories names sum name option
+    while read -r number blocks items free root height units directories names sum; do
+        [ "$number" = '#' ] && continue
+        name="of sample $number in $blocks blocks with $items items"
+        option=()
+        [ "$items" = old ] && option=(--old)
+        makes "$blocks" "${option[@]}" "$number" "$blocks"
+        same "making $name" "0|||$sum" "$status|$err|$out|$(sha256sum <made | cut -d ' ' -f 1)"
+        run inspect made
+        same "inspect $name" "0||$(
+            printf 'format reiserfs\nblocks %s\nfree %s\nroot %s\nheight %s\njournal 18 8192\n' "$blocks" "$free" "$root" "$height"
+            printf 'uuid %02x%02x0000-0000-0000-0000-000000000000\nlabel -\n' $((number % 256)) $((number / 256))
+            printf 'used %s\nunits %s' $((blocks - free)) "$units"
+        )" "$status|$err|$out"
+        same "the superblock $name" "$(expected_super made)" "$(head -8 "$work/.out")"
+        same "reiserfsck $name" "0|1|$directories|$names" "$(checked made)"
+    done <"$top/tests/samples.table"
+}
+
 # ---- all -------------------------------------------------------------------------------------------------------------
 
 if ! "$top/reiserconv" --version >/dev/null; then
     echo 'the program could not be built'
+    echo '0 passed, 1 failed'
+    exit 1
+fi
+if ! "$top/sample_volume" 0 1 /dev/null 2>/dev/null && [ ! -x "$maker" ]; then
+    echo 'the maker of sample volumes could not be built'
     echo '0 passed, 1 failed'
     exit 1
 fi
@@ -271,6 +352,8 @@ if need mkfs.reiserfs reiserfsprogs && need debugreiserfs reiserfsprogs; then
     linux_volumes
     damaged_trees
     loop_device
+    maker_statuses
+    samples
 else
     echo 'skipped: all checks on volumes, since reiserfsprogs is not to be had'
 fi

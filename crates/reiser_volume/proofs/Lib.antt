@@ -9,6 +9,7 @@ pub mod Extending
 pub mod Holding
 pub mod Leading
 pub mod Lists
+pub mod Numbering
 pub mod Placed
 pub mod Refusals
 pub mod Rowed

@@ -26,3 +26,6 @@ mod ways;
 pub use laws::{links_are_one, names_refusals_break_rules, refusals_break_rules};
 pub use names::check_all_names;
 pub use volume::Volume;
+
+#[cfg(test)]
+mod tests;

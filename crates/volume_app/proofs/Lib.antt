@@ -1,4 +1,2 @@
 pub mod Superblock
 pub mod Outcomes
-pub mod Checks
-pub mod Known

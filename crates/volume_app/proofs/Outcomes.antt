@@ -1,23 +1,19 @@
 -- What an ending that is right for a disk comes to.
-use Rattle.std.proofs.Common.{◌≡◌, ◌⊎◌, inl, inr, ℕ, ◌-◌, ◌^◌, ◌<◌, Bool, true, false, All, List, [], refl, sym, ◌∙◌, ap, subst, arith, Result, Ok, Err}
-use Rattle.std.specs.Prelude.{Option, Some, None, Contains}
-use Rattle.std.proofs.lemmas.List.Elements.{All-contains}
+use Rattle.std.proofs.Common.{◌≡◌, ◌⊎◌, inl, inr, ℕ, ◌-◌, ◌^◌, ◌<◌, List, refl, sym, ◌∙◌, ap, subst, arith, Result, Ok, Err}
+use Rattle.std.specs.Prelude.{Option, Some, None}
 use Rattle.vol_block.specs.declared.format.Format.TheVariants as formats
 use Rattle.outside.specs.Fault.{Rose, Takes}
 use Rattle.outside.specs.History.{Image}
 use Rattle.outside.specs.declared.fault.Fault as faults
 use Rattle.outside.specs.declared.answer.Answer.{Answer}
 use Rattle.outside.specs.declared.answer.Answer.TheVariants.{Volume, Btr, NoSpace, WrongFormat, ImageMissing, ImageMoved, ImageDamaged, ReservedUsed, Fault, Memory}
-use Rattle.outside.specs.declared.refusal.VolumeRefusal.{VolumeRefusal}
-use Rattle.outside.specs.declared.refusal.VolumeRefusal.TheVariants.{NotVolume, Unclean, Unsupported, Short, JournalPending, Damaged, HasAttributes, PendingLinks, NameTaken, NameTooLong, HashCrowd}
-use Rattle.reiser_bitmap.specs.Bits.{has}
-use Rattle.reiser_super.proofs.Clean.{none_from_clean}
-use Rattle.reiser_walk.proofs.Rules.{sound_exactly}
 use Rattle.volume_app.specs.declared.ending.Ending.{Ending}
 use Rattle.volume_app.specs.declared.ending.Ending.TheVariants.{Done, Usage, Failed, OutputFault}
 use Rattle.volume_app.specs.Command.{Asked, inspect, help, version}
 use Rattle.volume_app.specs.Ending.{status}
-use Rattle.volume_app.specs.Inspect.{format_in, super_in, bits_by, tree_by, IsAccepted, IsRefusal, IsPendingRefusal}
+use Rattle.reiser_volume.specs.Volume.{IsAccepted}
+use Rattle.reiser_volume.proofs.Refusals.{not_refused}
+use Rattle.volume_app.specs.Inspect.{format_in}
 use Rattle.volume_app.specs.Outcome.{IsDone, InspectRefuses, EndsRight, Prints, HasFaults, ending_of}
 
 -- a text that was written is that of the ending
@@ -25,50 +21,12 @@ pub prints_text : (text old new : List ℕ) (written : Result (Unit {0}) faults.
 prints_text text old new (Ok done) takes = takes
 prints_text text old new (Err fault) takes = takes
 
-in_none : (t : ℕ) → Contains [] t → ⊥
-in_none t is = omega (arith, is.1)
-
-no_transaction : (pending : List ℕ) (refusal : VolumeRefusal) → pending ≡ [] → IsPendingRefusal pending refusal → ⊥
-no_transaction pending (JournalPending trans) none is = in_none trans (subst (λ (ts : List ℕ). Contains ts trans) none is)
-no_transaction pending NotVolume none is = is
-no_transaction pending (Unclean state) none is = is
-no_transaction pending (Unsupported feature value) none is = is
-no_transaction pending (Short volume device) none is = is
-no_transaction pending (Damaged block rule) none is = is
-no_transaction pending (HasAttributes dir object) none is = is
-no_transaction pending (PendingLinks object) none is = is
-no_transaction pending (NameTaken dir object) none is = is
-no_transaction pending (NameTooLong dir object length) none is = is
-no_transaction pending (HashCrowd dir object hash) none is = is
-
-has_none : (used : List Bool) (blocks : List ℕ) (b : ℕ) → All (λ c. has used c ≡ true) blocks → Contains blocks b → has used b ≡ false → ⊥
-has_none used blocks b all there free =
-    let both : true ≡ false = sym (All-contains (λ c. has used c ≡ true) blocks b all there) ∙ free in
-    let never : Unit {0} ≡ ⊥ = cc in
-    subst (λ (T : Type 0). T) never tt
-
-no_damage : (damages : List VolumeRefusal) (refusal : VolumeRefusal) → damages ≡ [] → Contains damages refusal → ⊥
-no_damage damages refusal none is =
-    let here : Contains [] refusal = subst (λ (ds : List VolumeRefusal). Contains ds refusal) none is in
-    omega (arith, here.1)
-
--- an accepted volume is not refused
-pub not_refused : (disk : Image) (refusal : VolumeRefusal) → IsAccepted disk → IsRefusal disk refusal → ⊥
-not_refused disk refusal accepted (inl is) =
-    let none = none_from_clean _ _ accepted.clean.superblock in
-    let both : None ≡ Some refusal = sym none ∙ is in
-    cc
-not_refused disk refusal accepted (inr (inl is)) = no_transaction _ refusal accepted.clean.journal is.1
-not_refused disk refusal accepted (inr (inr (inl is))) = has_none _ _ is.1.0 accepted.system is.1.2 is.1.3
-not_refused disk refusal accepted (inr (inr (inr is))) =
-    no_damage _ refusal ((sound_exactly (tree_by (super_in disk)) disk (bits_by (super_in disk) disk)).1 accepted.tree) is.2
-
 not_risen : (before now : ℕ) → now ≡ before → before < 2 ^ 64 - 1 → Rose before now → ⊥
 not_risen before now same low rose = omega (arith, same, low, rose)
 
 inspect_done : (disk : Image) (answer : Answer) (disk_old disk_new : ℕ) → format_in disk ≡ formats.Reiser → IsAccepted disk → InspectRefuses disk answer
     → (answer ≡ Fault → Rose disk_old disk_new) → disk_new ≡ disk_old → disk_old < 2 ^ 64 - 1 → (status (Failed answer) ≡ 0) ⊎ (status (Failed answer) ≡ 4)
-inspect_done disk (Volume refusal) disk_old disk_new reiser accepted refuses device same low = absurd (not_refused disk refusal accepted refuses.1)
+inspect_done disk (Volume refusal) disk_old disk_new reiser accepted refuses device same low = absurd (not_refused disk refusal refuses.1 accepted)
 inspect_done disk WrongFormat disk_old disk_new reiser accepted refuses device same low =
     let both : formats.Reiser ≡ formats.Btrfs = sym reiser ∙ refuses in
     cc

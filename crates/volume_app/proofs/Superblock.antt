@@ -1,18 +1,20 @@
--- The superblock of a disk, by block 16 and the disk's length.
+-- The format of a disk, by block 16 and the disk's length, and what it comes to.
 use Rattle.std.proofs.Common.{◌≡◌, ℕ, ◌<◌, ◌≤◌, ◌&&◌, Bool, true, false, cond, List, length, refl, sym, ◌∙◌, ap, subst, arith}
-use Rattle.std.specs.Prelude.{◌≢◌, nat_le, nat_lt, Option, Some}
+use Rattle.std.specs.Prelude.{◌≢◌, nat_le, Option, Some, Result, Ok, Err, IfOk}
 use Rattle.std.proofs.lemmas.Bool.Decides.{nat_tests}
 use Rattle.vol_block.specs.declared.format.Format.{Format}
 use Rattle.vol_block.specs.declared.format.Format.TheVariants as formats
 use Rattle.vol_block.specs.Format.{format, has_reiser_magic}
 use Rattle.outside.specs.History.{Image, block_at}
-use Rattle.outside.specs.declared.answer.Answer.TheVariants.{Volume}
-use Rattle.outside.specs.declared.refusal.VolumeRefusal.{VolumeRefusal}
-use Rattle.outside.specs.declared.refusal.VolumeRefusal.TheVariants.{NotVolume}
-use Rattle.reiser_super.specs.declared.superblock.Super.{Super}
-use Rattle.reiser_super.specs.Superblock.{super_of}
-use Rattle.reiser_super.specs.Rules.{IsCleanSuper, superblock_refusal}
-use Rattle.volume_app.specs.Inspect.{format_in, IsSuperOf, SuperRefuses}
+use Rattle.outside.specs.declared.answer.Answer.{Answer}
+use Rattle.outside.specs.declared.answer.Answer.TheVariants as answers
+use Rattle.outside.specs.declared.answer.Answer.TheVariants.{Volume, Btr, NoSpace, WrongFormat, ImageMissing, ImageMoved, ImageDamaged, ReservedUsed}
+use Rattle.outside.specs.declared.answer.VolAnswer.{VolAnswer}
+use Rattle.outside.specs.declared.answer.VolAnswer.TheVariants.{Refused, Fault, Memory}
+use Rattle.reiser_volume.specs.Answers.{IsVolumeAnswer, RefusesVolume}
+use Rattle.reiser_volume.specs.Volume.{IsAccepted}
+use Rattle.volume_app.specs.Inspect.{format_in, of_volume}
+use Rattle.volume_app.specs.Outcome.{InspectRefuses, IsInspectAnswer, IsWrongFormat}
 
 format_cases : (btrfs reiser : Bool) → cond btrfs formats.Btrfs (cond reiser formats.Reiser formats.Neither) ≢ formats.Btrfs → reiser ≡ true
     → cond btrfs formats.Btrfs (cond reiser formats.Reiser formats.Neither) ≡ formats.Reiser
@@ -37,29 +39,35 @@ format_short disk short is =
     let none : format_in disk ≡ formats.Neither = ap (λ (b : Bool). cond b formats.Neither (format (block_at disk 16))) yes in
     cc
 
-no_block : (b magic : Bool) (o : Option VolumeRefusal) → b ≡ false → cond (b && magic) o (Some NotVolume) ≡ Some NotVolume
-no_block false magic o is = refl
-no_block true magic o is = cc
+-- an accepted volume that is not one of Btrfs has the format of ReiserFS
+pub reiser_found : (disk : Image) → IsAccepted disk → format_in disk ≢ formats.Btrfs → format_in disk ≡ formats.Reiser
+reiser_found disk accepted other =
+    let long = format_long disk accepted.clean.superblock.there in
+    long ∙ format_cases _ (has_reiser_magic (block_at disk 16)) (λ is. other (long ∙ is)) accepted.clean.superblock.magic
 
-pub refused_short : (bytes : List ℕ) (device : ℕ) → device ≤ 16 → superblock_refusal bytes device ≡ Some NotVolume
-refused_short bytes device short =
-    let no : nat_lt 16 device ≡ false = grind (arith, nat_tests) in
-    no_block (nat_lt 16 device) (has_reiser_magic bytes) _ no
+-- what is refused of a volume
+pub volume_refused : (disk : Image) (answer : VolAnswer) → format_in disk ≢ formats.Btrfs → RefusesVolume disk answer → InspectRefuses disk (of_volume answer)
+volume_refused disk (Refused refusal) other refuses = (other, refuses)
+volume_refused disk Fault other refuses = tt
+volume_refused disk Memory other refuses = tt
 
-pub super_found : (disk : Image) (bytes : List ℕ) (device : ℕ) (s : Super) → 16 < device → format bytes ≢ formats.Btrfs → s ≡ super_of bytes → IsCleanSuper bytes device
-    → block_at disk 16 ≡ bytes → length disk ≡ device → IsSuperOf disk s
-super_found disk bytes device s long other fields clean same size =
-    let magic : format bytes ≡ formats.Reiser = format_cases _ (has_reiser_magic bytes) other clean.magic in
-    record {
-      reiser = format_long disk (omega (arith, size, long)) ∙ ap format same ∙ magic;
-      fields = fields ∙ ap super_of (sym same);
-      clean = subst (λ (b : List ℕ). IsCleanSuper b (length disk)) (sym same) (subst (λ (n : ℕ). IsCleanSuper bytes n) (sym size) clean);
-    }
+pub volume_known : (answer : VolAnswer) → IsVolumeAnswer answer → IsInspectAnswer (of_volume answer)
+volume_known (Refused refusal) known = known
+volume_known Fault known = tt
+volume_known Memory known = tt
 
-pub super_refused : (disk : Image) (bytes : List ℕ) (device : ℕ) (refusal : VolumeRefusal) → 16 < device → format bytes ≢ formats.Btrfs → Some refusal ≡ superblock_refusal bytes device
-    → block_at disk 16 ≡ bytes → length disk ≡ device → SuperRefuses disk (Volume refusal)
-super_refused disk bytes device refusal long other is same size = (
-  λ btrfs. other (ap format (sym same) ∙ sym (format_long disk (omega (arith, size, long))) ∙ btrfs),
-  subst (λ (b : List ℕ). superblock_refusal b (length disk) ≡ Some refusal) (sym same)
-      (subst (λ (n : ℕ). superblock_refusal bytes n ≡ Some refusal) (sym size) (sym is)),
-)
+pub wrong_refused : (disk : Image) (answer : Answer) → IsWrongFormat disk answer → InspectRefuses disk answer
+wrong_refused disk (Volume refusal) wrong = absurd wrong
+wrong_refused disk WrongFormat wrong = wrong
+wrong_refused disk answers.Fault wrong = tt
+wrong_refused disk answers.Memory wrong = tt
+wrong_refused disk (Btr refusal) wrong = wrong
+wrong_refused disk (NoSpace needed free run_needed longest_run) wrong = wrong
+wrong_refused disk ImageMissing wrong = wrong
+wrong_refused disk (ImageMoved block) wrong = wrong
+wrong_refused disk (ImageDamaged refusal) wrong = wrong
+wrong_refused disk (ReservedUsed block) wrong = wrong
+
+pub if_ok_from : {T E : Type 0} (result : Result T E) (P Q : Type 0) → (P → Q) → IfOk result (λ _. P) → IfOk result (λ _. Q)
+if_ok_from (Ok v) P Q turn is = turn is
+if_ok_from (Err e) P Q turn is = is

@@ -1,5 +1,6 @@
 -- What the words of a command line ask for.
-use Rattle.std.specs.Prelude.{ℕ, Bool, false, not, List, [], ◌∷◌, codes, nat_eq, bytes_eq, Option, Some, None, if◌then◌else◌}
+use Rattle.std.specs.Prelude.{ℕ, List, [], ◌∷◌, codes, bytes_eq, Option, Some, None, if◌then◌else◌}
+use Rattle.app_words.specs.Words.{is_path}
 use Rattle.outside.specs.declared.disk.Access.{Access}
 use Rattle.outside.specs.declared.disk.Access.TheVariants.{Read}
 use Rattle.volume_app.specs.declared.command.Command.{Command}
@@ -15,11 +16,6 @@ abbrev pub opens : Asked → Option (List ℕ × Access)
 opens (inspect path) = Some (path, Read)
 opens help = None
 opens version = None
-
--- nonempty, and not beginning with a dash
-abbrev pub is_path : List ℕ → Bool
-is_path [] = false
-is_path (c ∷ cs) = not (nat_eq c 45)
 
 -- a word that stands alone
 abbrev pub alone : List ℕ → Option Asked

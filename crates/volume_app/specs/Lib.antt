@@ -2,5 +2,4 @@ pub mod Command
 pub mod Ending
 pub mod Inspect
 pub mod Outcome
-pub mod Refusal
 pub mod Texts

@@ -4,17 +4,15 @@ use Rattle.vol_block.specs.declared.format.Format.TheVariants as formats
 use Rattle.outside.specs.Fault.{Rose}
 use Rattle.outside.specs.History.{Image}
 use Rattle.outside.specs.declared.fault.Fault as faults
-use Rattle.outside.specs.declared.rule.Rule.TheVariants.{SuperField, SystemFree}
-use Rattle.outside.specs.declared.refusal.VolumeRefusal.{VolumeRefusal}
-use Rattle.outside.specs.declared.refusal.VolumeRefusal.TheVariants.{NotVolume, Unclean, Unsupported, Short, JournalPending, Damaged, HasAttributes, PendingLinks, NameTaken, NameTooLong, HashCrowd}
 use Rattle.outside.specs.declared.answer.Answer.{Answer}
 use Rattle.outside.specs.declared.answer.Answer.TheVariants.{Volume, Btr, NoSpace, WrongFormat, ImageMissing, ImageMoved, ImageDamaged, ReservedUsed, Fault, Memory}
-use Rattle.reiser_walk.specs.Answers.{IsTreeRule}
 use Rattle.volume_app.specs.declared.ending.Ending.{Ending}
 use Rattle.volume_app.specs.declared.ending.Ending.TheVariants.{Done, Usage, Failed, OutputFault}
 use Rattle.volume_app.specs.Command.{Asked, inspect, help, version}
 use Rattle.volume_app.specs.Ending.{status, error_line}
-use Rattle.volume_app.specs.Inspect.{format_in, IsAccepted, IsRefusal, inspect_text}
+use Rattle.reiser_volume.specs.Answers.{NamesVolumeRule}
+use Rattle.reiser_volume.specs.Volume.{IsAccepted, IsRefusal}
+use Rattle.volume_app.specs.Inspect.{format_in, inspect_text}
 use Rattle.volume_app.specs.Texts.{help_text, version_text}
 
 -- a command is done on these disks
@@ -51,23 +49,22 @@ InspectRefuses disk (ImageMoved block) = ⊥
 InspectRefuses disk (ImageDamaged refusal) = ⊥
 InspectRefuses disk (ReservedUsed block) = ⊥
 
--- The refusals of a volume that `inspect` knows, whatever the disk gives: those of the superblock, the journal, the bitmap
--- and the tree.
-abbrev pub IsInspectRefusal : VolumeRefusal → Type 0
-IsInspectRefusal NotVolume = Unit {0}
-IsInspectRefusal (Unclean state) = Unit {0}
-IsInspectRefusal (Unsupported feature value) = Unit {0}
-IsInspectRefusal (Short volume device) = Unit {0}
-IsInspectRefusal (JournalPending trans) = Unit {0}
-IsInspectRefusal (Damaged block rule) = (rule ≡ SuperField) ⊎ (rule ≡ SystemFree) ⊎ IsTreeRule rule
-IsInspectRefusal (HasAttributes dir object) = ⊥
-IsInspectRefusal (PendingLinks object) = ⊥
-IsInspectRefusal (NameTaken dir object) = ⊥
-IsInspectRefusal (NameTooLong dir object length) = ⊥
-IsInspectRefusal (HashCrowd dir object hash) = ⊥
+-- the disk holds a Btrfs volume, or the device failed
+abbrev pub IsWrongFormat : Image → Answer → Type 0
+IsWrongFormat disk (Volume refusal) = ⊥
+IsWrongFormat disk WrongFormat = format_in disk ≡ formats.Btrfs
+IsWrongFormat disk Fault = Unit {0}
+IsWrongFormat disk Memory = ⊥
+IsWrongFormat disk (Btr refusal) = ⊥
+IsWrongFormat disk (NoSpace needed free run_needed longest_run) = ⊥
+IsWrongFormat disk ImageMissing = ⊥
+IsWrongFormat disk (ImageMoved block) = ⊥
+IsWrongFormat disk (ImageDamaged refusal) = ⊥
+IsWrongFormat disk (ReservedUsed block) = ⊥
 
+-- The answers that `inspect` knows, whatever the disk gives: its refusals are those of volumes.
 abbrev pub IsInspectAnswer : Answer → Type 0
-IsInspectAnswer (Volume refusal) = IsInspectRefusal refusal
+IsInspectAnswer (Volume refusal) = NamesVolumeRule refusal
 IsInspectAnswer WrongFormat = Unit {0}
 IsInspectAnswer Fault = Unit {0}
 IsInspectAnswer Memory = Unit {0}

@@ -1,11 +1,6 @@
 -- The fixed texts.
 use Rattle.std.specs.Prelude.{ℕ, List, [], ◌∷◌, ◌++◌, codes}
-
--- A line is a first word and further words, each of these after a space, with a line feed at the end. Here with the
--- text that comes after it.
-abbrev pub words_then : List (List ℕ) → List ℕ → List ℕ
-words_then [] rest = 10 ∷ rest
-words_then (word ∷ words) rest = 32 ∷ (word ++ words_then words rest)
+use Rattle.app_words.specs.Lines.{words_then}
 
 -- the text of lines, each its first word with the further ones
 abbrev pub text_of_lines : List (List ℕ × List (List ℕ)) → List ℕ

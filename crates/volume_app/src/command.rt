@@ -1,5 +1,7 @@
 ghost use Rattle.std.specs.Prelude.{◌≡◌, map, option_map, string_bytes};
-ghost use Rattle.volume_app.specs.Command.{command, alone, named, seen, is_path};
+ghost use Rattle.volume_app.specs.Command.{command, alone, named, seen};
+
+use app_words::is_path;
 
 /// What the words of a command line ask for.
 #[derive(Clone, Copy, Debug)]
@@ -40,14 +42,5 @@ fn named<'a>(name: &str, path: &'a str) -> Option<Command<'a>>
     match name {
         "inspect" => Some(Command::Inspect(path)),
         _ => None,
-    }
-}
-
-fn is_path(word: &str) -> bool
-    ensures { result ≡ is_path word.now }
-{
-    match word.as_bytes() {
-        [first, ..] => *first != b'-',
-        [] => false,
     }
 }

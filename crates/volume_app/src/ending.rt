@@ -1,9 +1,9 @@
 ghost use Rattle.std.specs.Prelude.{◌≡◌, IsTrue};
 ghost use Rattle.outside.specs.Fault.{HasCause, Takes};
-ghost use Rattle.volume_app.specs.Ending.{status, error_line, answer_status};
+ghost use Rattle.volume_app.specs.Ending.{status, error_line};
 
-use crate::refusal_line::write_answer;
 use crate::texts::USAGE;
+use app_words::{answer_status, write_answer};
 use outside::{Answer, Fault, Sink};
 
 /// How a run ended.
@@ -43,16 +43,5 @@ impl Ending {
             Ending::Failed(answer) => write_answer(answer, err),
             Ending::OutputFault => err.write(b"output fault\n"),
         }
-    }
-}
-
-fn answer_status(answer: &Answer) -> u8
-    ensures { result ≡ answer_status answer.now }
-{
-    match answer {
-        Answer::Fault => 3,
-        Answer::Memory => 4,
-        Answer::NoSpace { .. } => 6,
-        _ => 1,
     }
 }

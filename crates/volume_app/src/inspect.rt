@@ -1,18 +1,18 @@
-ghost use Rattle.std.specs.Prelude.{◌≡◌, ◌<◌, ◌≤◌, [], length, None, IfOk, IfErr, OnOk, IsTrue};
+ghost use Rattle.std.specs.Prelude.{◌≡◌, ◌≢◌, [], None, IfOk, IfErr, OnOk, IsTrue};
 ghost use Rattle.outside.specs.Fault.{HasCause, HasCauseOf, Takes};
-ghost use Rattle.outside.specs.History.{Image, block_at, reads};
-ghost use Rattle.reiser_super.specs.Rules.{IsInBounds};
-ghost use Rattle.reiser_walk.specs.Rules.{tree_damages};
+ghost use Rattle.outside.specs.History.{Image, reads};
+ghost use Rattle.reiser_volume.specs.Volume.{IsAccepted};
+ghost use Rattle.std.specs.Result.{MatchResult};
+ghost use Rattle.vol_block.specs.Format.{format};
 ghost use Rattle.vol_block.specs.declared.format.Format.TheVariants as formats;
-ghost use Rattle.volume_app.specs.Inspect.{format_in, bits_by, tree_by, inspected, inspected_by, inspected_with, inspect_lines, label_of, label_text, IsAccepted, IsSuperOf, SuperRefuses, HasSystemBlocks, BitmapRefuses, TreeRefuses, IsNoFault, of_volume};
+ghost use Rattle.volume_app.specs.Inspect.{format_in, inspected, inspected_with, inspect_lines, label_of, label_text, of_volume};
 ghost use Rattle.sink_text.specs.Text.{piece_text};
 ghost use Rattle.volume_app.specs.Texts.{text_of_lines};
-ghost use Rattle.volume_app.specs.Outcome.{InspectRefuses, IsInspectAnswer};
+ghost use Rattle.volume_app.specs.Outcome.{InspectRefuses, IsWrongFormat, IsInspectAnswer};
 
-use crate::tree::walk_tree;
-use outside::{Access, Answer, BlockSource, Disk, Fault, Sink, VolAnswer, VolumeRefusal};
-use reiser_bitmap::Bitmap;
-use reiser_super::{Super, journal_state};
+use outside::{Access, Answer, BlockSource, Disk, Fault, Sink, VolAnswer};
+use reiser_super::Super;
+use reiser_volume::Volume;
 use sink_text::Piece::{Decimal, Escaped, Hyphenated, Plain};
 use sink_text::{Piece, write_pieces};
 use std::alloc::Global;
@@ -45,13 +45,13 @@ pub fn inspect<D: Disk>(alloc: Global, path: &str, disk: &mut D) -> Result<Inspe
     ensures known { IfErr result IsInspectAnswer }
 {
     match disk.open(path, Access::Read) {
-        Ok(()) => check_volume(alloc, disk),
+        Ok(()) => check_disk(alloc, disk),
         Err(Fault) => Err(Answer::Fault),
     }
 }
 
-/// Checks the volume.
-fn check_volume<S: BlockSource>(alloc: Global, source: &mut S) -> Result<Inspected, Answer>
+/// Checks the volume, if the disk does not hold one of Btrfs.
+fn check_disk<S: BlockSource>(alloc: Global, source: &mut S) -> Result<Inspected, Answer>
     ensures kept { S.kept source.old source.new }
     ensures cause { HasCauseOf Answer.Fault (S.faults source.old) (S.faults source.new) result }
     ensures reiser { IsTrue S.tells → IfOk result (λ s. format_in (S.blocks source.old) ≡ formats.Reiser) }
@@ -60,66 +60,36 @@ fn check_volume<S: BlockSource>(alloc: Global, source: &mut S) -> Result<Inspect
     ensures refused { IsTrue S.tells → IfErr result (InspectRefuses (S.blocks source.old)) }
     ensures known { IfErr result IsInspectAnswer }
 {
-    let volume = match read_super(source) {
-        Ok(volume) => volume,
-        Err(answer) => return Err(answer),
-    };
-    match journal_state(source, &volume) {
-        Ok(()) => check_bitmap(alloc, source, volume),
+    match check_format(source) {
+        Ok(()) => check_volume(alloc, source),
+        Err(answer) => Err(answer),
+    }
+}
+
+/// Checks the volume.
+fn check_volume<S: BlockSource>(alloc: Global, source: &mut S) -> Result<Inspected, Answer>
+    ensures kept { S.kept source.old source.new }
+    ensures cause { HasCauseOf Answer.Fault (S.faults source.old) (S.faults source.new) result }
+    ensures accepted { IsTrue S.tells → (image : Image) → S.blocks source.old ≡ image → IfOk result (λ s. IsAccepted image) }
+    ensures found { IsTrue S.tells → (image : Image) → S.blocks source.old ≡ image → IfOk result (λ i. i ≡ inspected image) }
+    ensures refused { IsTrue S.tells → (image : Image) → S.blocks source.old ≡ image → format_in image ≢ formats.Btrfs → IfErr result (InspectRefuses image) }
+    ensures known { IfErr result IsInspectAnswer }
+{
+    match Volume::open(alloc, source) {
+        Ok(volume) => Ok(found_in(&volume)),
         Err(answer) => Err(of_volume(answer)),
     }
 }
 
-/// Loads the bitmap, checks that it marks the volume's own blocks, and checks the tree.
-fn check_bitmap<S: BlockSource>(
-    alloc: Global,
-    source: &mut S,
-    superblock: Super,
-) -> Result<Inspected, Answer>
-    requires inside { IsInBounds superblock }
-    requires device { superblock.blocks ≤ S.size source.old }
-    ensures kept { S.kept source.old source.new }
-    ensures cause { HasCauseOf Answer.Fault (S.faults source.old) (S.faults source.new) result }
-    ensures used { IsTrue S.tells → (image : Image) → S.blocks source.old ≡ image → OnOk result (HasSystemBlocks superblock image) }
-    ensures sound { IsTrue S.tells → (image : Image) → S.blocks source.old ≡ image → OnOk result (tree_damages (tree_by superblock) image (bits_by superblock image) ≡ []) }
-    ensures found { IsTrue S.tells → (image : Image) → S.blocks source.old ≡ image → IfOk result (λ i. i ≡ inspected_by superblock image) }
-    ensures refused { IsTrue S.tells → (image : Image) → S.blocks source.old ≡ image → IfErr result (BitmapRefuses superblock image) }
-    ensures known { IfErr result IsInspectAnswer }
+/// What is printed of a volume.
+fn found_in(volume: &Volume) -> Inspected
+    ensures { result ≡ inspected_with volume.now.sup volume.now.bitmap }
 {
-    let map = match Bitmap::load(alloc, source, superblock.blocks) {
-        Ok(map) => map,
-        Err(answer) => return Err(of_volume(answer)),
-    };
-    match map.system_used(superblock.journal_first, superblock.journal_size) {
-        Ok(()) => check_tree(alloc, source, superblock, &map),
-        Err(refusal) => Err(Answer::Volume(refusal)),
-    }
-}
-
-/// Checks the tree of a volume with this bitmap.
-fn check_tree<S: BlockSource>(
-    alloc: Global,
-    source: &mut S,
-    superblock: Super,
-    map: &Bitmap,
-) -> Result<Inspected, Answer>
-    requires inside { IsInBounds superblock }
-    requires size { length map.now ≡ superblock.blocks }
-    requires device { superblock.blocks ≤ S.size source.old }
-    ensures kept { S.kept source.old source.new }
-    ensures cause { HasCauseOf Answer.Fault (S.faults source.old) (S.faults source.new) result }
-    ensures sound { IsTrue S.tells → (image : Image) → S.blocks source.old ≡ image → OnOk result (tree_damages (tree_by superblock) image map.now ≡ []) }
-    ensures found { IfOk result (λ i. i ≡ inspected_with superblock map.now) }
-    ensures refused { IsTrue S.tells → (image : Image) → S.blocks source.old ≡ image → IfErr result (TreeRefuses (tree_by superblock) image map.now) }
-    ensures known { IfErr result IsInspectAnswer }
-{
-    match walk_tree(alloc, source, &superblock, map) {
-        Ok(()) => Ok(Inspected {
-            superblock,
-            used: map.used(),
-            units: map.free_units(),
-        }),
-        Err(answer) => Err(of_volume(answer)),
+    let map = volume.bitmap();
+    Inspected {
+        superblock: *volume.sup(),
+        used: map.used(),
+        units: map.free_units(),
     }
 }
 
@@ -134,43 +104,31 @@ fn of_volume(answer: VolAnswer) -> Answer
     }
 }
 
-/// Reads the superblock.
-fn read_super<S: BlockSource>(source: &mut S) -> Result<Super, Answer>
+/// Whether the disk does not hold a Btrfs volume.
+fn check_format<S: BlockSource>(source: &mut S) -> Result<(), Answer>
     ensures kept { S.kept source.old source.new }
     ensures cause { HasCauseOf Answer.Fault (S.faults source.old) (S.faults source.new) result }
-    ensures inside { IfOk result IsInBounds }
-    ensures device { IfOk result (λ s. s.blocks ≤ S.size source.old) }
-    ensures found { IsTrue S.tells → IfOk result (IsSuperOf (S.blocks source.old)) }
-    ensures refused { IsTrue S.tells → IfErr result (SuperRefuses (S.blocks source.old)) }
+    ensures other { IsTrue S.tells → OnOk result (format_in (S.blocks source.old) ≢ formats.Btrfs) }
+    ensures refused { IsTrue S.tells → IfErr result (IsWrongFormat (S.blocks source.old)) }
     ensures known { IfErr result IsInspectAnswer }
 {
-    let device = source.len();
-    if device <= SUPERBLOCK {
-        return Err(Answer::Volume(VolumeRefusal::NotVolume));
+    if source.len() <= SUPERBLOCK {
+        return Ok(());
     }
     let mut block = Block::zero();
     match source.read(SUPERBLOCK, &mut block) {
-        Ok(()) => read_fields(&block, device),
+        Ok(()) => check_magic(&block),
         Err(Fault) => Err(Answer::Fault),
     }
 }
 
-/// Reads the fields of block 16 of a device of so many blocks.
-fn read_fields(block: &Block, device: u64) -> Result<Super, Answer>
-    requires { SUPERBLOCK < device }
-    ensures inside { IfOk result IsInBounds }
-    ensures device { IfOk result (λ s. s.blocks ≤ device) }
-    ensures found { (image : Image) → block_at image 16 ≡ block.now.bytes → length image ≡ device → IfOk result (IsSuperOf image) }
-    ensures refused { (image : Image) → block_at image 16 ≡ block.now.bytes → length image ≡ device → IfErr result (SuperRefuses image) }
-    ensures no_fault { IfErr result IsNoFault }
-    ensures known { IfErr result IsInspectAnswer }
+/// The same by block 16.
+fn check_magic(block: &Block) -> Result<(), Answer>
+    ensures { MatchResult result (λ _. format block.now.bytes ≢ formats.Btrfs) (λ e. (e ≡ Answer.WrongFormat) × (format block.now.bytes ≡ formats.Btrfs)) }
 {
     match format_of(block) {
         Format::Btrfs => Err(Answer::WrongFormat),
-        _ => match Super::read(block, device) {
-            Ok(volume) => Ok(volume),
-            Err(refusal) => Err(Answer::Volume(refusal)),
-        },
+        Format::Reiser | Format::Neither => Ok(()),
     }
 }
 

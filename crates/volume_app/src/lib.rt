@@ -7,12 +7,10 @@
 mod command;
 mod ending;
 mod inspect;
-mod refusal_line;
 #[cfg(test)]
 mod tests;
 mod texts;
 mod top;
-mod tree;
 
 pub use command::{Command, read_words};
 pub use ending::Ending;

@@ -244,8 +244,22 @@ fn the_tree_is_walked(rt: HostRuntime) -> Result<(), Fail> {
 }
 
 #[test]
+fn objects_and_names_are_checked(rt: HostRuntime) -> Result<(), Fail> {
+    for (at, bytes, line) in [
+        // the root is a file; an entry that counts names no object; the root is named, by a dot
+        (4053, 0x81, "refused 6 damaged 51 11\n"),
+        (4020, 3, "refused 6 damaged 51 11\n"),
+        (4004, 3, "refused 6 damaged 51 10\n"),
+    ] {
+        let mut disk = changed(rt.alloc(), 51, at, &[bytes])?;
+        refused(&rt, &mut disk, line)?;
+    }
+    Ok(())
+}
+
+#[test]
 fn failed_calls_end_the_run(rt: HostRuntime) -> Result<(), Fail> {
-    for call in 0..5 {
+    for call in 0..7 {
         let mut disk = sample(rt.alloc(), 2048)?;
         disk.fail_call(call)?;
         ends(&rt, &["inspect", "x"], &mut disk, 3, "", "device fault\n")?;

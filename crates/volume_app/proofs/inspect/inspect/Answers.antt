@@ -1,7 +1,8 @@
 use Rattle.std.proofs.Common.{◌≡◌, ◌∙◌, ap, subst, IfOk, IfErr}
 use Rattle.vol_block.specs.declared.format.Format.TheVariants as formats
 use Rattle.outside.specs.History.{Image, History, reads}
-use Rattle.volume_app.specs.Inspect.{format_in, inspected, IsAccepted}
+use Rattle.reiser_volume.specs.Volume.{IsAccepted}
+use Rattle.volume_app.specs.Inspect.{format_in, inspected}
 use Rattle.volume_app.specs.Outcome.{InspectRefuses}
 use Rattle.volume_app.proofs.inspect.inspect.Goals as goal
 
@@ -9,22 +10,22 @@ pub returns-in-Ok-clause-reiser : goal.returns-in-Ok-clause-reiser
 returns-in-Ok-clause-reiser g c = λ tells.
     let same : g.D.BlockSource.blocks c.open.new.self ≡ reads (g.D.Disk.history c.args.disk.now) =
     g.met.D.Disk.open_blocks c.open.new.self _ tells c.in-Ok.ensures.opened ∙ ap (λ (h : History). reads h) (c.open.ensures.unchanged tells) in
-    subst (λ (image : Image). IfOk c.check_volume.result (λ s. format_in image ≡ formats.Reiser)) same (c.check_volume.ensures.reiser tells)
+    subst (λ (image : Image). IfOk c.check_disk.result (λ s. format_in image ≡ formats.Reiser)) same (c.check_disk.ensures.reiser tells)
 
 pub returns-in-Ok-clause-accepted : goal.returns-in-Ok-clause-accepted
 returns-in-Ok-clause-accepted g c = λ tells.
     let same : g.D.BlockSource.blocks c.open.new.self ≡ reads (g.D.Disk.history c.args.disk.now) =
     g.met.D.Disk.open_blocks c.open.new.self _ tells c.in-Ok.ensures.opened ∙ ap (λ (h : History). reads h) (c.open.ensures.unchanged tells) in
-    subst (λ (image : Image). IfOk c.check_volume.result (λ s. IsAccepted image)) same (c.check_volume.ensures.accepted tells)
+    subst (λ (image : Image). IfOk c.check_disk.result (λ s. IsAccepted image)) same (c.check_disk.ensures.accepted tells)
 
 pub returns-in-Ok-clause-found : goal.returns-in-Ok-clause-found
 returns-in-Ok-clause-found g c = λ tells.
     let same : g.D.BlockSource.blocks c.open.new.self ≡ reads (g.D.Disk.history c.args.disk.now) =
     g.met.D.Disk.open_blocks c.open.new.self _ tells c.in-Ok.ensures.opened ∙ ap (λ (h : History). reads h) (c.open.ensures.unchanged tells) in
-    subst (λ (image : Image). IfOk c.check_volume.result (λ i. i ≡ inspected image)) same (c.check_volume.ensures.found tells)
+    subst (λ (image : Image). IfOk c.check_disk.result (λ i. i ≡ inspected image)) same (c.check_disk.ensures.found tells)
 
 pub returns-in-Ok-clause-refused : goal.returns-in-Ok-clause-refused
 returns-in-Ok-clause-refused g c = λ tells.
     let same : g.D.BlockSource.blocks c.open.new.self ≡ reads (g.D.Disk.history c.args.disk.now) =
     g.met.D.Disk.open_blocks c.open.new.self _ tells c.in-Ok.ensures.opened ∙ ap (λ (h : History). reads h) (c.open.ensures.unchanged tells) in
-    subst (λ (image : Image). IfErr c.check_volume.result (InspectRefuses image)) same (c.check_volume.ensures.refused tells)
+    subst (λ (image : Image). IfErr c.check_disk.result (InspectRefuses image)) same (c.check_disk.ensures.refused tells)

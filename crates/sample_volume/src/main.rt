@@ -1,0 +1,32 @@
+//! The program `sample_volume`: it makes the disk and the sink, calls `run` of `sample_app`, and ends with its status.
+#![tactic(auto)]
+
+use host_edge::{FileDisk, StdSink};
+use outside::Sink;
+use sample_app::run;
+use std::env::Env;
+use std::process::ExitCode;
+use std::{env, io};
+
+/// The status where the arguments could not be read.
+const START_FAULT: u8 = 7;
+
+fn main(rt: HostRuntime) -> ExitCode {
+    let mut err = StdSink::new(rt.stderr());
+    let Ok(words) = words(&rt) else {
+        let _ = err.write(b"start fault\n");
+        return ExitCode::from(START_FAULT);
+    };
+    let mut disk = FileDisk::new(&rt);
+    let status = run(rt.alloc(), &words, &mut disk, &mut err);
+    ExitCode::from(status)
+}
+
+/// The words of the command line, without the program's name.
+fn words<R: Env + AllocGlobal>(rt: &R) -> io::Result<Vec<String>> {
+    let mut words = Vec::new(rt.alloc());
+    for word in env::args(rt)?.skip(1) {
+        words.push(word)?;
+    }
+    Ok(words)
+}
