@@ -1,0 +1,38 @@
+-- Members of lists that are made of others.
+use Rattle.std.proofs.Common.{◌≡◌, ℕ, zero, suc, ◌<◌, Bool, true, false, cond, List, [], ◌∷◌, map, length, get_or, filter, flat_map, Contains, ◌⊎◌, inl, inr, ⊎_elim, refl, sym, ap, subst, ◌∙◌, true≢false, arith}
+use Rattle.std.proofs.lemmas.List.{length-map, get_or-map}
+use Rattle.std.proofs.lemmas.List.Elements.{Contains-append_left, Contains-append_right}
+
+pub at_head : {X : Type 0} (x : X) (xs : List X) → Contains (x ∷ xs) x
+at_head x xs = (0, omega arith, refl)
+
+pub in_tail : {X : Type 0} (x : X) (xs : List X) (y : X) → Contains xs y → Contains (x ∷ xs) y
+in_tail x xs y among = Contains-append_right (x ∷ []) xs y among
+
+-- the first element or a later one
+pub head_or_tail : {X : Type 0} (x : X) (xs : List X) (y : X) → Contains (x ∷ xs) y → (x ≡ y) ⊎ Contains xs y
+head_or_tail {X} x xs y among = by among.0 among.1 among.2
+  where
+    by : (k : ℕ) → k < length (x ∷ xs) → get_or (x ∷ xs) k y ≡ y → (x ≡ y) ⊎ Contains xs y
+    by zero within is = inl is
+    by (suc k) within is = inr (k, omega arith, is)
+
+pub in_map : {X Y : Type 0} (f : X → Y) (xs : List X) (x : X) → Contains xs x → Contains (map f xs) (f x)
+in_map f xs x among = let long = length-map xs f in (among.0, omega (arith, among.1, long), get_or-map f xs among.0 x (f x) among.1 ∙ ap f among.2)
+
+pub in_filter : {X : Type 0} (p : X → Bool) (xs : List X) (x : X) → Contains xs x → p x ≡ true → Contains (filter p xs) x
+in_filter p [] x among passes = among
+in_filter {X} p (y ∷ xs) x among passes = ⊎_elim (λ first. here first (p y) refl) (λ later. there (in_filter p xs x later passes) (p y) refl) (head_or_tail y xs x among)
+  where
+    here : y ≡ x → (b : Bool) → p y ≡ b → Contains (filter p (y ∷ xs)) x
+    here first true is = subst (λ (b : Bool). Contains (cond b (y ∷ filter p xs) (filter p xs)) x) (sym is) (0, omega arith, first)
+    here first false is = absurd (true≢false (sym passes ∙ (ap p (sym first) ∙ is)))
+
+    there : Contains (filter p xs) x → (b : Bool) → p y ≡ b → Contains (filter p (y ∷ xs)) x
+    there kept true is = subst (λ (b : Bool). Contains (cond b (y ∷ filter p xs) (filter p xs)) x) (sym is) (Contains-append_right (y ∷ []) (filter p xs) x kept)
+    there kept false is = subst (λ (b : Bool). Contains (cond b (y ∷ filter p xs) (filter p xs)) x) (sym is) kept
+
+pub in_flat_map : {X Y : Type 0} (f : X → List Y) (xs : List X) (x : X) (y : Y) → Contains xs x → Contains (f x) y → Contains (flat_map f xs) y
+in_flat_map f [] x y among inner = absurd (omega (arith, among.1))
+in_flat_map f (z ∷ xs) x y among inner =
+    ⊎_elim (λ first. Contains-append_left (f z) (flat_map f xs) y (subst (λ w. Contains (f w) y) (sym first) inner)) (λ later. Contains-append_right (f z) (flat_map f xs) y (in_flat_map f xs x y later inner)) (head_or_tail z xs x among)

@@ -1,0 +1,4 @@
+pub mod Links
+pub mod Paths
+pub mod Places
+pub mod Spread

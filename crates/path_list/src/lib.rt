@@ -1,0 +1,21 @@
+//! The paths of a tree of files, from the links of its directories: one for each way from the root, in order, with the
+//! least path of the same object and how many paths that has.
+//!
+//! Both formats have directories whose entries name objects. A caller makes a [`Link`] of each entry, and [`paths`] gives
+//! the places of the tree's rows.
+#![tactic(auto)]
+
+mod entries;
+mod found;
+mod link;
+mod list;
+mod node;
+mod place;
+mod spread;
+
+pub use link::{Link, PathTo};
+pub use list::paths;
+pub use node::NodeId;
+
+#[cfg(test)]
+mod tests;
