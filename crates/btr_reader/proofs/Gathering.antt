@@ -1,21 +1,17 @@
 -- The extents of a file, one after the other.
-use Rattle.std.proofs.Common.{◌≡◌, ℕ, ◌+◌, ◌-◌, ◌*◌, ◌/◌, ◌%◌, ◌^◌, ◌≤◌, ◌<◌, eqb, nat_lt, nat_le, Bool, true, false, ◌&&◌, if◌then◌else◌, List, [], ◌∷◌, ◌++◌, Option, Some, None, refl, sym, ◌∙◌, ap, arith, append_assoc}
+use Rattle.std.proofs.Common.{◌≡◌, ℕ, ◌+◌, ◌-◌, ◌*◌, ◌/◌, ◌%◌, ◌≤◌, ◌<◌, eqb, nat_lt, Bool, true, false, if◌then◌else◌, List, [], ◌∷◌, ◌++◌, Option, Some, None, refl, sym, ◌∙◌, ap, arith}
 use Rattle.std.proofs.lemmas.Bool.Decides.{nat_tests}
 use Rattle.std.proofs.lemmas.List.{append-nil}
-use Rattle.std.proofs.lemmas.List.Elements.{filter-append}
 use Rattle.std.specs.Option.{option_map}
 use Rattle.outside.specs.declared.refusal.BtrRefusal.{BtrRefusal}
-use Rattle.outside.specs.declared.refusal.BtrRefusal.TheVariants.{BadBtrfs, Unsupported}
-use Rattle.outside.specs.declared.rule.BtrRule.TheVariants.{ExtentForm}
-use Rattle.outside.specs.declared.rule.Feature.TheVariants.{Compression, Encryption}
 use Rattle.btr_keys.specs.FileExtent.{ContentValue, Inline, Regular, Prealloc, FileExtentValue, file_extent_of}
 use Rattle.btr_keys.specs.declared.file_extent.DiskRange.{DiskRange}
 use Rattle.btr_walk.specs.declared.map.MapRange.{MapRange}
 use Rattle.btr_walk.specs.Map.{place}
 use Rattle.btr_walk.specs.Events.{TreeItem}
-use Rattle.btr_files.proofs.ExtentLists.{none_left, none_right, first, second, end_grows, covers_at, past_end, before_start}
+use Rattle.btr_files.proofs.ExtentLists.{none_right, first, second, end_grows, covers_at, past_end, before_start}
 use Rattle.btr_reader.specs.declared.image_map.Piece.{Piece}
-use Rattle.btr_files.specs.Extents.{is_extent_of, extents_of, is_hole, covers, covered_by, range_is_aligned, is_aligned, has_form, place_refusals, end_after, covered_after, extent_refusals, refusals_at, extents_refusals, extents_end, extents_covered}
+use Rattle.btr_files.specs.Extents.{is_hole, covers, range_is_aligned, is_aligned, end_after, covered_after, refusals_at, extents_refusals, extents_end}
 use Rattle.btr_reader.specs.Image.{content_block, block_from, file_block}
 use Rattle.btr_reader.specs.Pieces.{holds_block, block_in, or_else, pieces_place, range_piece, range_pieces, pieces_of}
 
