@@ -13,7 +13,7 @@ use std::alloc::Global;
 /// directories that the root does not reach give no path.
 ///
 /// Of links that name the root, a directory twice, or one name twice in a directory, the list may be any. The time grows
-/// with the number of paths and the names in them.
+/// with the number of paths and the names in them. Without memory there is no list.
 pub fn paths(alloc: Global, links: Vec<Link>, root: NodeId) -> Result<Vec<PathTo>, Memory>
     ensures { IfOk result (λ list. AreNamedOnce links.items root → ArePaths links.items root list.items) }
 {
