@@ -7,7 +7,8 @@ use Rattle.btr_keys.specs.declared.key.Key.{Key}
 use Rattle.btr_walk.specs.Events.{TreeItem}
 use Rattle.btr_walk.proofs.Events.{none_both}
 use Rattle.btr_reader.specs.Image.{first_key, entry_named, own_index_refusals, index_refusals}
-use Rattle.btr_reader.specs.Links.{Naming, own_naming, namings}
+use Rattle.btr_names.specs.declared.naming.Naming.{Naming}
+use Rattle.btr_names.specs.Links.{own_naming, namings}
 use Rattle.btr_reader.specs.Opening.{IsAmong}
 use Rattle.btr_reader.proofs.Among.{among_left, among_right}
 

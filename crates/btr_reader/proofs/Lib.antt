@@ -4,7 +4,6 @@ pub mod Array
 pub mod Supers
 pub mod Opens
 pub mod RootItems
-pub mod InodeItems
 pub mod EntryItems
 pub mod Gathering
 pub mod OneExtent

@@ -5,7 +5,8 @@ use Rattle.btr_keys.specs.declared.key.Key.{Key}
 use Rattle.btr_walk.specs.declared.tree.Pointer.{Pointer}
 use Rattle.btr_walk.specs.Events.{TreeItem}
 use Rattle.btr_reader.specs.declared.roots.RootFound.{RootFound}
-use Rattle.btr_reader.specs.Roots.{is_root_of, last_or, root_item, pointer_of, TellsRoot}
+use Rattle.btr_names.specs.Roots.{is_root_of}
+use Rattle.btr_reader.specs.Roots.{last_or, root_item, pointer_of, TellsRoot}
 
 abbrev here : ℕ → TreeItem → Option TreeItem
 here number i = if is_root_of number i then Some i else None

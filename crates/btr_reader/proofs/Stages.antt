@@ -17,8 +17,8 @@ use Rattle.btr_reader.specs.declared.gathered.Gathered.{Gathered}
 use Rattle.btr_reader.specs.declared.image_map.ImageMap.{ImageMap}
 use Rattle.btr_files.specs.Extents.{extents_of, extents_refusals}
 use Rattle.btr_reader.specs.Image.{ImageFile, is_file, is_called, entry_named, image_entry, saved_entry, pointer_in, tree_number, inode_number, file_if_image, image_at, image_in, items_at, image_below, saved_image, entry_refusals, after_pointer, after_root, if_there, own_refusals, file_refusals, image_refusals_in, refusals_below, image_refusals}
-use Rattle.btr_reader.specs.Inodes.{inode_item}
-use Rattle.btr_reader.specs.Links.{namings}
+use Rattle.btr_names.specs.Inodes.{inode_item}
+use Rattle.btr_names.specs.Links.{namings}
 use Rattle.btr_reader.specs.Opening.{tree_of, root_tree, boot_chunks, boot_ranges, boot_refusals, map_from, or_later, trees_refusals, IsOpened, IsAmong}
 use Rattle.btr_reader.specs.Pieces.{Gathers, MapsImage}
 use Rattle.btr_reader.specs.Reading.{FindsTree, FindsFile, ReadsImage}

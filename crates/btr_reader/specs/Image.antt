@@ -21,8 +21,9 @@ use Rattle.btr_walk.specs.declared.tree.Tree.{Tree}
 use Rattle.btr_keys.specs.DirEntry.{DirEntryValue}
 use Rattle.btr_reader.specs.Opening.{tree_of, or_later}
 use Rattle.btr_reader.specs.Roots.{root_item, pointer_of}
-use Rattle.btr_reader.specs.Inodes.{inode_item}
-use Rattle.btr_reader.specs.Links.{Naming, namings, is_index, index_entry}
+use Rattle.btr_names.specs.Inodes.{inode_item}
+use Rattle.btr_names.specs.declared.naming.Naming.{Naming}
+use Rattle.btr_names.specs.Links.{namings, is_index, index_entry}
 use Rattle.btr_files.specs.Extents.{extents_of, extents_refusals, is_hole, covers}
 use Rattle.btr_reader.specs.Rows.{roots_on}
 

@@ -1,8 +1,6 @@
 pub mod Chunks
 pub mod Opening
 pub mod Roots
-pub mod Inodes
-pub mod Links
 pub mod Rows
 pub mod Image
 pub mod Pieces

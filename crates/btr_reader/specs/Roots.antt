@@ -1,15 +1,12 @@
 -- The trees of a volume, as the root tree names them.
-use Rattle.std.specs.Prelude.{◌≡◌, ℕ, ◌==◌, nat_lt, Bool, ◌&&◌, if◌then◌else◌, List, [], ◌∷◌, Option, Some, None}
+use Rattle.std.specs.Prelude.{◌≡◌, ℕ, nat_lt, if◌then◌else◌, List, [], ◌∷◌, Option, Some, None}
 use Rattle.std.specs.Option.{option_and_then}
 use Rattle.btr_space_items.specs.RootItem.{root_item_of}
 use Rattle.btr_space_items.specs.declared.root_item.RootItem.{RootItem}
 use Rattle.btr_walk.specs.declared.tree.Pointer.{Pointer}
 use Rattle.btr_walk.specs.Events.{TreeItem}
+use Rattle.btr_names.specs.Roots.{is_root_of}
 use Rattle.btr_reader.specs.declared.roots.RootFound.{RootFound}
-
--- the item is a root item of the tree with this number; what its key's offset is does not matter
-abbrev pub is_root_of : ℕ → TreeItem → Bool
-is_root_of number i = (i.key.objectid == number) && (i.key.kind == 132)
 
 -- the last one of some, or another before them
 abbrev pub last_or : Option TreeItem → Option TreeItem → Option TreeItem

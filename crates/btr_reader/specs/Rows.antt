@@ -1,12 +1,11 @@
 -- The rows of a Btrfs volume, and what is wrong with what they are made from.
-use Rattle.std.specs.Prelude.{◌≡◌, ◌≢◌, ◌⊎◌, ℕ, ◌/◌, ◌%◌, ◌^◌, ◌==◌, pos, Bool, true, false, not, ◌&&◌, if◌then◌else◌, List, [], ◌∷◌, ◌++◌, Contains, Some, None}
+use Rattle.std.specs.Prelude.{◌≡◌, ◌⊎◌, ℕ, ◌/◌, ◌%◌, ◌^◌, ◌==◌, pos, Bool, true, false, not, ◌&&◌, if◌then◌else◌, List, [], Contains, Some, None}
 use Rattle.std.specs.Int.{bit_at}
 use Rattle.std.specs.Ordering.{is_le}
 use Rattle.outside.specs.History.{Image}
 use Rattle.outside.specs.declared.refusal.BtrRefusal.{BtrRefusal}
 use Rattle.outside.specs.declared.refusal.BtrRefusal.TheVariants.{BadBtrfs}
-use Rattle.outside.specs.declared.rule.BtrRule.TheVariants.{Body, NoInode, NameForm, DirTwice}
-use Rattle.btr_keys.specs.Inode.{inode_of}
+use Rattle.outside.specs.declared.rule.BtrRule.TheVariants.{Body, NoInode}
 use Rattle.btr_keys.specs.declared.inode.Inode.{Inode}
 use Rattle.btr_keys.specs.declared.stamp.Stamp.{Stamp}
 use Rattle.btr_super.specs.declared.superblock.Super.{Super}
@@ -20,8 +19,10 @@ use Rattle.fs_rows.specs.declared.row.Kind.TheVariants.{Directory, File, Symlink
 use Rattle.fs_rows.specs.declared.row.Time.{Time}
 use Rattle.btr_reader.specs.Opening.{tree_of, root_tree}
 use Rattle.btr_reader.specs.Roots.{root_item, pointer_of}
-use Rattle.btr_reader.specs.Inodes.{inode_item, inode_on, kind_of_mode, HasKind, IsDirectory}
-use Rattle.btr_reader.specs.Links.{Naming, namings, followed, is_index, index_entry, is_name, names_inode, names_tree, IsNamed, Target, inode, tree, Leads}
+use Rattle.btr_names.specs.Inodes.{inode_on, kind_of_mode, is_symlink, is_directory, HasKind}
+use Rattle.btr_names.specs.Links.{IsNamed, Target, inode, tree, Leads}
+use Rattle.btr_names.specs.Roots.{has_root}
+use Rattle.btr_names.specs.Rules.{BreaksNames}
 use Rattle.btr_files.specs.Extents.{extents_of, file_bytes, extents_refusals}
 
 abbrev pub time_of : Stamp → Time
@@ -37,16 +38,6 @@ is_device Fifo = false
 is_device Socket = false
 is_device Subvolume = false
 
-abbrev pub is_symlink : Kind → Bool
-is_symlink Symlink = true
-is_symlink Directory = false
-is_symlink File = false
-is_symlink Character = false
-is_symlink Block = false
-is_symlink Fifo = false
-is_symlink Socket = false
-is_symlink Subvolume = false
-
 abbrev pub has_bytes : Kind → Bool
 has_bytes File = true
 has_bytes Symlink = true
@@ -56,16 +47,6 @@ has_bytes Block = false
 has_bytes Fifo = false
 has_bytes Socket = false
 has_bytes Subvolume = false
-
-abbrev pub is_directory : Kind → Bool
-is_directory Directory = true
-is_directory File = false
-is_directory Symlink = false
-is_directory Character = false
-is_directory Block = false
-is_directory Fifo = false
-is_directory Socket = false
-is_directory Subvolume = false
 
 abbrev pub has_flag : Inode → ℕ → Bool
 has_flag i b = bit_at i.flags b == 1
@@ -146,28 +127,6 @@ pub record AreRows (image : Image) (ranges : List MapRange) (items : List TreeIt
   pub each : (row : WholeRow) → Contains rows row → (to : Target) × IsRowOf image ranges items rows to row
   pub whole : (path : NameList) (to : Target) → Leads items top path to → (row : WholeRow) × Contains rows row × (row.path ≡ path)
 
--- two elements of a list, the earlier one first
-pub record AreIn {X : Type 0} (xs : List X) (x y : X) : Type 0 where
-  pub before : List X
-  pub after : List X
-  pub split : xs ≡ before ++ (y ∷ after)
-  pub earlier : Contains before x
-
--- Which inodes and names break which rule, in a file tree with these items and a root tree with those.
-pub data BreaksNames (roots items : List TreeItem) (root : ℕ) (r : BtrRefusal) : Type 0 where
-  no_root_directory : inode_item items 256 ≡ None → r ≡ BadBtrfs root NoInode → BreaksNames roots items root r
-  root_is_none : (own : Inode) (kind : Kind) → inode_on items 256 ≡ Some own → kind_of_mode own.mode ≡ Some kind → kind ≢ Directory → r ≡ BadBtrfs root NoInode → BreaksNames roots items root r
-  bad_inode : (ino : ℕ) (i : TreeItem) → IsNamed items ino → inode_item items ino ≡ Some i → inode_of i.body ≡ None → r ≡ BadBtrfs i.leaf Body → BreaksNames roots items root r
-  bad_mode : (ino : ℕ) (i : TreeItem) (own : Inode) → IsNamed items ino → inode_item items ino ≡ Some i → inode_of i.body ≡ Some own → kind_of_mode own.mode ≡ None → r ≡ BadBtrfs i.leaf Body → BreaksNames roots items root r
-  bad_index : (i : TreeItem) → Contains items i → is_index i ≡ true → IsNamed items i.key.objectid → IsDirectory items i.key.objectid → index_entry i.body ≡ None → r ≡ BadBtrfs i.leaf Body → BreaksNames roots items root r
-  bad_name : (n : Naming) → Contains (namings items) n → IsNamed items n.dir → IsDirectory items n.dir → is_name n.name ≡ false → r ≡ BadBtrfs n.leaf NameForm → BreaksNames roots items root r
-  twice : (m n : Naming) → AreIn (namings items) m n → IsNamed items n.dir → IsDirectory items n.dir → m.dir ≡ n.dir → m.name ≡ n.name → r ≡ BadBtrfs n.leaf NameForm → BreaksNames roots items root r
-  bad_location : (n : Naming) → Contains (followed items) n → IsNamed items n.dir → IsDirectory items n.dir → names_inode n ≡ false → names_tree n ≡ false → r ≡ BadBtrfs n.leaf Body → BreaksNames roots items root r
-  no_inode : (n : Naming) → Contains (followed items) n → IsNamed items n.dir → IsDirectory items n.dir → names_inode n ≡ true → inode_item items n.location.objectid ≡ None → r ≡ BadBtrfs n.leaf NoInode → BreaksNames roots items root r
-  no_tree : (n : Naming) → Contains (followed items) n → IsNamed items n.dir → IsDirectory items n.dir → names_tree n ≡ true → root_item n.location.objectid roots ≡ None → r ≡ BadBtrfs n.leaf NoInode → BreaksNames roots items root r
-  directory_twice : (m n : Naming) → AreIn (followed items) m n → IsNamed items m.dir → IsDirectory items m.dir → IsNamed items n.dir → IsDirectory items n.dir → names_inode m ≡ true → names_inode n ≡ true → m.location.objectid ≡ n.location.objectid → IsDirectory items n.location.objectid → r ≡ BadBtrfs n.leaf DirTwice → BreaksNames roots items root r
-  root_named : (n : Naming) → Contains (followed items) n → IsNamed items n.dir → IsDirectory items n.dir → names_inode n ≡ true → n.location.objectid ≡ 256 → r ≡ BadBtrfs n.leaf DirTwice → BreaksNames roots items root r
-
 -- a named file or symlink whose extents break a rule
 pub record BreaksExtents (ranges : List MapRange) (items : List TreeItem) (r : BtrRefusal) : Type 0 where
   pub ino : ℕ
@@ -183,7 +142,7 @@ pub data IsTreeRefusal (image : Image) (s : Super) (ranges : List MapRange) (r :
   no_root_item : root_item 5 (roots_on image s ranges) ≡ None → r ≡ BadBtrfs s.root NoInode → IsTreeRefusal image s ranges r
   bad_root_item : (i : TreeItem) → root_item 5 (roots_on image s ranges) ≡ Some i → pointer_of i.body ≡ None → r ≡ BadBtrfs i.leaf Body → IsTreeRefusal image s ranges r
   bad_tree : (i : TreeItem) (p : Pointer) → root_item 5 (roots_on image s ranges) ≡ Some i → pointer_of i.body ≡ Some p → Contains (wrong image ranges (tree_of s 5 p)) r → IsTreeRefusal image s ranges r
-  bad_names : (i : TreeItem) (p : Pointer) → root_item 5 (roots_on image s ranges) ≡ Some i → pointer_of i.body ≡ Some p → BreaksNames (roots_on image s ranges) (found image ranges (tree_of s 5 p)) p.address r → IsTreeRefusal image s ranges r
+  bad_names : (i : TreeItem) (p : Pointer) → root_item 5 (roots_on image s ranges) ≡ Some i → pointer_of i.body ≡ Some p → BreaksNames (has_root (roots_on image s ranges)) (found image ranges (tree_of s 5 p)) p.address r → IsTreeRefusal image s ranges r
   bad_extents : (i : TreeItem) (p : Pointer) → root_item 5 (roots_on image s ranges) ≡ Some i → pointer_of i.body ≡ Some p → BreaksExtents ranges (found image ranges (tree_of s 5 p)) r → IsTreeRefusal image s ranges r
 
 -- The rows of a volume that can be opened, and whose file tree has no refusal.

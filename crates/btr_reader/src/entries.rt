@@ -1,16 +1,15 @@
 ghost use Rattle.std.specs.Prelude.{◌≡◌, ◌≤◌, [], if◌then◌else◌, Some, None, IsTrue, IfOk, IfErr, OnOk, Contains};
-ghost use Rattle.std.specs.Option.{option_map};
 ghost use Rattle.outside.specs.Fault.{HasCauseOf};
 ghost use Rattle.outside.specs.History.{Image};
-ghost use Rattle.btr_keys.specs.DirEntry.{dir_entry_value};
 ghost use Rattle.btr_node.specs.NodeSize.{IsNodeSize};
 ghost use Rattle.btr_walk.specs.Events.{TreeItem};
 ghost use Rattle.btr_walk.specs.Walks.{LieOn, found};
 ghost use Rattle.btr_reader.specs.Image.{first_key, entry_named, is_called, own_index_refusals, entry_refusals};
-ghost use Rattle.btr_reader.specs.Links.{index_entry, only_one, own_naming, namings};
+ghost use Rattle.btr_names.specs.Links.{own_naming, namings};
 ghost use Rattle.btr_reader.specs.Opening.{IsAmong};
 
-use btr_keys::{DirEntry, DirItems, Key};
+use btr_keys::{DirEntry, Key};
+use btr_names::index_entry;
 use btr_walk::{MapRange, Tree, TreeWalker};
 use outside::{BlockSource, BtrAnswer, BtrRefusal, BtrRule};
 use std::alloc::Global;
@@ -20,25 +19,6 @@ const INDEX_KIND: u8 = 96;
 
 /// The inode of a file tree's root directory.
 const ROOT_DIRECTORY: u64 = 256;
-
-/// The entry that is the whole body of a directory index; None where that is off its grammar, or has more than one.
-pub fn index_entry<'a>(body: &'a [u8]) -> Option<DirEntry<'a>>
-    ensures { option_map dir_entry_value result ≡ index_entry body.now }
-{
-    match DirItems::read(body) {
-        Some(items) => only_one(&items),
-        None => None,
-    }
-}
-
-fn only_one<'a>(items: &DirItems<'a>) -> Option<DirEntry<'a>>
-    ensures { option_map dir_entry_value result ≡ only_one (Some items.now) }
-{
-    if items.len() != 1 {
-        return None;
-    }
-    Some(items.get(0))
-}
 
 /// The location of an entry that is called so, unless one came before.
 fn first_called(first: Option<Key>, name: &[u8], entry: &DirEntry<'_>) -> Option<Key>

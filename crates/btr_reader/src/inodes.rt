@@ -4,23 +4,17 @@ ghost use Rattle.outside.specs.History.{Image};
 ghost use Rattle.btr_node.specs.NodeSize.{IsNodeSize};
 ghost use Rattle.btr_walk.specs.Events.{TreeItem};
 ghost use Rattle.btr_walk.specs.Walks.{LieOn, found, wrong};
-ghost use Rattle.btr_reader.specs.Inodes.{is_inode_of, inode_item, first_item, TellsInode};
+ghost use Rattle.btr_names.specs.Inodes.{is_inode_of, inode_item, first_item, TellsInode};
 ghost use Rattle.btr_reader.specs.Opening.{IsAmong};
 
 use btr_keys::{Inode, Key};
+use btr_names::InodeFound;
 use btr_walk::{MapRange, Tree, TreeWalker};
 use outside::{BlockSource, BtrAnswer};
 use std::alloc::Global;
 
 /// The kind in the key of an inode item.
 const INODE_KIND: u8 = 1;
-
-/// An inode item: the leaf that it stands in, and the inode; None where its body is off the grammar.
-#[derive(Clone, Copy, Debug)]
-pub struct InodeFound {
-    pub leaf: u64,
-    pub inode: Option<Inode>,
-}
 
 /// The first item of an inode, after one more item of the tree.
 fn seek_inode(

@@ -19,7 +19,7 @@ mod volume;
 pub use chunk::ChunkAt;
 pub use entries::find_entry;
 pub use image_map::{ImageMap, Piece};
-pub use inodes::{InodeFound, find_inode};
+pub use inodes::find_inode;
 pub use laws::opened_maps_are_in_blocks;
 pub use roots::{RootFound, find_root};
 pub use volume::Btrfs;

@@ -4,8 +4,9 @@ ghost use Rattle.outside.specs.History.{Image};
 ghost use Rattle.btr_node.specs.NodeSize.{IsNodeSize};
 ghost use Rattle.btr_walk.specs.Events.{TreeItem};
 ghost use Rattle.btr_walk.specs.Walks.{LieOn, found, wrong};
+ghost use Rattle.btr_names.specs.Roots.{is_root_of};
 ghost use Rattle.btr_reader.specs.Opening.{IsAmong};
-ghost use Rattle.btr_reader.specs.Roots.{is_root_of, last_or, root_item, pointer_of, root_pointer, TellsRoot};
+ghost use Rattle.btr_reader.specs.Roots.{last_or, root_item, pointer_of, root_pointer, TellsRoot};
 
 use btr_keys::Key;
 use btr_space_items::RootItem;

@@ -2,7 +2,7 @@
 //! least path of the same object and how many paths that has.
 //!
 //! Both formats have directories whose entries name objects. A caller makes a [`Link`] of each entry, and [`paths`] gives
-//! the places of the tree's rows.
+//! the places of the tree's rows. [`reached`] gives the objects that a root reaches, over links of any form.
 #![tactic(auto)]
 
 mod entries;
@@ -11,11 +11,15 @@ mod link;
 mod list;
 mod node;
 mod place;
+mod reach;
 mod spread;
 
 pub use link::{Link, PathTo};
 pub use list::paths;
 pub use node::NodeId;
+pub use reach::reached;
 
+#[cfg(test)]
+mod reach_tests;
 #[cfg(test)]
 mod tests;

@@ -8,7 +8,7 @@ use Rattle.btr_walk.specs.Events.{TreeItem}
 use Rattle.btr_walk.specs.Walks.{Blames, found, wrong}
 use Rattle.btr_walk.proofs.Events.{none_both}
 use Rattle.btr_reader.specs.Image.{first_key, entry_named, is_called, index_refusals, entry_refusals}
-use Rattle.btr_reader.specs.Links.{own_naming, namings}
+use Rattle.btr_names.specs.Links.{own_naming, namings}
 use Rattle.btr_reader.specs.Opening.{IsAmong}
 use Rattle.btr_reader.proofs.Among.{blames_among, among_left, among_right, given_first}
 use Rattle.btr_reader.proofs.EntryItems.{entry_push, index_right, index_refused}

@@ -4,8 +4,8 @@ use Rattle.outside.specs.History.{Image}
 use Rattle.btr_walk.specs.declared.tree.Tree.{Tree}
 use Rattle.btr_walk.specs.Events.{TreeItem}
 use Rattle.btr_walk.specs.Walks.{Blames, found, wrong}
-use Rattle.btr_reader.specs.Inodes.{inode_item, TellsInode}
-use Rattle.btr_reader.proofs.InodeItems.{inode_item-push}
+use Rattle.btr_names.specs.Inodes.{inode_item, TellsInode}
+use Rattle.btr_names.proofs.InodeItems.{inode_item-push}
 use Rattle.btr_reader.specs.Opening.{IsAmong}
 use Rattle.btr_reader.proofs.Among.{blames_among}
 use Rattle.btr_reader.proofs.inodes.find_inode.Goals as goal

@@ -1,7 +1,7 @@
 use Rattle.std.proofs.Common.{◌≡◌, ◌≤◌, List, false, IsTrue}
 use Rattle.btr_walk.specs.Events.{TreeItem}
 use Rattle.btr_walk.specs.Walks.{Walks, fuel}
-use Rattle.btr_reader.specs.Inodes.{inode_item, TellsInode}
+use Rattle.btr_names.specs.Inodes.{inode_item, TellsInode}
 use Rattle.btr_reader.proofs.inodes.find_inode.Given as goal
 
 abbrev pub invariant-loop-walker : goal.invariant-loop-walker

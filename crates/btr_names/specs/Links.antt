@@ -3,18 +3,10 @@ use Rattle.std.specs.Prelude.{◌≡◌, ℕ, ◌==◌, nat_lt, nat_eq, Bool, tr
 use Rattle.std.specs.List.{list_any}
 use Rattle.std.specs.Cmp.Lexicographic.{pointwise}
 use Rattle.btr_keys.specs.DirEntry.{DirEntryValue, dir_items_of}
-use Rattle.btr_keys.specs.declared.key.Key.{Key}
 use Rattle.btr_walk.specs.Events.{TreeItem}
 use Rattle.fs_rows.specs.Rows.{NameList}
-use Rattle.btr_reader.specs.Inodes.{IsDirectory}
-
--- an entry of a directory: the leaf that it stands in, the directory, its index there, what it names, and the name
-pub record Naming : Type 0 where
-  pub leaf : ℕ
-  pub dir : ℕ
-  pub index : ℕ
-  pub location : Key
-  pub name : List ℕ
+use Rattle.btr_names.specs.declared.naming.Naming.{Naming}
+use Rattle.btr_names.specs.Inodes.{IsDirectory}
 
 abbrev pub is_index : TreeItem → Bool
 is_index i = i.key.kind == 96

@@ -1,0 +1,11 @@
+pub mod Checking
+pub mod InodeItems
+pub mod Keeping
+pub mod Leading
+pub mod Members
+pub mod Reaching
+pub mod Refusing
+pub mod Seeing
+pub mod Tables
+pub mod Told
+pub mod Walking

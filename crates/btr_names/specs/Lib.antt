@@ -1,0 +1,10 @@
+pub mod Inodes
+pub mod Links
+pub mod Passes
+pub mod Read
+pub mod Refuses
+pub mod Roots
+pub mod Rules
+pub mod Steps
+pub mod Table
+pub mod TreeLinks

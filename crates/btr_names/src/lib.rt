@@ -1,0 +1,28 @@
+//! The names of a Btrfs file tree: which inodes its directories name, and whether names and inodes keep the rules.
+//!
+//! One walk of the tree gives a [`Names`], which keeps what inode items and directory indexes say and passes over all
+//! others. [`Names::check`] gives the inodes that the root directory reaches, or refuses by a rule that fails;
+//! [`Names::links`] gives what [`path_list::paths`] makes paths of.
+#![tactic(auto)]
+
+mod check;
+mod entry;
+mod entry_rules;
+mod inode_rules;
+mod inodes;
+mod links;
+mod naming;
+mod read;
+mod roots;
+mod seen;
+mod table;
+
+pub use entry::index_entry;
+pub use inodes::InodeFound;
+pub use links::inode_node;
+pub use naming::{Naming, OffForm};
+pub use roots::root_numbers;
+pub use table::Names;
+
+#[cfg(test)]
+mod tests;

@@ -1,0 +1,38 @@
+ghost use Rattle.std.specs.Prelude.{◌≡◌, ◌≤◌, [], IsTrue, IfOk, IfErr, OnOk};
+ghost use Rattle.outside.specs.Fault.{HasCauseOf};
+ghost use Rattle.outside.specs.History.{Image};
+ghost use Rattle.btr_node.specs.NodeSize.{IsNodeSize};
+ghost use Rattle.btr_walk.specs.Walks.{LieOn, found, wrong};
+ghost use Rattle.btr_names.specs.Read.{BlamesTree};
+ghost use Rattle.btr_names.specs.Table.{HasNoted};
+
+use crate::Names;
+use btr_walk::{MapRange, Tree, TreeWalker};
+use outside::{BlockSource, BtrAnswer};
+use std::alloc::Global;
+
+impl Names {
+    /// The names of a whole file tree, where nothing is wrong with the tree: one walk.
+    pub fn read<S: BlockSource>(
+        alloc: Global,
+        src: &mut S,
+        tree: Tree,
+        ranges: &[MapRange],
+    ) -> Result<Names, BtrAnswer>
+        requires size { IsNodeSize tree.form.nodesize }
+        requires high { tree.root.level ≤ 7 }
+        requires inside { LieOn (S.size src.old) ranges.now }
+        ensures kept { S.kept src.old src.new }
+        ensures cause { HasCauseOf BtrAnswer.Fault (S.faults src.old) (S.faults src.new) result }
+        ensures noted { IsTrue S.tells → (image : Image) → S.blocks src.old ≡ image → IfOk result (λ names. HasNoted names (found image ranges.now tree)) }
+        ensures ok { IsTrue S.tells → (image : Image) → S.blocks src.old ≡ image → OnOk result (wrong image ranges.now tree ≡ []) }
+        ensures err { IsTrue S.tells → (image : Image) → S.blocks src.old ≡ image → IfErr result (BlamesTree image ranges.now tree) }
+    {
+        let mut names = Names::new(alloc);
+        let mut walker = TreeWalker::new(alloc, tree)?;
+        while walker.advance(src, ranges)? {
+            names.note(alloc, &walker.key(), walker.body(), walker.leaf())?;
+        }
+        Ok(names)
+    }
+}
