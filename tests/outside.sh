@@ -203,6 +203,16 @@ fresh_volumes() {
     same 'inspect of a small journal' "0||$(expected_super fresh)" "$status|$err|$(head -8 "$work/.out")"
 }
 
+# listed NAME FILE ROWS: the rows of a volume are those that were taken of it in Linux, to the byte
+listed() {
+    run list "$2"
+    same "list of the volume $1" '0|' "$status|$err"
+    if cmp -s "$3" "$work/.out"; then pass; else
+        fail "the rows of the volume $1"
+        diff "$3" "$work/.out" | head -10
+    fi
+}
+
 # what Linux wrote, as it lies in tests/volumes
 linux_volumes() {
     need zstd zstd || { echo 'skipped: the packed volumes, since zstd is not to be had'; return; }
@@ -212,11 +222,18 @@ linux_volumes() {
         zstd -dqf "$packed" -o packed
         run inspect packed
         if [ "$name" = xattr-volume ]; then
-            same "inspect of the volume $name" '1|refused 7 attributes|' "$status|${err% * *}|$(cat "$work/.out")"
+            same "inspect of the volume $name" '1|refused 7 attributes|' "$status|${err% * *}|$out"
+            run list packed
+            same "list of the volume $name" '1|refused 7 attributes|' "$status|${err% * *}|$out"
             continue
         fi
         same "inspect of the volume $name" "0||$(expected_super packed)" "$status|$err|$(head -8 "$work/.out")"
         same "used blocks of the volume $name" 'adds up' "$(used_adds_up)"
+        if [ -e "${packed%.img.zst}.rows" ]; then listed "$name" packed "${packed%.img.zst}.rows"; else
+            run list packed
+            same "list of the volume $name" '0||d 0755 0 0|- - - - - /' "$status|$err|${out:0:10}|${out: -11}"
+        fi
+        same "the volume $name after both" "$(zstd -dqc "$packed" | sha256sum)" "$(sha256sum <packed)"
     done
 }
 
@@ -329,6 +346,8 @@ samples() {
             printf 'used %s\nunits %s' $((blocks - free)) "$units"
         )" "$status|$err|$out"
         same "the superblock $name" "$(expected_super made)" "$(head -8 "$work/.out")"
+        run list made
+        same "list $name" "0||$((1 + (number + 99) / 100 + number))" "$status|$err|$(wc -l <"$work/.out")"
         same "reiserfsck $name" "0|1|$directories|$names" "$(checked made)"
     done <"$top/tests/samples.table"
 }
