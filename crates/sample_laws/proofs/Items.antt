@@ -1,12 +1,11 @@
 -- The items that a walk of a sample meets are those of its layout.
-use Rattle.std.proofs.Common.{◌≡◌, ℕ, zero, suc, ◌+◌, ◌-◌, ◌*◌, ◌/◌, ◌%◌, ◌^◌, ◌≤◌, ◌<◌, Bool, true, false, cond, List, [], ◌∷◌, ◌++◌, length, map, get_or, refl, sym, ◌∙◌, ap, subst, arith, append_assoc, append-nil, length-append}
+use Rattle.std.proofs.Common.{◌≡◌, ℕ, zero, suc, ◌+◌, ◌-◌, ◌^◌, ◌≤◌, ◌<◌, Bool, true, false, cond, List, [], ◌∷◌, ◌++◌, length, map, get_or, refl, sym, ◌∙◌, ap, subst, arith, append_assoc, append-nil, length-append}
 use Rattle.std.specs.Prelude.{nat_le, nat_lt}
 use Rattle.std.specs.List.{range_with_len, flat_map}
 use Rattle.std.proofs.Math.Nat.{pow-succ'}
 use Rattle.std.proofs.Math.Seq.{get_or-append_seam}
 use Rattle.std.proofs.lemmas.Bool.Decides.{nat_tests}
-use Rattle.outside.specs.History.{Image, block_at}
-use Rattle.reiser_make.specs.Inner.{node_place, leaf_at, level_nodes, root_level, root_from, nodes_above, first_child, end_child, child_count, first_leaf}
+use Rattle.reiser_make.specs.Inner.{node_place, level_nodes, root_level, root_from, nodes_above, first_child, end_child, child_count, first_leaf}
 use Rattle.reiser_make.specs.Items as laid
 use Rattle.reiser_make.specs.Items.{body_bytes}
 use Rattle.reiser_make.specs.Leaf.{leaves, leaves_of, packed_behind, taken_by, node_room}
@@ -14,16 +13,14 @@ use Rattle.reiser_make.specs.Shape.{Shape, shape}
 use Rattle.reiser_make.specs.declared.item.Item as parts
 use Rattle.reiser_make.proofs.Counting.{leaves_bound, leaves_some}
 use Rattle.reiser_make.proofs.Rising.{root_low, nodes_some}
-use Rattle.reiser_node.specs.declared.head.ItemHead.{ItemHead}
-use Rattle.reiser_walk.specs.Items.{Item, Event, node, item, pointer, item_events, held_by, blocks_named}
-use Rattle.reiser_walk.specs.Tree.{items_in, items_of}
+use Rattle.reiser_walk.specs.Items.{Item, Event, pointer, item_events, held_by, blocks_named}
+use Rattle.reiser_walk.specs.Tree.{items_in}
 use Rattle.reiser_walk.specs.declared.pointer.Pointer.{Pointer}
 use Rattle.reiser_walk.proofs.Events.{items_in-append}
 use Rattle.sample_laws.proofs.Held.{many_nodes, HasChildren, has_children, level_next}
 use Rattle.sample_laws.proofs.Small.{length_contents}
 use Rattle.sample_laws.proofs.Walked.{samples_walked}
-use Rattle.sample_laws.specs.Laws.{Fits, made, superblock, used_of}
-use Rattle.sample_laws.specs.Walk.{met, leaf_items, laid_events, tree_of, content, laid_content, SamplesHoldTheirItems}
+use Rattle.sample_laws.specs.Walk.{met, leaf_items, laid_events, content, laid_content, SamplesHoldTheirItems}
 
 no_items : (ps : List Pointer) → items_in (map pointer ps) ≡ []
 no_items [] = refl
@@ -156,9 +153,9 @@ one_at_root zero leaves level low few = few
 one_at_root (suc levels) leaves level low few =
     one_by levels leaves level (nat_le (level_nodes leaves level) 1) refl
     (λ many.
-        let fewer : nodes_above (level_nodes leaves level) ≤ 170 ^ levels = omega (arith, few, pow-succ' 170 levels) in
-        subst (λ (n : ℕ). level_nodes leaves (root_from levels (level + 1) n) ≤ 1) (level_next leaves level low)
-        (one_at_root levels leaves (level + 1) (omega arith) (omega (arith, level_next leaves level low, fewer))))
+    let fewer : nodes_above (level_nodes leaves level) ≤ 170 ^ levels = omega (arith, few, pow-succ' 170 levels) in
+    subst (λ (n : ℕ). level_nodes leaves (root_from levels (level + 1) n) ≤ 1) (level_next leaves level low)
+    (one_at_root levels leaves (level + 1) (omega arith) (omega (arith, level_next leaves level low, fewer))))
 
 pub one_root : (s : Shape) → length s.names ≤ 4000 → level_nodes (length (leaves s)) (root_level (length (leaves s))) ≡ 1
 unfolding root_level

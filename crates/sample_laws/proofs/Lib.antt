@@ -1,3 +1,4 @@
+pub mod Ascending
 pub mod Blocks
 pub mod Cleanness
 pub mod Heads

@@ -1,7 +1,9 @@
 -- What a walk meets in the tree of a sample.
-use Rattle.std.specs.Prelude.{◌≡◌, ℕ, zero, suc, Bool, List, [], ◌∷◌, length, map, All}
+use Rattle.std.specs.Prelude.{◌≡◌, ℕ, zero, suc, Bool, List, [], ◌∷◌, length, map, true, All, AllPairs}
 use Rattle.std.specs.List.{range_with_len, flat_map}
+use Rattle.std.specs.Ordering.{is_lt}
 use Rattle.outside.specs.History.{Image, block_at}
+use Rattle.reiser_items.specs.Order.{key_order}
 use Rattle.reiser_make.specs.Inner.{node_place, leaf_at, level_nodes, root_level, first_child, child_count}
 use Rattle.reiser_make.specs.Items as laid
 use Rattle.reiser_make.specs.Items.{body_bytes}
@@ -71,3 +73,10 @@ SamplesFitTheirHeads =
     (number : ℕ) (old : Bool) (blocks : ℕ) (image : Image) → Fits number old blocks image
     → let volume = made (shape number old) blocks image in
     All (λ i. FitsHead i.head i.body) (items_of (tree_of (superblock volume)) volume (length (used_of volume)))
+
+-- the items ascend strictly, by directory, object, offset and kind
+abbrev pub SamplesAscend : Type 0
+SamplesAscend =
+    (number : ℕ) (old : Bool) (blocks : ℕ) (image : Image) → Fits number old blocks image
+    → let volume = made (shape number old) blocks image in
+    AllPairs (λ i j. is_lt (key_order i.head j.head) ≡ true) (items_of (tree_of (superblock volume)) volume (length (used_of volume)))

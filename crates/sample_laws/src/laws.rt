@@ -1,6 +1,6 @@
 ghost use Rattle.sample_laws.specs.Laws.{SamplesAreClean, SamplesMarkUsed, SamplesMarkSystem, SamplesHoldTheirBlocks};
 ghost use Rattle.sample_laws.specs.Nodes.{LeavesReadBack, InnerNodesReadBack, SampleLeavesReadBack, SampleInnerNodesReadBack};
-ghost use Rattle.sample_laws.specs.Walk.{SamplesAreWalked, SamplesHoldTheirItems, SamplesKeepGrammar, SamplesFitTheirHeads};
+ghost use Rattle.sample_laws.specs.Walk.{SamplesAreWalked, SamplesHoldTheirItems, SamplesKeepGrammar, SamplesFitTheirHeads, SamplesAscend};
 
 /// The superblock of a sample is that of a clean volume, and no transaction waits in its journal.
 pub fn samples_are_clean()
@@ -60,4 +60,9 @@ pub fn samples_keep_grammar()
 /// Each body of an item of a sample fits its head.
 pub fn samples_fit_their_heads()
     ensures { SamplesFitTheirHeads }
+{}
+
+/// The items of a sample ascend.
+pub fn samples_ascend()
+    ensures { SamplesAscend }
 {}
