@@ -59,15 +59,15 @@ below_object a b dir object = below_object_by a b (grind (arith, dir)) object
 abbrev Under : parts.Item → parts.Item → Type 0
 Under x y = IsBelow x.head y.head
 
-each_join : {X : Type 0} (P : X → Type 0) (xs ys : List X) → Each P xs → Each P ys → Each P (xs ++ ys)
+pub each_join : {X : Type 0} (P : X → Type 0) (xs ys : List X) → Each P xs → Each P ys → Each P (xs ++ ys)
 each_join P [] ys first second = second
 each_join P (x ∷ xs) ys first second = (first.0, each_join P xs ys first.1 second)
 
-pairs_append : {X : Type 0} (R : X → X → Type 0) (xs ys : List X) → Pairs R xs → Pairs R ys → Each (λ x. Each (R x) ys) xs → Pairs R (xs ++ ys)
+pub pairs_append : {X : Type 0} (R : X → X → Type 0) (xs ys : List X) → Pairs R xs → Pairs R ys → Each (λ x. Each (R x) ys) xs → Pairs R (xs ++ ys)
 pairs_append R [] ys first second across = second
 pairs_append R (x ∷ xs) ys first second across = (each_join (R x) xs ys first.0 across.0, pairs_append R xs ys first.1 second across.1)
 
-each_to : {X : Type 0} (P Q : X → Type 0) → ((x : X) → P x → Q x) → (xs : List X) → Each P xs → Each Q xs
+pub each_to : {X : Type 0} (P Q : X → Type 0) → ((x : X) → P x → Q x) → (xs : List X) → Each P xs → Each Q xs
 each_to P Q f [] each = tt
 each_to P Q f (x ∷ xs) each = (f x each.0, each_to P Q f xs each.1)
 

@@ -79,16 +79,16 @@ covers_rows s F e a (suc n) each =
     })
 
 -- where the leaves below a node of a level begin; behind the last node their number
-abbrev edge : ℕ → ℕ → ℕ → ℕ
+abbrev pub edge : ℕ → ℕ → ℕ → ℕ
 edge leaves level m = cond (nat_lt m (level_nodes leaves level)) (first_leaf leaves level m) leaves
 
-edge_in : (leaves level m : ℕ) → m < level_nodes leaves level → edge leaves level m ≡ first_leaf leaves level m
+pub edge_in : (leaves level m : ℕ) → m < level_nodes leaves level → edge leaves level m ≡ first_leaf leaves level m
 edge_in leaves level m lt = let inside : nat_lt m (level_nodes leaves level) ≡ true = grind (arith, nat_tests, lt) in ap (λ b. cond b (first_leaf leaves level m) leaves) inside
 
-edge_out : (leaves level m : ℕ) → level_nodes leaves level ≤ m → edge leaves level m ≡ leaves
+pub edge_out : (leaves level m : ℕ) → level_nodes leaves level ≤ m → edge leaves level m ≡ leaves
 edge_out leaves level m past = let outside : nat_lt m (level_nodes leaves level) ≡ false = grind (arith, nat_tests, past) in ap (λ b. cond b (first_leaf leaves level m) leaves) outside
 
-end_edge_by : (leaves k m : ℕ) (b : Bool) → nat_lt (m + 1) (nodes_above (level_nodes leaves (suc k))) ≡ b → 2 ≤ level_nodes leaves (suc k)
+pub end_edge_by : (leaves k m : ℕ) (b : Bool) → nat_lt (m + 1) (nodes_above (level_nodes leaves (suc k))) ≡ b → 2 ≤ level_nodes leaves (suc k)
     → edge leaves (suc (suc k)) (m + 1) ≡ edge leaves (suc k) (cond b (first_child (level_nodes leaves (suc k)) (m + 1)) (level_nodes leaves (suc k)))
 end_edge_by leaves k m true is many =
     let lt : m + 1 < nodes_above (level_nodes leaves (suc k)) = grind (arith, nat_tests, is) in
@@ -97,7 +97,7 @@ end_edge_by leaves k m false is many =
     let past : nodes_above (level_nodes leaves (suc k)) ≤ m + 1 = grind (arith, nat_tests, is) in
     edge_out leaves (suc (suc k)) (m + 1) past ∙ sym (edge_out leaves (suc k) (level_nodes leaves (suc k)) (omega arith))
 
-one_leaf_by : (leaves m : ℕ) (b : Bool) → nat_lt (m + 1) leaves ≡ b → m < leaves → cond b (m + 1) leaves ≡ m + 1
+pub one_leaf_by : (leaves m : ℕ) (b : Bool) → nat_lt (m + 1) leaves ≡ b → m < leaves → cond b (m + 1) leaves ≡ m + 1
 one_leaf_by leaves m true is lt = refl
 one_leaf_by leaves m false is lt = let past : leaves ≤ m + 1 = grind (arith, nat_tests, is) in omega (arith, past, lt)
 
@@ -134,7 +134,7 @@ module _ (s : Shape) where
       (subst (λ (a : ℕ). Covers s (laid_events s (suc (suc k)) m holder) a (edge count (suc k) (first + total))) (sym here)
       (record { items = rows.items; rises = rows.rises }))
 
-first_leaf_zero : (leaves level : ℕ) → first_leaf leaves level 0 ≡ 0
+pub first_leaf_zero : (leaves level : ℕ) → first_leaf leaves level 0 ≡ 0
 first_leaf_zero leaves zero = refl
 first_leaf_zero leaves (suc zero) = refl
 first_leaf_zero leaves (suc (suc level)) =
@@ -179,7 +179,7 @@ root_items s holder few =
     ∙ ap (λ n. flat_map (leaf_items s) (range_with_len 0 n)) (let whole : count - 0 ≡ count = omega arith in whole)
 
 -- all items of leaves
-abbrev joined : List (List parts.Item) → List parts.Item
+abbrev pub joined : List (List parts.Item) → List parts.Item
 joined [] = []
 joined (leaf ∷ more) = leaf ++ joined more
 
@@ -196,11 +196,11 @@ packed_joined leaf room (x ∷ xs) =
     (packed_joined (leaf ++ x ∷ []) (room - taken_by x) xs ∙ append_assoc leaf (x ∷ []) xs)
     (packed_joined (x ∷ []) (node_room - taken_by x) xs)
 
-leaves_joined : (xs : List parts.Item) → joined (leaves_of xs) ≡ xs
+pub leaves_joined : (xs : List parts.Item) → joined (leaves_of xs) ≡ xs
 leaves_joined [] = refl
 leaves_joined (x ∷ xs) = packed_joined (x ∷ []) (node_room - taken_by x) xs
 
-map_split : {X Y : Type 0} (f : X → Y) (xs ys : List X) → map f (xs ++ ys) ≡ map f xs ++ map f ys
+pub map_split : {X Y : Type 0} (f : X → Y) (xs ys : List X) → map f (xs ++ ys) ≡ map f xs ++ map f ys
 map_split f [] ys = refl
 map_split f (x ∷ xs) ys = ap (λ z. f x ∷ z) (map_split f xs ys)
 

@@ -13,7 +13,8 @@ use Rattle.reiser_make.specs.declared.item.Item as parts
 use Rattle.reiser_node.specs.declared.head.ItemHead.{ItemHead}
 use Rattle.reiser_super.specs.declared.superblock.Super.{Super}
 use Rattle.reiser_walk.specs.Items.{Item, Event, node, item_events}
-use Rattle.reiser_walk.specs.Laws.{IsNode, FitsHead}
+use Rattle.reiser_walk.specs.Laws.{IsNode, FitsHead, KeepsRules}
+use Rattle.reiser_walk.specs.Rules.{tree_damages}
 use Rattle.reiser_walk.specs.Tree.{tree_events, items_of, visits}
 use Rattle.reiser_walk.specs.declared.tree.Tree.{Tree}
 use Rattle.sample_laws.specs.Laws.{Fits, made, superblock, used_of}
@@ -80,3 +81,15 @@ SamplesAscend =
     (number : ℕ) (old : Bool) (blocks : ℕ) (image : Image) → Fits number old blocks image
     → let volume = made (shape number old) blocks image in
     AllPairs (λ i j. is_lt (key_order i.head j.head) ≡ true) (items_of (tree_of (superblock volume)) volume (length (used_of volume)))
+
+-- each rule of the tree is kept
+abbrev pub SamplesKeepTreeRules : Type 0
+SamplesKeepTreeRules =
+    (number : ℕ) (old : Bool) (blocks : ℕ) (image : Image) → Fits number old blocks image
+    → let volume = made (shape number old) blocks image in KeepsRules (tree_of (superblock volume)) volume (used_of volume)
+
+-- so nothing is wrong with the tree
+abbrev pub SampleTreesAreSound : Type 0
+SampleTreesAreSound =
+    (number : ℕ) (old : Bool) (blocks : ℕ) (image : Image) → Fits number old blocks image
+    → let volume = made (shape number old) blocks image in tree_damages (tree_of (superblock volume)) volume (used_of volume) ≡ []

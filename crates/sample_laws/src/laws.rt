@@ -1,6 +1,6 @@
 ghost use Rattle.sample_laws.specs.Laws.{SamplesAreClean, SamplesMarkUsed, SamplesMarkSystem, SamplesHoldTheirBlocks};
 ghost use Rattle.sample_laws.specs.Nodes.{LeavesReadBack, InnerNodesReadBack, SampleLeavesReadBack, SampleInnerNodesReadBack};
-ghost use Rattle.sample_laws.specs.Walk.{SamplesAreWalked, SamplesHoldTheirItems, SamplesKeepGrammar, SamplesFitTheirHeads, SamplesAscend};
+ghost use Rattle.sample_laws.specs.Walk.{SamplesAreWalked, SamplesHoldTheirItems, SamplesKeepGrammar, SamplesFitTheirHeads, SamplesAscend, SamplesKeepTreeRules, SampleTreesAreSound};
 
 /// The superblock of a sample is that of a clean volume, and no transaction waits in its journal.
 pub fn samples_are_clean()
@@ -65,4 +65,15 @@ pub fn samples_fit_their_heads()
 /// The items of a sample ascend.
 pub fn samples_ascend()
     ensures { SamplesAscend }
+{}
+
+/// A sample keeps each rule of trees: what a walk reaches lies in the volume, is used, is none of its own blocks, and is
+/// reached once.
+pub fn samples_keep_tree_rules()
+    ensures { SamplesKeepTreeRules }
+{}
+
+/// Nothing is wrong with the tree of a sample.
+pub fn sample_trees_are_sound()
+    ensures { SampleTreesAreSound }
 {}
