@@ -1,2 +1,3 @@
 pub mod Outcomes
 pub mod Counts
+pub mod Making

@@ -1,12 +1,11 @@
 -- The items that a walk of a sample meets are those of its layout.
-use Rattle.std.proofs.Common.{◌≡◌, ℕ, zero, suc, ◌+◌, ◌-◌, ◌*◌, ◌/◌, ◌%◌, ◌^◌, ◌≤◌, ◌<◌, Bool, true, false, cond, List, [], ◌∷◌, ◌++◌, length, map, get_or, refl, sym, ◌∙◌, ap, subst, arith, append_assoc, append-nil, length-append}
+use Rattle.std.proofs.Common.{◌≡◌, ℕ, zero, suc, ◌+◌, ◌-◌, ◌^◌, ◌≤◌, ◌<◌, Bool, true, false, cond, List, [], ◌∷◌, ◌++◌, length, map, get_or, refl, sym, ◌∙◌, ap, subst, arith, append_assoc, append-nil, length-append}
 use Rattle.std.specs.Prelude.{nat_le, nat_lt}
 use Rattle.std.specs.List.{range_with_len, flat_map}
 use Rattle.std.proofs.Math.Nat.{pow-succ'}
 use Rattle.std.proofs.Math.Seq.{get_or-append_seam}
 use Rattle.std.proofs.lemmas.Bool.Decides.{nat_tests}
-use Rattle.outside.specs.History.{Image, block_at}
-use Rattle.reiser_make.specs.Inner.{node_place, leaf_at, level_nodes, root_level, root_from, nodes_above, first_child, end_child, child_count, first_leaf}
+use Rattle.reiser_make.specs.Inner.{node_place, level_nodes, root_level, root_from, nodes_above, first_child, end_child, child_count, first_leaf}
 use Rattle.reiser_make.specs.Items as laid
 use Rattle.reiser_make.specs.Items.{body_bytes}
 use Rattle.reiser_make.specs.Leaf.{leaves, leaves_of, packed_behind, taken_by, node_room}
@@ -14,16 +13,14 @@ use Rattle.reiser_make.specs.Shape.{Shape, shape}
 use Rattle.reiser_make.specs.declared.item.Item as parts
 use Rattle.reiser_make.proofs.Counting.{leaves_bound, leaves_some}
 use Rattle.reiser_make.proofs.Rising.{root_low, nodes_some}
-use Rattle.reiser_node.specs.declared.head.ItemHead.{ItemHead}
-use Rattle.reiser_walk.specs.Items.{Item, Event, node, item, pointer, item_events, held_by, blocks_named}
-use Rattle.reiser_walk.specs.Tree.{items_in, items_of}
+use Rattle.reiser_walk.specs.Items.{Item, Event, pointer, item_events, held_by, blocks_named}
+use Rattle.reiser_walk.specs.Tree.{items_in}
 use Rattle.reiser_walk.specs.declared.pointer.Pointer.{Pointer}
 use Rattle.reiser_walk.proofs.Events.{items_in-append}
 use Rattle.sample_laws.proofs.Held.{many_nodes, HasChildren, has_children, level_next}
 use Rattle.sample_laws.proofs.Small.{length_contents}
 use Rattle.sample_laws.proofs.Walked.{samples_walked}
-use Rattle.sample_laws.specs.Laws.{Fits, made, superblock, used_of}
-use Rattle.sample_laws.specs.Walk.{met, leaf_items, laid_events, tree_of, content, laid_content, SamplesHoldTheirItems}
+use Rattle.sample_laws.specs.Walk.{met, leaf_items, laid_events, content, laid_content, SamplesHoldTheirItems}
 
 no_items : (ps : List Pointer) → items_in (map pointer ps) ≡ []
 no_items [] = refl
@@ -82,16 +79,16 @@ covers_rows s F e a (suc n) each =
     })
 
 -- where the leaves below a node of a level begin; behind the last node their number
-abbrev edge : ℕ → ℕ → ℕ → ℕ
+abbrev pub edge : ℕ → ℕ → ℕ → ℕ
 edge leaves level m = cond (nat_lt m (level_nodes leaves level)) (first_leaf leaves level m) leaves
 
-edge_in : (leaves level m : ℕ) → m < level_nodes leaves level → edge leaves level m ≡ first_leaf leaves level m
+pub edge_in : (leaves level m : ℕ) → m < level_nodes leaves level → edge leaves level m ≡ first_leaf leaves level m
 edge_in leaves level m lt = let inside : nat_lt m (level_nodes leaves level) ≡ true = grind (arith, nat_tests, lt) in ap (λ b. cond b (first_leaf leaves level m) leaves) inside
 
-edge_out : (leaves level m : ℕ) → level_nodes leaves level ≤ m → edge leaves level m ≡ leaves
+pub edge_out : (leaves level m : ℕ) → level_nodes leaves level ≤ m → edge leaves level m ≡ leaves
 edge_out leaves level m past = let outside : nat_lt m (level_nodes leaves level) ≡ false = grind (arith, nat_tests, past) in ap (λ b. cond b (first_leaf leaves level m) leaves) outside
 
-end_edge_by : (leaves k m : ℕ) (b : Bool) → nat_lt (m + 1) (nodes_above (level_nodes leaves (suc k))) ≡ b → 2 ≤ level_nodes leaves (suc k)
+pub end_edge_by : (leaves k m : ℕ) (b : Bool) → nat_lt (m + 1) (nodes_above (level_nodes leaves (suc k))) ≡ b → 2 ≤ level_nodes leaves (suc k)
     → edge leaves (suc (suc k)) (m + 1) ≡ edge leaves (suc k) (cond b (first_child (level_nodes leaves (suc k)) (m + 1)) (level_nodes leaves (suc k)))
 end_edge_by leaves k m true is many =
     let lt : m + 1 < nodes_above (level_nodes leaves (suc k)) = grind (arith, nat_tests, is) in
@@ -100,7 +97,7 @@ end_edge_by leaves k m false is many =
     let past : nodes_above (level_nodes leaves (suc k)) ≤ m + 1 = grind (arith, nat_tests, is) in
     edge_out leaves (suc (suc k)) (m + 1) past ∙ sym (edge_out leaves (suc k) (level_nodes leaves (suc k)) (omega arith))
 
-one_leaf_by : (leaves m : ℕ) (b : Bool) → nat_lt (m + 1) leaves ≡ b → m < leaves → cond b (m + 1) leaves ≡ m + 1
+pub one_leaf_by : (leaves m : ℕ) (b : Bool) → nat_lt (m + 1) leaves ≡ b → m < leaves → cond b (m + 1) leaves ≡ m + 1
 one_leaf_by leaves m true is lt = refl
 one_leaf_by leaves m false is lt = let past : leaves ≤ m + 1 = grind (arith, nat_tests, is) in omega (arith, past, lt)
 
@@ -137,7 +134,7 @@ module _ (s : Shape) where
       (subst (λ (a : ℕ). Covers s (laid_events s (suc (suc k)) m holder) a (edge count (suc k) (first + total))) (sym here)
       (record { items = rows.items; rises = rows.rises }))
 
-first_leaf_zero : (leaves level : ℕ) → first_leaf leaves level 0 ≡ 0
+pub first_leaf_zero : (leaves level : ℕ) → first_leaf leaves level 0 ≡ 0
 first_leaf_zero leaves zero = refl
 first_leaf_zero leaves (suc zero) = refl
 first_leaf_zero leaves (suc (suc level)) =
@@ -156,9 +153,9 @@ one_at_root zero leaves level low few = few
 one_at_root (suc levels) leaves level low few =
     one_by levels leaves level (nat_le (level_nodes leaves level) 1) refl
     (λ many.
-        let fewer : nodes_above (level_nodes leaves level) ≤ 170 ^ levels = omega (arith, few, pow-succ' 170 levels) in
-        subst (λ (n : ℕ). level_nodes leaves (root_from levels (level + 1) n) ≤ 1) (level_next leaves level low)
-        (one_at_root levels leaves (level + 1) (omega arith) (omega (arith, level_next leaves level low, fewer))))
+    let fewer : nodes_above (level_nodes leaves level) ≤ 170 ^ levels = omega (arith, few, pow-succ' 170 levels) in
+    subst (λ (n : ℕ). level_nodes leaves (root_from levels (level + 1) n) ≤ 1) (level_next leaves level low)
+    (one_at_root levels leaves (level + 1) (omega arith) (omega (arith, level_next leaves level low, fewer))))
 
 pub one_root : (s : Shape) → length s.names ≤ 4000 → level_nodes (length (leaves s)) (root_level (length (leaves s))) ≡ 1
 unfolding root_level
@@ -182,7 +179,7 @@ root_items s holder few =
     ∙ ap (λ n. flat_map (leaf_items s) (range_with_len 0 n)) (let whole : count - 0 ≡ count = omega arith in whole)
 
 -- all items of leaves
-abbrev joined : List (List parts.Item) → List parts.Item
+abbrev pub joined : List (List parts.Item) → List parts.Item
 joined [] = []
 joined (leaf ∷ more) = leaf ++ joined more
 
@@ -199,11 +196,11 @@ packed_joined leaf room (x ∷ xs) =
     (packed_joined (leaf ++ x ∷ []) (room - taken_by x) xs ∙ append_assoc leaf (x ∷ []) xs)
     (packed_joined (x ∷ []) (node_room - taken_by x) xs)
 
-leaves_joined : (xs : List parts.Item) → joined (leaves_of xs) ≡ xs
+pub leaves_joined : (xs : List parts.Item) → joined (leaves_of xs) ≡ xs
 leaves_joined [] = refl
 leaves_joined (x ∷ xs) = packed_joined (x ∷ []) (node_room - taken_by x) xs
 
-map_split : {X Y : Type 0} (f : X → Y) (xs ys : List X) → map f (xs ++ ys) ≡ map f xs ++ map f ys
+pub map_split : {X Y : Type 0} (f : X → Y) (xs ys : List X) → map f (xs ++ ys) ≡ map f xs ++ map f ys
 map_split f [] ys = refl
 map_split f (x ∷ xs) ys = ap (λ z. f x ∷ z) (map_split f xs ys)
 

@@ -1,5 +1,5 @@
 -- Which rules of trees a sample keeps.
-use Rattle.std.proofs.Common.{Bool, ◌≡◌, ◌≢◌, ◌⊎◌, inl, inr, ℕ, zero, suc, ◌+◌, ◌≤◌, ◌<◌, List, [], ◌∷◌, ◌++◌, length, map, refl, sym, ◌∙◌, ap, subst, arith, All}
+use Rattle.std.proofs.Common.{Bool, ◌≡◌, inl, inr, ℕ, zero, suc, ◌+◌, ◌≤◌, ◌<◌, List, [], ◌∷◌, ◌++◌, length, map, refl, sym, ◌∙◌, ap, subst, arith, All}
 use Rattle.std.specs.List.{range_with_len, flat_map}
 use Rattle.outside.specs.History.{Image, block_at}
 use Rattle.reiser_make.specs.Inner.{node_place, leaf_at, level_nodes, root_level, first_child, child_count}
@@ -11,9 +11,9 @@ use Rattle.reiser_make.specs.declared.item.Item as parts
 use Rattle.reiser_make.proofs.Counting.{leaves_some}
 use Rattle.reiser_make.proofs.Rising.{root_low, nodes_some}
 use Rattle.reiser_node.specs.declared.head.ItemHead.{ItemHead}
-use Rattle.reiser_walk.specs.Items.{Item, Event, node, item, pointer, item_events, held_by, blocks_named}
+use Rattle.reiser_walk.specs.Items.{Item, Event, pointer, item_events, held_by, blocks_named}
 use Rattle.reiser_walk.specs.Laws.{IsNode, FitsHead}
-use Rattle.reiser_walk.specs.Tree.{Visit, visits_in, items_in, items_of}
+use Rattle.reiser_walk.specs.Tree.{Visit, visits_in}
 use Rattle.reiser_walk.specs.declared.pointer.Pointer.{Pointer}
 use Rattle.reiser_walk.proofs.Events.{visits_in-append}
 use Rattle.reiser_walk.proofs.Lists.{Each, all_from_each}
@@ -21,9 +21,9 @@ use Rattle.sample_laws.proofs.Held.{leaf_held, many_nodes, HasChildren, has_chil
 use Rattle.sample_laws.proofs.Items.{samples_items}
 use Rattle.sample_laws.proofs.Walked.{names_children, samples_walked}
 use Rattle.sample_laws.proofs.Writable.{AreGood, sample_good}
-use Rattle.sample_laws.specs.Laws.{Fits, made, superblock, used_of}
-use Rattle.sample_laws.specs.Nodes.{ReadsAs, NamesChildren}
-use Rattle.sample_laws.specs.Walk.{leaf_items, laid_events, tree_of, content, laid_content, SamplesKeepGrammar, SamplesFitTheirHeads}
+use Rattle.sample_laws.specs.Laws.{Fits, made}
+use Rattle.sample_laws.specs.Nodes.{ReadsAs}
+use Rattle.sample_laws.specs.Walk.{leaf_items, laid_events, content, laid_content, SamplesKeepGrammar, SamplesFitTheirHeads}
 
 each_append : {X : Type 0} (P : X → Type 0) (xs ys : List X) → Each P xs → Each P ys → Each P (xs ++ ys)
 each_append P [] ys first second = second
@@ -71,10 +71,11 @@ module _ (number : ℕ) (old : Bool) (blocks : ℕ) (image : Image) (fits : Fits
       let block : ℕ = node_place s (suc (suc k)) m in
       let many : 1 < n = many_nodes count (suc k) (omega arith) (omega (arith, high)) in
       let has : HasChildren n m = has_children n m (omega (arith, many)) lt in
-      let named = names_children number old blocks image fits k m high lt in
-      (inr ((λ is. omega (arith, is)), named.inner),
-      rows_on_grammar (λ c. laid_events s (suc k) c block) (first_child n m) (child_count n m)
-      (λ c low_c high_c. on_grammar (suc k) c block (omega arith) (omega (arith, high)) (omega (arith, high_c, has.within))))
+      let named = names_children number old blocks image fits k m high lt in (
+        inr ((λ is. omega (arith, is)), named.inner),
+        rows_on_grammar (λ c. laid_events s (suc k) c block) (first_child n m) (child_count n m)
+            (λ c low_c high_c. on_grammar (suc k) c block (omega arith) (omega (arith, high)) (omega (arith, high_c, has.within))),
+      )
 
   all_on_grammar : Each OnGrammar (visits_in (laid_events s (root_level count) 0 16))
   all_on_grammar = on_grammar (root_level count) 0 16 (root_low count) (omega arith) (omega (arith, nodes_some count (root_level count) (leaves_some s)))

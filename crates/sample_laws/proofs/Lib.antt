@@ -1,5 +1,7 @@
+pub mod Ascending
 pub mod Blocks
 pub mod Cleanness
+pub mod Data
 pub mod Heads
 pub mod Held
 pub mod Items
@@ -9,6 +11,8 @@ pub mod Leaves
 pub mod Marked
 pub mod Nodes
 pub mod Places
+pub mod Reached
 pub mod Small
+pub mod Sound
 pub mod Walked
 pub mod Writable

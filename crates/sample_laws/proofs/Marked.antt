@@ -90,7 +90,7 @@ or_false false b is = is
 inside_marked : (end blocks b : ℕ) → b < blocks → maps.is_marked end blocks b ≡ is_taken end b
 inside_marked end blocks b low = or_false (is_taken end b) (nat_le blocks b) (grind (arith, nat_tests, low))
 
-block_later : (k : ℕ) → 1 ≤ k → bitmap_block k ≡ 32768 * k
+pub block_later : (k : ℕ) → 1 ≤ k → bitmap_block k ≡ 32768 * k
 block_later k later = ap (λ (b : Bool). cond b 17 (32768 * k)) (ne_eqb k 0 (λ is. omega (arith, is, later)))
 
 module _ (s : Shape) (blocks : ℕ) (image : Image) (enough : needed s ≤ blocks) (inside : blocks ≤ length image) where
@@ -122,7 +122,7 @@ or_true : (a b : Bool) → b ≡ true → (a || b) ≡ true
 or_true true b is = refl
 or_true false b is = is
 
-taken_low : (end b : ℕ) → b < end → is_taken end b ≡ true
+pub taken_low : (end b : ℕ) → b < end → is_taken end b ≡ true
 taken_low end b low = grind (arith, nat_tests, low)
 
 taken_whole : (end b : ℕ) → b % 32768 ≡ 0 → is_taken end b ≡ true

@@ -82,11 +82,11 @@ place_rises : (i j : ℕ) → i < j → place i ≢ place j
 unfolding place
 place_rises i j lt = λ same. omega (arith, lt, same)
 
-place_behind : (b j : ℕ) → b < 8211 → b ≢ place j
+pub place_behind : (b j : ℕ) → b < 8211 → b ≢ place j
 unfolding place
 place_behind b j low = λ same. omega (arith, low, same)
 
-place_no_map : (j k : ℕ) → place j ≢ 32768 * k
+pub place_no_map : (j k : ℕ) → place j ≢ 32768 * k
 unfolding place
 place_no_map j k = λ same. omega (arith, same)
 
@@ -119,11 +119,11 @@ data_climbs s i (File whole rest sparse) =
     climbs_row (data_placed s i sparse) 0 (stored_of whole sparse) (stored_before s.names i)
     (λ k low high. ap (λ n. place (stored_before s.names i + n)) (let same : k ≡ k - 0 = omega arith in same))
 
-stored_next : (names : List Content) (i : ℕ) (d : Content) → i < length names → stored_before names i + stored_blocks (get_or names i d) ≡ stored_before names (i + 1)
+pub stored_next : (names : List Content) (i : ℕ) (d : Content) → i < length names → stored_before names i + stored_blocks (get_or names i d) ≡ stored_before names (i + 1)
 stored_next names i d lt =
     sym (ap (sum_by stored_blocks) (take_more names i d lt) ∙ sum_by-append stored_blocks (take i names) (get_or names i d ∷ []) ∙ omega arith)
 
-stored_end : (names : List Content) → stored_before names (0 + length names) ≡ stored_in names
+pub stored_end : (names : List Content) → stored_before names (0 + length names) ≡ stored_in names
 stored_end names = ap (sum_by stored_blocks) (ap (λ n. take n names) (let same : 0 + length names ≡ length names = omega arith in same) ∙ take-length names)
 
 data_all : (s : Shape) → Climbs 0 (stored_in s.names) (data_part s)
@@ -132,7 +132,7 @@ data_all s =
     (climbs_rows (data_of_name s) (stored_before s.names) 0 (length s.names)
     (λ i low high. subst (λ (h : ℕ). Climbs (stored_before s.names i) h (data_of_name s i)) (stored_next s.names i Name (omega (arith, high))) (data_climbs s i (slice_index_or s.names i Name))))
 
-below_next : (leaves k : ℕ) → 1 ≤ k → nodes_below leaves (k + 1) ≡ nodes_below leaves k + level_nodes leaves k
+pub below_next : (leaves k : ℕ) → 1 ≤ k → nodes_below leaves (k + 1) ≡ nodes_below leaves k + level_nodes leaves k
 below_next leaves zero low = absurd (omega (arith, low))
 below_next leaves (suc k) low = ap (nodes_below leaves) (let next : suc k + 1 ≡ suc (suc k) = omega arith in next)
 

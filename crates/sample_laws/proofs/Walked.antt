@@ -1,14 +1,13 @@
 -- A walk of a sample meets the nodes of its layout.
-use Rattle.std.proofs.Common.{◌≡◌, ℕ, zero, suc, ◌+◌, ◌-◌, ◌*◌, ◌^◌, ◌≤◌, ◌<◌, Bool, true, false, cond, ◌&&◌, List, [], ◌∷◌, ◌++◌, length, map, drop, get_or, refl, sym, ◌∙◌, ap, subst, arith, Some}
-use Rattle.std.specs.Prelude.{Option, nat_lt}
+use Rattle.std.proofs.Common.{◌≡◌, ℕ, zero, suc, ◌+◌, ◌-◌, ◌≤◌, ◌<◌, Bool, true, false, cond, ◌&&◌, List, [], ◌∷◌, ◌++◌, length, map, drop, get_or, refl, sym, ◌∙◌, ap, subst, arith, Some}
+use Rattle.std.specs.Prelude.{nat_lt}
 use Rattle.std.specs.List.{range_with_len, flat_map}
 use Rattle.std.proofs.Math.Seq.{drop-cons, drop-length}
 use Rattle.std.proofs.lemmas.Bool.Decides.{nat_tests}
 use Rattle.std.proofs.lemmas.List.FromFn.{get_or-map-range_with_len, length-map-range_with_len}
 use Rattle.outside.specs.History.{Image, block_at}
 use Rattle.reiser_bitmap.specs.Layout.{is_marked}
-use Rattle.reiser_make.specs.Inner.{needed, node_place, leaf_at, level_nodes, root_level, first_child, child_count, child, children, nodes_above}
-use Rattle.reiser_make.specs.Items.{body_bytes}
+use Rattle.reiser_make.specs.Inner.{needed, node_place, leaf_at, level_nodes, root_level, first_child, child_count, child, children}
 use Rattle.reiser_make.specs.Leaf.{leaves}
 use Rattle.reiser_make.specs.Shape.{Shape, shape}
 use Rattle.reiser_make.specs.declared.inner.Child.{Child}
@@ -16,17 +15,13 @@ use Rattle.reiser_make.specs.declared.item.Item as parts
 use Rattle.reiser_make.proofs.Placed.{node_below}
 use Rattle.reiser_make.proofs.Rising.{root_low, nodes_some}
 use Rattle.reiser_make.proofs.Counting.{leaves_some}
-use Rattle.reiser_node.specs.Head.{head_at}
 use Rattle.reiser_node.specs.Inner.{is_inner, child_at}
-use Rattle.reiser_node.specs.Inner as grammar
-use Rattle.reiser_node.specs.Leaf.{count, head_place, body_at, is_leaf}
-use Rattle.reiser_node.specs.declared.head.ItemHead.{ItemHead}
+use Rattle.reiser_node.specs.Leaf.{count, is_leaf}
 use Rattle.reiser_node.proofs.Grammar.{leaf_decides, inner_decides}
-use Rattle.reiser_super.specs.declared.superblock.Super.{Super}
-use Rattle.reiser_walk.specs.Items.{Item, Event, node, item_events, item_at, item_of, events_of, leaf_events}
+use Rattle.reiser_walk.specs.Items.{Event, node, item_events, item_at, item_of, events_of, leaf_events}
 use Rattle.reiser_walk.specs.Tree.{node_events, at_children, tree_events}
 use Rattle.sample_laws.proofs.Cleanness.{HasFields, super_made}
-use Rattle.sample_laws.proofs.Held.{leaf_held, inner_held, many_nodes, HasChildren, has_children, level_next}
+use Rattle.sample_laws.proofs.Held.{leaf_held, inner_held, many_nodes, HasChildren, has_children}
 use Rattle.sample_laws.specs.Laws.{Fits, made, superblock, used_of}
 use Rattle.sample_laws.specs.Nodes.{ReadsAs, NamesChildren}
 use Rattle.sample_laws.specs.Walk.{met, leaf_items, laid_events, tree_of, SamplesAreWalked}
@@ -119,9 +114,9 @@ module _ (number : ℕ) (old : Bool) (blocks : ℕ) (image : Image) (fits : Fits
       let size : length (children s (suc k) m) ≡ total = length-map-range_with_len (child s (suc k)) first total in
       let below : (j : ℕ) → j < total → node_events volume blocks (suc k) b (child_at bytes j) ≡ laid_events s (suc k) (first + j) b =
       λ j low_j.
-          let d : Child = child s (suc k) 0 in
-          ap (node_events volume blocks (suc k) b) (named.blocks j d (omega (arith, low_j, size)) ∙ ap (λ c. c.block) (get_or-map-range_with_len (child s (suc k)) first total j (first + j) d low_j refl) ∙ child_block s (suc k) (first + j))
-          ∙ walk_is (suc k) (first + j) b (omega arith) (omega (arith, high)) (omega (arith, low_j, has.within)) in
+      let d : Child = child s (suc k) 0 in
+      ap (node_events volume blocks (suc k) b) (named.blocks j d (omega (arith, low_j, size)) ∙ ap (λ c. c.block) (get_or-map-range_with_len (child s (suc k)) first total j (first + j) d low_j refl) ∙ child_block s (suc k) (first + j))
+      ∙ walk_is (suc k) (first + j) b (omega arith) (omega (arith, high)) (omega (arith, low_j, has.within)) in
       ap (λ z. node (record { block = b; holder = holder }) (suc (suc k)) ∷ z)
       (opened (nat_lt b blocks) (is_inner (suc (suc k)) bytes) _ [] (inside (suc (suc k)) m low high lt) ((inner_decides (suc (suc k)) bytes).1 named.inner)
       ∙ ap (at_children (node_events volume blocks (suc k) b) bytes 0) (named.count ∙ size)

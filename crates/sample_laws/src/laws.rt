@@ -1,6 +1,6 @@
 ghost use Rattle.sample_laws.specs.Laws.{SamplesAreClean, SamplesMarkUsed, SamplesMarkSystem, SamplesHoldTheirBlocks};
 ghost use Rattle.sample_laws.specs.Nodes.{LeavesReadBack, InnerNodesReadBack, SampleLeavesReadBack, SampleInnerNodesReadBack};
-ghost use Rattle.sample_laws.specs.Walk.{SamplesAreWalked, SamplesHoldTheirItems, SamplesKeepGrammar, SamplesFitTheirHeads};
+ghost use Rattle.sample_laws.specs.Walk.{SamplesAreWalked, SamplesHoldTheirItems, SamplesKeepGrammar, SamplesFitTheirHeads, SamplesAscend, SamplesKeepTreeRules, SampleTreesAreSound, SamplesAreInOrder};
 
 /// The superblock of a sample is that of a clean volume, and no transaction waits in its journal.
 pub fn samples_are_clean()
@@ -60,4 +60,25 @@ pub fn samples_keep_grammar()
 /// Each body of an item of a sample fits its head.
 pub fn samples_fit_their_heads()
     ensures { SamplesFitTheirHeads }
+{}
+
+/// The items of a sample ascend.
+pub fn samples_ascend()
+    ensures { SamplesAscend }
+{}
+
+/// A sample keeps each rule of trees: what a walk reaches lies in the volume, is used, is none of its own blocks, and is
+/// reached once.
+pub fn samples_keep_tree_rules()
+    ensures { SamplesKeepTreeRules }
+{}
+
+/// Nothing is wrong with the tree of a sample.
+pub fn sample_trees_are_sound()
+    ensures { SampleTreesAreSound }
+{}
+
+/// A sample is in order as far as its tree: superblock and journal, the bitmap, and the tree.
+pub fn samples_are_in_order()
+    ensures { SamplesAreInOrder }
 {}

@@ -12,15 +12,15 @@ use std::process::Abort;
 use std::test::Fail;
 use vol_block::Block;
 
-/// Number, version, free blocks, root and height of a sample in 12,288 blocks, as another program has them that makes volumes
+/// Number, version, used blocks, root and height of a sample in 12,288 blocks, as another program has them that makes volumes
 /// by the same description.
-const SAMPLES: [(u32, bool, u32, u64, u16); 6] = [
-    (0, false, 4076, 8211, 2),
-    (0, true, 4076, 8211, 2),
-    (1, false, 4073, 8214, 2),
-    (7, true, 4040, 8247, 3),
-    (100, false, 3717, 8570, 3),
-    (100, true, 3717, 8570, 3),
+const SAMPLES: [(u32, bool, u64, u64, u16); 6] = [
+    (0, false, 8212, 8211, 2),
+    (0, true, 8212, 8211, 2),
+    (1, false, 8215, 8214, 2),
+    (7, true, 8248, 8247, 3),
+    (100, false, 8571, 8570, 3),
+    (100, true, 8571, 8570, 3),
 ];
 
 /// The sample of a number in 12,288 blocks, open.
@@ -60,7 +60,7 @@ fn used_of_clean(alloc: Global, disk: &mut MemDisk, volume: &Super) -> Option<u6
 
 #[test]
 fn samples_are_clean_and_mark_what_they_use(rt: HostRuntime) -> Result<(), Fail> {
-    for (number, old, free, root, height) in SAMPLES {
+    for (number, old, used, root, height) in SAMPLES {
         if number > 4000 {
             break;
         }
@@ -73,10 +73,10 @@ fn samples_are_clean_and_mark_what_they_use(rt: HostRuntime) -> Result<(), Fail>
             return Err(Fail::new("refused"));
         };
         assert_eq!(rt; volume.blocks, 12288);
-        assert_eq!(rt; volume.free, free);
+        assert_eq!(rt; u64::from(volume.free).checked_add(used), Some(12288));
         assert_eq!(rt; volume.root, root);
         assert_eq!(rt; volume.height, height);
-        assert_eq!(rt; used_of_clean(rt.alloc(), &mut disk, &volume), Some(12288 - free as u64));
+        assert_eq!(rt; used_of_clean(rt.alloc(), &mut disk, &volume), Some(used));
     }
     Ok(())
 }

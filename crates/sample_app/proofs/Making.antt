@@ -1,0 +1,22 @@
+-- What a disk holds behind a make and a sync.
+use Rattle.std.proofs.Common.{◌≡◌, ◌^◌, ◌≤◌, length, sym, subst}
+use Rattle.outside.specs.History.{History, reads, after, synced, IsSettled}
+use Rattle.sample_laws.specs.Laws.{Fits}
+use Rattle.sample_laws.specs.Walk.{IsInOrder}
+use Rattle.sample_laws.proofs.Sound.{in_order}
+use Rattle.sample_app.specs.Order.{Ordered}
+use Rattle.sample_app.specs.Outcome.{needed_by, HasSample, IsMade}
+
+synced_settled : (h : History) → IsSettled (after synced h)
+synced_settled h = λ b bytes waits. waits
+
+pub made_whole : (o : Ordered) (old mid new : History) → o.number ≤ 4000 → o.blocks ≤ 2 ^ 29 → needed_by o ≤ o.blocks → o.blocks ≤ length (reads old) → HasSample o (reads old) (reads mid) → new ≡ after synced mid
+    → IsMade o old new
+made_whole o old mid new few most enough inside has settled =
+    let fits : Fits o.number o.old o.blocks (reads old) = record { number_low = few; needed_low = enough; blocks_low = most; inside = inside } in
+    subst (IsMade o old) (sym settled)
+    (record {
+      written = has;
+      settled = synced_settled mid;
+      in_order = subst IsInOrder (sym has) (in_order o.number o.old o.blocks (reads old) fits);
+    })
