@@ -12,3 +12,4 @@ pub mod Seeing
 pub mod Sums
 pub mod Tabling
 pub mod Uniqueness
+pub mod Unchanged
