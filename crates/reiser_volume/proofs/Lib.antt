@@ -7,9 +7,11 @@ pub mod Crowding
 pub mod Eaches
 pub mod Extending
 pub mod Lists
+pub mod Reached
 pub mod Refusals
+pub mod SameRows
 pub mod Seeing
 pub mod Sums
 pub mod Tabling
-pub mod Uniqueness
 pub mod Unchanged
+pub mod Uniqueness

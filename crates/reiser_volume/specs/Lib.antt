@@ -1,6 +1,5 @@
 pub mod Again
 pub mod Answers
-pub mod Bytes
 pub mod Counts
 pub mod Crowds
 pub mod Extended

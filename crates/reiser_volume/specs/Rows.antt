@@ -1,10 +1,10 @@
 -- The rows of a ReiserFS volume.
-use Rattle.std.specs.Prelude.{◌≡◌, ◌↔◌, ◌≢◌, ℕ, ◌+◌, ◌*◌, ◌/◌, ◌%◌, ◌^◌, ◌==◌, pos, Bool, true, false, not, ◌&&◌, ◌||◌, List, [], ◌∷◌, Option, Some, Contains, count_by, if◌then◌else◌}
+use Rattle.std.specs.Prelude.{◌≡◌, ℕ, ◌+◌, ◌*◌, ◌/◌, ◌%◌, ◌^◌, ◌==◌, pos, Bool, true, false, not, ◌&&◌, ◌||◌, List, [], ◌∷◌, Some, Contains, if◌then◌else◌}
 use Rattle.std.specs.Int.{bit_at}
 use Rattle.std.specs.Ordering.{is_le}
 use Rattle.outside.specs.History.{Image}
-use Rattle.reiser_items.specs.declared.stat.StatData.{StatData}
 use Rattle.reiser_walk.specs.Items.{Item}
+use Rattle.reiser_files.specs.Bytes.{file_bytes}
 use Rattle.fs_rows.specs.Rows.{NameList, WholeRow, AscendsByPath, path_cmp, name_count}
 use Rattle.fs_rows.specs.declared.row.Kind.{Kind}
 use Rattle.fs_rows.specs.declared.row.Kind.TheVariants.{Directory, File, Symlink, Character, Block, Fifo, Socket, Subvolume}
@@ -13,9 +13,8 @@ use Rattle.reiser_objects.specs.declared.key.ObjectKey.{ObjectKey}
 use Rattle.reiser_objects.specs.declared.naming.Naming.{Naming}
 use Rattle.reiser_objects.specs.declared.stat.ObjectStat.{ObjectStat}
 use Rattle.reiser_objects.specs.Items.{stat_of_object}
-use Rattle.reiser_objects.specs.Keys.{root}
+use Rattle.reiser_objects.specs.Keys.{root, items_of}
 use Rattle.reiser_objects.specs.Kinds.{kind_of_mode, is_directory, is_file, is_symlink}
-use Rattle.reiser_volume.specs.Bytes.{file_bytes}
 use Rattle.reiser_volume.specs.Links.{AreLinks}
 
 -- from one object to another by the names of a path
@@ -79,7 +78,7 @@ pub record IsRow (image : Image) (flags : ℕ) (items : List Item) (links : List
   pub fields : HasStat flags stat row
   pub least : IsLeastPath links key row.least
   pub names : row.names ≡ (if is_directory row.kind then 0 else name_count rows row.least)
-  pub bytes : row.bytes ≡ (if is_file row.kind || is_symlink row.kind then file_bytes image items key stat.fields.size else [])
+  pub bytes : row.bytes ≡ (if is_file row.kind || is_symlink row.kind then file_bytes image (items_of key items) stat.fields.size else [])
 
 -- The rows, which ascend by path: one for each path of a named object, and no others.
 pub record AreReiserRows (image : Image) (flags : ℕ) (items : List Item) (rows : List WholeRow) : Type 0 where
