@@ -14,6 +14,7 @@ mod stat;
 mod table;
 
 pub use key::ObjectKey;
+pub use kinds::kind_of_mode;
 pub use laws::refusals_break_rules;
 pub use leaves::LeafList;
 pub use naming::Naming;

@@ -1,5 +1,5 @@
 -- The directories that were seen, with one more link.
-use Rattle.std.proofs.Common.{◌≡◌, ◌≢◌, ℕ, ◌+◌, ◌<◌, Bool, true, false, not, ◌&&◌, ◌||◌, List, [], ◌∷◌, ◌++◌, length, get_or, Contains, AllPairs, refl, sym, ap, subst, ◌∙◌, true≢false, arith}
+use Rattle.std.proofs.Common.{◌≡◌, Bool, true, false, ◌&&◌, ◌||◌, List, [], ◌∷◌, ◌++◌, get_or, refl, sym, ap, ◌∙◌, true≢false, arith}
 use Rattle.std.specs.List.{list_any}
 use Rattle.std.proofs.lemmas.List.Folds.{list_any-append, list_any_at, Any-from_list_any}
 use Rattle.std.proofs.lemmas.List.Quantifiers.{all_pairs_push}
@@ -13,7 +13,7 @@ use Rattle.reiser_objects.specs.declared.key.ObjectKey.{ObjectKey}
 use Rattle.reiser_objects.specs.declared.naming.Naming.{Naming}
 use Rattle.reiser_objects.specs.Items.{is_directory_at}
 use Rattle.reiser_objects.specs.Keys.{same_key}
-use Rattle.reiser_objects.proofs.Tables.{same_key-true, same_key-self, and_left, and_right}
+use Rattle.reiser_objects.proofs.Tables.{same_key-true, same_key-self, and_right}
 use Rattle.reiser_volume.specs.Again.{names_directory, NamesAnother, HasDirectories, BlamesAgain}
 use Rattle.reiser_volume.proofs.Seeing.{in_more, or_swap}
 

@@ -1,7 +1,5 @@
 -- The looks at names together: all the rules are kept, or one is named that fails.
-use Rattle.std.proofs.Common.{◌≡◌, ◌≢◌, ◌↔◌, ℕ, suc, ◌+◌, ◌/◌, ◌^◌, ◌<◌, ◌≤◌, ◌==◌, Bool, true, false, not, ◌&&◌, ◌||◌, List, [], ◌∷◌, ◌++◌, length, filter, codes, get_or, Option, Some, None, is_some, Contains, AllPairs, refl, sym, ap, subst, ◌∙◌, true≢false, if◌then◌else◌, arith}
-use Rattle.std.specs.List.{list_any}
-use Rattle.std.specs.Bool.{Decides}
+use Rattle.std.proofs.Common.{◌≡◌, ℕ, suc, ◌/◌, ◌^◌, ◌<◌, ◌≤◌, ◌==◌, Bool, true, false, not, ◌&&◌, ◌||◌, List, [], filter, get_or, Some, None, is_some, Contains, AllPairs, refl, sym, ap, subst, ◌∙◌, true≢false, if◌then◌else◌}
 use Rattle.std.proofs.lemmas.Bool.{eqb-true}
 use Rattle.std.proofs.lemmas.List.Folds.{list_any_at, Any-from_list_any}
 use Rattle.std.proofs.lemmas.Map.Made.{AllPairs-from_IsDistinct}
@@ -9,20 +7,18 @@ use Rattle.indexmap.specs.IndexSet.{IndexSet, contains, IsUnique}
 use Rattle.outside.specs.declared.answer.VolAnswer.{VolAnswer}
 use Rattle.outside.specs.declared.answer.VolAnswer.TheVariants.{Refused, Fault, Memory}
 use Rattle.outside.specs.declared.refusal.VolumeRefusal.{VolumeRefusal}
-use Rattle.fs_rows.specs.declared.row.Kind.{Kind}
 use Rattle.fs_rows.specs.declared.row.Kind.TheVariants.{Directory, File, Symlink, Character, Block, Fifo, Socket}
 use Rattle.reiser_items.specs.Entries.{are_entries}
 use Rattle.reiser_walk.specs.Items.{Item}
 use Rattle.reiser_objects.specs.declared.key.ObjectKey.{ObjectKey}
 use Rattle.reiser_objects.specs.declared.naming.Naming.{Naming}
-use Rattle.reiser_objects.specs.declared.stat.ObjectStat.{ObjectStat}
 use Rattle.reiser_objects.specs.Items.{stat_of_object, is_directory_at}
-use Rattle.reiser_objects.specs.Keys.{same_key, key_of, items_of, root}
-use Rattle.reiser_objects.specs.Kinds.{kind_of_code, kind_of_mode}
-use Rattle.reiser_objects.specs.Names.{namings, followed, is_followed, IsNamed}
+use Rattle.reiser_objects.specs.Keys.{same_key, key_of, items_of}
+use Rattle.reiser_objects.specs.Kinds.{kind_of_code}
+use Rattle.reiser_objects.specs.Names.{namings, is_followed, IsNamed}
 use Rattle.reiser_objects.specs.Reach.{Keys, IsReach}
 use Rattle.reiser_objects.specs.Rules.{IsDirectory}
-use Rattle.reiser_objects.specs.Summary.{has_entries, has_form}
+use Rattle.reiser_objects.specs.Summary.{has_entries}
 use Rattle.reiser_objects.proofs.Checking.{directory_tested, directory_passes}
 use Rattle.reiser_objects.proofs.Reaching.{Contains-filter, from_filter}
 use Rattle.reiser_objects.proofs.Tables.{same_key-true, same_key-self}
@@ -31,7 +27,7 @@ use Rattle.reiser_volume.specs.Counts.{names_of, is_counted, BlamesCount}
 use Rattle.reiser_volume.specs.Crowds.{BlamesCrowd}
 use Rattle.reiser_volume.specs.Extended.{BlamesExtended}
 use Rattle.reiser_volume.specs.Links.{AreLinks, AreNamedKeys}
-use Rattle.reiser_volume.specs.Names.{AreNames, KeepsNames, BreaksNames, IsNamesRefusal, crowd_of, extended, extended_crowd_of, is_name, off_form, bad_name, attributes, long_name, long_target, twice, directory_twice, root_named, taken, too_many, crowd, extended_crowd}
+use Rattle.reiser_volume.specs.Names.{AreNames, BreaksNames, IsNamesRefusal, crowd_of, extended, extended_crowd_of, off_form, bad_name, attributes, long_name, long_target, twice, directory_twice, root_named, taken, too_many, crowd, extended_crowd}
 use Rattle.reiser_volume.specs.Once.{DifferInName, BlamesTwice}
 use Rattle.reiser_volume.specs.Passes as pass
 use Rattle.reiser_volume.specs.Passes.{is_link, link_list, IsGoodName, BlamesName, HasForms, BlamesObject, is_symlink_mode}

@@ -1,9 +1,8 @@
 -- The private directory: what makes it hold an attribute, and that it holds none.
-use Rattle.std.proofs.Common.{◌≡◌, ◌≢◌, ℕ, zero, suc, ◌+◌, ◌<◌, ◌≤◌, Bool, true, false, not, ◌||◌, List, [], ◌∷◌, ◌++◌, length, filter, codes, get_or, Option, Some, None, Contains, ◌⊎◌, inl, inr, ⊎_elim, refl, sym, ap, subst, ◌∙◌, true≢false, length-append, if◌then◌else◌, arith}
-use Rattle.std.proofs.lemmas.List.Elements.{Contains-append_left, Contains-append_right, Contains-append_cases, Contains-push, Contains-push_cases}
+use Rattle.std.proofs.Common.{◌≡◌, ℕ, zero, suc, Bool, true, false, not, ◌||◌, List, [], ◌∷◌, ◌++◌, length, filter, Some, None, Contains, inl, inr, ⊎_elim, refl, sym, ap, subst, ◌∙◌, true≢false, length-append, if◌then◌else◌, arith}
+use Rattle.std.proofs.lemmas.List.Elements.{Contains-append_left, Contains-append_right, Contains-push, Contains-push_cases}
 use Rattle.outside.specs.declared.answer.VolAnswer.{VolAnswer}
 use Rattle.outside.specs.declared.answer.VolAnswer.TheVariants.{Refused, Fault, Memory}
-use Rattle.outside.specs.declared.refusal.VolumeRefusal.{VolumeRefusal}
 use Rattle.outside.specs.declared.refusal.VolumeRefusal.TheVariants.{HasAttributes}
 use Rattle.reiser_walk.specs.Items.{Item}
 use Rattle.reiser_objects.specs.declared.key.ObjectKey.{ObjectKey}
@@ -13,7 +12,7 @@ use Rattle.reiser_objects.specs.Names.{namings, is_followed}
 use Rattle.reiser_objects.specs.Reach.{Keys}
 use Rattle.reiser_objects.proofs.Tables.{same_key-true, same_key-self}
 use Rattle.reiser_objects.proofs.Reaching.{Contains-filter, from_filter}
-use Rattle.reiser_volume.specs.Private.{listing, IsReadable, IsEmpty, HoldsNoAttribute, HasNoAttributes, IsBelow, IsOnly, IsExtra, AreTargets, BlamesTargets, BlamesBelow, BlamesPrivate}
+use Rattle.reiser_volume.specs.Private.{listing, IsReadable, HoldsNoAttribute, HasNoAttributes, IsBelow, IsOnly, IsExtra, AreTargets, BlamesTargets, BlamesBelow, BlamesPrivate}
 
 -- nothing is kept where nothing passes
 none_kept : {X : Type 0} (p : X → Bool) (xs : List X) → ((x : X) → Contains xs x → p x ≡ false) → filter p xs ≡ []

@@ -1,7 +1,6 @@
 -- Results that are passed on.
-use Rattle.std.proofs.Common.{◌≡◌, ◌≤◌, List, Option, Some, None, Result, Ok, Err, true, sym, subst, ◌∙◌}
+use Rattle.std.proofs.Common.{◌≡◌, ◌≤◌, List, Some, None, Result, Ok, Err, true, sym, subst, ◌∙◌}
 use Rattle.std.specs.Result.{MatchResult, OnOk, IfOk, IfErr}
-use Rattle.outside.specs.declared.refusal.VolumeRefusal.{VolumeRefusal}
 use Rattle.reiser_walk.specs.Items.{Item}
 use Rattle.reiser_objects.specs.declared.key.ObjectKey.{ObjectKey}
 use Rattle.reiser_objects.specs.declared.object.Object.{Object}
@@ -9,7 +8,7 @@ use Rattle.reiser_objects.specs.declared.stat.ObjectStat.{ObjectStat}
 use Rattle.reiser_objects.specs.Keys.{items_of}
 use Rattle.reiser_objects.specs.Summary.{Summarises}
 use Rattle.reiser_objects.proofs.Broken.{some_same}
-use Rattle.reiser_volume.specs.Passes.{HasForms, BlamesObject, BlamesTarget, is_symlink_mode, long_target}
+use Rattle.reiser_volume.specs.Passes.{HasForms, is_symlink_mode}
 
 pub passed_on : {T E : Type 0} (P Q : T → Type 0) (R S : E → Type 0) (r : Result T E) → MatchResult r P R → ((x : T) → P x → Q x) → ((e : E) → R e → S e) → MatchResult r Q S
 passed_on P Q R S (Ok x) h f g = f x h

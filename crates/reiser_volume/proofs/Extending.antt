@@ -1,6 +1,5 @@
 -- The sums of extended references, with one more name.
-use Rattle.std.proofs.Common.{◌≡◌, ℕ, ◌+◌, ◌-◌, ◌^◌, ◌<◌, ◌≤◌, ◌==◌, min, nat_lt, Bool, true, false, ◌&&◌, List, [], ◌∷◌, ◌++◌, length, filter, sum_by, unwrap_or, refl, sym, ap, subst, ◌∙◌, append_assoc, if◌then◌else◌, arith}
-use Rattle.std.specs.Map.{lookup}
+use Rattle.std.proofs.Common.{◌≡◌, ℕ, ◌+◌, ◌<◌, ◌≤◌, ◌==◌, nat_lt, Bool, true, false, ◌&&◌, List, [], ◌∷◌, ◌++◌, length, refl, sym, ap, subst, ◌∙◌, append_assoc, if◌then◌else◌, arith}
 use Rattle.std.proofs.lemmas.Bool.{lt-ltb, le-ltb}
 use Rattle.std.proofs.lemmas.List.{append-nil}
 use Rattle.outside.specs.declared.answer.VolAnswer.{VolAnswer}
@@ -10,12 +9,12 @@ use Rattle.castagnoli.specs.Castagnoli.{extref_hash}
 use Rattle.indexmap.specs.IndexMap.{IndexMap}
 use Rattle.reiser_objects.specs.declared.key.ObjectKey.{ObjectKey}
 use Rattle.reiser_objects.specs.declared.naming.Naming.{Naming}
-use Rattle.reiser_objects.specs.Keys.{same_key, root}
+use Rattle.reiser_objects.specs.Keys.{same_key}
 use Rattle.reiser_objects.proofs.Tables.{same_key-true, same_key-self, and_left, and_right}
 use Rattle.reiser_volume.specs.declared.crowd.Crowd.{Crowd}
 use Rattle.reiser_volume.specs.declared.extended.NamesIn.{NamesIn}
 use Rattle.reiser_volume.specs.Crowds.{same_crowd}
-use Rattle.reiser_volume.specs.Extended.{same_names, CountsExtended, Refers, BlamesExtended}
+use Rattle.reiser_volume.specs.Extended.{same_names, CountsExtended, BlamesExtended}
 use Rattle.reiser_volume.specs.Names.{inode_of, reference_size, extended, extended_sum}
 use Rattle.reiser_volume.specs.Tally.{tally, capped}
 use Rattle.reiser_volume.proofs.Crowding.{same_crowd-true, same_crowd-self}

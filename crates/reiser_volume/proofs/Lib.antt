@@ -6,9 +6,14 @@ pub mod Counting
 pub mod Crowding
 pub mod Eaches
 pub mod Extending
+pub mod Holding
+pub mod Leading
 pub mod Lists
+pub mod Numbering
+pub mod Placed
 pub mod Reached
 pub mod Refusals
+pub mod Rowed
 pub mod SameRows
 pub mod Seeing
 pub mod Sums

@@ -1,6 +1,6 @@
 -- What is refused of a volume, group by group, and that an accepted one is not refused.
-use Rattle.std.proofs.Common.{◌≡◌, ℕ, ◌≤◌, ◌<◌, ◌&&◌, Bool, true, false, cond, List, [], ◌∷◌, length, Option, Some, None, Contains, All, refl, sym, ap, subst, ◌∙◌, true≢false, arith}
-use Rattle.std.specs.Prelude.{nat_lt, Result, Ok, Err, IfErr}
+use Rattle.std.proofs.Common.{◌≡◌, ℕ, ◌≤◌, ◌&&◌, Bool, true, false, cond, List, [], ◌∷◌, length, Option, Some, None, Contains, All, refl, sym, ap, subst, ◌∙◌, true≢false, arith}
+use Rattle.std.specs.Prelude.{nat_lt, Result, Err, IfErr}
 use Rattle.std.proofs.lemmas.Bool.Decides.{nat_tests}
 use Rattle.std.proofs.lemmas.List.Elements.{All-cons, All-contains}
 use Rattle.std.proofs.lemmas.List.FromFn.{length-map-range_with_len}
@@ -22,14 +22,13 @@ use Rattle.reiser_super.specs.Journal.{IsClean, pending_transactions}
 use Rattle.reiser_super.specs.State.{IsPendingIn, IsJournalAnswer}
 use Rattle.reiser_super.proofs.Clean.{none_from_clean}
 use Rattle.reiser_bitmap.specs.Answers.{IsNoRefusal}
-use Rattle.reiser_walk.specs.declared.tree.Tree.{Tree}
-use Rattle.reiser_walk.specs.Answers.{IsTreeRule, IsTreeRefusal}
+use Rattle.reiser_walk.specs.Answers.{IsTreeRule}
 use Rattle.reiser_walk.specs.Rules.{tree_damages}
 use Rattle.reiser_walk.specs.Tree.{items_of}
 use Rattle.reiser_objects.specs.declared.table.Objects.{Objects}
 use Rattle.reiser_objects.specs.Table.{HasNoted}
 use Rattle.reiser_objects.specs.Read.{IsReadAnswer, BlamesTree}
-use Rattle.reiser_objects.specs.Reach.{Refuses, IsObjectsRule, IsObjectsAnswer, object_rules}
+use Rattle.reiser_objects.specs.Reach.{Refuses, IsObjectsAnswer, object_rules}
 use Rattle.reiser_objects.specs.Rules.{AreObjects, IsObjectsRefusal}
 use Rattle.reiser_objects.proofs.Broken as objects
 use Rattle.reiser_volume.specs.Answers.{IsVolumeRule, NamesVolumeRule, IsVolumeAnswer, IsVerdict, RefusesVolume, IsSuperOf, IsBitmapOf}

@@ -1,13 +1,12 @@
 -- The table of the named objects with their stat data.
 use Rattle.std.proofs.Common.{◌≡◌, ℕ, ◌+◌, ◌<◌, ◌==◌, Bool, true, false, cond, ◌&&◌, ◌||◌, List, [], ◌∷◌, ◌++◌, length, get_or, take, Option, Some, None, is_some, Contains, refl, sym, ap, subst, ◌∙◌, true≢false, if◌then◌else◌, add-one, arith}
 use Rattle.std.proofs.Math.Seq.{take-suc}
-use Rattle.std.specs.Prelude.{IsSome, slice_get, map, position}
+use Rattle.std.specs.Prelude.{IsSome, slice_get, position}
 use Rattle.std.specs.Option.{MatchOption, option_map}
-use Rattle.std.specs.Map.{keys_of}
 use Rattle.std.specs.Cmp.{IsTotalOrder, tied_then}
 use Rattle.std.specs.List.{list_any, dedup, dedup_from, IsDistinct}
 use Rattle.std.specs.List.Sorted.{IsSorted, IsStrictlySortedBy}
-use Rattle.std.specs.Ordering.{nat_cmp, on, is_eq}
+use Rattle.std.specs.Ordering.{nat_cmp, is_eq}
 use Rattle.std.proofs.lemmas.Bool.Decides.{nat_tests}
 use Rattle.std.proofs.lemmas.Cmp.{nat_cmp_total, on_total, then_total}
 use Rattle.std.proofs.lemmas.List.Folds.{list_any-append}
@@ -86,12 +85,12 @@ dedup_distinct (k ∷ ks) apart = dedup_apart k ks apart
 number_ties : (x y : ℕ) → (x == y) ≡ is_eq (nat_cmp x y)
 number_ties x y = grind (arith, nat_tests)
 
-object_ties : (a b : ObjectKey) → same_key a b ≡ is_eq (object_cmp a b)
+pub object_ties : (a b : ObjectKey) → same_key a b ≡ is_eq (object_cmp a b)
 object_ties a b =
     ap (λ (t : Bool). t && (a.object == b.object)) (number_ties a.dir b.dir)
     ∙ (ap (λ (t : Bool). is_eq (nat_cmp a.dir b.dir) && t) (number_ties a.object b.object) ∙ tied_then (nat_cmp a.dir b.dir) (nat_cmp a.object b.object))
 
-object_total : IsTotalOrder object_cmp
+pub object_total : IsTotalOrder object_cmp
 object_total = then_total (on_total (λ (k : ObjectKey). k.dir) nat_cmp_total) (on_total (λ (k : ObjectKey). k.object) nat_cmp_total)
 
 -- keys that are sorted and differ ascend
@@ -144,3 +143,9 @@ place_found table key (Some i) is found =
 -- the first keys, with one more
 pub take_next : (ks : List ObjectKey) (i : ℕ) (key d : ObjectKey) → i < length ks → key ≡ get_or ks i d → take (i + 1) ks ≡ take i ks ++ key ∷ []
 take_next ks i key d within is = ap (λ (n : ℕ). take n ks) (add-one i) ∙ (take-suc ks i d within ∙ ap (λ (k : ObjectKey). take i ks ++ k ∷ []) (sym is))
+
+-- the same keys in another order
+pub sorted_reach : {S : Type 0} (items : List Item) (reached named : IndexSet ObjectKey S) → IsReach items (contains same_key reached) → ((q : ObjectKey) → contains same_key named q ≡ contains same_key reached q) → IsReach items (contains same_key named)
+sorted_reach items reached named reach same =
+    let tests : contains same_key reached ≡ contains same_key named = λ j q. sym (same q) j in
+    subst (IsReach items) tests reach

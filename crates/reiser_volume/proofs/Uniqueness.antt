@@ -1,6 +1,6 @@
 -- The links of a volume are one list, and its keys one set: what depends on them does not depend on how they were found.
-use Rattle.std.proofs.Common.{◌≡◌, ℕ, ◌+◌, ◌==◌, Bool, true, false, not, ◌&&◌, List, [], ◌∷◌, length, filter, count_by, sum_by, Contains, AllPairs, refl, sym, ap, ◌∙◌, if◌then◌else◌}
-use Rattle.std.specs.Prelude.{◌≢◌, ◌↔◌}
+use Rattle.std.proofs.Common.{◌≡◌, ℕ, ◌+◌, ◌==◌, Bool, true, false, not, ◌&&◌, List, [], ◌∷◌, length, filter, count_by, sum_by, AllPairs, refl, sym, ap, ◌∙◌, if◌then◌else◌}
+use Rattle.std.specs.Prelude.{◌≢◌}
 use Rattle.std.specs.Bool.{Decides}
 use Rattle.std.specs.Cmp.{IsEquivalence}
 use Rattle.std.specs.List.{IsDistinct}
@@ -14,12 +14,12 @@ use Rattle.reiser_walk.specs.Items.{Item}
 use Rattle.reiser_objects.specs.declared.key.ObjectKey.{ObjectKey}
 use Rattle.reiser_objects.specs.declared.naming.Naming.{Naming}
 use Rattle.reiser_objects.specs.Keys.{same_key, root}
-use Rattle.reiser_objects.specs.Names.{namings, is_followed, IsNamed}
+use Rattle.reiser_objects.specs.Names.{namings, is_followed}
 use Rattle.reiser_objects.specs.Reach.{Keys}
 use Rattle.reiser_objects.proofs.Tables.{same_key-true, same_key-self}
 use Rattle.reiser_volume.specs.Links.{AreLinks, AreNamedKeys, TellsNamed, object_cmp}
 use Rattle.reiser_volume.specs.Passes.{link_list}
-use Rattle.reiser_volume.specs.Names.{inode_of, extended, extended_sum, extended_crowd_of}
+use Rattle.reiser_volume.specs.Names.{inode_of, extended, extended_crowd_of}
 
 pub same_decides : (a b : ObjectKey) → Decides (same_key a b) (a ≡ b)
 same_decides a b = (same_key-true a b, λ e. ap (same_key a) (sym e) ∙ same_key-self a)

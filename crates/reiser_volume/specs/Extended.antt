@@ -1,5 +1,5 @@
 -- Names that go into extended references.
-use Rattle.std.specs.Prelude.{◌≡◌, ◌≤◌, ◌<◌, ◌==◌, ℕ, Bool, ◌&&◌, List, []}
+use Rattle.std.specs.Prelude.{◌≡◌, ◌≤◌, ◌<◌, ℕ, Bool, ◌&&◌, List, []}
 use Rattle.indexmap.specs.IndexMap.{IndexMap}
 use Rattle.outside.specs.declared.answer.VolAnswer.{VolAnswer}
 use Rattle.outside.specs.declared.answer.VolAnswer.TheVariants.{Refused, Fault, Memory}
@@ -10,7 +10,7 @@ use Rattle.reiser_objects.specs.Keys.{same_key}
 use Rattle.reiser_volume.specs.declared.crowd.Crowd.{Crowd}
 use Rattle.reiser_volume.specs.declared.extended.NamesIn.{NamesIn}
 use Rattle.reiser_volume.specs.Crowds.{same_crowd}
-use Rattle.reiser_volume.specs.Names.{reference_size, extended, extended_sum, extended_crowd_of}
+use Rattle.reiser_volume.specs.Names.{reference_size, extended, extended_sum}
 use Rattle.reiser_volume.specs.Tally.{tally, capped}
 
 abbrev pub same_names : NamesIn → NamesIn → Bool

@@ -6,6 +6,7 @@ pub mod Extended
 pub mod Known
 pub mod Laws
 pub mod Links
+pub mod Made
 pub mod Names
 pub mod Once
 pub mod Opened
@@ -15,3 +16,4 @@ pub mod Refuses
 pub mod Rows
 pub mod Tally
 pub mod Volume
+pub mod Ways

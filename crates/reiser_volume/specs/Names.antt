@@ -1,6 +1,6 @@
 -- The rules that the names of a volume keep, and how each is refused where it fails.
-use Rattle.std.specs.Prelude.{◌≡◌, ◌≢◌, ◌≤◌, ◌<◌, ◌+◌, ◌^◌, ◌==◌, ℕ, Option, Some, nat_lt, nat_eq, Bool, true, false, not, ◌&&◌, ◌||◌, List, [], ◌∷◌, ◌++◌, length, filter, sum_by, count_by, codes, Contains, AllPairs, if◌then◌else◌}
-use Rattle.std.specs.List.{list_any, list_all}
+use Rattle.std.specs.Prelude.{◌≡◌, ◌≢◌, ◌≤◌, ◌<◌, ◌+◌, ◌^◌, ◌==◌, ℕ, Some, nat_lt, nat_eq, Bool, true, false, not, ◌&&◌, ◌||◌, List, [], ◌∷◌, ◌++◌, length, filter, sum_by, count_by, codes, Contains, AllPairs, if◌then◌else◌}
+use Rattle.std.specs.List.{list_any}
 use Rattle.std.specs.Ordering.{is_lt}
 use Rattle.std.specs.Cmp.Lexicographic.{pointwise}
 use Rattle.outside.specs.declared.refusal.VolumeRefusal.{VolumeRefusal}
@@ -9,7 +9,7 @@ use Rattle.outside.specs.declared.rule.Rule.TheVariants.{EntryForm, NameTwice, D
 use Rattle.castagnoli.specs.Castagnoli.{name_hash, extref_hash}
 use Rattle.reiser_items.specs.Entries.{are_entries}
 use Rattle.reiser_walk.specs.Items.{Item}
-use Rattle.fs_rows.specs.declared.row.Kind.TheVariants.{Directory, Symlink}
+use Rattle.fs_rows.specs.declared.row.Kind.TheVariants.{Symlink}
 use Rattle.reiser_objects.specs.declared.key.ObjectKey.{ObjectKey}
 use Rattle.reiser_objects.specs.declared.naming.Naming.{Naming}
 use Rattle.reiser_objects.specs.declared.stat.ObjectStat.{ObjectStat}

@@ -1,5 +1,5 @@
 -- What each look at the names finds, for the test of the named directories.
-use Rattle.std.specs.Prelude.{◌≡◌, ◌≢◌, ◌≤◌, ◌<◌, ◌/◌, ◌==◌, ℕ, Option, Some, Bool, true, false, ◌&&◌, List, length, filter, Contains}
+use Rattle.std.specs.Prelude.{◌≡◌, ◌≢◌, ◌≤◌, ◌<◌, ◌/◌, ◌==◌, ℕ, Some, Bool, true, false, ◌&&◌, List, length, filter, Contains}
 use Rattle.outside.specs.declared.refusal.VolumeRefusal.{VolumeRefusal}
 use Rattle.outside.specs.declared.refusal.VolumeRefusal.TheVariants.{Damaged, NameTaken, NameTooLong}
 use Rattle.outside.specs.declared.rule.Rule.TheVariants.{EntryForm, DirTwice}

@@ -1,5 +1,5 @@
 -- Sums by key.
-use Rattle.std.specs.Prelude.{◌≡◌, ℕ, ◌+◌, ◌-◌, ◌^◌, min, Bool, List, filter, sum_by, unwrap_or}
+use Rattle.std.specs.Prelude.{ℕ, ◌-◌, ◌^◌, min, Bool, unwrap_or}
 use Rattle.indexmap.specs.IndexMap.{IndexMap, get}
 
 -- the sum that a map has for a key

@@ -1,5 +1,6 @@
-ghost use Rattle.std.specs.Prelude.{◌≡◌, ◌≤◌, ◌<◌, ◌+◌, ◌++◌, ◌∷◌, [], ◌&&◌, ◌^◌, ℕ, not, List, count_by, OnOk, IfOk, IfErr, if◌then◌else◌};
+ghost use Rattle.std.specs.Prelude.{true, ◌≡◌, ◌≤◌, ◌<◌, ◌+◌, ◌++◌, ◌∷◌, [], ◌&&◌, ◌^◌, ℕ, not, List, count_by, OnOk, IfOk, IfErr, if◌then◌else◌};
 ghost use Rattle.std.specs.Ordering.{is_lt};
+ghost use Rattle.std.specs.List.Sorted.{IsStrictlySortedBy};
 ghost use Rattle.std.specs.Result.{MatchResult};
 ghost use Rattle.indexmap.specs.IndexSet.{contains};
 ghost use Rattle.reiser_objects.specs.declared.key.ObjectKey.{ObjectKey as KeyOf};
@@ -33,6 +34,7 @@ fn refer_link(
     named: &IndexSet<ObjectKey>,
     naming: &Naming,
 ) -> Result<(), VolAnswer>
+    requires sorted { IsStrictlySortedBy object_cmp named.now.keys }
     ensures { (links : List NamingOf) → Refers named.now.keys sizes.old sums.old links → let more = if is_link (contains same_key named.now) naming.now then naming.now ∷ [] else [] in
         MatchResult result (λ _. Refers named.now.keys sizes.new sums.new (links ++ more)) (BlamesExtended named.now.keys (extended [] (links ++ more))) }
 {
@@ -50,6 +52,8 @@ fn refer(
     named: &IndexSet<ObjectKey>,
     naming: &Naming,
 ) -> Result<(), VolAnswer>
+    requires sorted { IsStrictlySortedBy object_cmp named.now.keys }
+    requires among { contains same_key named.now naming.now.dir ≡ true }
     ensures { (links : List NamingOf) → Refers named.now.keys sizes.old sums.old links
         → MatchResult result (λ _. Refers named.now.keys sizes.new sums.new (links ++ naming.now ∷ [])) (BlamesExtended named.now.keys (extended [] (links ++ naming.now ∷ []))) }
 {
@@ -71,6 +75,8 @@ fn extend(
     named: &IndexSet<ObjectKey>,
     naming: &Naming,
 ) -> Result<(), VolAnswer>
+    requires sorted { IsStrictlySortedBy object_cmp named.now.keys }
+    requires among { contains same_key named.now naming.now.dir ≡ true }
     ensures { (ns : List NamingOf) → CountsExtended named.now.keys sums.old ns
         → MatchResult result (λ _. CountsExtended named.now.keys sums.new (ns ++ naming.now ∷ [])) (BlamesExtended named.now.keys (ns ++ naming.now ∷ [])) }
 {
@@ -93,6 +99,8 @@ fn extend(
 
 /// The number that a directory gets in Btrfs: 256 for the root, and 257 and up for the others in the order of their keys.
 fn inode_of(named: &IndexSet<ObjectKey>, dir: ObjectKey) -> u64
+    requires sorted { IsStrictlySortedBy object_cmp named.now.keys }
+    requires among { contains same_key named.now dir ≡ true }
     ensures { result ≡ inode_of named.now.keys dir }
 {
     if dir == ROOT {
@@ -103,14 +111,15 @@ fn inode_of(named: &IndexSet<ObjectKey>, dir: ObjectKey) -> u64
 
 /// How many of the named objects below the root have keys before that of a directory.
 fn count_before(named: &IndexSet<ObjectKey>, dir: ObjectKey) -> u64
+    requires sorted { IsStrictlySortedBy object_cmp named.now.keys }
+    requires among { contains same_key named.now dir ≡ true }
     ensures count { result ≡ count_by (λ k. is_lt (object_cmp k dir) && not (same_key k root)) named.now.keys }
     ensures small { result < 2 ^ 63 }
 {
-    let mut below = 0;
-    for key in named.as_slice() {
-        below += one_if(is_before(key, dir));
-    }
-    below
+    let count = named.len();
+    let place = named.get_index_of(&dir).unwrap();
+    prove!(place < count);
+    place as u64 - one_if(is_root_before(named, dir))
 }
 
 fn one_if(test: bool) -> u64
@@ -119,11 +128,11 @@ fn one_if(test: bool) -> u64
     if test { 1 } else { 0 }
 }
 
-/// Whether an object is below the root and its key before that of a directory.
-fn is_before(key: &ObjectKey, dir: ObjectKey) -> bool
-    ensures { result ≡ (is_lt (object_cmp key.now dir) && not (same_key key.now root)) }
+/// Whether the root is named and its key before that of a directory.
+fn is_root_before(named: &IndexSet<ObjectKey>, dir: ObjectKey) -> bool
+    ensures { result ≡ (contains same_key named.now root && is_lt (object_cmp root dir)) }
 {
-    key.cmp(&dir).is_lt() && *key != ROOT
+    named.contains(&ROOT) && ROOT.cmp(&dir).is_lt()
 }
 
 /// Adds to a size, which stays at the last value of 64 bits.
@@ -142,6 +151,7 @@ pub fn check_extended(
     objects: &Objects,
     named: &IndexSet<ObjectKey>,
 ) -> Result<(), VolAnswer>
+    requires sorted { IsStrictlySortedBy object_cmp named.now.keys }
     ensures fit { OnOk result ((object : KeyOf) (hash : ℕ) → extended_crowd_of (link_list (contains same_key named.now) objects.now.namings.items) named.now.keys object hash ≤ 3900) }
     ensures blamed { IfErr result (BlamesExtended named.now.keys (extended [] (link_list (contains same_key named.now) objects.now.namings.items))) }
 {

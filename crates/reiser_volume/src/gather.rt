@@ -2,6 +2,7 @@ ghost use Rattle.std.specs.Prelude.{◌≡◌, ◌∷◌, ◌++◌, [], List, If
 ghost use Rattle.std.specs.Result.{MatchResult};
 ghost use Rattle.std.specs.List.Sorted.{IsStrictlySortedBy};
 ghost use Rattle.indexmap.specs.IndexMap.{keys, get, IsUnique};
+ghost use Rattle.indexmap.specs.IndexSet.{contains};
 ghost use Rattle.outside.specs.History.{Image};
 ghost use Rattle.reiser_walk.specs.Items.{Item};
 ghost use Rattle.reiser_objects.specs.declared.key.ObjectKey.{ObjectKey as KeyOf};
@@ -33,7 +34,8 @@ pub fn gather(
         → MatchResult result (λ volume. IsAccepted image × IsOpened volume image) (RefusesVolume image) }
     ensures answers { IfErr result IsVerdict }
 {
-    let named = objects.check(alloc, sup.root)?;
+    let reached = objects.check(alloc, sup.root)?;
+    let named = sorted(reached)?;
     check_all_names(alloc, &objects, &named)?;
     let table = table_of(alloc, &objects, &named)?;
     Ok(Volume {
@@ -42,6 +44,15 @@ pub fn gather(
         objects,
         named: table,
     })
+}
+
+/// The keys, ascending.
+pub fn sorted(mut named: IndexSet<ObjectKey>) -> Result<IndexSet<ObjectKey>, Memory>
+    ensures same { IfOk result (λ keys. (q : KeyOf) → contains same_key keys q ≡ contains same_key named q) }
+    ensures ascends { IfOk result (λ keys. IsStrictlySortedBy object_cmp keys.keys) }
+{
+    named.sort()?;
+    Ok(named)
 }
 
 /// The named objects with their stat data, ascending.

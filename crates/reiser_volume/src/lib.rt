@@ -6,6 +6,7 @@
 #![tactic(auto)]
 
 mod again;
+mod content;
 mod counts;
 mod crowd;
 mod each;
@@ -17,10 +18,16 @@ mod once;
 mod one;
 mod open;
 mod private;
+mod row;
+mod rows;
 mod volume;
+mod ways;
 
 pub use laws::{
     links_are_one, names_refusals_break_rules, refusals_break_rules, used_blocks_decide,
 };
 pub use names::check_all_names;
 pub use volume::Volume;
+
+#[cfg(test)]
+mod tests;

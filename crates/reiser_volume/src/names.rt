@@ -1,10 +1,12 @@
 ghost use Rattle.std.specs.Prelude.{List, IfErr};
 ghost use Rattle.std.specs.Result.{MatchResult};
+ghost use Rattle.std.specs.List.Sorted.{IsStrictlySortedBy};
 ghost use Rattle.indexmap.specs.IndexSet.{contains};
 ghost use Rattle.reiser_walk.specs.Items.{Item};
 ghost use Rattle.reiser_objects.specs.Keys.{same_key};
 ghost use Rattle.reiser_objects.specs.Reach.{IsReach};
 ghost use Rattle.reiser_objects.specs.Table.{HasNoted};
+ghost use Rattle.reiser_volume.specs.Links.{object_cmp};
 ghost use Rattle.reiser_volume.specs.Names.{AreNames};
 ghost use Rattle.reiser_volume.specs.Refuses.{RefusesNames, IsNamesAnswer};
 
@@ -21,12 +23,13 @@ use outside::VolAnswer;
 use reiser_objects::{ObjectKey, Objects};
 use std::alloc::Global;
 
-/// Whether all the rules of names are kept, for objects that are in order and the keys of those that are named.
+/// Whether all the rules of names are kept, for objects that are in order and the keys of those that are named, sorted.
 pub fn check_all_names(
     alloc: Global,
     objects: &Objects,
     named: &IndexSet<ObjectKey>,
 ) -> Result<(), VolAnswer>
+    requires sorted { IsStrictlySortedBy object_cmp named.now.keys }
     ensures checked { (items : List Item) → HasNoted objects.now items → IsReach items (contains same_key named.now) → MatchResult result (λ _. AreNames items) (RefusesNames items) }
     ensures answers { IfErr result IsNamesAnswer }
 {

@@ -1,10 +1,10 @@
-use Rattle.std.proofs.Common.{◌≡◌, ◌<◌, ◌≤◌, ◌+◌, ◌∙◌, ◌++◌, List, length, get_or, take, drop, filter, ◌^◌, sym, ap, subst, arith}
+use Rattle.std.proofs.Common.{◌<◌, ◌≤◌, ◌+◌, ◌∙◌, ◌++◌, List, length, get_or, drop, filter, ◌^◌, sym, ap, subst, arith}
 use Rattle.std.proofs.lemmas.Result.{err_from_is_err_and}
 use Rattle.outside.specs.declared.answer.VolAnswer.{VolAnswer}
 use Rattle.indexmap.specs.IndexSet.{contains}
 use Rattle.reiser_objects.specs.declared.naming.Naming.{Naming}
 use Rattle.reiser_objects.specs.Keys.{same_key}
-use Rattle.reiser_volume.specs.Counts.{CountsNames, BlamesCount, is_counted, names_of}
+use Rattle.reiser_volume.specs.Counts.{CountsNames, BlamesCount, names_of}
 use Rattle.reiser_volume.specs.Passes.{is_link, link_list}
 use Rattle.reiser_volume.proofs.Counting.{count_of_part}
 use Rattle.reiser_volume.proofs.Lists.{kept_step, kept_split, kept_all}

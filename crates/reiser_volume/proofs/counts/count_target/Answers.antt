@@ -1,6 +1,5 @@
-use Rattle.std.proofs.Common.{◌≡◌, ◌∙◌, ◌<◌, ◌^◌, true, false, sym, arith}
-use Rattle.reiser_objects.specs.Items.{is_directory_at, stat_of_object}
-use Rattle.reiser_volume.specs.Counts.{is_counted}
+use Rattle.std.proofs.Common.{◌≡◌, ◌∙◌, false, sym, arith}
+use Rattle.reiser_objects.specs.Items.{is_directory_at}
 use Rattle.reiser_volume.proofs.Counting.{uncounted, counted_more, counted_over, counts_it, not_counted}
 use Rattle.reiser_volume.proofs.counts.count_target.Goals as goal
 

@@ -1,9 +1,8 @@
 use Rattle.std.proofs.Common.{◌≡◌, ◌∙◌, ◌≤◌, ℕ, true, sym, ap}
-use Rattle.outside.specs.declared.refusal.VolumeRefusal.{VolumeRefusal}
 use Rattle.outside.specs.declared.refusal.VolumeRefusal.TheVariants.{Damaged}
 use Rattle.outside.specs.declared.rule.Rule.TheVariants.{EntryForm}
 use Rattle.reiser_volume.specs.Passes.{HasForms, BlamesObject, BlamesTarget, is_symlink_mode, off_form, long_target}
-use Rattle.reiser_volume.proofs.Eaches.{passed_on, forms_of, no_stat_forms}
+use Rattle.reiser_volume.proofs.Eaches.{passed_on, forms_of}
 use Rattle.reiser_volume.proofs.each.check_object.Goals as goal
 
 pub returns-in-Some-clause-checked : goal.returns-in-Some-clause-checked

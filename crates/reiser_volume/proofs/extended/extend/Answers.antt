@@ -1,4 +1,4 @@
-use Rattle.std.proofs.Common.{◌≡◌, ℕ, ◌+◌, ◌∙◌, length, sym, ap, List, arith}
+use Rattle.std.proofs.Common.{◌≡◌, ℕ, ◌+◌, ◌∙◌, length, ap, List, arith}
 use Rattle.castagnoli.specs.Castagnoli.{extref_hash}
 use Rattle.reiser_volume.specs.Names.{inode_of}
 use Rattle.reiser_volume.specs.Tally.{capped}

@@ -1,7 +1,6 @@
-use Rattle.std.proofs.Common.{◌≡◌, ◌<◌, ◌≤◌, ◌++◌, ◌∷◌, [], ℕ, ◌+◌, ◌∙◌, length, sym, ap, subst, List, arith}
-use Rattle.std.specs.Result.{MatchResult}
+use Rattle.std.proofs.Common.{◌++◌, ◌∷◌, [], ℕ, ◌+◌, ◌∙◌, length, sym, ap, subst, List}
 use Rattle.reiser_objects.specs.declared.naming.Naming.{Naming}
-use Rattle.reiser_volume.specs.Names.{extended, reference_size}
+use Rattle.reiser_volume.specs.Names.{extended}
 use Rattle.reiser_volume.specs.Extended.{CountsExtended, Refers, BlamesExtended}
 use Rattle.reiser_volume.specs.Tally.{capped}
 use Rattle.reiser_volume.proofs.Eaches.{passed_on}

@@ -1,5 +1,4 @@
-use Rattle.std.proofs.Common.{◌+◌, List, ◌∷◌, ◌++◌, [], get_or, take, subst, sym, refl}
-use Rattle.std.proofs.lemmas.Grind.{common_steps}
+use Rattle.std.proofs.Common.{List, get_or, take, subst, sym, refl}
 use Rattle.reiser_objects.specs.declared.key.ObjectKey.{ObjectKey}
 use Rattle.reiser_volume.specs.Known.{HasStats}
 use Rattle.reiser_volume.proofs.Tabling.{take_next}

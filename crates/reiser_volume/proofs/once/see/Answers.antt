@@ -1,4 +1,3 @@
-use Rattle.std.proofs.Common.{◌≡◌, ◌∙◌, Bool, true, false, not, sym, ap}
 use Rattle.reiser_volume.proofs.Seeing.{seen_more, seen_twice, was_absent, was_there}
 use Rattle.reiser_volume.proofs.once.see.Goals as goal
 

@@ -1,4 +1,4 @@
-use Rattle.std.proofs.Common.{◌≡◌, ◌≤◌, ◌∙◌, length, sym, ap, subst, refl, arith}
+use Rattle.std.proofs.Common.{◌∙◌, length, sym, ap, subst, refl, arith}
 use Rattle.std.proofs.lemmas.Result.{err_from_is_err_and}
 use Rattle.outside.specs.History.{Image, block_at}
 use Rattle.outside.specs.declared.answer.VolAnswer.{VolAnswer}

@@ -1,4 +1,4 @@
-use Rattle.std.proofs.Common.{◌≡◌, ◌∙◌, ◌++◌, ◌∷◌, [], Bool, true, false, not, refl, sym, subst, if◌then◌else◌}
+use Rattle.std.proofs.Common.{◌≡◌, ◌∙◌, ◌++◌, ◌∷◌, [], Bool, true, refl, sym, subst, if◌then◌else◌}
 use Rattle.std.proofs.lemmas.List.Elements.{Contains-push}
 use Rattle.indexmap.specs.IndexSet.{contains}
 use Rattle.reiser_objects.specs.Keys.{same_key}

@@ -1,4 +1,4 @@
-use Rattle.std.proofs.Common.{◌≡◌, Option, Some, None, filter, subst}
+use Rattle.std.proofs.Common.{Option, filter, subst}
 use Rattle.reiser_objects.specs.declared.key.ObjectKey.{ObjectKey}
 use Rattle.reiser_objects.specs.Keys.{same_key}
 use Rattle.reiser_volume.specs.Private.{HoldsNoAttribute, HasNoAttributes, BlamesBelow, IsOnly}

@@ -1,11 +1,11 @@
-use Rattle.std.proofs.Common.{◌≡◌, ◌<◌, ◌≤◌, ◌+◌, ◌∙◌, ◌++◌, List, length, get_or, take, drop, filter, sym, ap, subst, arith}
+use Rattle.std.proofs.Common.{◌<◌, ◌+◌, ◌∙◌, ◌++◌, List, length, get_or, drop, filter, sym, ap, subst, arith}
 use Rattle.std.proofs.lemmas.Result.{err_from_is_err_and}
 use Rattle.reiser_objects.specs.declared.key.ObjectKey.{ObjectKey}
 use Rattle.reiser_objects.specs.declared.naming.Naming.{Naming}
 use Rattle.reiser_objects.specs.Keys.{same_key}
 use Rattle.reiser_volume.specs.Private.{IsOnly, IsExtra}
 use Rattle.reiser_volume.proofs.Attributes.{extra_of_part}
-use Rattle.reiser_volume.proofs.Lists.{kept_step, kept_split, kept_all}
+use Rattle.reiser_volume.proofs.Lists.{kept_step, kept_split}
 use Rattle.reiser_volume.proofs.private.only_entry.Goals as goal
 
 pub loop-naming-preserved : goal.loop-naming-preserved

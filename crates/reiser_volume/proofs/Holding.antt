@@ -1,0 +1,106 @@
+-- The objects of an accepted volume can be read again.
+use Rattle.std.proofs.Common.{◌≡◌, ℕ, List, [], true, false, length, Option, Some, None, replicate, sym, ap, subst, ◌∙◌, arith}
+use Rattle.std.specs.List.{list_any, range_with_len}
+use Rattle.std.proofs.lemmas.List.{length-map}
+use Rattle.std.proofs.lemmas.List.FromFn.{length-range_with_len}
+use Rattle.outside.specs.History.{Image}
+use Rattle.outside.specs.declared.answer.VolAnswer.{VolAnswer}
+use Rattle.outside.specs.declared.answer.VolAnswer.TheVariants.{Refused, Fault, Memory}
+use Rattle.fs_rows.specs.Mark.{mark_of_bytes}
+use Rattle.fs_rows.specs.declared.row.Kind.{Kind}
+use Rattle.fs_rows.specs.declared.row.Kind.TheVariants.{File, Symlink}
+use Rattle.reiser_bitmap.specs.Layout.{is_marked}
+use Rattle.reiser_walk.specs.Bodies.{is_save_link}
+use Rattle.reiser_walk.specs.Items.{Item}
+use Rattle.reiser_walk.specs.Tree.{items_of as items_of_tree}
+use Rattle.reiser_files.specs.Bytes.{file_bytes, file_byte}
+use Rattle.reiser_files.proofs.Functions.{length_bytes}
+use Rattle.reiser_objects.specs.declared.key.ObjectKey.{ObjectKey}
+use Rattle.reiser_objects.specs.declared.stat.ObjectStat.{ObjectStat}
+use Rattle.reiser_objects.specs.Items.{AreApart, fits_kind, stat_of_object}
+use Rattle.reiser_objects.specs.Keys.{items_of}
+use Rattle.reiser_objects.specs.Kinds.{kind_of_mode}
+use Rattle.reiser_objects.specs.Rules.{IsObject}
+use Rattle.reiser_objects.specs.Table.{HasNoted}
+use Rattle.reiser_objects.proofs.Broken.{some_same}
+use Rattle.object_files.specs.Answers.{IsFault, IsFaultOrMemory}
+use Rattle.object_files.specs.Holds.{HoldsObject, HoldsLink, object_items}
+use Rattle.reiser_volume.specs.declared.row.Known.{Known}
+use Rattle.reiser_volume.specs.declared.volume.Volume.{Volume}
+use Rattle.reiser_volume.specs.Made.{IsContent, IsKnownAt, IsOf, bytes_at}
+use Rattle.reiser_volume.specs.Volume.{superblock, used_of, tree_of, volume_items}
+
+pub fault_or : (e : VolAnswer) → IsFault e → IsFaultOrMemory e
+fault_or (Refused r) is = is
+fault_or Fault is = tt
+fault_or Memory is = tt
+
+pub none_some : {A : Type 0} (o : Option A) (x : A) → None ≡ o → o ≡ Some x → ⊥
+none_some o x none is = no_some (none ∙ is)
+  where
+    no_some : None ≡ Some x → ⊥
+    no_some e = cc
+
+used_length : (image : Image) → length (used_of image) ≡ (superblock image).blocks
+used_length image = length-map (range_with_len 0 (superblock image).blocks) (is_marked image) ∙ length-range_with_len 0 (superblock image).blocks
+
+-- the items of an object, as both have them
+same_items : (image : Image) (key : ObjectKey) → object_items (tree_of (superblock image)) image (used_of image) key ≡ items_of key (volume_items image)
+same_items image key = ap (λ (n : ℕ). items_of key (items_of_tree (tree_of (superblock image)) image n)) (used_length image)
+
+module _ (image : Image) (volume : Volume) (key : ObjectKey) (of : IsOf image volume key) where
+  abbrev items : List Item
+  items = volume_items image
+
+  abbrev pub object : IsObject items key
+  object = of.accepted.objects.each key of.named
+
+  -- the stat data of the object
+  pub known_stat : (stat : ObjectStat) → Some stat ≡ stat_of_object items key → object.stat ≡ stat
+  known_stat stat is = some_same (stat_of_object items key) object.stat stat object.has_stat (sym is)
+
+  pub holds : HoldsObject volume.objects key (tree_of (superblock image)) image (used_of image)
+  holds =
+      let long = used_length image in
+      let fits = of.accepted.clean.superblock.fits in
+      record {
+        sound = of.accepted.tree;
+        within = omega (arith, long, fits);
+        noted = subst (λ (n : ℕ). HasNoted volume.objects (items_of_tree (tree_of (superblock image)) image n)) (sym long) of.opened.noted;
+        no_save_link = subst (λ (n : ℕ). list_any (λ i. is_save_link i.head) (items_of_tree (tree_of (superblock image)) image n) ≡ false) (sym long) of.accepted.objects.no_save_link;
+        apart = subst (λ (l : List Item). AreApart l) (sym (same_items image key)) object.apart;
+      }
+
+  module _ (known : Known) (at : IsKnownAt items key known) where
+    same_stat : object.stat ≡ known.stat
+    same_stat = some_same (stat_of_object items key) object.stat known.stat object.has_stat at.stat
+
+    pub same_kind : object.kind ≡ known.kind
+    same_kind = some_same (kind_of_mode known.stat.fields.mode) object.kind known.kind (sym (ap (λ (s : ObjectStat). kind_of_mode s.fields.mode) same_stat) ∙ object.known) at.kind
+
+    pub holds_link : known.kind ≡ Symlink → HoldsLink volume.objects key (tree_of (superblock image)) image (used_of image)
+    holds_link is = record {
+      object = holds;
+      fits = subst (λ (l : List Item). fits_kind Symlink l ≡ true) (sym (same_items image key)) (subst (λ (k : Kind). fits_kind k (items_of key items) ≡ true) (same_kind ∙ is) object.fits);
+    }
+
+    long_bytes : length (file_bytes image (items_of key items) known.stat.fields.size) ≡ known.stat.fields.size
+    long_bytes = length_bytes known.stat.fields.size (file_byte image (items_of key items)) 0
+
+    -- what was read of a file
+    pub file_read : (mark target : List ℕ) → mark ≡ mark_of_bytes (file_bytes image (object_items (tree_of (superblock image)) image (used_of image) key) known.stat.fields.size) → target ≡ []
+        → IsContent File (bytes_at image items key known.stat File) known.stat.fields.size mark target
+    file_read mark target is none = record {
+      is_length = sym long_bytes;
+      is_mark = is ∙ ap (λ (l : List Item). mark_of_bytes (file_bytes image l known.stat.fields.size)) (same_items image key);
+      is_target = none;
+    }
+
+    -- and of a symlink
+    pub link_read : (mark target : List ℕ) → mark ≡ replicate 32 0 → target ≡ file_bytes image (object_items (tree_of (superblock image)) image (used_of image) key) known.stat.fields.size
+        → IsContent Symlink (bytes_at image items key known.stat Symlink) known.stat.fields.size mark target
+    link_read mark target none is = record {
+      is_length = sym long_bytes;
+      is_mark = none;
+      is_target = is ∙ ap (λ (l : List Item). file_bytes image l known.stat.fields.size) (same_items image key);
+    }

@@ -1,0 +1,121 @@
+ghost use Rattle.std.specs.Prelude.{◌≡◌, List, ℕ, IsTrue, IfErr};
+ghost use Rattle.std.specs.Option.{MatchOption};
+ghost use Rattle.std.specs.Result.{MatchResult};
+ghost use Rattle.outside.specs.Fault.{HasCauseOf};
+ghost use Rattle.outside.specs.History.{Image};
+ghost use Rattle.fs_rows.specs.declared.row.Kind.TheVariants.{File, Symlink};
+ghost use Rattle.object_files.specs.Answers.{IsFileAnswer, IsFaultOrMemory};
+ghost use Rattle.reiser_volume.specs.Made.{IsContent, IsKnownAt, IsOf, bytes_at};
+ghost use Rattle.reiser_volume.specs.Volume.{volume_items};
+
+use crate::Volume;
+use crate::row::{Content, Known, no_content, same_content};
+use crate::rows::changed;
+use fs_rows::{Kind, Name, Row};
+use object_files::{file_mark, link_target};
+use outside::{BlockSource, VolAnswer};
+use reiser_objects::ObjectKey;
+use std::alloc::Global;
+
+/// What a row has of the bytes of an object. Where there is a row of the same object, it is what that row has.
+pub fn content<S: BlockSource>(
+    alloc: Global,
+    src: &mut S,
+    volume: &Volume,
+    key: ObjectKey,
+    known: &Known,
+    first: Option<&Row>,
+) -> Result<Content, VolAnswer>
+    ensures kept { S.kept src.old src.new }
+    ensures cause { HasCauseOf VolAnswer.Fault (S.faults src.old) (S.faults src.new) result }
+    ensures answers { IfErr result IsFileAnswer }
+    ensures content { IsTrue S.tells → (image : Image) → S.blocks src.old ≡ image → IsOf image volume.now key → IsKnownAt (volume_items image) key known.now → (bytes : List ℕ) → bytes ≡ bytes_at image (volume_items image) key known.now.stat known.now.kind →
+        MatchOption first.entry (Unit {0}) (λ row. IsContent known.now.kind bytes row.now.length row.now.mark row.now.target) →
+        MatchResult result (λ c. IsContent known.now.kind bytes c.length c.mark c.target) IsFaultOrMemory }
+{
+    match first {
+        Some(row) => {
+            let content = same_content(alloc, row)?;
+            Ok(content)
+        }
+        None => read_content(alloc, src, volume, key, known),
+    }
+}
+
+/// Reads what a row has of the bytes of an object.
+fn read_content<S: BlockSource>(
+    alloc: Global,
+    src: &mut S,
+    volume: &Volume,
+    key: ObjectKey,
+    known: &Known,
+) -> Result<Content, VolAnswer>
+    ensures kept { S.kept src.old src.new }
+    ensures cause { HasCauseOf VolAnswer.Fault (S.faults src.old) (S.faults src.new) result }
+    ensures answers { IfErr result IsFileAnswer }
+    ensures content { IsTrue S.tells → (image : Image) → S.blocks src.old ≡ image → IsOf image volume.now key → IsKnownAt (volume_items image) key known.now →
+        MatchResult result (λ c. IsContent known.now.kind (bytes_at image (volume_items image) key known.now.stat known.now.kind) c.length c.mark c.target) IsFaultOrMemory }
+{
+    match known.kind {
+        Kind::File => file_content(alloc, src, volume, key, known),
+        Kind::Symlink => link_content(alloc, src, volume, key, known),
+        Kind::Directory
+        | Kind::Character
+        | Kind::Block
+        | Kind::Fifo
+        | Kind::Socket
+        | Kind::Subvolume => {
+            let content = no_content(alloc)?;
+            Ok(content)
+        }
+    }
+}
+
+/// Reads a file.
+fn file_content<S: BlockSource>(
+    alloc: Global,
+    src: &mut S,
+    volume: &Volume,
+    key: ObjectKey,
+    known: &Known,
+) -> Result<Content, VolAnswer>
+    ensures kept { S.kept src.old src.new }
+    ensures cause { HasCauseOf VolAnswer.Fault (S.faults src.old) (S.faults src.new) result }
+    ensures answers { IfErr result IsFileAnswer }
+    ensures content { IsTrue S.tells → (image : Image) → S.blocks src.old ≡ image → IsOf image volume.now key → IsKnownAt (volume_items image) key known.now →
+        MatchResult result (λ c. IsContent File (bytes_at image (volume_items image) key known.now.stat File) c.length c.mark c.target) IsFaultOrMemory }
+{
+    let size = known.stat.fields.size;
+    let mark = file_mark(src, &volume.objects, key, size)?;
+    Ok(Content {
+        length: size,
+        mark,
+        target: Name::new(alloc, b"")?,
+    })
+}
+
+/// Reads the target of a symlink. That the target of a symlink of an opened volume has more than 4096 bytes cannot be.
+fn link_content<S: BlockSource>(
+    alloc: Global,
+    src: &mut S,
+    volume: &Volume,
+    key: ObjectKey,
+    known: &Known,
+) -> Result<Content, VolAnswer>
+    ensures kept { S.kept src.old src.new }
+    ensures cause { HasCauseOf VolAnswer.Fault (S.faults src.old) (S.faults src.new) result }
+    ensures answers { IfErr result IsFileAnswer }
+    ensures content { IsTrue S.tells → (image : Image) → S.blocks src.old ≡ image → IsOf image volume.now key → IsKnownAt (volume_items image) key known.now → known.now.kind ≡ Symlink →
+        MatchResult result (λ c. IsContent Symlink (bytes_at image (volume_items image) key known.now.stat Symlink) c.length c.mark c.target) IsFaultOrMemory }
+{
+    let size = known.stat.fields.size;
+    if size > 4096 {
+        return Err(changed(known.stat.leaf));
+    }
+    let target = link_target(alloc, src, &volume.objects, key, size)?;
+    Ok(Content {
+        length: size,
+        mark: [0; 32],
+        target,
+    })
+}

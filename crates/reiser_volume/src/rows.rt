@@ -1,0 +1,140 @@
+ghost use Rattle.std.specs.Prelude.{◌≡◌, ◌≤◌, ◌<◌, ℕ, List, [], map, take, length, slice_get, slice_index_or, Some, IsTrue, IfOk, IfErr};
+ghost use Rattle.std.specs.Option.{MatchOption};
+ghost use Rattle.std.specs.Result.{MatchResult};
+ghost use Rattle.outside.specs.Fault.{HasCauseOf};
+ghost use Rattle.outside.specs.History.{Image};
+ghost use Rattle.outside.specs.declared.answer.VolAnswer.TheVariants.{Refused};
+ghost use Rattle.outside.specs.declared.refusal.VolumeRefusal.TheVariants.{Damaged};
+ghost use Rattle.outside.specs.declared.rule.Rule.TheVariants.{Reread};
+ghost use Rattle.fs_rows.specs.Rows.{WholeRow, row_of};
+ghost use Rattle.path_list.specs.declared.link.PathTo.{PathTo as PathOf};
+ghost use Rattle.object_files.specs.Answers.{IsFileAnswer, IsFaultOrMemory};
+ghost use Rattle.reiser_volume.specs.Made.{IsKnownAt, IsOf, whole_row};
+ghost use Rattle.reiser_volume.specs.Opened.{IsOpened};
+ghost use Rattle.reiser_volume.specs.Volume.{AreRowsOf, IsAccepted, volume_items};
+ghost use Rattle.reiser_volume.specs.Ways.{HasPaths, key_at};
+
+use crate::Volume;
+use crate::content::content;
+use crate::row::{Known, Spot, copy_path, make_row};
+use crate::ways::{key_at, paths_of};
+use fs_rows::{Row, Rows};
+use outside::{BlockSource, Memory, Rule, VolAnswer, VolumeRefusal};
+use path_list::PathTo;
+use reiser_objects::{ObjectKey, kind_of_mode};
+use std::alloc::Global;
+use vol_block::BlockNo;
+
+impl Volume {
+    /// The rows of the volume: one for each path, ascending.
+    ///
+    /// The leaves and blocks of each file and symlink are read once, however many names it has. A refusal names a block
+    /// that the device has no more, or that reads otherwise than when the volume was opened.
+    pub fn rows<S: BlockSource>(&self, alloc: Global, src: &mut S) -> Result<Rows, VolAnswer>
+        ensures kept { S.kept src.old src.new }
+        ensures cause { HasCauseOf VolAnswer.Fault (S.faults src.old) (S.faults src.new) result }
+        ensures answers { IfErr result IsFileAnswer }
+        ensures rows { IsTrue S.tells → (image : Image) → S.blocks src.old ≡ image → IsAccepted image → IsOpened self.now image →
+            MatchResult result (λ rows. (whole : List WholeRow) × AreRowsOf image whole × (rows ≡ map row_of whole)) IsFaultOrMemory }
+    {
+        let paths = paths_of(alloc, self)?;
+        rows_at(alloc, src, self, &paths)
+    }
+}
+
+/// The rows at these paths.
+fn rows_at<S: BlockSource>(
+    alloc: Global,
+    src: &mut S,
+    volume: &Volume,
+    paths: &Vec<PathTo>,
+) -> Result<Rows, VolAnswer>
+    ensures kept { S.kept src.old src.new }
+    ensures cause { HasCauseOf VolAnswer.Fault (S.faults src.old) (S.faults src.new) result }
+    ensures answers { IfErr result IsFileAnswer }
+    ensures rows { IsTrue S.tells → (image : Image) → S.blocks src.old ≡ image → IsAccepted image → IsOpened volume.now image → HasPaths volume.now paths.now.items →
+        MatchResult result (λ rows. rows ≡ map (λ p. row_of (whole_row image paths.now.items p)) paths.now.items) IsFaultOrMemory }
+{
+    let mut rows = Rows::new(alloc);
+    for i in 0..paths.len() {
+        let row = row_at(alloc, src, volume, &paths[i], &rows)?;
+        rows.add(row)?;
+    }
+    Ok(rows)
+}
+
+/// The row at a path, behind those of the paths before it.
+fn row_at<S: BlockSource>(
+    alloc: Global,
+    src: &mut S,
+    volume: &Volume,
+    path: &PathTo,
+    rows: &Rows,
+) -> Result<Row, VolAnswer>
+    ensures kept { S.kept src.old src.new }
+    ensures cause { HasCauseOf VolAnswer.Fault (S.faults src.old) (S.faults src.new) result }
+    ensures answers { IfErr result IsFileAnswer }
+    ensures row { IsTrue S.tells → (image : Image) → S.blocks src.old ≡ image → IsAccepted image → IsOpened volume.now image → (list : List PathOf) → HasPaths volume.now list → (i : ℕ) → slice_get list i ≡ Some path.now →
+        rows.now ≡ map (λ p. row_of (whole_row image list p)) (take i list) →
+        MatchResult result (λ row. row ≡ row_of (whole_row image list path.now)) IsFaultOrMemory }
+{
+    let key = key_at(path.target);
+    let known = known(volume, key)?;
+    let first = first_row(rows, path);
+    let content = content(alloc, src, volume, key, &known, first)?;
+    let spot = spot(alloc, path, first)?;
+    Ok(make_row(spot, volume.sup.flags, &known, content))
+}
+
+/// The row of the first path to the same object, if it is an earlier one.
+fn first_row<'a>(rows: &'a Rows, path: &PathTo) -> Option<&'a Row>
+    ensures { MatchOption result (length rows.now ≤ path.now.least) (λ row. slice_get rows.now path.now.least ≡ Some row.now) }
+{
+    if path.least < rows.len() {
+        Some(rows.get(path.least))
+    } else {
+        None
+    }
+}
+
+/// Where a row stands, with the row of the first path to the same object if that is an earlier one.
+fn spot(alloc: Global, path: &PathTo, first: Option<&Row>) -> Result<Spot, Memory>
+    ensures path { IfOk result (λ spot. spot.path ≡ path.now.path) }
+    ensures names { IfOk result (λ spot. spot.names ≡ path.now.names) }
+    ensures least { IfOk result (λ spot. MatchOption first.entry (spot.least ≡ path.now.path) (λ row. spot.least ≡ row.now.path)) }
+{
+    let least = match first {
+        Some(row) => copy_path(alloc, &row.path)?,
+        None => copy_path(alloc, &path.path)?,
+    };
+    Ok(Spot {
+        path: copy_path(alloc, &path.path)?,
+        least,
+        names: path.names,
+    })
+}
+
+/// The stat data of an object. That a named object of an opened volume has none, or one of no kind, cannot be.
+fn known(volume: &Volume, key: ObjectKey) -> Result<Known, VolAnswer>
+    ensures answers { IfErr result IsFileAnswer }
+    ensures cause { (before : ℕ) → HasCauseOf VolAnswer.Fault before before result }
+    ensures known { (image : Image) → IsOf image volume.now key → MatchResult result (IsKnownAt (volume_items image) key) (λ _. ⊥) }
+{
+    let Some(stat) = volume.objects.stat(key) else {
+        return Err(changed(volume.sup.root));
+    };
+    let Some(kind) = kind_of_mode(stat.fields.mode) else {
+        return Err(changed(stat.leaf));
+    };
+    Ok(Known { stat, kind })
+}
+
+/// What is answered where a block reads otherwise than when the volume was opened.
+pub fn changed(block: BlockNo) -> VolAnswer
+    ensures { result ≡ Refused (Damaged block Reread) }
+{
+    VolAnswer::Refused(VolumeRefusal::Damaged {
+        block,
+        rule: Rule::Reread,
+    })
+}

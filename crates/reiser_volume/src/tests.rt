@@ -1,0 +1,308 @@
+// Small volumes in memory, opened.
+ghost use Rattle.std.specs.Prelude.{◌≡◌, None, IfOk, length};
+
+mod sample;
+
+use crate::gather::sorted;
+use crate::{Volume, check_all_names};
+use outside::{Access, BlockSource, Disk, Memory, Rule, VolAnswer, VolumeRefusal};
+use outside_mem::MemDisk;
+use reiser_bitmap::Bitmap;
+use reiser_objects::{ObjectKey, Objects, ROOT};
+use sample::{Entry, Thing, change, volume};
+use std::alloc::Global;
+use std::test::*;
+
+const FILE: u16 = 0o100644;
+
+const DIRECTORY: u16 = 0o40755;
+
+const SYMLINK: u16 = 0o120777;
+
+const fn thing(object: u32, mode: u16, entries: &'static [Entry]) -> Thing {
+    Thing {
+        dir: 2,
+        object,
+        mode,
+        size: 1,
+        entries,
+    }
+}
+
+/// The root with these entries, for the files (2, 4), the directories (2, 5), (2, 6), (2, 7) and a symlink (2, 8).
+fn with_root(
+    alloc: Global,
+    root: &'static [Entry],
+    fifth: &'static [Entry],
+    sixth: &'static [Entry],
+    target: u64,
+) -> Result<MemDisk, Memory>
+    ensures size { IfOk result (λ d. length d.history.start ≡ 2048) }
+    ensures closed { IfOk result (λ d. d.opened ≡ None) }
+{
+    volume(
+        alloc,
+        &[
+            Thing {
+                dir: 1,
+                object: 2,
+                mode: DIRECTORY,
+                size: 48,
+                entries: root,
+            },
+            thing(4, FILE, &[]),
+            thing(5, DIRECTORY, fifth),
+            thing(6, DIRECTORY, sixth),
+            thing(7, DIRECTORY, &[]),
+            Thing {
+                dir: 2,
+                object: 8,
+                mode: SYMLINK,
+                size: target,
+                entries: &[],
+            },
+        ],
+    )
+}
+
+/// How many objects are named in the volume on a disk.
+fn open(alloc: Global, disk: &mut MemDisk) -> Result<usize, VolAnswer>
+    requires { disk.old.opened ≡ None }
+{
+    disk.open("x", Access::Read)?;
+    let volume = Volume::open(alloc, disk)?;
+    Ok(volume.count())
+}
+
+/// The same where the root has these entries, and the directory (2, 5) those.
+fn named(
+    alloc: Global,
+    root: &'static [Entry],
+    fifth: &'static [Entry],
+) -> Result<usize, VolAnswer> {
+    let mut disk = with_root(alloc, root, fifth, &[], 1)?;
+    open(alloc, &mut disk)
+}
+
+fn refused(refusal: VolumeRefusal) -> Result<usize, VolAnswer> {
+    Err(VolAnswer::Refused(refusal))
+}
+
+fn damaged(rule: Rule) -> Result<usize, VolAnswer> {
+    refused(VolumeRefusal::Damaged { block: 51, rule })
+}
+
+const NONE: &[Entry] = &[];
+
+const FOUR: &[Entry] = &[(2, 4, "a"), (2, 5, "d"), (2, 4, "b")];
+
+/// The volume with the root's entries of `FOUR`, one name in (2, 5), and one in a directory without a name.
+fn opened(alloc: Global) -> Result<Volume, VolAnswer> {
+    let mut disk = with_root(alloc, FOUR, &[(2, 8, "s")], &[(2, 4, "lost")], 5)?;
+    disk.open("x", Access::Read)?;
+    Volume::open(alloc, &mut disk)
+}
+
+#[test]
+fn a_volume_is_opened(rt: HostRuntime) -> Result<(), Fail> {
+    let volume = opened(rt.alloc())?;
+    assert_eq!(rt; volume.sup().root, 51);
+    assert_eq!(rt; volume.bitmap().used(), 52);
+    assert_eq!(rt; volume.count(), 4);
+    assert_eq!(rt; volume.index_of(ObjectKey { dir: 2, object: 6 }), None);
+    for (i, dir, object, mode) in [
+        (0, 1, 2, DIRECTORY),
+        (1, 2, 4, FILE),
+        (2, 2, 5, DIRECTORY),
+        (3, 2, 8, SYMLINK),
+    ] {
+        let key = ObjectKey { dir, object };
+        assert_eq!(rt; volume.index_of(key), Some(i));
+        assert!(rt; i < volume.count());
+        assert_eq!(rt; volume.object(i), key);
+        assert_eq!(rt; volume.stat(i).fields.mode, mode);
+    }
+    Ok(())
+}
+
+#[test]
+fn links_are_told(rt: HostRuntime) -> Result<(), Fail> {
+    let volume = opened(rt.alloc())?;
+    let namings = &volume.objects().namings;
+    assert_eq!(rt; namings.len(), 5);
+    for (i, link) in [(0, true), (2, true), (3, true), (4, false)] {
+        assert!(rt; i < namings.len());
+        assert_eq!(rt; volume.is_link(&namings[i]), link);
+    }
+    Ok(())
+}
+
+#[test]
+fn names_are_checked(rt: HostRuntime) -> Result<(), Fail> {
+    let form = damaged(Rule::EntryForm);
+    let taken = refused(VolumeRefusal::NameTaken { dir: 2, object: 4 });
+    for (root, fifth, answer) in [
+        // names of one object in two directories, and one name in two directories
+        (FOUR, ONE, Ok(3)),
+        // no name, two that stand for directories, one with a slash, and two that look like these
+        (EMPTY, NONE, form),
+        (DOT, NONE, form),
+        (DOTS, NONE, form),
+        (SLASH, NONE, form),
+        (GOOD, NONE, Ok(3)),
+        // a name twice, a directory twice, the root
+        (TWICE, NONE, damaged(Rule::NameTwice)),
+        (AGAIN, NONE, damaged(Rule::DirTwice)),
+        (FOUR, UP, damaged(Rule::DirTwice)),
+        // the name that is kept is taken only in the root
+        (KEPT, NONE, taken),
+        (FOUR, KEPT, Ok(3)),
+    ] {
+        assert_eq!(rt; named(rt.alloc(), root, fifth), answer);
+    }
+    Ok(())
+}
+
+const ONE: &[Entry] = &[(2, 4, "a")];
+
+const EMPTY: &[Entry] = &[(2, 4, "")];
+
+const DOT: &[Entry] = &[(2, 4, ".")];
+
+const DOTS: &[Entry] = &[(2, 4, "..")];
+
+const SLASH: &[Entry] = &[(2, 4, "a/b")];
+
+const GOOD: &[Entry] = &[(2, 4, "..."), (2, 5, "a\\b")];
+
+const TWICE: &[Entry] = &[(2, 4, "a"), (2, 5, "a")];
+
+const AGAIN: &[Entry] = &[(2, 5, "a"), (2, 5, "b")];
+
+const UP: &[Entry] = &[(1, 2, "up")];
+
+const KEPT: &[Entry] = &[(2, 4, "reiserfs_saved")];
+
+/// A name of 256 bytes.
+const LONG: &[Entry] = &[(
+    2,
+    4,
+    "xxxxxxxxxxxxxxxxxxxxxxxxxxxxxxxxxxxxxxxxxxxxxxxxxxxxxxxxxxxxxxxxxxxxxxxxxxxxxxxxxxxxxxxxxxxxxxxxxxxxxxxxxxxxxxxxxxxxxxxxxxxxxxxxxxxxxxxxxxxxxxxxxxxxxxxxxxxxxxxxxxxxxxxxxxxxxxxxxxxxxxxxxxxxxxxxxxxxxxxxxxxxxxxxxxxxxxxxxxxxxxxxxxxxxxxxxxxxxxxxxxxxxxxxxxxxxxxx",
+)];
+
+const LINK: &[Entry] = &[(2, 8, "s")];
+
+#[test]
+fn names_and_targets_are_short(rt: HostRuntime) -> Result<(), Fail> {
+    for (root, target, answer) in [
+        (LONG, 1, long(4, 256)),
+        (LINK, 3900, Ok(2)),
+        (LINK, 3901, long(8, 3901)),
+    ] {
+        let mut disk = with_root(rt.alloc(), root, NONE, NONE, target)?;
+        assert_eq!(rt; open(rt.alloc(), &mut disk), answer);
+    }
+    Ok(())
+}
+
+fn long(object: u32, length: u64) -> Result<usize, VolAnswer> {
+    refused(VolumeRefusal::NameTooLong {
+        dir: 2,
+        object,
+        length,
+    })
+}
+
+fn attributes(object: u32) -> Result<usize, VolAnswer> {
+    refused(VolumeRefusal::HasAttributes { dir: 2, object })
+}
+
+const PRIVATE: &[Entry] = &[(2, 4, "a"), (2, 5, ".reiserfs_priv")];
+
+const XATTRS: &[Entry] = &[(2, 6, "xattrs")];
+
+const REMOVED: &[Entry] = &[(2, 7, "4.0")];
+
+const SET: &[Entry] = &[(2, 4, "4.0")];
+
+const OTHER: &[Entry] = &[(2, 6, "other")];
+
+const MORE: &[Entry] = &[(2, 6, "xattrs"), (2, 7, "more")];
+
+#[test]
+fn attributes_are_refused(rt: HostRuntime) -> Result<(), Fail> {
+    for (fifth, sixth, answer) in [
+        (NONE, NONE, Ok(2)),
+        (XATTRS, NONE, Ok(2)),
+        // setting and removing an attribute leaves an empty directory
+        (XATTRS, REMOVED, Ok(2)),
+        (XATTRS, SET, attributes(4)),
+        (OTHER, NONE, attributes(6)),
+        (MORE, NONE, attributes(7)),
+    ] {
+        let mut disk = with_root(rt.alloc(), PRIVATE, fifth, sixth, 1)?;
+        assert_eq!(rt; open(rt.alloc(), &mut disk), answer);
+    }
+    Ok(())
+}
+
+fn at(block: u64, rule: Rule) -> VolumeRefusal {
+    VolumeRefusal::Damaged { block, rule }
+}
+
+#[test]
+fn each_group_refuses(rt: HostRuntime) -> Result<(), Fail> {
+    let alloc = rt.alloc();
+    for (n, at, bytes, refusal) in [
+        (
+            16,
+            50,
+            b"\x02".as_slice(),
+            VolumeRefusal::Unclean { state: 2 },
+        ),
+        // a descriptor without a last flushed transaction
+        (
+            18,
+            4084,
+            b"ReIsErLB",
+            VolumeRefusal::JournalPending { trans: 0 },
+        ),
+        (17, 2, b"\xfe", at(16, Rule::SystemFree)),
+        (51, 2, b"\0", at(51, Rule::NodeHead)),
+        // the file has no kind
+        (51, 3937, b"\0", at(51, Rule::ObjectForm)),
+    ] {
+        let mut disk = with_root(alloc, FOUR, NONE, NONE, 1)?;
+        change(&mut disk, n, at, bytes)?;
+        assert_eq!(rt; open(alloc, &mut disk), refused(refusal));
+    }
+    Ok(())
+}
+
+#[test]
+fn failed_reads_and_short_devices(rt: HostRuntime) -> Result<(), Fail> {
+    let alloc = rt.alloc();
+    // superblock, the journal's header, the place it names, the bitmap, the leaf
+    for call in 1..6 {
+        let mut disk = with_root(alloc, FOUR, NONE, NONE, 1)?;
+        disk.fail_call(call)?;
+        assert_eq!(rt; open(alloc, &mut disk), Err(VolAnswer::Fault));
+    }
+    let mut disk = MemDisk::new(alloc, 16)?;
+    assert_eq!(rt; open(alloc, &mut disk), refused(VolumeRefusal::NotVolume));
+    Ok(())
+}
+
+#[test]
+fn all_names_of_good_objects(rt: HostRuntime) -> Result<(), Fail> {
+    let alloc = rt.alloc();
+    let mut disk = with_root(alloc, FOUR, NONE, NONE, 1)?;
+    disk.open("x", Access::Read)?;
+    assert!(rt; disk.len() >= 2048);
+    let map = Bitmap::load(alloc, &mut disk, 2048)?;
+    let objects = Objects::read(alloc, &mut disk, &map, 51, 2, 18, 32)?;
+    let named = sorted(objects.check(alloc, 51)?)?;
+    assert!(rt; named.contains(&ROOT));
+    assert_eq!(rt; check_all_names(alloc, &objects, &named), Ok(()));
+    Ok(())
+}

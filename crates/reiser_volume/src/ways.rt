@@ -1,0 +1,82 @@
+ghost use Rattle.std.specs.Prelude.{◌≡◌, ◌++◌, ◌∷◌, [], map, IfOk, OnOk, if◌then◌else◌};
+ghost use Rattle.std.specs.List.{All};
+ghost use Rattle.outside.specs.History.{Image};
+ghost use Rattle.reiser_volume.specs.Known.{is_known};
+ghost use Rattle.reiser_volume.specs.Opened.{IsOpened, links_in};
+ghost use Rattle.reiser_volume.specs.Passes.{is_link};
+ghost use Rattle.reiser_volume.specs.Volume.{IsAccepted};
+ghost use Rattle.reiser_volume.specs.Ways.{node_of, link_of, key_at, Fits, HasPaths};
+
+use crate::Volume;
+use fs_rows::Name;
+use outside::Memory;
+use path_list::{Link, NodeId, PathTo, paths};
+use reiser_objects::{Naming, ObjectKey, ROOT};
+use std::alloc::Global;
+
+/// The paths of the volume's tree, which ascend.
+pub fn paths_of(alloc: Global, volume: &Volume) -> Result<Vec<PathTo>, Memory>
+    ensures { (image : Image) → IsAccepted image → IsOpened volume.now image → IfOk result (λ list. HasPaths volume.now list.items) }
+{
+    let links = links_of(alloc, volume)?;
+    paths(alloc, links, node_of(ROOT))
+}
+
+/// The links of a volume.
+fn links_of(alloc: Global, volume: &Volume) -> Result<Vec<Link>, Memory>
+    ensures links { IfOk result (λ links. links.items ≡ map link_of (links_in volume.now)) }
+    ensures fit { IfOk result (λ links. All (λ l. Fits l.target) links.items) }
+{
+    let mut links = Vec::new(alloc);
+    for naming in &volume.objects.namings {
+        add_link(&mut links, alloc, volume, naming)?;
+    }
+    Ok(links)
+}
+
+/// Adds an entry, if it is a link.
+fn add_link(
+    links: &mut Vec<Link>,
+    alloc: Global,
+    volume: &Volume,
+    naming: &Naming,
+) -> Result<(), Memory>
+    ensures links { OnOk result (links.new.items ≡ links.old.items ++ (if is_link (is_known volume.now.named) naming.now then link_of naming.now ∷ [] else [])) }
+    ensures fit { OnOk result (All (λ l. Fits l.target) links.old.items → All (λ l. Fits l.target) links.new.items) }
+{
+    if volume.is_link(naming) {
+        links.push(link_of(alloc, naming)?)?;
+    }
+    Ok(())
+}
+
+fn link_of(alloc: Global, naming: &Naming) -> Result<Link, Memory>
+    ensures link { IfOk result (λ link. link ≡ link_of naming.now) }
+    ensures fits { IfOk result (λ link. Fits link.target) }
+{
+    Ok(Link {
+        dir: node_of(naming.dir),
+        target: node_of(naming.target),
+        name: Name::new(alloc, naming.name.bytes())?,
+    })
+}
+
+fn node_of(key: ObjectKey) -> NodeId
+    ensures node { result ≡ node_of key }
+    ensures fits { Fits result }
+{
+    NodeId {
+        space: key.dir as u64,
+        number: key.object as u64,
+    }
+}
+
+/// The object that a node stands for.
+pub fn key_at(node: NodeId) -> ObjectKey
+    ensures { result ≡ key_at node }
+{
+    ObjectKey {
+        dir: (node.space % (1 << 32)) as u32,
+        object: (node.number % (1 << 32)) as u32,
+    }
+}
