@@ -1,5 +1,5 @@
 -- The used blocks of an accepted volume decide the bytes of its files, and so its rows.
-use Rattle.std.proofs.Common.{◌≡◌, ◌≢◌, ◌-◌, ℕ, Bool, true, false, ◌||◌, List, [], length, Contains, if◌then◌else◌, sym, ◌∙◌, ap, true≢false}
+use Rattle.std.proofs.Common.{◌≡◌, ◌-◌, ℕ, Bool, true, false, ◌||◌, List, [], length, Contains, if◌then◌else◌, sym, ◌∙◌, ap, true≢false}
 use Rattle.std.specs.List.{list_any}
 use Rattle.std.proofs.lemmas.Bool.{false_from_ne_true}
 use Rattle.std.proofs.lemmas.List.Elements.{All-contains}
