@@ -11,9 +11,12 @@ pub mod Leading
 pub mod Lists
 pub mod Numbering
 pub mod Placed
+pub mod Reached
 pub mod Refusals
 pub mod Rowed
+pub mod SameRows
 pub mod Seeing
 pub mod Sums
 pub mod Tabling
+pub mod Unchanged
 pub mod Uniqueness

@@ -23,7 +23,9 @@ mod rows;
 mod volume;
 mod ways;
 
-pub use laws::{links_are_one, names_refusals_break_rules, refusals_break_rules};
+pub use laws::{
+    links_are_one, names_refusals_break_rules, refusals_break_rules, used_blocks_decide,
+};
 pub use names::check_all_names;
 pub use volume::Volume;
 

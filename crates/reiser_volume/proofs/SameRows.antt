@@ -1,0 +1,81 @@
+-- The used blocks of an accepted volume decide the bytes of its files, and so its rows.
+use Rattle.std.proofs.Common.{◌≡◌, ◌-◌, ℕ, Bool, true, false, ◌||◌, List, [], length, Contains, if◌then◌else◌, sym, ◌∙◌, ap, true≢false}
+use Rattle.std.specs.List.{list_any}
+use Rattle.std.proofs.lemmas.Bool.{false_from_ne_true}
+use Rattle.std.proofs.lemmas.List.Elements.{All-contains}
+use Rattle.std.proofs.lemmas.List.Folds.{list_any-from_Any}
+use Rattle.outside.specs.History.{Image}
+use Rattle.fs_rows.specs.Rows.{WholeRow}
+use Rattle.reiser_bitmap.specs.Bits.{has}
+use Rattle.reiser_bitmap.proofs.Ranges.{filter_contains}
+use Rattle.reiser_walk.specs.Bodies.{is_save_link}
+use Rattle.reiser_walk.specs.declared.pointer.Pointer.{Pointer}
+use Rattle.reiser_walk.specs.declared.tree.Tree.{Tree}
+use Rattle.reiser_walk.specs.Items.{Item, blocks_named}
+use Rattle.reiser_walk.specs.Rules.{tree_damages}
+use Rattle.reiser_walk.specs.Tree.{tree_events, reached_in, items_of as items_of_tree}
+use Rattle.reiser_walk.proofs.Lists.{Each, each_from_all, all_from_each}
+use Rattle.reiser_walk.proofs.Rules.{sound_exactly}
+use Rattle.reiser_files.specs.Bytes.{named_block, file_bytes}
+use Rattle.reiser_files.proofs.Deciding.{named_decide}
+use Rattle.reiser_files.proofs.Sorts.{items_name}
+use Rattle.reiser_objects.specs.declared.key.ObjectKey.{ObjectKey}
+use Rattle.reiser_objects.specs.declared.naming.Naming.{Naming}
+use Rattle.reiser_objects.specs.Keys.{key_of, same_key, items_of}
+use Rattle.reiser_objects.specs.Kinds.{is_file, is_symlink}
+use Rattle.object_files.specs.Laws.{SameUsed}
+use Rattle.reiser_volume.specs.Rows.{IsRow, AreReiserRows}
+use Rattle.reiser_volume.proofs.Reached.{Names, at_node, is_named}
+
+none_saves : (items : List Item) (i : Item) → list_any (λ x. is_save_link x.head) items ≡ false → Contains items i → is_save_link i.head ≡ false
+none_saves items i none among =
+    false_from_ne_true (is_save_link i.head) (λ is. true≢false (sym (list_any-from_Any (λ x. is_save_link x.head) items (among.0, i, among.1, among.2, is)) ∙ none))
+
+-- the files of a tree with which nothing is wrong, and that has no save link
+module _ (tree : Tree) (image other : Image) (used : List Bool) (sound : tree_damages tree image used ≡ []) (same : SameUsed used image other)
+    (none : list_any (λ i. is_save_link i.head) (items_of_tree tree image (length used)) ≡ false) where
+  abbrev items : List Item
+  items = items_of_tree tree image (length used)
+
+  abbrev Used : ℕ → Type 0
+  Used b = has used b ≡ true
+
+  names_used : Each (Names Used) items
+  names_used =
+      at_node Used image (length used) (tree.height - 1) 16 tree.root
+      (each_from_all (λ (p : Pointer). has used p.block ≡ true) (reached_in (tree_events tree image (length used))) ((sound_exactly tree image used).0 sound).all_used)
+
+  block_used : (i : Item) (b : ℕ) → Contains items i → Contains (blocks_named i.head i.body) b → Used b
+  block_used i b among named =
+      All-contains Used (blocks_named i.head i.body) b (all_from_each Used (blocks_named i.head i.body) (All-contains (Names Used) items i (all_from_each (Names Used) items names_used) among)) named
+
+  pub bytes_same : (key : ObjectKey) (size : ℕ) → file_bytes other (items_of key items) size ≡ file_bytes image (items_of key items) size
+  bytes_same key size =
+      named_decide image other (items_of key items) size (λ k low some.
+      let n = items_name (items_of key items) k some in
+      let among : Contains items n.item = (filter_contains (λ i. same_key (key_of i.head) key) items n.item n.among).0 in
+      same (named_block (items_of key items) k)
+      (block_used n.item (named_block (items_of key items) k) among (is_named n.item (named_block (items_of key items) k) n.indirect (none_saves items n.item none among) n.pointer some)))
+
+-- where the files have the same bytes, the rows are the same
+module _ (image other : Image) (flags : ℕ) (items : List Item) (same : (key : ObjectKey) (size : ℕ) → file_bytes other (items_of key items) size ≡ file_bytes image (items_of key items) size) where
+  row_same : (links : List Naming) (rows : List WholeRow) (key : ObjectKey) (row : WholeRow) → IsRow image flags items links rows key row → IsRow other flags items links rows key row
+  row_same links rows key row r = record {
+    leads = r.leads;
+    stat = r.stat;
+    has_stat = r.has_stat;
+    fields = r.fields;
+    least = r.least;
+    names = r.names;
+    bytes = r.bytes ∙ ap (λ (bytes : List ℕ). if is_file row.kind || is_symlink row.kind then bytes else []) (sym (same key r.stat.fields.size));
+  }
+
+  pub rows_same : (rows : List WholeRow) → AreReiserRows image flags items rows → AreReiserRows other flags items rows
+  rows_same rows h = record {
+    visible = h.visible;
+    links = h.links;
+    are_links = h.are_links;
+    ascends = h.ascends;
+    each = λ row among. let at = h.each row among in (at.0, row_same h.links rows at.0 row at.1);
+    whole = h.whole;
+  }
