@@ -1,5 +1,6 @@
-//! A ReiserFS volume: the definitions of an accepted volume, of its refusals, its rows and its bytes, and the looks at its
-//! names.
+//! A ReiserFS volume: the definitions of an accepted volume, of its refusals and its rows, and the looks at its names.
+//!
+//! [`Volume::open`] opens a volume that keeps all rules, and [`Volume::rows`] makes its rows.
 //!
 //! A caller that has the objects of a tree and the keys of those that are named ([`reiser_objects::Objects::check`]) calls
 //! [`check_all_names`], which says whether all the rules of names are kept, or refuses by one that fails.

@@ -1,6 +1,7 @@
 // Small volumes in memory, opened.
 ghost use Rattle.std.specs.Prelude.{◌≡◌, None, IfOk, length};
 
+mod rows;
 mod sample;
 
 use crate::gather::sorted;

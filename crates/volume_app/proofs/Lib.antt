@@ -1,2 +1,3 @@
 pub mod Superblock
 pub mod Outcomes
+pub mod Listing

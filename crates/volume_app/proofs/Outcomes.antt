@@ -9,7 +9,7 @@ use Rattle.outside.specs.declared.answer.Answer.{Answer}
 use Rattle.outside.specs.declared.answer.Answer.TheVariants.{Volume, Btr, NoSpace, WrongFormat, ImageMissing, ImageMoved, ImageDamaged, ReservedUsed, Fault, Memory}
 use Rattle.volume_app.specs.declared.ending.Ending.{Ending}
 use Rattle.volume_app.specs.declared.ending.Ending.TheVariants.{Done, Usage, Failed, OutputFault}
-use Rattle.volume_app.specs.Command.{Asked, inspect, help, version}
+use Rattle.volume_app.specs.Command.{Asked, inspect, list, help, version}
 use Rattle.volume_app.specs.Ending.{status}
 use Rattle.reiser_volume.specs.Volume.{IsAccepted}
 use Rattle.reiser_volume.proofs.Refusals.{not_refused}
@@ -17,9 +17,9 @@ use Rattle.volume_app.specs.Inspect.{format_in}
 use Rattle.volume_app.specs.Outcome.{IsDone, InspectRefuses, EndsRight, Prints, HasFaults, ending_of}
 
 -- a text that was written is that of the ending
-pub prints_text : (text old new : List ℕ) (written : Result (Unit {0}) faults.Fault) → Takes old text written new → Prints text (ending_of written) old new
-prints_text text old new (Ok done) takes = takes
-prints_text text old new (Err fault) takes = takes
+pub prints_text : (is_text : List ℕ → Type 0) (text old new : List ℕ) (written : Result (Unit {0}) faults.Fault) → is_text text → Takes old text written new → Prints is_text (ending_of written) old new
+prints_text is_text text old new (Ok done) right takes = (text, right, takes)
+prints_text is_text text old new (Err fault) right takes = (text, right, takes)
 
 not_risen : (before now : ℕ) → now ≡ before → before < 2 ^ 64 - 1 → Rose before now → ⊥
 not_risen before now same low rose = omega (arith, same, low, rose)
@@ -43,6 +43,7 @@ failed_done : (asked : Option Asked) (disk : Image) (answer : Answer) (disk_old 
     → (answer ≡ Fault → Rose disk_old disk_new) → disk_new ≡ disk_old → disk_old < 2 ^ 64 - 1 → (status (Failed answer) ≡ 0) ⊎ (status (Failed answer) ≡ 4)
 failed_done None disk answer disk_old disk_new done right device same low = absurd done
 failed_done (Some (inspect path)) disk answer disk_old disk_new done right device same low = inspect_done disk answer disk_old disk_new done.0 done.1 right device same low
+failed_done (Some (list path)) disk answer disk_old disk_new done right device same low = inspect_done disk answer disk_old disk_new done.0 done.1 right device same low
 failed_done (Some help) disk answer disk_old disk_new done right device same low = absurd right
 failed_done (Some version) disk answer disk_old disk_new done right device same low = absurd right
 

@@ -1,6 +1,10 @@
 -- What an ending means of the disk that was found, and what the sinks gained.
-use Rattle.std.specs.Prelude.{◌≡◌, ◌≢◌, ◌⊎◌, ℕ, ◌≤◌, List, [], ◌++◌, take, Option, Some, None, Result, Ok, Err}
+use Rattle.std.specs.Prelude.{◌≡◌, ◌≢◌, ◌⊎◌, ℕ, ◌≤◌, List, [], ◌++◌, map, take, Option, Some, None, Result, Ok, Err}
 use Rattle.vol_block.specs.declared.format.Format.TheVariants as formats
+use Rattle.fs_rows.specs.Rows.{WholeRow, row_of}
+use Rattle.fs_rows.specs.Text.{rows_text}
+use Rattle.fs_rows.specs.declared.row.Row.{Row}
+use Rattle.object_files.specs.Answers.{IsChanged}
 use Rattle.outside.specs.Fault.{Rose}
 use Rattle.outside.specs.History.{Image}
 use Rattle.outside.specs.declared.fault.Fault as faults
@@ -8,10 +12,10 @@ use Rattle.outside.specs.declared.answer.Answer.{Answer}
 use Rattle.outside.specs.declared.answer.Answer.TheVariants.{Volume, Btr, NoSpace, WrongFormat, ImageMissing, ImageMoved, ImageDamaged, ReservedUsed, Fault, Memory}
 use Rattle.volume_app.specs.declared.ending.Ending.{Ending}
 use Rattle.volume_app.specs.declared.ending.Ending.TheVariants.{Done, Usage, Failed, OutputFault}
-use Rattle.volume_app.specs.Command.{Asked, inspect, help, version}
+use Rattle.volume_app.specs.Command.{Asked, inspect, list, help, version}
 use Rattle.volume_app.specs.Ending.{status, error_line}
 use Rattle.reiser_volume.specs.Answers.{NamesVolumeRule}
-use Rattle.reiser_volume.specs.Volume.{IsAccepted, IsRefusal}
+use Rattle.reiser_volume.specs.Volume.{AreRowsOf, IsAccepted, IsRefusal}
 use Rattle.volume_app.specs.Inspect.{format_in, inspect_text}
 use Rattle.volume_app.specs.Texts.{help_text, version_text}
 
@@ -19,6 +23,7 @@ use Rattle.volume_app.specs.Texts.{help_text, version_text}
 abbrev pub IsDone : Option Asked → Image → Type 0
 IsDone None disk = ⊥
 IsDone (Some (inspect path)) disk = (format_in disk ≡ formats.Reiser) × IsAccepted disk
+IsDone (Some (list path)) disk = (format_in disk ≡ formats.Reiser) × IsAccepted disk
 IsDone (Some help) disk = Unit {0}
 IsDone (Some version) disk = Unit {0}
 
@@ -26,17 +31,23 @@ IsDone (Some version) disk = Unit {0}
 abbrev pub TakesMemory : Option Asked → Type 0
 TakesMemory None = ⊥
 TakesMemory (Some (inspect path)) = Unit {0}
+TakesMemory (Some (list path)) = Unit {0}
 TakesMemory (Some help) = ⊥
 TakesMemory (Some version) = ⊥
 
--- the text that a command prints of a disk
-abbrev pub text_of : Option Asked → Image → List ℕ
-text_of None disk = []
-text_of (Some (inspect path)) disk = inspect_text disk
-text_of (Some help) disk = help_text
-text_of (Some version) disk = version_text
+-- the rows of the volume on a disk, as the program has them
+abbrev pub AreListed : Image → List Row → Type 0
+AreListed disk rows = (whole : List WholeRow) × AreRowsOf disk whole × (rows ≡ map row_of whole)
 
--- `inspect` may refuse a disk so; that a device failed or memory was short is said elsewhere
+-- the text that a command prints of a disk
+abbrev pub IsTextOf : Option Asked → Image → List ℕ → Type 0
+IsTextOf None disk text = text ≡ []
+IsTextOf (Some (inspect path)) disk text = text ≡ inspect_text disk
+IsTextOf (Some (list path)) disk text = (rows : List Row) × AreListed disk rows × (text ≡ rows_text rows)
+IsTextOf (Some help) disk text = text ≡ help_text
+IsTextOf (Some version) disk text = text ≡ version_text
+
+-- `inspect` and `list` may refuse a disk so; that a device failed or memory was short is said elsewhere
 abbrev pub InspectRefuses : Image → Answer → Type 0
 InspectRefuses disk (Volume refusal) = (format_in disk ≢ formats.Btrfs) × IsRefusal disk refusal
 InspectRefuses disk WrongFormat = format_in disk ≡ formats.Btrfs
@@ -75,10 +86,24 @@ IsInspectAnswer (ImageMoved block) = ⊥
 IsInspectAnswer (ImageDamaged refusal) = ⊥
 IsInspectAnswer (ReservedUsed block) = ⊥
 
+-- The answers that `list` knows: also that a block reads otherwise than before.
+abbrev pub IsListAnswer : Answer → Type 0
+IsListAnswer (Volume refusal) = NamesVolumeRule refusal ⊎ IsChanged refusal
+IsListAnswer WrongFormat = Unit {0}
+IsListAnswer Fault = Unit {0}
+IsListAnswer Memory = Unit {0}
+IsListAnswer (Btr refusal) = ⊥
+IsListAnswer (NoSpace needed free run_needed longest_run) = ⊥
+IsListAnswer ImageMissing = ⊥
+IsListAnswer (ImageMoved block) = ⊥
+IsListAnswer (ImageDamaged refusal) = ⊥
+IsListAnswer (ReservedUsed block) = ⊥
+
 -- an answer that a command knows
 abbrev pub KnowsAnswer : Option Asked → Answer → Type 0
 KnowsAnswer None answer = ⊥
 KnowsAnswer (Some (inspect path)) answer = IsInspectAnswer answer
+KnowsAnswer (Some (list path)) answer = IsListAnswer answer
 KnowsAnswer (Some help) answer = ⊥
 KnowsAnswer (Some version) answer = ⊥
 
@@ -93,6 +118,7 @@ Knows asked OutputFault = Unit {0}
 abbrev pub Answers : Option Asked → Image → Answer → Type 0
 Answers None disk answer = ⊥
 Answers (Some (inspect path)) disk answer = InspectRefuses disk answer
+Answers (Some (list path)) disk answer = InspectRefuses disk answer
 Answers (Some help) disk answer = ⊥
 Answers (Some version) disk answer = ⊥
 
@@ -108,12 +134,12 @@ abbrev pub ending_of : Result (Unit {0}) faults.Fault → Ending
 ending_of (Ok done) = Done
 ending_of (Err fault) = OutputFault
 
--- what the output sink gained: the text, or after a fault a first part of it
-abbrev pub Prints : List ℕ → Ending → List ℕ → List ℕ → Type 0
-Prints text Done old new = new ≡ old ++ text
-Prints text Usage old new = new ≡ old
-Prints text (Failed answer) old new = new ≡ old
-Prints text OutputFault old new = (k : ℕ) × (new ≡ old ++ take k text)
+-- what the output sink gained: a text that is right, or after a fault a first part of one
+abbrev pub Prints : (List ℕ → Type 0) → Ending → List ℕ → List ℕ → Type 0
+Prints is_text Done old new = (text : List ℕ) × is_text text × (new ≡ old ++ text)
+Prints is_text Usage old new = new ≡ old
+Prints is_text (Failed answer) old new = new ≡ old
+Prints is_text OutputFault old new = (text : List ℕ) × is_text text × ((k : ℕ) × (new ≡ old ++ take k text))
 
 -- an ending that prints nothing
 abbrev pub IsQuiet : Ending → Type 0
@@ -141,5 +167,5 @@ pub record Runs (asked : Option Asked) (tells : Type 0) (disk : Image) (answer :
   pub answers : answer ≡ status ending
   pub known : Knows asked ending
   pub right : tells → EndsRight asked disk ending
-  pub printed : tells → out_tells → Prints (text_of asked disk) ending out_old out_new
+  pub printed : tells → out_tells → Prints (IsTextOf asked disk) ending out_old out_new
   pub reported : err_tells → Reports (error_line ending) faults_old faults_new err_old err_new

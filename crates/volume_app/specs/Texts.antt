@@ -15,6 +15,7 @@ abbrev pub help_text : List ℕ
 help_text =
     usage_line
     ++ codes "  inspect PATH   check the volume at PATH, and print what it is" ++ 10 ∷ []
+    ++ codes "  list PATH      print a line for each path of the volume at PATH" ++ 10 ∷ []
     ++ codes "  --help         print this text" ++ 10 ∷ []
     ++ codes "  --version      print the version of this program" ++ 10 ∷ []
 

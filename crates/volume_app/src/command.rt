@@ -8,6 +8,8 @@ use app_words::is_path;
 pub enum Command<'a> {
     /// To check the volume at a path, and print what is known of it.
     Inspect(&'a str),
+    /// To print a line for each path of the volume at a path.
+    List(&'a str),
     /// To print how the program is called.
     Help,
     /// To print the program's version.
@@ -41,6 +43,7 @@ fn named<'a>(name: &str, path: &'a str) -> Option<Command<'a>>
 {
     match name {
         "inspect" => Some(Command::Inspect(path)),
+        "list" => Some(Command::List(path)),
         _ => None,
     }
 }

@@ -94,7 +94,7 @@ fn found_in(volume: &Volume) -> Inspected
 }
 
 /// The answer of a command that a ReiserFS volume gives cause to.
-fn of_volume(answer: VolAnswer) -> Answer
+pub fn of_volume(answer: VolAnswer) -> Answer
     ensures { result ≡ of_volume answer }
 {
     match answer {
@@ -105,7 +105,7 @@ fn of_volume(answer: VolAnswer) -> Answer
 }
 
 /// Whether the disk does not hold a Btrfs volume.
-fn check_format<S: BlockSource>(source: &mut S) -> Result<(), Answer>
+pub fn check_format<S: BlockSource>(source: &mut S) -> Result<(), Answer>
     ensures kept { S.kept source.old source.new }
     ensures cause { HasCauseOf Answer.Fault (S.faults source.old) (S.faults source.new) result }
     ensures other { IsTrue S.tells → OnOk result (format_in (S.blocks source.old) ≢ formats.Btrfs) }

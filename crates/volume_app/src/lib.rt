@@ -7,6 +7,7 @@
 mod command;
 mod ending;
 mod inspect;
+mod list;
 #[cfg(test)]
 mod tests;
 mod texts;

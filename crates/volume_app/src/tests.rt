@@ -82,6 +82,8 @@ fn words_that_ask_for_nothing(rt: HostRuntime) -> Result<(), Fail> {
     is_usage(&rt, &["inspect", "-x"])?;
     is_usage(&rt, &["inspect", ""])?;
     is_usage(&rt, &["inspect", "a", "b"])?;
+    is_usage(&rt, &["list"])?;
+    is_usage(&rt, &["list", "-"])?;
     is_usage(&rt, &["mount", "a"])?;
     is_usage(&rt, &["--help", "a"])
 }
@@ -268,6 +270,38 @@ fn failed_calls_end_the_run(rt: HostRuntime) -> Result<(), Fail> {
     let ended = run_on(rt.alloc(), &["inspect", "x"], &mut disk, Some(0))?;
     assert_eq!(rt; ended.status, 5);
     assert!(rt; SAMPLE.as_bytes().starts_with(ended.out.bytes()));
+    assert!(rt; ended.err.bytes() == b"output fault\n".as_slice());
+    Ok(())
+}
+
+const ROOT: &str = "d 0755 0 0 1000000000 1000000000 1000000000 - - - - - /\n";
+
+#[test]
+fn list_prints_the_rows(rt: HostRuntime) -> Result<(), Fail> {
+    let mut disk = sample(rt.alloc(), 2048)?;
+    ends(&rt, &["list", "x"], &mut disk, 0, ROOT, "")?;
+    for (n, at, bytes, line) in [
+        (16, 64, b"_BHRfS_M".as_slice(), "refused 16 format\n"),
+        (16, 50, b"\x02".as_slice(), "refused 2 unclean 2\n"),
+        (51, 4053, b"\x81".as_slice(), "refused 6 damaged 51 11\n"),
+    ] {
+        let mut disk = changed(rt.alloc(), n, at, bytes)?;
+        ends(&rt, &["list", "x"], &mut disk, 1, "", line)?;
+    }
+    Ok(())
+}
+
+#[test]
+fn failed_calls_end_a_list(rt: HostRuntime) -> Result<(), Fail> {
+    for call in 0..7 {
+        let mut disk = sample(rt.alloc(), 2048)?;
+        disk.fail_call(call)?;
+        ends(&rt, &["list", "x"], &mut disk, 3, "", "device fault\n")?;
+    }
+    let mut disk = sample(rt.alloc(), 2048)?;
+    let ended = run_on(rt.alloc(), &["list", "x"], &mut disk, Some(0))?;
+    assert_eq!(rt; ended.status, 5);
+    assert!(rt; ROOT.as_bytes().starts_with(ended.out.bytes()));
     assert!(rt; ended.err.bytes() == b"output fault\n".as_slice());
     Ok(())
 }

@@ -2,12 +2,14 @@ ghost use Rattle.std.specs.Prelude.{◌≡◌, ◌≢◌, ◌↔◌, ◌<◌, �
 ghost use Rattle.outside.specs.Fault.{Rose};
 ghost use Rattle.outside.specs.History.{Image, reads, clock, IsSettled, LeftSince};
 ghost use Rattle.volume_app.specs.Command.{command, opens};
-ghost use Rattle.volume_app.specs.Outcome.{text_of, Prints, Reports, IsDone, EndsRight, HasFaults, IsQuiet, Knows, Runs, TakesMemory, ending_of};
+ghost use Rattle.volume_app.specs.Outcome.{IsTextOf, Prints, Reports, IsDone, EndsRight, HasFaults, IsQuiet, Knows, Runs, TakesMemory, ending_of};
 
 use crate::Ending;
 use crate::command::{Command, read_words};
 use crate::inspect::{inspect, print_inspected};
+use crate::list::list;
 use crate::texts::{HELP, VERSION};
+use fs_rows::write_rows;
 use outside::{Answer, Disk, Fault, Sink};
 use std::alloc::Global;
 use vol_block::Ids;
@@ -60,7 +62,7 @@ fn perform<D: Disk, O: Sink>(alloc: Global, words: &[String], disk: &mut D, out:
     requires wanted { IfSome (option_and_then opens (command (map string_bytes words.now))) (λ o. D.wants o.0 o.1) }
     ensures usage { (result ≡ Ending.Usage) ↔ (command (map string_bytes words.now) ≡ None) }
     ensures right { IsTrue D.tells → EndsRight (command (map string_bytes words.now)) (reads (D.history disk.old)) result }
-    ensures printed { IsTrue D.tells → IsTrue O.tells → Prints (text_of (command (map string_bytes words.now)) (reads (D.history disk.old))) result (O.taken out.old) (O.taken out.new) }
+    ensures printed { IsTrue D.tells → IsTrue O.tells → Prints (IsTextOf (command (map string_bytes words.now)) (reads (D.history disk.old))) result (O.taken out.old) (O.taken out.new) }
     ensures quiet { IsTrue O.tells → IsQuiet result → O.taken out.new ≡ O.taken out.old }
     ensures unchanged { IsTrue D.tells → D.history disk.new ≡ D.history disk.old }
     ensures memory { result ≡ Ending.Failed Answer.Memory → TakesMemory (command (map string_bytes words.now)) }
@@ -71,6 +73,10 @@ fn perform<D: Disk, O: Sink>(alloc: Global, words: &[String], disk: &mut D, out:
         None => Ending::Usage,
         Some(Command::Inspect(path)) => match inspect(alloc, path, disk) {
             Ok(found) => printed(print_inspected(&found, out)),
+            Err(answer) => Ending::Failed(answer),
+        },
+        Some(Command::List(path)) => match list(alloc, path, disk) {
+            Ok(rows) => printed(write_rows(&rows, out)),
             Err(answer) => Ending::Failed(answer),
         },
         Some(Command::Help) => printed(out.write(HELP)),

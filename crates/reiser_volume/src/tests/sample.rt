@@ -22,25 +22,36 @@ pub struct Thing {
 
 /// A leaf that is filled item by item.
 #[derive(Drop)]
-struct Leaf {
+pub struct Leaf {
     block: Block,
     count: u16,
     low: usize,
 }
 
+impl Leaf {
+    /// A leaf without items.
+    pub fn new() -> Leaf {
+        Leaf {
+            block: Block::zero(),
+            count: 0,
+            low: 4096,
+        }
+    }
+}
+
 /// The key of an item as its head has it, with its count and the version of the key.
 #[derive(Drop)]
-struct Head {
-    dir: u32,
-    object: u32,
-    offset: u32,
-    kind: u32,
-    count: u16,
-    version: u16,
+pub struct Head {
+    pub dir: u32,
+    pub object: u32,
+    pub offset: u32,
+    pub kind: u32,
+    pub count: u16,
+    pub version: u16,
 }
 
 /// Adds an item to a leaf, if there is room.
-fn add(leaf: &mut Leaf, head: &Head, body: &[u8]) {
+pub fn add(leaf: &mut Leaf, head: &Head, body: &[u8]) {
     let at = 24 + 24 * leaf.count as usize;
     if leaf.low > 4096 || leaf.low < body.len() || at > 4072 {
         return;
@@ -66,7 +77,7 @@ fn area(name: &str) -> u16 {
 }
 
 /// The body of a directory item with these entries.
-fn entries_body(alloc: Global, entries: &[Entry]) -> Result<Vec<u8>, Memory> {
+pub fn entries_body(alloc: Global, entries: &[Entry]) -> Result<Vec<u8>, Memory> {
     let mut end = (entries.len() % 256 * 16) as u16;
     for entry in entries {
         end = end.wrapping_add(area(entry.2));
@@ -140,21 +151,22 @@ pub fn volume(alloc: Global, things: &[Thing]) -> Result<MemDisk, Memory>
     ensures size { IfOk result (λ d. length d.history.start ≡ 2048) }
     ensures closed { IfOk result (λ d. d.opened ≡ None) }
 {
-    let mut leaf = Leaf {
-        block: Block::zero(),
-        count: 0,
-        low: 4096,
-    };
+    let mut leaf = Leaf::new();
     for thing in things {
         add_thing(alloc, &mut leaf, thing)?;
     }
-    let Leaf {
-        mut block,
-        count,
-        ..
-    } = leaf;
+    disk_with(alloc, &leaf)
+}
+
+/// The volume whose tree is a leaf with these items.
+pub fn disk_with(alloc: Global, leaf: &Leaf) -> Result<MemDisk, Memory>
+    ensures size { IfOk result (λ d. length d.history.start ≡ 2048) }
+    ensures closed { IfOk result (λ d. d.opened ≡ None) }
+{
+    let mut block = Block::zero();
+    block.bytes = leaf.block.bytes;
     put_u16(&mut block.bytes, 0, 1);
-    put_u16(&mut block.bytes, 2, count);
+    put_u16(&mut block.bytes, 2, leaf.count);
     let mut disk = MemDisk::new(alloc, 2048)?;
     disk.set_block(16, &superblock())?;
     let mut bitmap = Block::zero();
