@@ -90,143 +90,156 @@ fn refused(address: u64, rule: BtrRule) -> Result<(usize, usize), BtrAnswer> {
 
 const ROOT: Own = (1, 256, DIRECTORY, 0);
 
+/// The same of a table of these inodes and entries.
+fn outcome(alloc: Global, inodes: &[Own], entries: &[Entry]) -> Result<(usize, usize), BtrAnswer> {
+    let names = table(alloc, inodes, entries)?;
+    check(alloc, &names)
+}
+
 #[test]
 fn good_tables(rt: HostRuntime) -> Result<(), Fail> {
     let alloc = rt.alloc();
-    let rows: [(&[Own], &[Entry], (usize, usize)); 6] = [
-        (&[ROOT], &[], (1, 1)),
-        // a file with a hard link, in two directories
-        (
-            &[ROOT, (2, 257, FILE, 9), (2, 258, DIRECTORY, 0)],
-            &[
-                (1, 256, 257, 1, b"a"),
-                (1, 256, 258, 1, b"d"),
-                (3, 258, 257, 1, b"a"),
-            ],
-            (3, 4),
-        ),
-        // another tree, and the entry of the saved image's, which is no part of the tree
-        (
-            &[ROOT],
-            &[
-                (1, 256, 300, 132, b"snapshot"),
-                (1, 256, 999, 132, b"reiserfs_saved"),
-            ],
-            (1, 2),
-        ),
-        // that name below the root directory is like others
-        (
-            &[ROOT, (2, 258, DIRECTORY, 0)],
-            &[
-                (1, 256, 258, 1, b"d"),
-                (3, 258, 300, 132, b"reiserfs_saved"),
-            ],
-            (2, 3),
-        ),
-        // what no name reaches, and entries of what is no directory, are not looked at
-        (
-            &[ROOT, (2, 257, FILE, 0), (2, 270, 0o30644, 0)],
-            &[
-                (1, 256, 257, 1, b"a"),
-                (3, 257, 999, 7, b"/"),
-                (3, 270, 270, 1, b""),
-            ],
-            (2, 2),
-        ),
-        // the longest target
-        (
-            &[ROOT, (2, 257, 0o120777, 4095)],
-            &[(1, 256, 257, 1, b"l")],
-            (2, 2),
-        ),
+    let file = (2, 257, FILE, 9);
+    let directory = (2, 258, DIRECTORY, 0);
+    assert_eq!(rt; outcome(alloc, &[ROOT], &[]), Ok((1, 1)));
+    // a file with a hard link, in two directories
+    let links: [Entry; 3] = [
+        (1, 256, 257, 1, b"a"),
+        (1, 256, 258, 1, b"d"),
+        (3, 258, 257, 1, b"a"),
     ];
-    for (inodes, entries, wanted) in rows {
-        assert_eq!(rt; check(alloc, &table(alloc, inodes, entries)?), Ok(wanted));
-    }
+    assert_eq!(rt;
+        outcome(alloc, &[ROOT, file, directory], &links),
+        Ok((3, 4))
+    );
+    // another tree, and the entry of the saved image's, which is no part of the tree
+    let trees: [Entry; 2] = [
+        (1, 256, 300, 132, b"snapshot"),
+        (1, 256, 999, 132, b"reiserfs_saved"),
+    ];
+    assert_eq!(rt; outcome(alloc, &[ROOT], &trees), Ok((1, 2)));
+    // that name below the root directory is like others
+    let below: [Entry; 2] = [
+        (1, 256, 258, 1, b"d"),
+        (3, 258, 300, 132, b"reiserfs_saved"),
+    ];
+    assert_eq!(rt; outcome(alloc, &[ROOT, directory], &below), Ok((2, 3)));
+    // what no name reaches, and entries of what is no directory, are not looked at
+    let unseen: [Entry; 3] = [
+        (1, 256, 257, 1, b"a"),
+        (3, 257, 999, 7, b"/"),
+        (3, 270, 270, 1, b""),
+    ];
+    assert_eq!(rt;
+        outcome(alloc, &[ROOT, file, (2, 270, 0o30644, 0)], &unseen),
+        Ok((2, 2))
+    );
+    // the longest target
+    let link: [Entry; 1] = [(1, 256, 257, 1, b"l")];
+    assert_eq!(rt;
+        outcome(alloc, &[ROOT, (2, 257, 0o120777, 4095)], &link),
+        Ok((2, 2))
+    );
     Ok(())
 }
 
 #[test]
 fn each_rule_of_inodes(rt: HostRuntime) -> Result<(), Fail> {
     let alloc = rt.alloc();
-    let rows: [(&[Own], &[Entry], u64, BtrRule); 6] = [
-        (&[], &[], ROOT_NODE, BtrRule::NoInode),
-        (&[(1, 256, FILE, 0)], &[], ROOT_NODE, BtrRule::NoInode),
-        (&[(1, 256, 0o30755, 0)], &[], 1, BtrRule::Body),
-        (
-            &[ROOT, (2, 257, 0o30644, 0)],
-            &[(3, 256, 257, 1, b"a")],
-            2,
-            BtrRule::Body,
-        ),
-        (
-            &[ROOT, (2, 257, 0o120777, 4096)],
-            &[(3, 256, 257, 1, b"l")],
-            2,
-            BtrRule::Body,
-        ),
-        (&[ROOT], &[(3, 256, 257, 1, b"a")], 3, BtrRule::NoInode),
-    ];
-    for (inodes, entries, address, rule) in rows {
-        assert_eq!(rt;
-            check(alloc, &table(alloc, inodes, entries)?),
-            refused(address, rule)
-        );
-    }
-    // bodies that are off the grammar: of an inode, and of an index with two records
-    let mut short = table(alloc, &[ROOT], &[(3, 256, 257, 1, b"a")])?;
-    short.note(alloc, &key(257, 1, 0), &inode(FILE, 0)[..159], 2)?;
+    let entry: [Entry; 1] = [(3, 256, 257, 1, b"a")];
+    assert_eq!(rt;
+        outcome(alloc, &[], &[]),
+        refused(ROOT_NODE, BtrRule::NoInode)
+    );
+    assert_eq!(rt;
+        outcome(alloc, &[(1, 256, FILE, 0)], &[]),
+        refused(ROOT_NODE, BtrRule::NoInode)
+    );
+    assert_eq!(rt;
+        outcome(alloc, &[(1, 256, 0o30755, 0)], &[]),
+        refused(1, BtrRule::Body)
+    );
+    assert_eq!(rt;
+        outcome(alloc, &[ROOT, (2, 257, 0o30644, 0)], &entry),
+        refused(2, BtrRule::Body)
+    );
+    assert_eq!(rt;
+        outcome(alloc, &[ROOT, (2, 257, 0o120777, 4096)], &entry),
+        refused(2, BtrRule::Body)
+    );
+    assert_eq!(rt;
+        outcome(alloc, &[ROOT], &entry),
+        refused(3, BtrRule::NoInode)
+    );
+    Ok(())
+}
+
+#[test]
+fn bodies_off_the_grammar(rt: HostRuntime) -> Result<(), Fail> {
+    let alloc = rt.alloc();
+    // an inode that is too short
+    let entry: [Entry; 1] = [(3, 256, 257, 1, b"a")];
+    let mut short = table(alloc, &[ROOT], &entry)?;
+    short.note(alloc, &key(257, 1, 0), &[0; 159], 2)?;
     assert_eq!(rt; check(alloc, &short), refused(2, BtrRule::Body));
+    // an index with two records
     let mut double = table(alloc, &[ROOT], &[])?;
     let mut body = index(alloc, 300, 132, b"a")?;
-    body.extend_from_slice(&index(alloc, 300, 132, b"b")?)?;
+    let second = index(alloc, 300, 132, b"b")?;
+    body.extend_from_slice(&second)?;
     double.note(alloc, &key(256, 96, 2), &body, 3)?;
     assert_eq!(rt; check(alloc, &double), refused(3, BtrRule::Body));
     Ok(())
 }
 
+/// What is answered where these two stand in one table with a file, 257, and a directory, 258.
+fn pair(alloc: Global, first: Entry, second: Entry) -> Result<(usize, usize), BtrAnswer> {
+    let inodes = [ROOT, (2, 257, FILE, 0), (2, 258, DIRECTORY, 0)];
+    outcome(alloc, &inodes, &[first, second])
+}
+
+/// The same of one beside the directory's own entry.
+fn single(alloc: Global, entry: Entry) -> Result<(usize, usize), BtrAnswer> {
+    pair(alloc, (1, 256, 258, 1, b"d"), entry)
+}
+
 #[test]
 fn each_rule_of_entries(rt: HostRuntime) -> Result<(), Fail> {
     let alloc = rt.alloc();
-    let inodes: [Own; 3] = [ROOT, (2, 257, FILE, 0), (2, 258, DIRECTORY, 0)];
-    let rows: [(&[Entry], BtrRule); 11] = [
-        (&[(3, 256, 257, 1, b"")], BtrRule::NameForm),
-        (&[(3, 256, 257, 1, b"a/b")], BtrRule::NameForm),
-        (&[(3, 256, 257, 1, b"a\0b")], BtrRule::NameForm),
-        (&[(3, 256, 257, 1, b".")], BtrRule::NameForm),
-        (&[(3, 256, 257, 1, b"..")], BtrRule::NameForm),
-        (
-            &[(1, 256, 257, 1, b"a"), (3, 256, 300, 132, b"a")],
-            BtrRule::NameForm,
-        ),
-        (&[(3, 256, 257, 84, b"a")], BtrRule::Body),
-        (&[(3, 256, 301, 132, b"a")], BtrRule::NoInode),
-        (&[(3, 256, 256, 1, b"a")], BtrRule::DirTwice),
-        (
-            &[(1, 256, 258, 1, b"a"), (3, 256, 258, 1, b"b")],
-            BtrRule::DirTwice,
-        ),
-        (
-            &[(1, 256, 258, 1, b"a"), (3, 258, 258, 1, b"b")],
-            BtrRule::DirTwice,
-        ),
-    ];
-    for (entries, rule) in rows {
-        assert_eq!(rt;
-            check(alloc, &table(alloc, &inodes, entries)?),
-            refused(3, rule)
-        );
-    }
+    let form = refused(3, BtrRule::NameForm);
+    assert_eq!(rt; single(alloc, (3, 256, 257, 1, b"")), form);
+    assert_eq!(rt; single(alloc, (3, 256, 257, 1, b"a/b")), form);
+    assert_eq!(rt; single(alloc, (3, 256, 257, 1, b"a\0b")), form);
+    assert_eq!(rt; single(alloc, (3, 256, 257, 1, b".")), form);
+    assert_eq!(rt; single(alloc, (3, 256, 257, 1, b"..")), form);
+    assert_eq!(rt; single(alloc, (3, 256, 300, 132, b"d")), form);
+    assert_eq!(rt;
+        single(alloc, (3, 256, 257, 84, b"a")),
+        refused(3, BtrRule::Body)
+    );
+    assert_eq!(rt;
+        single(alloc, (3, 256, 301, 132, b"a")),
+        refused(3, BtrRule::NoInode)
+    );
+    let twice = refused(3, BtrRule::DirTwice);
+    assert_eq!(rt; single(alloc, (3, 256, 256, 1, b"a")), twice);
+    assert_eq!(rt; single(alloc, (3, 256, 258, 1, b"b")), twice);
+    assert_eq!(rt; single(alloc, (3, 258, 258, 1, b"b")), twice);
     Ok(())
+}
+
+/// Puts the body of a leaf's item at its end, if it is short.
+fn put_body(block: &mut Block, body: &[u8]) {
+    if body.len() > 1000 {
+        return;
+    }
+    let start = 4096 - body.len();
+    block.bytes[start..4096].copy_from_slice(body);
 }
 
 /// A leaf of one item, as the root of a tree in block `place`.
 fn leaf(place: u64, owner: u64, object: u64, kind: u8, body: &[u8]) -> Block {
     let mut block = Block::zero();
-    let length = body.len();
-    if length > 1000 {
-        return block;
-    }
     block.bytes[32..48].copy_from_slice(&[0x22; 16]);
     put_u64(&mut block.bytes, 48, place.wrapping_mul(4096));
     put_u64(&mut block.bytes, 80, 1);
@@ -234,9 +247,11 @@ fn leaf(place: u64, owner: u64, object: u64, kind: u8, body: &[u8]) -> Block {
     put_u32(&mut block.bytes, 96, 1);
     put_u64(&mut block.bytes, 101, object);
     block.bytes[109] = kind;
-    put_u32(&mut block.bytes, 118, (3995 - length) as u32);
-    put_u32(&mut block.bytes, 122, length as u32);
-    block.bytes[4096 - length..].copy_from_slice(body);
+    if body.len() < 1000 {
+        put_u32(&mut block.bytes, 118, (3995 - body.len()) as u32);
+        put_u32(&mut block.bytes, 122, body.len() as u32);
+    }
+    put_body(&mut block, body);
     let sum = kind_sum(SumKind::Crc32c, &block.bytes[32..]);
     block.bytes[..32].copy_from_slice(&sum);
     block
