@@ -1,7 +1,7 @@
 #!/usr/bin/env python3
 """Writes a ReiserFS 3.6 volume of many files, and the same files into a folder: files_volume.py DIRECTORIES FOLDER FILE.
 
-Each directory of the root has 200 files: a quarter below 2000 bytes, the others up to 9, 20 and 40 kB, so 14 kB on average;
+Each directory of the root has 200 files: a quarter below 2000 bytes, the others up to 9, 30 and 64 kB, so 14 kB on average;
 350 directories make 70,000 files and about 1 GB. The last bytes of a small file are a tail, if they are at most 2000.
 """
 import random
@@ -166,7 +166,7 @@ def main():
             (folder / ("d%04d" % d)).mkdir(parents=True, exist_ok=True)
             for f in range(FILES):
                 number = d * FILES + f
-                low, high = ((0, 2000), (2000, 9000), (4096, 40000), (4096, 20000))[draw.randrange(4)]
+                low, high = ((0, 2000), (2000, 9000), (4096, 64000), (4096, 30000))[draw.randrange(4)]
                 at, size = draw.randrange(900000), draw.randrange(low, high)
                 body = data[at : at + size]
                 total += size
