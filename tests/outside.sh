@@ -106,6 +106,7 @@ words_and_statuses() {
     ends 'no words' 2 "$usage"
     ends 'an unknown word' 2 "$usage" frobnicate volume
     ends 'a command alone' 2 "$usage" inspect
+    ends 'a list alone' 2 "$usage" list
     ends 'two paths' 2 "$usage" inspect one two
     ends 'a path with a dash' 2 "$usage" inspect -x
     ends 'an empty path' 2 "$usage" inspect ''
@@ -213,10 +214,17 @@ linux_volumes() {
         run inspect packed
         if [ "$name" = xattr-volume ]; then
             same "inspect of the volume $name" '1|refused 7 attributes|' "$status|${err% * *}|$(cat "$work/.out")"
+            run list packed
+            same "list of the volume $name" '1|refused 7 attributes|' "$status|${err% * *}|$(cat "$work/.out")"
             continue
         fi
         same "inspect of the volume $name" "0||$(expected_super packed)" "$status|$err|$(head -8 "$work/.out")"
         same "used blocks of the volume $name" 'adds up' "$(used_adds_up)"
+        # what was taken from the mounted volume in Linux
+        if [ -f "$top/tests/volumes/$name.rows" ]; then
+            run list packed
+            same "list of the volume $name" "0||$(cat "$top/tests/volumes/$name.rows")" "$status|$err|$out"
+        fi
     done
 }
 
