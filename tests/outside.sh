@@ -106,6 +106,7 @@ words_and_statuses() {
     ends 'no words' 2 "$usage"
     ends 'an unknown word' 2 "$usage" frobnicate volume
     ends 'a command alone' 2 "$usage" inspect
+    ends 'a list alone' 2 "$usage" list
     ends 'two paths' 2 "$usage" inspect one two
     ends 'a path with a dash' 2 "$usage" inspect -x
     ends 'an empty path' 2 "$usage" inspect ''
