@@ -73,7 +73,10 @@ refuses_tree plan image ranges tree Memory bad = tt
 -- what is told depends on the extents alone
 tells_same : (image : Image) (ranges : List MapRange) (xs ys : List TreeItem) (ino : ℕ) (w : Wanted) (o : Option Content) → extents_of ys ino ≡ extents_of xs ino → TellsContent image ranges xs ino w o → TellsContent image ranges ys ino w o
 tells_same image ranges xs ys ino w None same h = same ∙ h
-tells_same image ranges xs ys ino w (Some c) same h = h ∙ sym (ap (λ (z : List TreeItem). content_of w.link (map (file_byte image ranges z) (range_with_len 0 w.size))) same)
+tells_same image ranges xs ys ino w (Some c) same h = record {
+  is = h.is ∙ sym (ap (λ (z : List TreeItem). content_of w.link (map (file_byte image ranges z) (range_with_len 0 w.size))) same);
+  sound = ap (extents_refusals ranges 0 0) same ∙ h.sound;
+}
 
 some_same : {A : Type 0} (o : Option A) (x y : A) → o ≡ Some x → o ≡ Some y → x ≡ y
 some_same o x y a b = inside (sym a ∙ b)
@@ -153,7 +156,10 @@ module _ (plan : ℕ → Option Wanted) (image : Image) (ranges : List MapRange)
       let number : h.ino ≡ n = eqb-true h.ino n is in
       let same : h.wanted ≡ w = some_same (plan n) h.wanted w (sym (ap plan number) ∙ held.planned) planned in
       subst (TellsContent image ranges given n w) (sym (finishes n ∙ ap (λ (t : Bool). if t then Some (content_in image ranges given h.ino h.wanted) else told n) is))
-      (ap (λ (k : ℕ). content_in image ranges given k h.wanted) number ∙ ap (λ (v : Wanted). content_in image ranges given n v) same)
+      (record {
+        is = ap (λ (k : ℕ). content_in image ranges given k h.wanted) number ∙ ap (λ (v : Wanted). content_in image ranges given n v) same;
+        sound = subst (λ (k : ℕ). extents_refusals ranges 0 0 (extents_of given k) ≡ []) number held.marks.reaches.sound;
+      })
   tells_finished given h told now n w false is held finishes planned other =
       subst (TellsContent image ranges given n w) (sym (finishes n ∙ ap (λ (t : Bool). if t then Some (content_in image ranges given h.ino h.wanted) else told n) is)) (other refl)
 

@@ -50,10 +50,15 @@ content_of link bytes = record {
 abbrev pub content_in : Image → List MapRange → List TreeItem → ℕ → Wanted → Content
 content_in image ranges items ino w = content_of w.link (file_bytes image ranges items ino w.size)
 
+-- the content of an inode, with whose extents nothing is wrong
+pub record IsContentIn (image : Image) (ranges : List MapRange) (items : List TreeItem) (ino : ℕ) (w : Wanted) (c : Content) : Type 0 where
+  pub is : c ≡ content_in image ranges items ino w
+  pub sound : extents_refusals ranges 0 0 (extents_of items ino) ≡ []
+
 -- nothing is told of an inode without extents, else its content
 abbrev pub TellsContent : Image → List MapRange → List TreeItem → ℕ → Wanted → Option Content → Type 0
 TellsContent image ranges items ino w None = extents_of items ino ≡ []
-TellsContent image ranges items ino w (Some c) = c ≡ content_in image ranges items ino w
+TellsContent image ranges items ino w (Some c) = IsContentIn image ranges items ino w c
 
 -- It is told of each wanted inode.
 abbrev pub HasContents : (ℕ → Option Wanted) → Image → List MapRange → List TreeItem → (ℕ → Option Content) → Type 0
