@@ -23,8 +23,7 @@ use std::alloc::Global;
 impl Contents {
     /// The contents of the files and symlinks among these inodes, `names` being those of the tree: one walk. It is refused
     /// exactly where something is wrong with the tree or with the extents of one of these, by one of the things that are;
-    /// long targets are left to [`Names::check`]. The blocks of
-    /// each are read once, as far as they lie below its size.
+    /// long targets are left to [`Names::check`]. The blocks of each are read once, as far as they lie below its size.
     pub fn read<S: BlockSource>(
         alloc: Global,
         src: &mut S,

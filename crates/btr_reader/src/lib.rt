@@ -13,6 +13,7 @@ mod image_place;
 mod inodes;
 mod open;
 mod roots;
+mod row;
 mod volume;
 
 pub use chunk::ChunkAt;
