@@ -18,7 +18,7 @@ mod seen;
 mod table;
 
 pub use entry::index_entry;
-pub use inodes::InodeFound;
+pub use inodes::{InodeFound, kind_of_mode};
 pub use links::inode_node;
 pub use naming::{Naming, OffForm};
 pub use roots::root_numbers;

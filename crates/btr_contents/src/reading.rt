@@ -1,0 +1,66 @@
+ghost use Rattle.std.specs.Prelude.{◌≡◌, ◌≤◌, nat_eq, IsTrue, IfErr, IfOk, OnOk};
+ghost use Rattle.indexmap.specs.IndexMap.{get};
+ghost use Rattle.indexmap.specs.IndexSet.{contains};
+ghost use Rattle.outside.specs.Fault.{HasCauseOf};
+ghost use Rattle.outside.specs.History.{Image};
+ghost use Rattle.btr_node.specs.NodeSize.{IsNodeSize};
+ghost use Rattle.btr_walk.specs.Walks.{LieOn, found, wrong};
+ghost use Rattle.btr_files.specs.Blocks.{AreInBlocks};
+ghost use Rattle.btr_names.specs.Table.{HasNoted};
+ghost use Rattle.path_list.specs.Links.{same_node};
+ghost use Rattle.btr_contents.specs.Contents.{wanted_at, HasContents, RefusesContents};
+
+use crate::Contents;
+use crate::gathering::Gathering;
+use crate::wanted::item_wanted;
+use btr_names::Names;
+use btr_walk::{MapRange, Tree, TreeWalker};
+use indexmap::IndexSet;
+use outside::{BlockSource, BtrAnswer};
+use path_list::NodeId;
+use std::alloc::Global;
+
+impl Contents {
+    /// The contents of the files and symlinks among these inodes, `names` being those of the tree: one walk. It is refused
+    /// exactly where something is wrong with the tree or with the extents of one of these, by one of the things that are;
+    /// long targets are left to [`Names::check`]. The blocks of each are read once, as far as they lie below its size.
+    pub fn read<S: BlockSource>(
+        alloc: Global,
+        src: &mut S,
+        tree: Tree,
+        ranges: &[MapRange],
+        names: &Names,
+        named: &IndexSet<NodeId>,
+    ) -> Result<Contents, BtrAnswer>
+        requires size { IsNodeSize tree.form.nodesize }
+        requires high { tree.root.level ≤ 7 }
+        requires inside { LieOn (S.size src.old) ranges.now }
+        ensures kept { S.kept src.old src.new }
+        ensures cause { HasCauseOf BtrAnswer.Fault (S.faults src.old) (S.faults src.new) result }
+        ensures contents { IsTrue S.tells → (image : Image) → S.blocks src.old ≡ image → AreInBlocks ranges.now → HasNoted names.now (found image ranges.now tree) →
+            IfOk result (λ contents. HasContents (wanted_at (contains same_node named.now) (found image ranges.now tree)) image ranges.now (found image ranges.now tree) (λ ino. get nat_eq contents.known ino)) }
+        ensures refused { IsTrue S.tells → (image : Image) → S.blocks src.old ≡ image → AreInBlocks ranges.now → HasNoted names.now (found image ranges.now tree) →
+            IfErr result (RefusesContents (wanted_at (contains same_node named.now) (found image ranges.now tree)) image ranges.now tree) }
+    {
+        let mut gathering = Gathering::new(alloc);
+        let mut walker = TreeWalker::new(alloc, tree)?;
+        while walker.advance(src, ranges)? {
+            let key = walker.key();
+            let wanted = item_wanted(names, named, &key);
+            match gathering.add_item(
+                alloc,
+                src,
+                ranges,
+                wanted,
+                &key,
+                walker.body(),
+                walker.leaf(),
+            ) {
+                Ok(()) => {}
+                Err(e) => return Err(e),
+            }
+        }
+        let known = gathering.finish(alloc)?;
+        Ok(Contents { known })
+    }
+}
