@@ -52,8 +52,7 @@ impl Hand {
             i.key ≡ key.now → i.body ≡ body.now → i.leaf ≡ leaf → is_extent_of self.old.ino i ≡ true → HoldsHand plan image ranges.now given self.old →
             MatchResult result (λ _. HoldsHand plan image ranges.now (given ++ i ∷ []) self.new) (RefusesExtents plan ranges.now (given ++ i ∷ [])) }
     {
-        self.marker
-            .add_extent(src, ranges, leaf, key.offset, body)?;
+        self.marker.add_extent(src, ranges, leaf, key.offset, body)?;
         Ok(())
     }
 

@@ -84,7 +84,13 @@ impl Gathering {
             HasGathered plan image ranges.now given top (λ ino. get nat_eq self.old.done ino) self.old.hand →
             MatchResult result (λ _. HasGathered plan image ranges.now (given ++ i ∷ []) i.key.objectid (λ ino. get nat_eq self.new.done ino) self.new.hand) (RefusesExtents plan ranges.now (given ++ i ∷ [])) }
     {
-        let mut hand = take_up(&mut self.done, alloc, self.hand.take(), key.objectid, wanted)?;
+        let mut hand = take_up(
+            &mut self.done,
+            alloc,
+            self.hand.take(),
+            key.objectid,
+            wanted,
+        )?;
         hand.add(src, ranges, key, body, leaf)?;
         self.hand = Some(hand);
         Ok(())

@@ -105,7 +105,13 @@ fn tree_leaf(compression: u8, disk: u64) -> Block {
     push(&mut leaf, FILE, 1, 0, &inode(0o100644, 5000));
     push(&mut leaf, FILE, 108, 0, &extent(compression, disk));
     push(&mut leaf, LINK, 1, 0, &inode(0o120777, 6));
-    push(&mut leaf, LINK, 108, 0, b"\0\0\0\0\0\0\0\0\x06\0\0\0\0\0\0\0\0\0\0\0\0target");
+    push(
+        &mut leaf,
+        LINK,
+        108,
+        0,
+        b"\0\0\0\0\0\0\0\0\x06\0\0\0\0\0\0\0\0\0\0\0\0target",
+    );
     push(&mut leaf, HOLE, 1, 0, &inode(0o100644, 3));
     push(&mut leaf, 260, 1, 0, &inode(0o100644, 9));
     push(&mut leaf, 260, 108, 0, &extent(1, DATA * 4096));
@@ -166,7 +172,9 @@ fn contents_of_a_tree(rt: HostRuntime) -> Result<(), Fail> {
     let all = read(alloc, 0, DATA * 4096)?;
     for row in &rows {
         let found = content(alloc, &all, row.0)?;
-        assert!(rt; found.is_some_and(|c| c.length == row.1 && c.mark == row.2 && c.target.bytes() == row.3));
+        assert!(rt;
+            found.is_some_and(|c| c.length == row.1 && c.mark == row.2 && c.target.bytes() == row.3)
+        );
     }
     assert!(rt; content(alloc, &all, 256)?.is_none());
     Ok(())

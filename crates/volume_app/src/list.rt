@@ -64,11 +64,7 @@ fn list_volume<S: BlockSource>(alloc: Global, source: &mut S) -> Result<Rows, An
 }
 
 /// The rows of an opened volume.
-fn rows_of<S: BlockSource>(
-    alloc: Global,
-    source: &mut S,
-    volume: &Volume,
-) -> Result<Rows, Answer>
+fn rows_of<S: BlockSource>(alloc: Global, source: &mut S, volume: &Volume) -> Result<Rows, Answer>
     ensures kept { S.kept source.old source.new }
     ensures cause { HasCauseOf Answer.Fault (S.faults source.old) (S.faults source.new) result }
     ensures rows { IsTrue S.tells → (image : Image) → S.blocks source.old ≡ image → IsAccepted image → IsOpened volume.now image → MatchResult result (AreListed image) (InspectRefuses image) }

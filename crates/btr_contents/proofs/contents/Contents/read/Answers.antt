@@ -60,7 +60,7 @@ loop-walker-preserved g c =
             told.0 ++ i ∷ [],
             came.1,
             subst (λ (n : ℕ). HasGathered (wanted_at (contains same_node c.args.named.now) (found here ranges c.args.tree)) here ranges (told.0 ++ i ∷ []) n (λ ino. get nat_eq c.add_item.new.self.done ino) c.add_item.new.self.hand) (sym (now_last told.0 i))
-            (c.in-Ok.ensures.adds tells here after blocks _ told.0 i (last_inode told.0) key (sym (c.body.ensures i came.2)) (sym (c.leaf.ensures i came.2)) (rw (sym key) at wanted) le told.2),
+                (c.in-Ok.ensures.adds tells here after blocks _ told.0 i (last_inode told.0) key (sym (c.body.ensures i came.2)) (sym (c.leaf.ensures i came.2)) (rw (sym key) at wanted) le told.2),
           );
     }
 
