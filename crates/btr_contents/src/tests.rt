@@ -57,9 +57,14 @@ fn finish(leaf: &Leaf) -> Block {
     if leaf.count < 20 {
         put_u32(&mut block.bytes, 96, leaf.count as u32);
     }
+    seal(&mut block);
+    block
+}
+
+/// Puts the checksum of a node before it.
+fn seal(block: &mut Block) {
     let sum = kind_sum(SumKind::Crc32c, &block.bytes[32..]);
     block.bytes[..32].copy_from_slice(&sum);
-    block
 }
 
 fn inode(mode: u32, size: u64) -> [u8; 160] {

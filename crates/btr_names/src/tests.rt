@@ -1,4 +1,7 @@
 // Tables of names made of items by hand, whose bodies are spelled as the Btrfs on-disk format documentation has them.
+ghost use Rattle.std.specs.Prelude.{◌≤◌};
+ghost use Rattle.btr_node.specs.NodeSize.{IsNodeSize};
+
 use super::*;
 use btr_keys::Key;
 use btr_walk::{Form, MapRange, Pointer, Tree};
@@ -252,13 +255,21 @@ fn leaf(place: u64, owner: u64, object: u64, kind: u8, body: &[u8]) -> Block {
         put_u32(&mut block.bytes, 122, body.len() as u32);
     }
     put_body(&mut block, body);
-    let sum = kind_sum(SumKind::Crc32c, &block.bytes[32..]);
-    block.bytes[..32].copy_from_slice(&sum);
+    seal(&mut block);
     block
 }
 
+/// Puts the checksum of a node before it.
+fn seal(block: &mut Block) {
+    let sum = kind_sum(SumKind::Crc32c, &block.bytes[32..]);
+    block.bytes[..32].copy_from_slice(&sum);
+}
+
 /// A tree whose root is the leaf in block `place`.
-fn tree(place: u64, owner: u64) -> Tree {
+fn tree(place: u64, owner: u64) -> Tree
+    ensures size { IsNodeSize result.form.nodesize }
+    ensures high { result.root.level ≤ 7 }
+{
     Tree {
         form: Form {
             fsid: [0x22; 16],
@@ -292,7 +303,20 @@ fn walks_of_trees(rt: HostRuntime) -> Result<(), Fail> {
     assert!(rt; names.inode(257).is_none());
     let roots = root_numbers(alloc, &mut disk, tree(3, 1), &ranges)?;
     assert!(rt; roots.contains(&300) && !roots.contains(&5));
-    // a node that is another tree's
+    Ok(())
+}
+
+#[test]
+fn a_node_of_another_tree_is_refused(rt: HostRuntime) -> Result<(), Fail> {
+    let alloc = rt.alloc();
+    let mut disk = MemDisk::new(alloc, 16)?;
+    disk.set_block(3, &leaf(3, 1, 300, 132, &[0; 439]))?;
+    disk.open("volume", Access::Read)?;
+    let ranges = [MapRange {
+        logical: 0,
+        length: 65536,
+        physical: 0,
+    }];
     let other = Names::read(alloc, &mut disk, tree(3, 5), &ranges);
     assert_eq!(rt; other.err(), refused(3 * 4096, BtrRule::NodeHead).err());
     Ok(())
