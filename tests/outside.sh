@@ -30,13 +30,16 @@ same() {
     fi
 }
 
-# run WORDS..: runs the program; its status is in $status, its output in $out and its error line in $err
-run() {
-    "$program" "$@" >"$work/.out" 2>"$work/.err"
+# kept COMMAND..: runs it; its status is in $status, its output in $out and its error line in $err
+kept() {
+    "$@" >"$work/.out" 2>"$work/.err"
     status=$?
     out=$(cat "$work/.out")
     err=$(cat "$work/.err")
 }
+
+# run WORDS..: the same of the program
+run() { kept "$program" "$@"; }
 
 # ends NAME STATUS LINE WORDS..: the run prints nothing, and ends with this status and this line
 ends() {
@@ -282,15 +285,12 @@ loop_device() {
 
 # ---- sample volumes --------------------------------------------------------------------------------------------------
 
-# makes BLOCKS WORDS..: runs the maker on a new file of so many blocks; its status, output and line are as those of run
+# makes BLOCKS WORDS..: the same of the maker, on a new file of so many blocks
 makes() {
     rm -f made
     truncate -s $(($1 * 4096)) made
     shift
-    "$maker" "$@" made >"$work/.out" 2>"$work/.err"
-    status=$?
-    out=$(cat "$work/.out")
-    err=$(cat "$work/.err")
+    kept "$maker" "$@" made
 }
 
 # unmade NAME STATUS LINE BLOCKS WORDS..: the maker ends so, and writes nothing
@@ -312,10 +312,10 @@ maker_statuses() {
     unmade 'a volume that is one block too small' 6 'refused 15 space 8212 8211' 8212 0 8211
     unmade 'a volume that is far too small' 6 'refused 15 space 22884 12288' 12288 4000 12288
     unmade 'a volume of old items that is far too small' 6 'refused 15 space 22877 12288' 12288 --old 4000 12288
-    "$maker" 0 8212 "$work/nothing" >"$work/.out" 2>"$work/.err"
-    same 'a sample at a path that is not there' '3|device fault|' "$?|$(cat "$work/.err")|$(cat "$work/.out")"
-    "$top/sample_volume" 0 1 zeros >"$work/.out" 2>"$work/.err"
-    same 'the script of the maker passes on status and streams' '6|refused 15 space 8212 1|' "$?|$(cat "$work/.err")|$(cat "$work/.out")"
+    kept "$maker" 0 8212 "$work/nothing"
+    same 'a sample at a path that is not there' '3|device fault|' "$status|$err|$out"
+    kept "$top/sample_volume" 0 1 zeros
+    same 'the script of the maker passes on status and streams' '6|refused 15 space 8212 1|' "$status|$err|$out"
     makes 8300 0 8212
     same 'a sample on a longer file' '0||0' "$status|$err|$(tail -c +$((8212 * 4096 + 1)) made | tr -d '\0' | wc -c)"
 }
