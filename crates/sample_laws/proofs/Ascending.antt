@@ -76,7 +76,7 @@ pub record IsOf (dir object : ℕ) (x : parts.Item) : Type 0 where
   pub dir_is : x.head.dir ≡ dir
   pub object_is : x.head.object ≡ object
 
-either_each : (P : parts.Item → Type 0) (b : Bool) (xs ys : List parts.Item) → Each P xs → Each P ys → Each P (cond b xs ys)
+pub either_each : (P : parts.Item → Type 0) (b : Bool) (xs ys : List parts.Item) → Each P xs → Each P ys → Each P (cond b xs ys)
 either_each P true xs ys first second = first
 either_each P false xs ys first second = second
 
@@ -129,7 +129,7 @@ content_pairs s i (File whole rest sparse) =
     (λ some. behind_pointers id s.old whole rest some) (whole == 0) (rest == 0) refl
 
 -- the directory of object o
-abbrev dir_of : Shape → ℕ → ℕ
+abbrev pub dir_of : Shape → ℕ → ℕ
 dir_of s o = cond (o == 0) 1 (cond (nat_lt o (directory_count (length s.names) + 1)) 2 (3 + (o - directory_count (length s.names) - 1) / 100))
 
 pub record IsObject (s : Shape) (o : ℕ) (list : List parts.Item) : Type 0 where
@@ -169,7 +169,7 @@ module _ (s : Shape) (o : ℕ) where
       let past : directories + 1 ≤ o = grind (arith, nat_tests, is-b) in
       (owned_as (3 + i / 100) (3 + directories + i) (3 + i / 100) (2 + o) named refl (omega (arith, past)) (content_owned s i (get_or s.names i Name)), content_pairs s i (get_or s.names i Name))
 
-  object_is : IsObject s o (items_of s o)
+  pub object_is : IsObject s o (items_of s o)
   unfolding items_of
   object_is = let both = object_by (o == 0) (nat_lt o (directories + 1)) refl refl in record { owned = both.0; pairs = both.1 }
 

@@ -34,7 +34,7 @@ items_met (i ∷ is) =
     ∙ ap (λ z. i ∷ z) (items_met is)
 
 -- ranges one behind the other
-flat_join : {X : Type 0} (h : ℕ → List X) (a p q : ℕ) → flat_map h (range_with_len a (p + q)) ≡ flat_map h (range_with_len a p) ++ flat_map h (range_with_len (a + p) q)
+pub flat_join : {X : Type 0} (h : ℕ → List X) (a p q : ℕ) → flat_map h (range_with_len a (p + q)) ≡ flat_map h (range_with_len a p) ++ flat_map h (range_with_len (a + p) q)
 flat_join h a zero q =
     let same : a ≡ a + 0 = omega arith in
     ap (λ n. flat_map h (range_with_len a n)) (let none : 0 + q ≡ q = omega arith in none) ∙ ap (λ n. flat_map h (range_with_len n q)) same

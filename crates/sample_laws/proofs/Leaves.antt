@@ -56,10 +56,10 @@ known_by : (bytes : List ℕ) (at : ℕ) (kind : Option ItemKind) (head : ItemHe
 known_by bytes at None head is = cc
 known_by bytes at (Some kind) head is = refl
 
-drop_at : (n : ℕ) (front rest : List ℕ) → length front ≡ n → drop n (front ++ rest) ≡ rest
+pub drop_at : (n : ℕ) (front rest : List ℕ) → length front ≡ n → drop n (front ++ rest) ≡ rest
 drop_at n front rest is = ap (λ m. drop m (front ++ rest)) (sym is) ∙ drop-append_seam front rest
 
-take_at : (n : ℕ) (front rest : List ℕ) → length front ≡ n → take n (front ++ rest) ≡ front
+pub take_at : (n : ℕ) (front rest : List ℕ) → length front ≡ n → take n (front ++ rest) ≡ front
 take_at n front rest is = ap (λ m. take m (front ++ rest)) (sym is) ∙ take-append_seam front rest
 
 module _ (s : Shape) (items : List Item) (right : AreWritable s items) (room : taken items ≤ node_room) where

@@ -1,5 +1,5 @@
--- What the names of a sample stand for is small.
-use Rattle.std.proofs.Common.{◌≡◌, ℕ, zero, suc, ◌+◌, Bool, true, false, cond, ◌==◌, List, [], ◌∷◌, length, get_or, refl, arith}
+-- What the names of a sample stand for is small, and only a further name stands for no object of its own.
+use Rattle.std.proofs.Common.{◌≡◌, ℕ, zero, suc, ◌+◌, ◌<◌, Bool, true, false, cond, ◌==◌, List, [], ◌∷◌, length, get_or, refl, sym, ap, subst, arith}
 use Rattle.reiser_make.specs.Content.{contents, contents_from, content_of, file_of, is_further_name, is_symlink, IsSmallContent, state_after}
 use Rattle.reiser_make.specs.Draw.{drawn, next_state}
 use Rattle.reiser_make.specs.declared.content.Content.{Content}
@@ -65,3 +65,35 @@ pub small_at : (names : List Content) → AreSmall names → (i : ℕ) → IsSma
 small_at [] small i = tt
 small_at (x ∷ xs) small zero = small.0
 small_at (x ∷ xs) small (suc i) = small_at xs small.1 i
+
+-- an object of a name's own
+abbrev pub IsOwn : Content → Type 0
+IsOwn Name = ⊥
+IsOwn Symlink = Unit {0}
+IsOwn (File whole rest sparse) = Unit {0}
+
+either_own : (b : Bool) (x y : Content) → IsOwn x → IsOwn y → IsOwn (cond b x y)
+either_own true x y first second = first
+either_own false x y first second = second
+
+file_own : (class state : ℕ) → IsOwn (file_of class state)
+file_own class state = either_own (class == 0) _ _ tt (either_own (class == 1) _ _ tt (either_own (class == 2) _ _ tt (either_own (class == 3) _ _ tt tt)))
+
+content_own : (i state : ℕ) → is_further_name i ≡ false → IsOwn (content_of i state)
+unfolding content_of
+content_own i state first =
+    subst (λ (b : Bool). IsOwn (cond b Name (cond (is_symlink i) Symlink (file_of (drawn 5 (next_state state)) (next_state state))))) (sym first)
+    (either_own (is_symlink i) Symlink _ tt (file_own (drawn 5 (next_state state)) (next_state state)))
+
+own_from : (n i state j : ℕ) → j < n → is_further_name (i + j) ≡ false → IsOwn (get_or (contents_from n i state) j Name)
+own_from zero i state j lt first = absurd (omega (arith, lt))
+own_from (suc n) i state zero lt first = let here : i + 0 ≡ i = omega arith in content_own i state (subst (λ (k : ℕ). is_further_name k ≡ false) here first)
+own_from (suc n) i state (suc j) lt first =
+    let next : i + suc j ≡ i + 1 + j = omega arith in
+    own_from n (i + 1) (state_after i state) j (omega (arith, lt)) (subst (λ (k : ℕ). is_further_name k ≡ false) next first)
+
+pub contents_own : (number i : ℕ) → i < number → is_further_name i ≡ false → IsOwn (get_or (contents number) i Name)
+unfolding contents
+contents_own number i lt first =
+    let here : i ≡ 0 + i = omega arith in
+    own_from number 0 number i lt (subst (λ (k : ℕ). is_further_name k ≡ false) here first)

@@ -65,15 +65,15 @@ stat_good s old id stat room =
     record { writable = record { dir = room.dir; object = room.object; offset = omega arith; count = omega arith; body = stat_sized s old stat }; fits = omega (arith, stat_low old); body = inr ((refl, stat_sized s old stat), omega arith) }
 
 -- entries whose names take eight bytes
-abbrev AreEights : List EntryValue → Type 0
+abbrev pub AreEights : List EntryValue → Type 0
 AreEights [] = Unit {0}
 AreEights (e ∷ es) = (length (padded e.name) ≡ 8) × AreEights es
 
-length_entry_heads : (end : ℕ) (es : List EntryValue) → length (entry_heads end es) ≡ 16 * length es
+pub length_entry_heads : (end : ℕ) (es : List EntryValue) → length (entry_heads end es) ≡ 16 * length es
 length_entry_heads end [] = refl
 length_entry_heads end (e ∷ es) = omega (arith, length_entry_heads (end - length (padded e.name)) es)
 
-length_entry_names : (es : List EntryValue) → AreEights es → length (entry_names es) ≡ 8 * length es
+pub length_entry_names : (es : List EntryValue) → AreEights es → length (entry_names es) ≡ 8 * length es
 length_entry_names [] eights = refl
 length_entry_names (e ∷ es) eights = omega (arith, length-append (entry_names es) (padded e.name), eights.0, length_entry_names es eights.1)
 
@@ -114,12 +114,12 @@ unfolding file_bytes
 bytes_sized i sparse j n = length-map-range_with_len _ j n
 
 module _ (s : Shape) (i : ℕ) (old : Bool) where
-  pointers_body : (content : Content) (whole rest : ℕ) (sparse : Bool) → get_or s.names i Name ≡ content → content ≡ File whole rest sparse → length (body_bytes s old (Pointers i)) ≡ 4 * whole
+  pub pointers_body : (content : Content) (whole rest : ℕ) (sparse : Bool) → get_or s.names i Name ≡ content → content ≡ File whole rest sparse → length (body_bytes s old (Pointers i)) ≡ 4 * whole
   unfolding body_bytes
   pointers_body content whole rest sparse here is =
       ap (λ c. length (pointers_of_content s i c)) (here ∙ is) ∙ pointers_sized (stored_before s.names i) sparse 0 whole
 
-  rest_body : (content : Content) (whole rest : ℕ) (sparse : Bool) → get_or s.names i Name ≡ content → content ≡ File whole rest sparse → length (body_bytes s old (Bytes i)) ≡ rest
+  pub rest_body : (content : Content) (whole rest : ℕ) (sparse : Bool) → get_or s.names i Name ≡ content → content ≡ File whole rest sparse → length (body_bytes s old (Bytes i)) ≡ rest
   unfolding body_bytes
   rest_body content whole rest sparse here is =
       ap (λ c. length (rest_of_content i c)) (here ∙ is) ∙ bytes_sized i sparse (4096 * whole) rest

@@ -1,3 +1,4 @@
+ghost use Rattle.sample_laws.specs.Accepted.{SamplesHaveObjects, SamplesHaveNames, SamplesAreAccepted};
 ghost use Rattle.sample_laws.specs.Laws.{SamplesAreClean, SamplesMarkUsed, SamplesMarkSystem, SamplesHoldTheirBlocks};
 ghost use Rattle.sample_laws.specs.Nodes.{LeavesReadBack, InnerNodesReadBack, SampleLeavesReadBack, SampleInnerNodesReadBack};
 ghost use Rattle.sample_laws.specs.Walk.{SamplesAreWalked, SamplesHoldTheirItems, SamplesKeepGrammar, SamplesFitTheirHeads, SamplesAscend, SamplesKeepTreeRules, SampleTreesAreSound, SamplesAreInOrder};
@@ -81,4 +82,20 @@ pub fn sample_trees_are_sound()
 /// A sample is in order as far as its tree: superblock and journal, the bitmap, and the tree.
 pub fn samples_are_in_order()
     ensures { SamplesAreInOrder }
+{}
+
+/// The objects of a sample are in order: no save link, a root directory, and each named object with stat data of a known
+/// kind, items that fit the kind and do not overlap, and a size in its range.
+pub fn samples_have_objects()
+    ensures { SamplesHaveObjects }
+{}
+
+/// A sample keeps each rule of names.
+pub fn samples_have_names()
+    ensures { SamplesHaveNames }
+{}
+
+/// A sample is an accepted volume: it keeps each rule that a reader asks for.
+pub fn samples_are_accepted()
+    ensures { SamplesAreAccepted }
 {}
