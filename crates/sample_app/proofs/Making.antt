@@ -1,9 +1,9 @@
 -- What a disk holds behind a make and a sync.
 use Rattle.std.proofs.Common.{◌≡◌, ◌^◌, ◌≤◌, length, sym, subst}
 use Rattle.outside.specs.History.{History, reads, after, synced, IsSettled}
+use Rattle.reiser_volume.specs.Volume.{IsAccepted}
 use Rattle.sample_laws.specs.Laws.{Fits}
-use Rattle.sample_laws.specs.Walk.{IsInOrder}
-use Rattle.sample_laws.proofs.Sound.{in_order}
+use Rattle.sample_laws.proofs.Accepted.{accepted}
 use Rattle.sample_app.specs.Order.{Ordered}
 use Rattle.sample_app.specs.Outcome.{needed_by, HasSample, IsMade}
 
@@ -18,5 +18,5 @@ made_whole o old mid new few most enough inside has settled =
     (record {
       written = has;
       settled = synced_settled mid;
-      in_order = subst IsInOrder (sym has) (in_order o.number o.old o.blocks (reads old) fits);
+      accepted = subst IsAccepted (sym has) (accepted o.number o.old o.blocks (reads old) fits);
     })

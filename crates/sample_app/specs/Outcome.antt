@@ -6,7 +6,7 @@ use Rattle.reiser_make.specs.Inner.{needed}
 use Rattle.reiser_make.specs.Layout.{IsUsed, laid_over, volume_blocks}
 use Rattle.reiser_make.specs.Maker.{usage_of}
 use Rattle.reiser_make.specs.Shape.{Shape, shape}
-use Rattle.sample_laws.specs.Walk.{IsInOrder}
+use Rattle.reiser_volume.specs.Volume.{IsAccepted}
 use Rattle.sample_app.specs.declared.ending.Ending.{Ending}
 use Rattle.sample_app.specs.declared.ending.Ending.TheVariants.{Made, Usage, Short, Full, Fault, Memory}
 use Rattle.sample_app.specs.Ending.{status, error_line}
@@ -27,11 +27,11 @@ Uses o b = IsUsed (usage_of (shape_by o) o.blocks) b
 abbrev pub HasSample : Ordered → Image → Image → Type 0
 HasSample o old new = new ≡ laid_over (volume_blocks (shape_by o) o.blocks) old
 
--- Reads give the sample, and so they do after a crash. Its superblock, journal, bitmap and tree are in order.
+-- Reads give the sample, and so they do after a crash. It is a volume that keeps every rule.
 pub record IsMade (o : Ordered) (old new : History) : Type 0 where
   pub written : HasSample o (reads old) (reads new)
   pub settled : IsSettled new
-  pub in_order : IsInOrder (reads new)
+  pub accepted : IsAccepted (reads new)
 
 -- an ending is right on a device of so many blocks
 abbrev pub FitsDevice : Ordered → ℕ → Ending → Type 0

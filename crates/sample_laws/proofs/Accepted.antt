@@ -4,7 +4,7 @@ use Rattle.std.proofs.lemmas.List.FromFn.{length-map-range_with_len}
 use Rattle.outside.specs.History.{Image}
 use Rattle.reiser_bitmap.specs.Layout.{is_marked}
 use Rattle.reiser_make.specs.Items.{items}
-use Rattle.reiser_make.specs.Shape.{Shape, shape}
+use Rattle.reiser_make.specs.Shape.{shape}
 use Rattle.reiser_walk.specs.Tree.{items_of}
 use Rattle.reiser_volume.specs.Volume.{superblock, used_of, tree_of, volume_items}
 use Rattle.sample_laws.proofs.Items.{samples_items}

@@ -1,5 +1,5 @@
 -- Stat data that was written reads back.
-use Rattle.std.proofs.Common.{◌≡◌, ℕ, ◌^◌, ◌<◌, Bool, true, false, cond, List, drop, refl, arith, Some}
+use Rattle.std.proofs.Common.{◌≡◌, ℕ, ◌^◌, ◌<◌, Bool, true, false, cond, List, drop, arith, Some}
 use Rattle.byteorder.specs.Numbers.{little_number-reads_back}
 use Rattle.vol_block.specs.Volume.{field}
 use Rattle.reiser_items.specs.Stat.{stat_of}

@@ -1,5 +1,5 @@
 -- No directory of a sample has too many names: neither those with one hash nor those of one object take too much.
-use Rattle.std.proofs.Common.{◌≡◌, ℕ, zero, suc, ◌+◌, ◌-◌, ◌*◌, ◌≤◌, ◌<◌, Bool, true, false, cond, ◌==◌, ◌&&◌, List, [], ◌∷◌, ◌++◌, length, map, filter, sum_by, count_by, refl, sym, ◌∙◌, ap, subst, arith, append_assoc, length-append, ne_eqb}
+use Rattle.std.proofs.Common.{◌≡◌, ℕ, zero, suc, ◌+◌, ◌*◌, ◌≤◌, ◌<◌, Bool, true, false, cond, ◌==◌, ◌&&◌, List, [], ◌∷◌, ◌++◌, length, map, filter, sum_by, count_by, refl, sym, ◌∙◌, ap, subst, arith, append_assoc, length-append, ne_eqb}
 use Rattle.std.specs.Prelude.{nat_lt}
 use Rattle.std.specs.List.{range_with_len, flat_map}
 use Rattle.std.proofs.lemmas.Bool.{cond_both, le-ltb}

@@ -22,7 +22,7 @@ use Rattle.sample_laws.proofs.Writable.{all_writable}
 use Rattle.sample_laws.specs.Laws.{made}
 use Rattle.sample_laws.specs.Nodes.{IsNamed, ReadsAs, NamesChildren, SampleLeavesReadBack, SampleInnerNodesReadBack}
 
-in_row : (f : ℕ → Placed) (a n k : ℕ) → a ≤ k → k < a + n → Contains (map f (range_with_len a n)) (f k)
+pub in_row : {X : Type 0} (f : ℕ → X) (a n k : ℕ) → a ≤ k → k < a + n → Contains (map f (range_with_len a n)) (f k)
 in_row f a n k low high =
     (k - a, omega (arith, low, high, length-map-range_with_len f a n), get_or-map-range_with_len f a n (k - a) k (f k) (omega (arith, low, high)) (omega (arith, low)))
 

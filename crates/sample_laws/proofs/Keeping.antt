@@ -1,5 +1,5 @@
 -- A sample keeps the rules of objects and of names.
-use Rattle.std.proofs.Common.{◌≡◌, ◌≢◌, inl, inr, ⊎_elim, ℕ, zero, suc, ◌+◌, ◌-◌, ◌*◌, ◌/◌, ◌%◌, ◌^◌, ◌≤◌, ◌<◌, Bool, true, false, cond, ◌==◌, ◌&&◌, not, true≢false, List, [], ◌∷◌, ◌++◌, length, map, get_or, refl, sym, ◌∙◌, ap, subst, arith, Some, ne_eqb, Contains}
+use Rattle.std.proofs.Common.{◌≡◌, ◌≢◌, inr, ⊎_elim, ℕ, zero, suc, ◌+◌, ◌-◌, ◌*◌, ◌/◌, ◌%◌, ◌^◌, ◌≤◌, ◌<◌, true, false, cond, ◌==◌, ◌&&◌, not, true≢false, List, [], ◌∷◌, length, map, get_or, refl, sym, ◌∙◌, ap, subst, arith, ne_eqb, Contains}
 use Rattle.std.specs.Prelude.{nat_lt}
 use Rattle.std.specs.List.{range_with_len, flat_map, list_any}
 use Rattle.std.proofs.lemmas.Bool.{cond_both, or_from}
@@ -23,10 +23,7 @@ use Rattle.reiser_walk.specs.Items.{Item}
 use Rattle.reiser_walk.proofs.Lists.{Each, Pairs, all_pairs_from_pairs}
 use Rattle.reiser_objects.specs.declared.key.ObjectKey.{ObjectKey}
 use Rattle.reiser_objects.specs.declared.naming.Naming.{Naming}
-use Rattle.reiser_objects.specs.declared.stat.ObjectStat.{ObjectStat}
-use Rattle.reiser_objects.specs.Items.{stat_of_object}
 use Rattle.reiser_objects.specs.Keys.{same_key, root}
-use Rattle.reiser_objects.specs.Kinds.{kind_of_mode}
 use Rattle.reiser_objects.specs.Names.{namings, IsNamed}
 use Rattle.reiser_objects.specs.Rules.{AreObjects, IsDirectory}
 use Rattle.reiser_objects.specs.Summary.{has_entries}
@@ -34,10 +31,10 @@ use Rattle.reiser_volume.specs.Names.{is_name, saved_name, KeepsNames, AreNames}
 use Rattle.sample_laws.proofs.Ascending.{each_to, each_join, either_each, pairs_append}
 use Rattle.sample_laws.proofs.Crowding.{laid_short, counts_low, crowds_fit, extended_fit}
 use Rattle.sample_laws.proofs.Found.{each_found}
-use Rattle.sample_laws.proofs.Lists.{each_in, each_from_map, each_row, each_rows, pairs_from_map, pairs_row, pairs_rows, pairs_from_each}
+use Rattle.sample_laws.proofs.Lists.{each_in, each_row, each_rows, pairs_from_map, pairs_row, pairs_rows, pairs_from_each}
 use Rattle.sample_laws.proofs.Named.{IsLaid, in_root, in_directory, IsKept, kept_root, kept_directory, kept_file, IsOwnName, named_own, laid_followed, names_are, all_laid, laid, kept, links_are, keys, keys_are}
 use Rattle.sample_laws.proofs.Namings.{bare, root_naming, file_naming, root_row, names_row, laid_namings, root_formed, names_formed}
-use Rattle.sample_laws.proofs.Objects.{IsSampleObject, IsSampleShape, IsNamedObject, IsNoDirectory, object_fields, same_kind, kind_one, directory_of, directory_stat, no_save_link, root_object, names_object, own_object}
+use Rattle.sample_laws.proofs.Objects.{IsSampleShape, IsNamedObject, IsNoDirectory, object_fields, same_kind, kind_one, directory_of, directory_stat, no_save_link, root_object, names_object, own_object}
 use Rattle.sample_laws.proofs.Parts.{directory_key, file_key, root_items, names_items, file_items}
 use Rattle.sample_laws.specs.Walk.{content, laid_content}
 

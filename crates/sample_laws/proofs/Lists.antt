@@ -1,20 +1,14 @@
 -- Lists that are made of others.
-use Rattle.std.proofs.Common.{◌≡◌, ℕ, zero, suc, ◌+◌, ◌-◌, ◌≤◌, ◌<◌, Bool, true, false, cond, ◌&&◌, List, [], ◌∷◌, ◌++◌, length, map, take, drop, refl, sym, ◌∙◌, ap, subst, arith, append_assoc, length-append, Contains, filter}
+use Rattle.std.proofs.Common.{◌≡◌, ℕ, zero, suc, ◌+◌, ◌≤◌, ◌<◌, Bool, true, false, cond, ◌&&◌, List, [], ◌∷◌, ◌++◌, length, map, take, drop, refl, sym, ◌∙◌, ap, arith, append_assoc, length-append, Contains, filter}
 use Rattle.std.specs.List.{range_with_len, flat_map}
-use Rattle.std.proofs.lemmas.List.{length-map, get_or-map}
 use Rattle.std.proofs.lemmas.List.Elements.{All-contains, filter-append}
 use Rattle.std.proofs.lemmas.List.Sums.{length-filter, count_by-le-length}
-use Rattle.std.proofs.lemmas.List.FromFn.{get_or-map-range_with_len, length-map-range_with_len}
-use Rattle.reiser_walk.proofs.Lists.{Each, Pairs, all_from_each, each_from_all}
-use Rattle.reiser_volume.proofs.Leading.{all_of}
+use Rattle.reiser_walk.proofs.Lists.{Each, Pairs, all_from_each}
 use Rattle.sample_laws.proofs.Ascending.{each_to, each_join, pairs_append}
 
 -- what holds of each element
 pub each_in : {X : Type 0} (P : X → Type 0) (xs : List X) (x : X) → Each P xs → Contains xs x → P x
 each_in P xs x each among = All-contains P xs x (all_from_each P xs each) among
-
-pub each_of : {X : Type 0} (P : X → Type 0) (xs : List X) → ((x : X) → Contains xs x → P x) → Each P xs
-each_of P xs each = each_from_all P xs (all_of P xs each)
 
 pub each_take : {X : Type 0} (P : X → Type 0) (n : ℕ) (xs : List X) → Each P xs → Each P (take n xs)
 each_take P zero xs each = tt
@@ -142,19 +136,12 @@ pub flat_none : {X Y : Type 0} (f : X → List Y) (xs : List X) → Each (λ x. 
 flat_none f [] each = refl
 flat_none f (x ∷ xs) each = ap (λ z. z ++ flat_map f xs) each.0 ∙ flat_none f xs each.1
 
-pub in_map : {X Y : Type 0} (f : X → Y) (xs : List X) (x : X) → Contains xs x → Contains (map f xs) (f x)
-in_map f xs x among = (among.0, omega (arith, among.1, length-map xs f), get_or-map f xs among.0 x (f x) among.1 ∙ ap f among.2)
-
 pub flat_row_none : {X : Type 0} (f : ℕ → List X) (a n : ℕ) → ((j : ℕ) → j < n → f (a + j) ≡ []) → flat_map f (range_with_len a n) ≡ []
 flat_row_none f a zero none = refl
 flat_row_none f a (suc n) none =
     let here : a ≡ a + 0 = omega arith in
     ap (λ z. z ++ flat_map f (range_with_len (a + 1) n)) (ap f here ∙ none 0 (omega arith))
     ∙ flat_row_none f (a + 1) n (λ j lt. let next : a + 1 + j ≡ a + suc j = omega arith in ap f next ∙ none (suc j) (omega (arith, lt)))
-
-pub in_row : {X : Type 0} (f : ℕ → X) (a n k : ℕ) → a ≤ k → k < a + n → Contains (map f (range_with_len a n)) (f k)
-in_row f a n k low high =
-    (k - a, omega (arith, low, high, length-map-range_with_len f a n), get_or-map-range_with_len f a n (k - a) k (f k) (omega (arith, low, high)) (omega (arith, low)))
 
 -- how much a test keeps
 longer_either : {X : Type 0} (a b : Bool) (x : X) (xs ys : List X) → length xs ≤ length ys → length (cond (a && b) (x ∷ xs) xs) ≤ length (cond a (x ∷ ys) ys)

@@ -1,5 +1,5 @@
 -- Which objects of a sample are named: the root, the directories, and what the names of files stand for.
-use Rattle.std.proofs.Common.{◌≡◌, ◌≢◌, ⊎_elim, ℕ, zero, suc, ◌+◌, ◌-◌, ◌*◌, ◌%◌, ◌≤◌, ◌<◌, Bool, true, false, cond, ◌==◌, ◌&&◌, ◌||◌, not, List, [], length, map, filter, refl, sym, ◌∙◌, ap, subst, arith, ne_eqb, eqb-true, Contains, codes}
+use Rattle.std.proofs.Common.{◌≡◌, ◌≢◌, ⊎_elim, ℕ, zero, suc, ◌+◌, ◌-◌, ◌*◌, ◌%◌, ◌≤◌, ◌<◌, Bool, true, false, cond, ◌==◌, ◌&&◌, ◌||◌, not, List, length, map, filter, refl, sym, ◌∙◌, ap, subst, arith, ne_eqb, eqb-true, Contains}
 use Rattle.std.specs.List.{range_with_len, flat_map, list_any}
 use Rattle.std.proofs.lemmas.Bool.{and_right, not_from_false, or_cases, or_left, or_right}
 use Rattle.std.proofs.lemmas.List.Folds.{Any-from_list_any, list_any-from_Any}
@@ -19,7 +19,8 @@ use Rattle.reiser_objects.proofs.Tables.{same_key-true, same_key-self}
 use Rattle.reiser_volume.specs.Links.{TellsNamed, AreLinks, AreNamedKeys}
 use Rattle.reiser_volume.proofs.Leading.{from_map}
 use Rattle.sample_laws.proofs.Ascending.{each_to, each_join}
-use Rattle.sample_laws.proofs.Lists.{each_in, each_from_map, each_row, each_rows, pairs_row, pairs_filter, filter_all, in_row}
+use Rattle.sample_laws.proofs.Held.{in_row}
+use Rattle.sample_laws.proofs.Lists.{each_in, each_from_map, each_row, each_rows, pairs_row, pairs_filter, filter_all}
 use Rattle.sample_laws.proofs.Namings.{bare, root_naming, file_naming, root_row, names_row, laid_namings, found_names}
 use Rattle.sample_laws.proofs.Parts.{directory_key, file_key, key_at, directory_at, file_at}
 use Rattle.sample_laws.specs.Walk.{content, laid_content}

@@ -1,5 +1,5 @@
 -- The names that a reader finds in a sample.
-use Rattle.std.proofs.Common.{◌≡◌, ℕ, zero, suc, ◌+◌, ◌-◌, ◌*◌, ◌/◌, ◌%◌, ◌^◌, ◌≤◌, ◌<◌, Bool, true, false, cond, ◌==◌, ◌||◌, not, List, [], ◌∷◌, ◌++◌, length, map, filter, get_or, refl, sym, ◌∙◌, ap, arith, append-nil, ne_eqb, codes}
+use Rattle.std.proofs.Common.{◌≡◌, ℕ, suc, ◌+◌, ◌-◌, ◌*◌, ◌^◌, ◌≤◌, ◌<◌, Bool, true, false, cond, ◌==◌, ◌||◌, not, List, [], ◌∷◌, ◌++◌, length, map, filter, get_or, refl, sym, ◌∙◌, ap, arith, append-nil, ne_eqb, codes}
 use Rattle.std.specs.List.{range_with_len, flat_map}
 use Rattle.std.proofs.lemmas.Bool.{or_from, cond_both}
 use Rattle.std.proofs.lemmas.List.Folds.{flat_map-map}
@@ -30,7 +30,7 @@ use Rattle.sample_laws.proofs.Ascending.{each_join, either_each}
 use Rattle.sample_laws.proofs.Entries.{AreOfName, IsPlain, ArePlain, entries_back, entries_formed}
 use Rattle.sample_laws.proofs.Items.{flat_join, map_split}
 use Rattle.sample_laws.proofs.Lists.{each_row, filter_all, flat_flat, flat_same, flat_none, flat_row_none, map_map}
-use Rattle.sample_laws.proofs.Parts.{key_by, directory_key, file_key, names_items, file_items, directory_laid, file_laid}
+use Rattle.sample_laws.proofs.Parts.{key_by, directory_key, file_key, file_items, directory_laid, file_laid}
 use Rattle.sample_laws.specs.Walk.{content, laid_content}
 
 -- a name without the leaf that it was found in

@@ -1,7 +1,6 @@
 -- The items of each object of a sample, among those that a reader finds.
-use Rattle.std.proofs.Common.{◌≡◌, ◌≢◌, ◌⊎◌, inl, inr, ⊎_elim, ℕ, zero, suc, ◌+◌, ◌-◌, ◌/◌, ◌≤◌, ◌<◌, Bool, true, false, cond, ◌==◌, List, [], ◌∷◌, ◌++◌, length, map, get_or, filter, refl, sym, ◌∙◌, ap, subst, arith, append-nil, eq-eqb, ne_eqb}
+use Rattle.std.proofs.Common.{◌≡◌, ◌≢◌, ◌⊎◌, inl, inr, ⊎_elim, ℕ, zero, suc, ◌+◌, ◌-◌, ◌/◌, ◌≤◌, ◌<◌, Bool, true, false, cond, ◌==◌, List, [], ◌++◌, length, map, get_or, filter, refl, sym, ◌∙◌, ap, arith, append-nil, eq-eqb, ne_eqb}
 use Rattle.std.specs.Prelude.{nat_lt}
-use Rattle.std.specs.List.{range_with_len, flat_map}
 use Rattle.std.proofs.lemmas.Bool.{and_from, and_right}
 use Rattle.std.proofs.lemmas.Bool.Decides.{nat_tests}
 use Rattle.std.proofs.lemmas.List.Elements.{filter-append}
@@ -14,7 +13,6 @@ use Rattle.reiser_make.specs.declared.item.Body.TheVariants.{Root, Names}
 use Rattle.reiser_make.specs.declared.item.Item as parts
 use Rattle.reiser_make.specs.declared.object.ObjectId.{ObjectId}
 use Rattle.reiser_walk.specs.Items.{Item}
-use Rattle.reiser_walk.proofs.Lists.{Each}
 use Rattle.reiser_objects.specs.declared.key.ObjectKey.{ObjectKey}
 use Rattle.reiser_objects.specs.Keys.{same_key, key_of, root, items_of}
 use Rattle.sample_laws.proofs.Ascending.{IsOf, dir_of, object_is, each_to}

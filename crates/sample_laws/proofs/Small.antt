@@ -1,5 +1,5 @@
 -- What the names of a sample stand for is small, and only a further name stands for no object of its own.
-use Rattle.std.proofs.Common.{◌≡◌, ℕ, zero, suc, ◌+◌, ◌<◌, Bool, true, false, cond, ◌==◌, List, [], ◌∷◌, length, get_or, refl, sym, ap, subst, arith}
+use Rattle.std.proofs.Common.{◌≡◌, ℕ, zero, suc, ◌+◌, ◌<◌, Bool, true, false, cond, ◌==◌, List, [], ◌∷◌, length, get_or, refl, sym, subst, arith}
 use Rattle.reiser_make.specs.Content.{contents, contents_from, content_of, file_of, is_further_name, is_symlink, IsSmallContent, state_after}
 use Rattle.reiser_make.specs.Draw.{drawn, next_state}
 use Rattle.reiser_make.specs.declared.content.Content.{Content}

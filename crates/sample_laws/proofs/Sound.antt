@@ -18,6 +18,7 @@ use Rattle.reiser_walk.specs.Tree.{reached_in}
 use Rattle.reiser_walk.specs.declared.pointer.Pointer.{Pointer}
 use Rattle.reiser_walk.proofs.Lists.{all_from_each, all_pairs_from_pairs}
 use Rattle.reiser_walk.proofs.Rules.{sound_exactly}
+use Rattle.reiser_volume.specs.Volume.{superblock, used_of, tree_of}
 use Rattle.sample_laws.proofs.Ascending.{ascend, each_to}
 use Rattle.sample_laws.proofs.Cleanness.{HasFields, super_made, clean}
 use Rattle.sample_laws.proofs.Items.{edge, edge_in, edge_out, first_leaf_zero, one_root}
@@ -27,8 +28,8 @@ use Rattle.sample_laws.proofs.Places.{place_no_map}
 use Rattle.sample_laws.proofs.Reached.{Reaches, Below, IsPlaced, placed, level_reaches}
 use Rattle.sample_laws.proofs.Small.{length_contents}
 use Rattle.sample_laws.proofs.Walked.{samples_walked}
-use Rattle.sample_laws.specs.Laws.{Fits, made, superblock, used_of}
-use Rattle.sample_laws.specs.Walk.{laid_events, tree_of, SamplesKeepTreeRules, SampleTreesAreSound, SamplesAreInOrder}
+use Rattle.sample_laws.specs.Laws.{Fits, made}
+use Rattle.sample_laws.specs.Walk.{laid_events, SamplesKeepTreeRules, SampleTreesAreSound, SamplesAreInOrder}
 
 none_of : (a b c d : Bool) → a ≡ false → b ≡ false → d ≡ false → (a || (b || (c && d))) ≡ false
 none_of true b c d is-a is-b is-d = cc

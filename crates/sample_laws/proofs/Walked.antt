@@ -20,11 +20,12 @@ use Rattle.reiser_node.specs.Leaf.{count, is_leaf}
 use Rattle.reiser_node.proofs.Grammar.{leaf_decides, inner_decides}
 use Rattle.reiser_walk.specs.Items.{Event, node, item_events, item_at, item_of, events_of, leaf_events}
 use Rattle.reiser_walk.specs.Tree.{node_events, at_children, tree_events}
+use Rattle.reiser_volume.specs.Volume.{superblock, used_of, tree_of}
 use Rattle.sample_laws.proofs.Cleanness.{HasFields, super_made}
 use Rattle.sample_laws.proofs.Held.{leaf_held, inner_held, many_nodes, HasChildren, has_children}
-use Rattle.sample_laws.specs.Laws.{Fits, made, superblock, used_of}
+use Rattle.sample_laws.specs.Laws.{Fits, made}
 use Rattle.sample_laws.specs.Nodes.{ReadsAs, NamesChildren}
-use Rattle.sample_laws.specs.Walk.{met, leaf_items, laid_events, tree_of, SamplesAreWalked}
+use Rattle.sample_laws.specs.Walk.{met, leaf_items, laid_events, SamplesAreWalked}
 
 -- the items of a leaf from item i on
 leaf_walk : (s : Shape) (b : ℕ) (bytes : List ℕ) (items : List parts.Item) (d : parts.Item) → ReadsAs s items bytes → (i k : ℕ) → i + k ≡ length items

@@ -2,15 +2,14 @@
 use Rattle.std.specs.Prelude.{◌≡◌, ◌≤◌, ◌<◌, ℕ, ◌^◌, Bool, true, List, length, Contains}
 use Rattle.outside.specs.History.{Image, block_at}
 use Rattle.reiser_bitmap.specs.Bits.{has}
-use Rattle.reiser_bitmap.specs.Layout.{bitmap_of}
 use Rattle.reiser_bitmap.specs.System.{system_blocks}
 use Rattle.reiser_make.specs.Inner.{needed}
 use Rattle.reiser_make.specs.Layout.{Placed, laid_over, volume_blocks}
 use Rattle.reiser_make.specs.Places.{is_taken}
 use Rattle.reiser_make.specs.Shape.{Shape, shape}
 use Rattle.reiser_super.specs.Journal.{IsClean}
-use Rattle.reiser_super.specs.Superblock.{super_of}
 use Rattle.reiser_super.specs.declared.superblock.Super.{Super}
+use Rattle.reiser_volume.specs.Volume.{superblock, used_of}
 
 -- a sample as a volume of so many blocks, over what was on the device
 abbrev pub made : Shape → ℕ → Image → Image
@@ -22,14 +21,6 @@ pub record Fits (number : ℕ) (old : Bool) (blocks : ℕ) (image : Image) : Typ
   pub needed_low : needed (shape number old) ≤ blocks
   pub blocks_low : blocks ≤ 2 ^ 29
   pub inside : blocks ≤ length image
-
--- the superblock of a volume
-abbrev pub superblock : Image → Super
-superblock image = super_of (block_at image 16)
-
--- the used blocks, as the bitmap marks them
-abbrev pub used_of : Image → List Bool
-used_of image = bitmap_of (superblock image).blocks image
 
 -- the blocks that a volume keeps for itself
 abbrev pub own_blocks : Super → List ℕ

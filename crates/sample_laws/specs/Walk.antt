@@ -13,13 +13,12 @@ use Rattle.reiser_make.specs.Shape.{Shape, shape}
 use Rattle.reiser_make.specs.declared.item.Item as parts
 use Rattle.reiser_node.specs.declared.head.ItemHead.{ItemHead}
 use Rattle.reiser_super.specs.Journal.{IsClean}
-use Rattle.reiser_super.specs.declared.superblock.Super.{Super}
 use Rattle.reiser_walk.specs.Items.{Item, Event, node, item_events}
 use Rattle.reiser_walk.specs.Laws.{IsNode, FitsHead, KeepsRules}
 use Rattle.reiser_walk.specs.Rules.{tree_damages}
 use Rattle.reiser_walk.specs.Tree.{tree_events, items_of, visits}
-use Rattle.reiser_walk.specs.declared.tree.Tree.{Tree}
-use Rattle.sample_laws.specs.Laws.{Fits, made, superblock, used_of, own_blocks}
+use Rattle.reiser_volume.specs.Volume.{superblock, used_of, tree_of}
+use Rattle.sample_laws.specs.Laws.{Fits, made, own_blocks}
 
 -- an item of the layout as a walk meets it in a leaf
 abbrev pub met : Shape → ℕ → parts.Item → Item
@@ -38,9 +37,6 @@ laid_events s (suc (suc level)) m holder =
     let block = node_place s (suc (suc level)) m in
     node (record { block = block; holder = holder }) (suc (suc level))
     ∷ flat_map (λ c. laid_events s (suc level) c block) (range_with_len (first_child nodes m) (child_count nodes m))
-
-abbrev pub tree_of : Super → Tree
-tree_of s = record { root = s.root; height = s.height; journal_first = s.journal_first; journal_size = s.journal_size }
 
 -- a walk of a sample meets the nodes of the layout, each with what the layout puts into it
 abbrev pub SamplesAreWalked : Type 0

@@ -1,5 +1,4 @@
-// Samples as the readers of a volume find them. That whole samples are accepted, tree and all, the checks of the program
-// see.
+// Samples as the readers of a volume find them.
 ghost use Rattle.std.specs.Prelude.{◌≡◌, ◌≤◌, ◌<◌, ◌^◌};
 
 use outside::{Access, BlockSource, Disk};
