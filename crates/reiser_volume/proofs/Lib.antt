@@ -11,6 +11,7 @@ pub mod Leading
 pub mod Lists
 pub mod Numbering
 pub mod Placed
+pub mod Placing
 pub mod Reached
 pub mod Refusals
 pub mod Rowed

@@ -12,8 +12,10 @@ mod counts;
 mod crowd;
 mod each;
 mod extended;
+mod files;
 mod gather;
 mod laws;
+mod links;
 mod names;
 mod once;
 mod one;
@@ -27,6 +29,7 @@ mod ways;
 pub use laws::{
     links_are_one, names_refusals_break_rules, refusals_break_rules, used_blocks_decide,
 };
+pub use links::Link;
 pub use names::check_all_names;
 pub use volume::Volume;
 
