@@ -6,6 +6,7 @@ pub mod Counting
 pub mod Crowding
 pub mod Eaches
 pub mod Extending
+pub mod Filing
 pub mod Holding
 pub mod Leading
 pub mod Lists

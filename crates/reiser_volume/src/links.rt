@@ -30,8 +30,8 @@ impl Volume {
     pub fn link(&self, i: usize) -> Link<'_>
         requires { i < length (links_in self.now) }
         ensures name { (n : NamingOf) → slice_get (links_in self.now) i ≡ Some n → result.name.now ≡ n.name }
-        ensures dir { (n : NamingOf) → slice_get (links_in self.now) i ≡ Some n → slice_get (keys self.now.named) result.dir ≡ Some n.dir }
-        ensures object { (image : Image) → IsOpened self.now image → (n : NamingOf) → slice_get (links_in self.now) i ≡ Some n → slice_get (keys self.now.named) result.object ≡ Some n.target }
+        ensures ends { (image : Image) → IsOpened self.now image → (n : NamingOf) → slice_get (links_in self.now) i ≡ Some n →
+            (slice_get (keys self.now.named) result.dir ≡ Some n.dir) × (slice_get (keys self.now.named) result.object ≡ Some n.target) }
     {
         let naming = &self.objects.namings[self.links[i]];
         Link {
