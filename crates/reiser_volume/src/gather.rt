@@ -9,18 +9,18 @@ ghost use Rattle.reiser_objects.specs.declared.key.ObjectKey.{ObjectKey as KeyOf
 ghost use Rattle.reiser_objects.specs.Keys.{same_key};
 ghost use Rattle.reiser_objects.specs.Table.{HasNoted};
 ghost use Rattle.reiser_volume.specs.Answers.{IsVerdict, RefusesVolume};
-ghost use Rattle.reiser_volume.specs.Known.{HasStats, is_known};
-ghost use Rattle.reiser_volume.specs.Links.{object_cmp};
+ghost use Rattle.reiser_names.specs.Known.{HasStats, is_known};
+ghost use Rattle.reiser_names.specs.Links.{object_cmp};
 ghost use Rattle.reiser_volume.specs.Opened.{IsFound, IsOpened};
-ghost use Rattle.reiser_volume.specs.Passes.{link_list};
+ghost use Rattle.reiser_names.specs.Passes.{link_list};
 ghost use Rattle.reiser_volume.specs.Volume.{IsAccepted, volume_items};
 
 use crate::Volume;
-use crate::names::check_all_names;
 use crate::volume::is_link;
 use indexmap::{IndexMap, IndexSet};
 use outside::{Memory, VolAnswer};
 use reiser_bitmap::Bitmap;
+use reiser_names::check_all_names;
 use reiser_objects::{ObjectKey, ObjectStat, Objects};
 use reiser_super::Super;
 use std::alloc::Global;

@@ -4,11 +4,12 @@ ghost use Rattle.std.specs.Prelude.{◌≡◌, None, IfOk, length};
 mod rows;
 mod sample;
 
+use crate::Volume;
 use crate::gather::sorted;
-use crate::{Volume, check_all_names};
 use outside::{Access, BlockSource, Disk, Memory, Rule, VolAnswer, VolumeRefusal};
 use outside_mem::MemDisk;
 use reiser_bitmap::Bitmap;
+use reiser_names::check_all_names;
 use reiser_objects::{ObjectKey, Objects, ROOT};
 use sample::{Entry, Thing, change, volume};
 use std::alloc::Global;
@@ -136,7 +137,12 @@ fn links_are_told(rt: HostRuntime) -> Result<(), Fail> {
         assert_eq!(rt; volume.is_link(&namings[i]), link);
     }
     assert_eq!(rt; volume.link_count(), 4);
-    for (i, dir, object, name) in [(0, 0, 1, b"a"), (1, 0, 2, b"d"), (2, 0, 1, b"b"), (3, 2, 3, b"s")] {
+    for (i, dir, object, name) in [
+        (0, 0, 1, b"a"),
+        (1, 0, 2, b"d"),
+        (2, 0, 1, b"b"),
+        (3, 2, 3, b"s"),
+    ] {
         assert!(rt; i < volume.link_count());
         let link = volume.link(i);
         assert_eq!(rt; link.dir, dir);

@@ -3,8 +3,8 @@ ghost use Rattle.std.specs.Option.{MatchOption};
 ghost use Rattle.indexmap.specs.IndexMap.{keys, get};
 ghost use Rattle.reiser_objects.specs.declared.key.ObjectKey.{ObjectKey as KeyOf};
 ghost use Rattle.reiser_objects.specs.Keys.{same_key};
-ghost use Rattle.reiser_volume.specs.Known.{is_known};
-ghost use Rattle.reiser_volume.specs.Passes.{is_link, link_list};
+ghost use Rattle.reiser_names.specs.Known.{is_known};
+ghost use Rattle.reiser_names.specs.Passes.{is_link, link_list};
 
 use indexmap::IndexMap;
 use reiser_bitmap::Bitmap;

@@ -20,7 +20,7 @@ returns-clause-map g c = λ tells image is accepted opened key at.
     let map = c.file_map.ensures.map tells (tree_of (superblock image)) image (used_of image) is (subst (λ (k : ObjectKey). HoldsObject volume.objects k (tree_of (superblock image)) image (used_of image)) (sym same) held) in
     MatchResult-weaker c.file_map.result map
     (λ m made. made
-        ∙ (ap (λ (k : ObjectKey). file_runs (object_items (tree_of (superblock image)) image (used_of image) k) c.stat.result.now.fields.size) same
-        ∙ (ap (λ (l : List Item). file_runs l c.stat.result.now.fields.size) (same_items image key)
-        ∙ ap (file_runs (items_of key (volume_items image))) size)))
+    ∙ (ap (λ (k : ObjectKey). file_runs (object_items (tree_of (superblock image)) image (used_of image) k) c.stat.result.now.fields.size) same
+    ∙ (ap (λ (l : List Item). file_runs l c.stat.result.now.fields.size) (same_items image key)
+    ∙ ap (file_runs (items_of key (volume_items image))) size)))
     (λ e failed. failed)

@@ -20,7 +20,7 @@ returns-clause-tail g c = λ tells image is accepted opened key at.
     let tail = c.file_tail.ensures.tail tells (tree_of (superblock image)) image (used_of image) is (subst (λ (k : ObjectKey). HoldsObject volume.objects k (tree_of (superblock image)) image (used_of image)) (sym same) held) in
     MatchResult-weaker c.file_tail.result tail
     (λ m made. made
-        ∙ (ap (λ (k : ObjectKey). tail_block (object_items (tree_of (superblock image)) image (used_of image) k) c.stat.result.now.fields.size c.args.at) same
-        ∙ (ap (λ (l : List Item). tail_block l c.stat.result.now.fields.size c.args.at) (same_items image key)
-        ∙ ap (λ (n : ℕ). tail_block (items_of key (volume_items image)) n c.args.at) size)))
+    ∙ (ap (λ (k : ObjectKey). tail_block (object_items (tree_of (superblock image)) image (used_of image) k) c.stat.result.now.fields.size c.args.at) same
+    ∙ (ap (λ (l : List Item). tail_block l c.stat.result.now.fields.size c.args.at) (same_items image key)
+    ∙ ap (λ (n : ℕ). tail_block (items_of key (volume_items image)) n c.args.at) size)))
     (λ e failed. failed)
