@@ -147,7 +147,7 @@ fn links_are_told(rt: HostRuntime) -> Result<(), Fail> {
         let link = volume.link(i);
         assert_eq!(rt; link.dir, dir);
         assert_eq!(rt; link.object, object);
-        assert_eq!(rt; link.name, name);
+        assert_eq!(rt; link.name, name.as_slice());
     }
     Ok(())
 }
