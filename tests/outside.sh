@@ -1,6 +1,6 @@
 #!/usr/bin/env bash
-# Checks the program against real tools: volumes that mkfs.reiserfs makes and that Linux wrote, and what debugreiserfs
-# says of them. It installs what it needs of Debian's packages; where that can't be done it says what it skips. The last
+# Checks the program against real tools: volumes that mkfs.reiserfs and mkfs.btrfs make and that Linux wrote, and what
+# debugreiserfs and btrfs say of them. It installs what it needs of Debian's packages; where that can't be done it says what it skips. The last
 # line is 'N passed, M failed', and the status is 0 where M is 0.
 set -uo pipefail
 
@@ -151,13 +151,6 @@ refusals() {
     else
         echo 'skipped: an ext4 volume, since mkfs.ext4 is not to be had'
     fi
-    if need mkfs.btrfs btrfs-progs; then
-        truncate -s 128M btrfs
-        mkfs.btrfs -q btrfs >/dev/null 2>&1
-        ends 'a Btrfs volume' 1 'refused 16 format' inspect btrfs
-    else
-        echo 'skipped: a Btrfs volume, since mkfs.btrfs is not to be had'
-    fi
     volume old 20000 --format 3.5
     ends 'a volume of format 3.5' 1 'refused 3 unsupported 1 35' inspect old
 
@@ -283,6 +276,83 @@ loop_device() {
     losetup --detach "$device"
 }
 
+# ---- Btrfs volumes ---------------------------------------------------------------------------------------------------
+
+# folder DIR: files of every kind, and of each size that is stored in another way
+folder() {
+    mkdir -p "$1/empty" "$1/deep/er/est" "$1/a space"
+    (
+        cd "$1" || exit
+        : >none
+        printf hello >small
+        head -c 2048 /dev/urandom >inlined
+        head -c 4096 /dev/urandom >whole
+        head -c 300001 /dev/urandom >odd
+        truncate -s 1M hole
+        printf x | dd of=hole bs=1 seek=700000 conv=notrunc status=none
+        truncate -s 8192 zeros
+        printf x >$'a space/tab\tand\\back'
+        printf y >$'deep/\xc3\xa9'
+        ln small deep/er/second
+        ln small third
+        ln -s ../small deep/link
+        ln -s 'a b\c' odd-link
+        ln -s "$(printf '%01000d' 7)" long-link
+        mkfifo -m 640 pipe
+        mknod character c 5 1 2>/dev/null
+        mknod device b 8 300 2>/dev/null
+        for i in {1..300}; do printf '%s' "$i" >"deep/er/est/file-number-$i"; done
+        chmod 4755 small
+        chmod 0 none
+        chmod 1777 empty
+        chown 1000:100 inlined 2>/dev/null
+        chown -h 7:8 odd-link 2>/dev/null
+        find . -exec touch -h -d @1234567890.5 {} +
+        # read once, so that the times of reading stay
+        find . -type f -exec cat {} + -o -type l -exec readlink {} + >/dev/null
+        ls -R >/dev/null
+    )
+}
+
+# btrfs_volume FILE OPTIONS..: a fresh volume of mkfs.btrfs
+btrfs_volume() {
+    local file=$1
+    shift
+    rm -f "$file"
+    truncate -s 300M "$file"
+    mkfs.btrfs -q "$@" "$file" >/dev/null 2>&1
+}
+
+# what btrfs says of a superblock, in the words of `inspect`
+expected_btrfs() {
+    btrfs inspect-internal dump-super "$1" | awk '
+        $1 == "fsid" { fsid = $2 } $1 == "total_bytes" { blocks = $2 / 4096 } $1 == "generation" { generation = $2 }
+        $1 == "nodesize" { size = $2 } $1 == "label" { sub(/^label[ \t]*/, ""); gsub(/ /, "\\x20"); label = $0 }
+        END { printf "format btrfs\nfsid %s\nblocks %d\ngeneration %s\nnodesize %s\nlabel %s\nimage -", fsid, blocks, generation, size, label == "" ? "-" : label }'
+}
+
+btrfs_volumes() {
+    local size before
+    folder files
+    TMPDIR=$work "$top/tests/folder_rows" files >wanted
+    for size in 4096 16384 65536; do
+        btrfs_volume filled -m single -d single -n "$size" -L 'my disk' --rootdir files
+        before=$(sha256sum <filled)
+        run inspect filled
+        same "inspect of a Btrfs volume with nodes of $size bytes" "0||$(expected_btrfs filled)" "$status|$err|$out"
+        run list filled
+        same "list of a Btrfs volume with nodes of $size bytes" '0||d 0755 0 0 - - - - - /' "$status|$err|$(head -1 "$work/.out" | cut -d ' ' -f 1-4,8-)"
+        same "the rows of a Btrfs volume with nodes of $size bytes" "$(cat wanted)" "$(tail -n +2 "$work/.out")"
+        same "a Btrfs volume with nodes of $size bytes is left as it was" "$before" "$(sha256sum <filled)"
+    done
+    put filled $((super + 300)) 'A'
+    ends 'a Btrfs superblock with a changed byte, inspected' 1 'refused 13 badbtrfs 65536 1' inspect filled
+    ends 'a Btrfs superblock with a changed byte, listed' 1 'refused 13 badbtrfs 65536 1' list filled
+    btrfs_volume doubled -m dup -d single
+    ends 'a Btrfs volume with each node twice, inspected' 1 'refused 3 unsupported 16 34' inspect doubled
+    ends 'a Btrfs volume with each node twice, listed' 1 'refused 3 unsupported 16 34' list doubled
+}
+
 # ---- sample volumes --------------------------------------------------------------------------------------------------
 
 # makes BLOCKS WORDS..: the same of the maker, on a new file of so many blocks
@@ -366,6 +436,9 @@ if ! "$top/sample_volume" 0 1 /dev/null 2>/dev/null && [ ! -x "$maker" ]; then
     exit 1
 fi
 words_and_statuses
+if need mkfs.btrfs btrfs-progs; then btrfs_volumes; else
+    echo 'skipped: Btrfs volumes, since mkfs.btrfs is not to be had'
+fi
 if need mkfs.reiserfs reiserfsprogs && need debugreiserfs reiserfsprogs; then
     refusals
     fresh_volumes

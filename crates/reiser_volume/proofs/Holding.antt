@@ -45,7 +45,7 @@ used_length : (image : Image) → length (used_of image) ≡ (superblock image).
 used_length image = length-map (range_with_len 0 (superblock image).blocks) (is_marked image) ∙ length-range_with_len 0 (superblock image).blocks
 
 -- the items of an object, as both have them
-same_items : (image : Image) (key : ObjectKey) → object_items (tree_of (superblock image)) image (used_of image) key ≡ items_of key (volume_items image)
+pub same_items : (image : Image) (key : ObjectKey) → object_items (tree_of (superblock image)) image (used_of image) key ≡ items_of key (volume_items image)
 same_items image key = ap (λ (n : ℕ). items_of key (items_of_tree (tree_of (superblock image)) image n)) (used_length image)
 
 module _ (image : Image) (volume : Volume) (key : ObjectKey) (of : IsOf image volume key) where

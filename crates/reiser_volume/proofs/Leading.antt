@@ -30,13 +30,13 @@ use Rattle.reiser_objects.specs.Rules.{AreObjects, IsDirectory}
 use Rattle.reiser_objects.proofs.Reaching.{Contains-filter, from_filter}
 use Rattle.reiser_objects.proofs.Tables.{same_key-self}
 use Rattle.reiser_volume.specs.declared.volume.Volume.{Volume}
-use Rattle.reiser_volume.specs.Links.{AreLinks}
-use Rattle.reiser_volume.specs.Names.{AreNames, KeepsNames}
+use Rattle.reiser_names.specs.Links.{AreLinks}
+use Rattle.reiser_names.specs.Names.{AreNames, KeepsNames}
 use Rattle.reiser_volume.specs.Opened.{IsOpened, links_in}
 use Rattle.reiser_volume.specs.Rows.{Leads}
 use Rattle.reiser_volume.specs.Volume.{IsAccepted, volume_items}
 use Rattle.reiser_volume.specs.Ways.{node_of, link_of, Fits, HasPaths}
-use Rattle.reiser_volume.proofs.Uniqueness.{links_one}
+use Rattle.reiser_names.proofs.Uniqueness.{links_one}
 
 -- an element of a list that was made of another
 pub from_map : {X Y : Type 0} (f : X → Y) (xs : List X) (y : Y) → Contains (map f xs) y → (x : X) × Contains xs x × (f x ≡ y)

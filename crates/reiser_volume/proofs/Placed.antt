@@ -20,7 +20,7 @@ use Rattle.path_list.proofs.Counts.{count_cons}
 use Rattle.path_list.proofs.Lists.{in_tail}
 use Rattle.path_list.proofs.Nodes.{same_node-true, same_node-self, pointwise-true, same_name-true}
 use Rattle.reiser_volume.specs.Made.{first_path}
-use Rattle.reiser_volume.proofs.Uniqueness.{both}
+use Rattle.reiser_names.proofs.Uniqueness.{both}
 
 -- tests that agree on each element count the same
 pub count_among : {X : Type 0} (p q : X → Bool) (xs : List X) → ((x : X) → Contains xs x → p x ≡ q x) → count_by p xs ≡ count_by q xs

@@ -33,9 +33,9 @@ use Rattle.reiser_objects.specs.Rules.{AreObjects, IsObjectsRefusal}
 use Rattle.reiser_objects.proofs.Broken as objects
 use Rattle.reiser_volume.specs.Answers.{IsVolumeRule, NamesVolumeRule, IsVolumeAnswer, IsVerdict, RefusesVolume, IsSuperOf, IsBitmapOf}
 use Rattle.reiser_volume.specs.Opened.{IsFound}
-use Rattle.reiser_volume.specs.Refuses.{RefusesNames, IsNamesRule, IsNamesAnswer}
+use Rattle.reiser_names.specs.Refuses.{RefusesNames, IsNamesRule, IsNamesAnswer}
 use Rattle.reiser_volume.specs.Volume.{IsAccepted, IsRefusal, superblock, used_of, tree_of, volume_items, superblock_rule, journal_rule, bitmap_rule, tree_rule, objects_rule, names_rule}
-use Rattle.reiser_volume.proofs.Broken.{names_broken}
+use Rattle.reiser_names.proofs.Broken.{names_broken}
 
 in_none : {X : Type 0} (xs : List X) (x : X) → xs ≡ [] → Contains xs x → ⊥
 in_none xs x none is = omega (arith, is.1, ap length none)

@@ -26,7 +26,7 @@ use Rattle.object_files.proofs.Same.{same_tree}
 use Rattle.reiser_objects.specs.declared.key.ObjectKey.{ObjectKey}
 use Rattle.reiser_objects.specs.Keys.{items_of}
 use Rattle.reiser_objects.specs.Rules.{AreObjects}
-use Rattle.reiser_volume.specs.Names.{AreNames}
+use Rattle.reiser_names.specs.Names.{AreNames}
 use Rattle.reiser_volume.specs.Rows.{AreReiserRows}
 use Rattle.reiser_volume.specs.Laws.{UsedBlocksDecide}
 use Rattle.reiser_volume.specs.Volume.{superblock, used_of, tree_of, volume_items, AreRowsOf, IsAccepted, IsSoundTree, MarksSystem}

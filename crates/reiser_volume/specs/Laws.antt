@@ -3,20 +3,8 @@ use Rattle.std.specs.Prelude.{◌≡◌, ◌≤◌, ◌↔◌, List, length}
 use Rattle.outside.specs.History.{Image}
 use Rattle.outside.specs.declared.refusal.VolumeRefusal.{VolumeRefusal}
 use Rattle.fs_rows.specs.Rows.{WholeRow}
-use Rattle.reiser_walk.specs.Items.{Item}
-use Rattle.reiser_objects.specs.declared.naming.Naming.{Naming}
 use Rattle.object_files.specs.Laws.{SameUsed}
-use Rattle.reiser_volume.specs.Links.{AreLinks}
-use Rattle.reiser_volume.specs.Names.{AreNames, IsNamesRefusal}
 use Rattle.reiser_volume.specs.Volume.{superblock, used_of, volume_items, AreRowsOf, IsAccepted, IsRefusal}
-
--- there is one list of visible entries, and one of links
-abbrev pub LinksAreOne : Type 0
-LinksAreOne = (items : List Item) (visible links also_visible also_links : List Naming) → AreLinks items visible links → AreLinks items also_visible also_links → (visible ≡ also_visible) × (links ≡ also_links)
-
--- where something is refused of the names, not all their rules are kept
-abbrev pub NamesRefusalsBreakRules : Type 0
-NamesRefusalsBreakRules = (items : List Item) (r : VolumeRefusal) → IsNamesRefusal items r → ¬ AreNames items
 
 -- where something is refused of a volume, it is not accepted
 abbrev pub RefusalsBreakRules : Type 0

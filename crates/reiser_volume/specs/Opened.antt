@@ -11,9 +11,9 @@ use Rattle.reiser_objects.specs.Items.{stat_of_object}
 use Rattle.reiser_objects.specs.Keys.{same_key}
 use Rattle.reiser_objects.specs.Table.{HasNoted}
 use Rattle.reiser_volume.specs.declared.volume.Volume.{Volume}
-use Rattle.reiser_volume.specs.Known.{is_known}
-use Rattle.reiser_volume.specs.Passes.{link_list}
-use Rattle.reiser_volume.specs.Links.{AreLinks, AreNamedKeys, object_cmp}
+use Rattle.reiser_names.specs.Known.{is_known}
+use Rattle.reiser_names.specs.Passes.{link_list}
+use Rattle.reiser_names.specs.Links.{AreLinks, AreNamedKeys, object_cmp}
 use Rattle.reiser_volume.specs.Volume.{superblock, used_of, volume_items, MarksSystem, IsSoundTree}
 
 -- superblock, journal, bitmap and tree are in order, and these are the superblock's fields and the used blocks

@@ -15,7 +15,7 @@ use Rattle.reiser_objects.specs.declared.stat.ObjectStat.{ObjectStat}
 use Rattle.reiser_objects.specs.Items.{stat_of_object}
 use Rattle.reiser_objects.specs.Keys.{root, items_of}
 use Rattle.reiser_objects.specs.Kinds.{kind_of_mode, is_directory, is_file, is_symlink}
-use Rattle.reiser_volume.specs.Links.{AreLinks}
+use Rattle.reiser_names.specs.Links.{AreLinks}
 
 -- from one object to another by the names of a path
 abbrev pub Leads : List Naming → ObjectKey → NameList → ObjectKey → Type 0

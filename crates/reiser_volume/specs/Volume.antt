@@ -16,7 +16,7 @@ use Rattle.reiser_walk.specs.Items.{Item}
 use Rattle.reiser_walk.specs.Rules.{tree_damages}
 use Rattle.reiser_walk.specs.Tree.{items_of}
 use Rattle.reiser_objects.specs.Rules.{AreObjects, IsObjectsRefusal}
-use Rattle.reiser_volume.specs.Names.{AreNames, IsNamesRefusal}
+use Rattle.reiser_names.specs.Names.{AreNames, IsNamesRefusal}
 use Rattle.reiser_volume.specs.Rows.{AreReiserRows}
 use Rattle.std.specs.Prelude.{true}
 

@@ -1,4 +1,4 @@
-ghost use Rattle.std.specs.Prelude.{◌≡◌, ◌∷◌, ◌++◌, [], List, IfOk, IfErr, OnOk};
+ghost use Rattle.std.specs.Prelude.{◌≡◌, ◌∷◌, ◌++◌, [], List, map, slice_get, Some, IfOk, IfErr, OnOk};
 ghost use Rattle.std.specs.Result.{MatchResult};
 ghost use Rattle.std.specs.List.Sorted.{IsStrictlySortedBy};
 ghost use Rattle.indexmap.specs.IndexMap.{keys, get, IsUnique};
@@ -9,16 +9,18 @@ ghost use Rattle.reiser_objects.specs.declared.key.ObjectKey.{ObjectKey as KeyOf
 ghost use Rattle.reiser_objects.specs.Keys.{same_key};
 ghost use Rattle.reiser_objects.specs.Table.{HasNoted};
 ghost use Rattle.reiser_volume.specs.Answers.{IsVerdict, RefusesVolume};
-ghost use Rattle.reiser_volume.specs.Known.{HasStats};
-ghost use Rattle.reiser_volume.specs.Links.{object_cmp};
+ghost use Rattle.reiser_names.specs.Known.{HasStats, is_known};
+ghost use Rattle.reiser_names.specs.Links.{object_cmp};
 ghost use Rattle.reiser_volume.specs.Opened.{IsFound, IsOpened};
+ghost use Rattle.reiser_names.specs.Passes.{link_list};
 ghost use Rattle.reiser_volume.specs.Volume.{IsAccepted, volume_items};
 
 use crate::Volume;
-use crate::names::check_all_names;
+use crate::volume::is_link;
 use indexmap::{IndexMap, IndexSet};
 use outside::{Memory, VolAnswer};
 use reiser_bitmap::Bitmap;
+use reiser_names::check_all_names;
 use reiser_objects::{ObjectKey, ObjectStat, Objects};
 use reiser_super::Super;
 use std::alloc::Global;
@@ -38,11 +40,13 @@ pub fn gather(
     let named = sorted(reached)?;
     check_all_names(alloc, &objects, &named)?;
     let table = table_of(alloc, &objects, &named)?;
+    let links = link_places(alloc, &objects, &table)?;
     Ok(Volume {
         sup,
         bitmap,
         objects,
         named: table,
+        links,
     })
 }
 
@@ -97,4 +101,21 @@ fn sort(table: &mut IndexMap<ObjectKey, ObjectStat>) -> Result<(), Memory>
 {
     table.sort_keys()?;
     Ok(())
+}
+
+/// The places of the links among the entries.
+fn link_places(
+    alloc: Global,
+    objects: &Objects,
+    named: &IndexMap<ObjectKey, ObjectStat>,
+) -> Result<Vec<usize>, Memory>
+    ensures { IfOk result (λ places. map (slice_get objects.now.namings.items) places.items ≡ map (λ n. Some n) (link_list (is_known named.now) objects.now.namings.items)) }
+{
+    let mut places = Vec::new(alloc);
+    for i in 0..objects.namings.len() {
+        if is_link(named, &objects.namings[i]) {
+            places.push(i)?;
+        }
+    }
+    Ok(places)
 }

@@ -4,11 +4,12 @@ ghost use Rattle.std.specs.Prelude.{◌≡◌, None, IfOk, length};
 mod rows;
 mod sample;
 
+use crate::Volume;
 use crate::gather::sorted;
-use crate::{Volume, check_all_names};
 use outside::{Access, BlockSource, Disk, Memory, Rule, VolAnswer, VolumeRefusal};
 use outside_mem::MemDisk;
 use reiser_bitmap::Bitmap;
+use reiser_names::check_all_names;
 use reiser_objects::{ObjectKey, Objects, ROOT};
 use sample::{Entry, Thing, change, volume};
 use std::alloc::Global;
@@ -134,6 +135,19 @@ fn links_are_told(rt: HostRuntime) -> Result<(), Fail> {
     for (i, link) in [(0, true), (2, true), (3, true), (4, false)] {
         assert!(rt; i < namings.len());
         assert_eq!(rt; volume.is_link(&namings[i]), link);
+    }
+    assert_eq!(rt; volume.link_count(), 4);
+    for (i, dir, object, name) in [
+        (0, 0, 1, b"a"),
+        (1, 0, 2, b"d"),
+        (2, 0, 1, b"b"),
+        (3, 2, 3, b"s"),
+    ] {
+        assert!(rt; i < volume.link_count());
+        let link = volume.link(i);
+        assert_eq!(rt; link.dir, dir);
+        assert_eq!(rt; link.object, object);
+        assert_eq!(rt; link.name, name.as_slice());
     }
     Ok(())
 }
@@ -283,8 +297,8 @@ fn each_group_refuses(rt: HostRuntime) -> Result<(), Fail> {
 #[test]
 fn failed_reads_and_short_devices(rt: HostRuntime) -> Result<(), Fail> {
     let alloc = rt.alloc();
-    // superblock, the journal's header, the place it names, the bitmap, the leaf
-    for call in 1..6 {
+    // superblock, the journal's header, the last block of its log, the bitmap, the leaf
+    for call in [1, 2, 34, 35, 36] {
         let mut disk = with_root(alloc, FOUR, NONE, NONE, 1)?;
         disk.fail_call(call)?;
         assert_eq!(rt; open(alloc, &mut disk), Err(VolAnswer::Fault));

@@ -1,10 +1,10 @@
-ghost use Rattle.std.specs.Prelude.{◌≡◌, ◌<◌, length, slice_get, Some, Contains};
+ghost use Rattle.std.specs.Prelude.{◌≡◌, ◌<◌, length, map, slice_get, Some, Contains};
 ghost use Rattle.std.specs.Option.{MatchOption};
 ghost use Rattle.indexmap.specs.IndexMap.{keys, get};
 ghost use Rattle.reiser_objects.specs.declared.key.ObjectKey.{ObjectKey as KeyOf};
 ghost use Rattle.reiser_objects.specs.Keys.{same_key};
-ghost use Rattle.reiser_volume.specs.Known.{is_known};
-ghost use Rattle.reiser_volume.specs.Passes.{is_link};
+ghost use Rattle.reiser_names.specs.Known.{is_known};
+ghost use Rattle.reiser_names.specs.Passes.{is_link, link_list};
 
 use indexmap::IndexMap;
 use reiser_bitmap::Bitmap;
@@ -21,6 +21,9 @@ pub struct Volume {
     pub(crate) bitmap: Bitmap,
     pub(crate) objects: Objects,
     pub(crate) named: IndexMap<ObjectKey, ObjectStat>,
+    /// The places of the links among the entries.
+    pub(crate) links: Vec<usize>,
+    ghost at: { map (slice_get objects.namings.items) links.items ≡ map (λ n. Some n) (link_list (is_known named) objects.namings.items) },
 }
 
 impl Volume {
@@ -82,6 +85,13 @@ impl Volume {
     pub fn is_link(&self, naming: &Naming) -> bool
         ensures { result ≡ is_link (is_known self.now.named) naming.now }
     {
-        is_followed(naming) && self.named.contains_key(&naming.dir)
+        is_link(&self.named, naming)
     }
+}
+
+/// Whether an entry is a link, by the table of the named objects.
+pub fn is_link(named: &IndexMap<ObjectKey, ObjectStat>, naming: &Naming) -> bool
+    ensures { result ≡ is_link (is_known named.now) naming.now }
+{
+    is_followed(naming) && named.contains_key(&naming.dir)
 }

@@ -1,9 +1,9 @@
 ghost use Rattle.std.specs.Prelude.{◌≡◌, ◌++◌, ◌∷◌, [], map, IfOk, OnOk, if◌then◌else◌};
 ghost use Rattle.std.specs.List.{All};
 ghost use Rattle.outside.specs.History.{Image};
-ghost use Rattle.reiser_volume.specs.Known.{is_known};
+ghost use Rattle.reiser_names.specs.Known.{is_known};
 ghost use Rattle.reiser_volume.specs.Opened.{IsOpened, links_in};
-ghost use Rattle.reiser_volume.specs.Passes.{is_link};
+ghost use Rattle.reiser_names.specs.Passes.{is_link};
 ghost use Rattle.reiser_volume.specs.Volume.{IsAccepted};
 ghost use Rattle.reiser_volume.specs.Ways.{node_of, link_of, key_at, Fits, HasPaths};
 

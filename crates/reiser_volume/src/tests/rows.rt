@@ -6,6 +6,7 @@ use crate::Volume;
 use fs_rows::write_rows;
 use outside::{Access, Disk, Memory, Rule, VolAnswer, VolumeRefusal};
 use outside_mem::{MemDisk, MemSink};
+use reiser_files::{FileRun, RunFrom};
 use std::alloc::Global;
 use std::test::*;
 use vol_block::{Block, put_u16, put_u32, put_u64};
@@ -89,10 +90,15 @@ fn add_stat(leaf: &mut Leaf, dir: u32, object: u32, stat: &StatData) {
 
 /// Adds the first item of the bytes of a file.
 fn add_body(leaf: &mut Leaf, object: u32, kind: u32, body: &[u8]) {
+    add_bytes(leaf, object, 1, kind, body);
+}
+
+/// Adds an item of the bytes of a file, with the two halves of its offset and kind in the key.
+fn add_bytes(leaf: &mut Leaf, object: u32, offset: u32, kind: u32, body: &[u8]) {
     let head = Head {
         dir: 2,
         object,
-        offset: 1,
+        offset,
         kind,
         count: 0,
         version: 1,
@@ -250,5 +256,112 @@ fn a_shorter_device_is_refused(rt: HostRuntime) -> Result<(), Fail> {
         volume.rows(alloc, &mut short).map(|_| ()),
         Err(VolAnswer::Refused(refusal))
     );
+    Ok(())
+}
+
+/// The stat data of a file of user 1000 and group 100.
+fn owned(size: u64) -> StatData {
+    let mut file = stat(0o100644, size);
+    file.owner = 1000;
+    file.group = 100;
+    file.times = [1000000001, 1000000001, 1000000001];
+    file
+}
+
+/// A volume with an empty file, a symlink whose target is filled up with zeros, and a pipe with a space in its name.
+fn plain_sample(alloc: Global) -> Result<MemDisk, Memory>
+    ensures size { IfOk result (λ d. length d.history.start ≡ 2048) }
+    ensures closed { IfOk result (λ d. d.opened ≡ None) }
+{
+    let mut leaf = Leaf::new();
+    add_stat(&mut leaf, 1, 2, &stat(0o40755, 48));
+    add_entries(
+        alloc,
+        &mut leaf,
+        1,
+        2,
+        &[(2, 4, "a"), (2, 6, "a b"), (2, 5, "ln")],
+    )?;
+    add_stat(&mut leaf, 2, 4, &owned(0));
+    add_stat(&mut leaf, 2, 5, &stat(0o120777, 13));
+    add_body(&mut leaf, 5, DIRECT, b"../some/place\0\0\0");
+    add_stat(&mut leaf, 2, 6, &stat(0o10644, 0));
+    disk_with(alloc, &leaf)
+}
+
+/// A volume with a file of three names in two directories, and one of 2^40 bytes of which only the last block is there.
+fn linked_sample(alloc: Global) -> Result<MemDisk, Memory>
+    ensures size { IfOk result (λ d. length d.history.start ≡ 2048) }
+    ensures closed { IfOk result (λ d. d.opened ≡ None) }
+{
+    let mut leaf = Leaf::new();
+    add_stat(&mut leaf, 1, 2, &stat(0o40755, 48));
+    add_entries(
+        alloc,
+        &mut leaf,
+        1,
+        2,
+        &[(2, 4, "a"), (2, 5, "b"), (2, 7, "end")],
+    )?;
+    add_stat(&mut leaf, 2, 4, &stat(0o40700, 48));
+    add_entries(alloc, &mut leaf, 2, 4, &[(2, 6, "x"), (2, 6, "y")])?;
+    add_stat(&mut leaf, 2, 5, &stat(0o40700, 48));
+    add_entries(alloc, &mut leaf, 2, 5, &[(2, 6, "z")])?;
+    add_stat(&mut leaf, 2, 6, &owned(4));
+    add_body(&mut leaf, 6, DIRECT, b"same");
+    add_stat(&mut leaf, 2, 7, &owned(1 << 40));
+    add_bytes(&mut leaf, 7, 0xFFFF_F001, INDIRECT + 0xFF, b"\x34\0\0\0");
+    let mut disk = disk_with(alloc, &leaf)?;
+    change(&mut disk, 17, 6, b"\x1f")?;
+    change(&mut disk, 52, 0, &[b'x'; 4096])?;
+    Ok(disk)
+}
+
+const PLAIN_ROWS: &str = "d 0755 0 0 0 0 0 - - - - - /\n\
+    f 0644 1000 100 1000000001 1000000001 1000000001 - - 1 0 e3b0c44298fc1c149afbf4c8996fb92427ae41e4649b934ca495991b7852b855 /a\n\
+    p 0644 0 0 0 0 0 - - 1 - - /a\\x20b\n\
+    l 0777 0 0 0 0 0 - - 1 13 - /ln -> ../some/place\n";
+
+/// By Python's hashlib: the marks of `same`, and of block 2^28 - 1 of letters x.
+const LINKED_ROWS: &str = "d 0755 0 0 0 0 0 - - - - - /\n\
+    d 0700 0 0 0 0 0 - - - - - /a\n\
+    f 0644 1000 100 1000000001 1000000001 1000000001 - - 3 4 f9147ddef81ad4f5bb8838f4e2c74774ce3f7d94fe42b7667ca25fec078f6cff /a/x\n\
+    f 0644 1000 100 1000000001 1000000001 1000000001 - - 3 4 f9147ddef81ad4f5bb8838f4e2c74774ce3f7d94fe42b7667ca25fec078f6cff /a/y = /a/x\n\
+    d 0700 0 0 0 0 0 - - - - - /b\n\
+    f 0644 1000 100 1000000001 1000000001 1000000001 - - 3 4 f9147ddef81ad4f5bb8838f4e2c74774ce3f7d94fe42b7667ca25fec078f6cff /b/z = /a/x\n\
+    f 0644 1000 100 1000000001 1000000001 1000000001 - - 1 1099511627776 a2be989856b9810e839a34c3f486d762183d8356e1b702b99610cc4522da290a /end\n";
+
+#[test]
+fn names_and_sizes(rt: HostRuntime) -> Result<(), Fail> {
+    let plain = plain_sample(rt.alloc())?;
+    let linked = linked_sample(rt.alloc())?;
+    for (mut disk, rows) in [(plain, PLAIN_ROWS), (linked, LINKED_ROWS)] {
+        let out = text(rt.alloc(), &mut disk)?;
+        assert!(rt; out.bytes() == rows.as_bytes());
+    }
+    Ok(())
+}
+
+/// What is read of the files of a volume: the map of the large one, and the block of the small one.
+#[test]
+fn maps_and_tails(rt: HostRuntime) -> Result<(), Fail> {
+    let alloc = rt.alloc();
+    let mut disk = linked_sample(alloc)?;
+    disk.open("x", Access::Read)?;
+    let volume = Volume::open(alloc, &mut disk)?;
+    let (large, small) = (4, 3);
+    assert!(rt; large < volume.count());
+    let map = volume.file_map(alloc, &mut disk, large)?;
+    let run = FileRun {
+        at: (1 << 28) - 1,
+        count: 1,
+        from: RunFrom::Disk(52),
+    };
+    assert_eq!(rt; map.len(), 1);
+    assert_eq!(rt; map.get(0), run);
+    assert!(rt; small < volume.count());
+    let mut block = Block::zero();
+    volume.tail(&mut disk, small, 0, &mut block)?;
+    assert!(rt; block.bytes.starts_with(b"same\0"));
     Ok(())
 }

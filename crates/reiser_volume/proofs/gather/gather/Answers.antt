@@ -1,12 +1,12 @@
 use Rattle.std.proofs.Common.{filter, sym, subst}
 use Rattle.std.proofs.lemmas.Result.{err_from_is_err_and}
 use Rattle.outside.specs.declared.answer.VolAnswer.{VolAnswer}
-use Rattle.reiser_volume.specs.Answers.{RefusesVolume}
-use Rattle.reiser_volume.specs.Known.{is_known}
+use Rattle.reiser_volume.specs.Answers.{RefusesVolume, IsVerdict}
+use Rattle.reiser_names.specs.Known.{is_known}
 use Rattle.reiser_volume.specs.Volume.{volume_items}
 use Rattle.reiser_volume.proofs.Refusals.{objects_refused, names_refused}
-use Rattle.reiser_volume.proofs.Tabling.{keys_found, known_named, stat_found, sorted_reach}
-use Rattle.reiser_volume.proofs.Uniqueness.{links_found}
+use Rattle.reiser_names.proofs.Tabling.{keys_found, known_named, stat_found, sorted_reach}
+use Rattle.reiser_names.proofs.Uniqueness.{links_found}
 use Rattle.reiser_volume.proofs.gather.gather.Goals as goal
 
 pub returns-in_err-reached-clause-gathered : goal.returns-in_err-reached-clause-gathered
@@ -30,6 +30,16 @@ pub returns-in_err-table-clause-gathered : goal.returns-in_err-table-clause-gath
 returns-in_err-table-clause-gathered c = λ image found noted.
     let err = err_from_is_err_and c.from_residual-in_err-table.result c.from_residual-in_err-table.ensures.1 in
     rw err.1 (subst (λ (e : VolAnswer). RefusesVolume image e) (sym err.2) tt)
+
+pub returns-in_err-links-clause-gathered : goal.returns-in_err-links-clause-gathered
+returns-in_err-links-clause-gathered c = λ image found noted.
+    let err = err_from_is_err_and c.from_residual-in_err-links.result c.from_residual-in_err-links.ensures.1 in
+    rw err.1 (subst (λ (e : VolAnswer). RefusesVolume image e) (sym err.2) tt)
+
+pub returns-in_err-links-clause-answers : goal.returns-in_err-links-clause-answers
+returns-in_err-links-clause-answers c =
+    let err = err_from_is_err_and c.from_residual-in_err-links.result c.from_residual-in_err-links.ensures.1 in
+    rw err.1 (subst (λ (e : VolAnswer). IsVerdict e) (sym err.2) tt)
 
 pub returns-clause-gathered : goal.returns-clause-gathered
 returns-clause-gathered c = λ image found noted.

@@ -1,7 +1,7 @@
 use Rattle.std.proofs.Common.{◌≡◌, map, take}
 use Rattle.std.specs.List.{All}
-use Rattle.reiser_volume.specs.Known.{is_known}
-use Rattle.reiser_volume.specs.Passes.{link_list}
+use Rattle.reiser_names.specs.Known.{is_known}
+use Rattle.reiser_names.specs.Passes.{link_list}
 use Rattle.reiser_volume.specs.Ways.{link_of, Fits}
 use Rattle.reiser_volume.proofs.ways.links_of.Given as goal
 

@@ -5,7 +5,7 @@ use Rattle.reiser_volume.specs.declared.volume.Volume.{Volume}
 use Rattle.reiser_volume.specs.Answers.{IsVolumeAnswer, IsVerdict, RefusesVolume}
 use Rattle.reiser_volume.specs.Opened.{IsOpened}
 use Rattle.reiser_volume.specs.Volume.{IsAccepted}
-use Rattle.reiser_volume.proofs.Eaches.{match_ok, match_err, if_err_to}
+use Rattle.reiser_names.proofs.Eaches.{match_ok, match_err, if_err_to}
 use Rattle.reiser_volume.proofs.Refusals.{tree_refused, tree_found, items_found, verdict_known, no_fault}
 use Rattle.reiser_volume.proofs.volume.Volume.open.Goals as goal
 

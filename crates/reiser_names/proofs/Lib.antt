@@ -1,0 +1,14 @@
+pub mod Againing
+pub mod Assembly
+pub mod Attributes
+pub mod Broken
+pub mod Counting
+pub mod Crowding
+pub mod Eaches
+pub mod Extending
+pub mod Lists
+pub mod Numbering
+pub mod Seeing
+pub mod Sums
+pub mod Tabling
+pub mod Uniqueness

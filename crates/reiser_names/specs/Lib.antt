@@ -1,0 +1,13 @@
+pub mod Again
+pub mod Counts
+pub mod Crowds
+pub mod Extended
+pub mod Links
+pub mod Names
+pub mod Once
+pub mod Passes
+pub mod Private
+pub mod Refuses
+pub mod Tally
+pub mod Known
+pub mod Laws

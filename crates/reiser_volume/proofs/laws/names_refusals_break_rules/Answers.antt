@@ -1,5 +1,0 @@
-use Rattle.reiser_volume.proofs.Broken.{names_broken}
-use Rattle.reiser_volume.proofs.laws.names_refusals_break_rules.Goals as goal
-
-pub returns : goal.returns
-returns c = names_broken

@@ -1,0 +1,26 @@
+use Rattle.std.proofs.Common.{◌≡◌, ℕ, List, sym, ap, subst, ◌∙◌}
+use Rattle.std.proofs.lemmas.Result.{MatchResult-weaker}
+use Rattle.object_files.specs.Holds.{HoldsObject, object_items}
+use Rattle.reiser_walk.specs.Items.{Item}
+use Rattle.reiser_files.specs.Runs.{file_runs}
+use Rattle.reiser_objects.specs.declared.key.ObjectKey.{ObjectKey}
+use Rattle.reiser_objects.specs.Keys.{items_of}
+use Rattle.reiser_objects.proofs.Broken.{some_same}
+use Rattle.reiser_volume.specs.Volume.{superblock, used_of, tree_of, volume_items}
+use Rattle.reiser_volume.proofs.Filing.{placed, size_there}
+use Rattle.reiser_volume.proofs.Holding.{holds, same_items}
+use Rattle.reiser_volume.proofs.volume.Volume.file_map.Goals as goal
+
+pub returns-clause-map : goal.returns-clause-map
+returns-clause-map g c = λ tells image is accepted opened key at.
+    let volume = c.args.self.now in
+    let same : c.object.result ≡ key = some_same _ c.object.result key c.object.ensures at in
+    let size = size_there image volume accepted opened c.args.i key at c.stat.result.now (c.stat.ensures key at) in
+    let held = holds image volume key (placed image volume accepted opened c.args.i key at) in
+    let map = c.file_map.ensures.map tells (tree_of (superblock image)) image (used_of image) is (subst (λ (k : ObjectKey). HoldsObject volume.objects k (tree_of (superblock image)) image (used_of image)) (sym same) held) in
+    MatchResult-weaker c.file_map.result map
+    (λ m made. made
+    ∙ (ap (λ (k : ObjectKey). file_runs (object_items (tree_of (superblock image)) image (used_of image) k) c.stat.result.now.fields.size) same
+    ∙ (ap (λ (l : List Item). file_runs l c.stat.result.now.fields.size) (same_items image key)
+    ∙ ap (file_runs (items_of key (volume_items image))) size)))
+    (λ e failed. failed)
