@@ -15,7 +15,7 @@ use Rattle.reiser_objects.specs.declared.key.ObjectKey.{ObjectKey}
 use Rattle.reiser_objects.specs.declared.naming.Naming.{Naming}
 use Rattle.reiser_objects.specs.Keys.{same_key, root}
 use Rattle.reiser_objects.proofs.Tables.{same_key-true}
-use Rattle.reiser_volume.specs.Names.{saved_name, crowd_of, reference_size, extended, extended_sum, extended_crowd_of}
+use Rattle.reiser_names.specs.Names.{saved_name, crowd_of, reference_size, extended, extended_sum, extended_crowd_of}
 use Rattle.sample_laws.proofs.Ascending.{each_to}
 use Rattle.sample_laws.proofs.Lists.{each_filter, each_left, each_row, each_rows, map_filter, filter_none, filter_both_less, filter_less, filter_front_less}
 use Rattle.sample_laws.proofs.Named.{IsLaid, in_root, in_directory}

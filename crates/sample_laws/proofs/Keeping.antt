@@ -27,7 +27,7 @@ use Rattle.reiser_objects.specs.Keys.{same_key, root}
 use Rattle.reiser_objects.specs.Names.{namings, IsNamed}
 use Rattle.reiser_objects.specs.Rules.{AreObjects, IsDirectory}
 use Rattle.reiser_objects.specs.Summary.{has_entries}
-use Rattle.reiser_volume.specs.Names.{is_name, saved_name, KeepsNames, AreNames}
+use Rattle.reiser_names.specs.Names.{is_name, saved_name, KeepsNames, AreNames}
 use Rattle.sample_laws.proofs.Ascending.{each_to, each_join, either_each, pairs_append}
 use Rattle.sample_laws.proofs.Crowding.{laid_short, counts_low, crowds_fit, extended_fit}
 use Rattle.sample_laws.proofs.Found.{each_found}

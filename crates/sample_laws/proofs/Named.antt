@@ -16,7 +16,7 @@ use Rattle.reiser_objects.specs.Names.{namings, is_private_name, is_followed, fo
 use Rattle.reiser_objects.specs.Reach.{Keys}
 use Rattle.reiser_objects.proofs.Reaching.{Contains-filter, from_filter}
 use Rattle.reiser_objects.proofs.Tables.{same_key-true, same_key-self}
-use Rattle.reiser_volume.specs.Links.{TellsNamed, AreLinks, AreNamedKeys}
+use Rattle.reiser_names.specs.Links.{TellsNamed, AreLinks, AreNamedKeys}
 use Rattle.reiser_volume.proofs.Leading.{from_map}
 use Rattle.sample_laws.proofs.Ascending.{each_to, each_join}
 use Rattle.sample_laws.proofs.Held.{in_row}

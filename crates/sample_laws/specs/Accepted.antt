@@ -3,7 +3,7 @@ use Rattle.std.specs.Prelude.{ℕ, Bool}
 use Rattle.outside.specs.History.{Image}
 use Rattle.reiser_make.specs.Shape.{shape}
 use Rattle.reiser_objects.specs.Rules.{AreObjects}
-use Rattle.reiser_volume.specs.Names.{AreNames}
+use Rattle.reiser_names.specs.Names.{AreNames}
 use Rattle.reiser_volume.specs.Volume.{volume_items, IsAccepted}
 use Rattle.sample_laws.specs.Laws.{Fits, made}
 
