@@ -419,6 +419,9 @@ samples() {
         same "the superblock $name" "$(expected_super made)" "$(head -8 "$work/.out")"
         run list made
         same "list $name" "0||$((1 + (number + 99) / 100 + number))" "$status|$err|$(wc -l <"$work/.out")"
+        # one text for a number, in each size and version
+        [ -e "rows of $number" ] || cp "$work/.out" "rows of $number"
+        same "the rows $name" same "$(cmp -s "rows of $number" "$work/.out" && echo same)"
         same "reiserfsck $name" "0|1|$directories|$names" "$(checked made)"
     done <"$top/tests/samples.table"
 }

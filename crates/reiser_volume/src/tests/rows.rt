@@ -268,7 +268,30 @@ fn owned(size: u64) -> StatData {
     file
 }
 
-/// A volume with an empty file, a symlink whose target is filled up with zeros, and a pipe with a space in its name.
+/// Adds the stat data of version 0 of an empty file of user 7 and group 8, with all times 5.
+fn add_old_file(leaf: &mut Leaf, object: u32) {
+    let mut body = Block::zero();
+    let bytes = &mut body.bytes;
+    put_u16(bytes, 0, 0o100600);
+    put_u16(bytes, 2, 1);
+    put_u16(bytes, 4, 7);
+    put_u16(bytes, 6, 8);
+    put_u32(bytes, 12, 5);
+    put_u32(bytes, 16, 5);
+    put_u32(bytes, 20, 5);
+    let head = Head {
+        dir: 2,
+        object,
+        offset: 0,
+        kind: 0,
+        count: 0,
+        version: 0,
+    };
+    add(leaf, &head, &body.bytes[..32]);
+}
+
+/// A volume with an empty file, one of version 0, a symlink whose target is filled up with zeros, and a pipe with a space in
+/// its name.
 fn plain_sample(alloc: Global) -> Result<MemDisk, Memory>
     ensures size { IfOk result (λ d. length d.history.start ≡ 2048) }
     ensures closed { IfOk result (λ d. d.opened ≡ None) }
@@ -280,13 +303,16 @@ fn plain_sample(alloc: Global) -> Result<MemDisk, Memory>
         &mut leaf,
         1,
         2,
-        &[(2, 4, "a"), (2, 6, "a b"), (2, 5, "ln")],
+        &[(2, 4, "a"), (2, 6, "a b"), (2, 5, "ln"), (2, 7, "old")],
     )?;
     add_stat(&mut leaf, 2, 4, &owned(0));
     add_stat(&mut leaf, 2, 5, &stat(0o120777, 13));
     add_body(&mut leaf, 5, DIRECT, b"../some/place\0\0\0");
     add_stat(&mut leaf, 2, 6, &stat(0o10644, 0));
-    disk_with(alloc, &leaf)
+    add_old_file(&mut leaf, 7);
+    let mut disk = disk_with(alloc, &leaf)?;
+    change(&mut disk, 16, 80, b"\x01\0\0\0")?;
+    Ok(disk)
 }
 
 /// A volume with a file of three names in two directories, and one of 2^40 bytes of which only the last block is there.
@@ -320,7 +346,8 @@ fn linked_sample(alloc: Global) -> Result<MemDisk, Memory>
 const PLAIN_ROWS: &str = "d 0755 0 0 0 0 0 - - - - - /\n\
     f 0644 1000 100 1000000001 1000000001 1000000001 - - 1 0 e3b0c44298fc1c149afbf4c8996fb92427ae41e4649b934ca495991b7852b855 /a\n\
     p 0644 0 0 0 0 0 - - 1 - - /a\\x20b\n\
-    l 0777 0 0 0 0 0 - - 1 13 - /ln -> ../some/place\n";
+    l 0777 0 0 0 0 0 - - 1 13 - /ln -> ../some/place\n\
+    f 0600 7 8 5 5 5 - - 1 0 e3b0c44298fc1c149afbf4c8996fb92427ae41e4649b934ca495991b7852b855 /old\n";
 
 /// By Python's hashlib: the marks of `same`, and of block 2^28 - 1 of letters x.
 const LINKED_ROWS: &str = "d 0755 0 0 0 0 0 - - - - - /\n\
