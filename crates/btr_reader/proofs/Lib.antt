@@ -1,4 +1,5 @@
 pub mod Among
+pub mod Bridging
 pub mod Adding
 pub mod Array
 pub mod Supers
