@@ -1,5 +1,9 @@
 pub mod Among
+pub mod Answered
 pub mod Bridging
+pub mod Known
+pub mod Placed
+pub mod Rowed
 pub mod Adding
 pub mod Array
 pub mod Supers

@@ -165,7 +165,7 @@ fn map_of(
 
 impl Btrfs {
     /// The tree with this number, if it has a root item.
-    fn find_tree<S: BlockSource>(
+    pub(crate) fn find_tree<S: BlockSource>(
         &self,
         alloc: Global,
         src: &mut S,

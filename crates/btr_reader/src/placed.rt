@@ -30,6 +30,7 @@ ghost use Rattle.btr_reader.specs.Rows.{AreBtrfsRows, AreRows, roots_on};
 
 
 use crate::row::{Spot, copy_path, inode_row, no_content, tree_row};
+use crate::rows::refused;
 
 use btr_contents::{Content, Contents, wanted_inode};
 use btr_keys::Inode;

@@ -28,7 +28,7 @@ pub fn inode_row(spot: Spot, own: &Inode, kind: Kind, content: Content) -> Row
     Row {
         path: spot.path,
         kind,
-        mode: own.mode % 4096,
+        mode: (own.mode % 4096) as u16,
         uid: own.uid,
         gid: own.gid,
         atime: time_of(&own.atime),

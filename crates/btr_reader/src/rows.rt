@@ -47,7 +47,8 @@ const FILE_TREE: u64 = 5;
 /// The root directory.
 const ROOT: u64 = 256;
 
-fn refused(address: u64, rule: BtrRule) -> BtrAnswer
+/// A refusal by a rule at an address.
+pub fn refused(address: u64, rule: BtrRule) -> BtrAnswer
     ensures { result ≡ BtrAnswer.Refused (BtrRefusal.BadBtrfs address rule) }
 {
     BtrAnswer::Refused(BtrRefusal::BadBtrfs { address, rule })
@@ -88,18 +89,10 @@ impl Btrfs {
             MatchResult result (λ t. (i : TreeItem) × (p : PointerOf) × (root_item 5 (roots_on image self.now.sup self.now.ranges.items) ≡ Some i) × (pointer_of i.body ≡ Some p) × (t ≡ tree_of self.now.sup 5 p))
             (RefusesTree image self.now.sup self.now.ranges.items) }
     {
-        let ranges = self.ranges.as_slice();
-        let Some(found) = find_root(alloc, src, root_tree(&self.sup), ranges, FILE_TREE)? else {
-            return Err(refused(self.sup.root, BtrRule::NoInode));
-        };
-        let Some(root) = found.pointer else {
-            return Err(refused(found.leaf, BtrRule::Body));
-        };
-        Ok(Tree {
-            form: form_of(&self.sup),
-            root,
-            owner: FILE_TREE,
-        })
+        match self.find_tree(alloc, src, FILE_TREE)? {
+            Some(tree) => Ok(tree),
+            None => Err(refused(self.sup.root, BtrRule::NoInode)),
+        }
     }
 
     /// The rows of the file tree.
