@@ -2,7 +2,7 @@ pub mod Among
 pub mod Answered
 pub mod Bridging
 pub mod Known
-pub mod Placed
+pub mod FirstPlaces
 pub mod Rowed
 pub mod Adding
 pub mod Array

@@ -31,7 +31,7 @@ use Rattle.btr_names.proofs.Members.{from_map}
 use Rattle.btr_reader.specs.Made.{row_by, bytes_at, own_at, no_inode, kind_by, first_path, made_inode, made_row, IsMemory}
 use Rattle.btr_reader.specs.Rows.{IsLeastPath, IsInodeRow, IsTreeRow, IsRowOf, AreRows, subvolume_row, top}
 use Rattle.btr_reader.proofs.Known.{IsKnown, own_on, is_known, leads_named}
-use Rattle.btr_reader.proofs.Placed.{both, count_among, same_names, one_place, first_within, first_in, first_leads, is_least, same_first}
+use Rattle.btr_reader.proofs.FirstPlaces.{both, count_among, same_names, one_place, first_within, first_in, first_leads, is_least, same_first}
 
 -- a node of an inode is no other tree
 space_of : (a b : NodeId) → a ≡ b → a.space ≡ b.space

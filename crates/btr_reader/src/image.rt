@@ -47,7 +47,7 @@ fn bad_body(leaf: u64) -> BtrAnswer
 impl Btrfs {
     /// The root tree.
     #[tactic(auto, using(btr_walk::proofs::Stacks::sized))]
-    fn roots(&self) -> Tree
+    pub(crate) fn roots(&self) -> Tree
         ensures value { result ≡ root_tree_of self.now.sup }
         ensures walkable { IsWalkable result }
     {

@@ -1,44 +1,31 @@
-ghost use Rattle.std.specs.Prelude.{◌≡◌, ◌≤◌, ◌<◌, ℕ, Bool, Option, List, [], map, take, length, slice_get, Some, nat_eq, IsTrue, IfOk};
+ghost use Rattle.std.specs.Prelude.{◌≡◌, ◌≤◌, ℕ, Bool, List, [], map, length, Some, nat_eq, IsTrue, IfOk};
 ghost use Rattle.std.specs.Result.{MatchResult};
 ghost use Rattle.outside.specs.Fault.{HasCauseOf};
 ghost use Rattle.outside.specs.History.{Image};
-ghost use Rattle.btr_walk.specs.Walks.{LieOn, wrong};
-ghost use Rattle.fs_rows.specs.Rows.{WholeRow, row_of};
-ghost use Rattle.fs_rows.specs.declared.row.Kind.{Kind as KindOf};
-ghost use Rattle.fs_rows.specs.declared.row.Kind.TheVariants.{Symlink};
-ghost use Rattle.fs_rows.specs.declared.row.Row.{Row as RowOf};
-ghost use Rattle.indexmap.specs.IndexMap.{get};
-ghost use Rattle.indexmap.specs.IndexSet.{contains};
-ghost use Rattle.path_list.specs.declared.link.PathTo.{PathTo as PathOf};
-ghost use Rattle.path_list.specs.declared.node.NodeId.{NodeId as NodeOf};
-ghost use Rattle.path_list.specs.Links.{same_node};
-ghost use Rattle.path_list.specs.Paths.{ArePaths};
-ghost use Rattle.btr_walk.specs.Events.{TreeItem};
 ghost use Rattle.btr_walk.specs.declared.map.MapRange.{MapRange as RangeOf};
 ghost use Rattle.btr_walk.specs.declared.tree.Pointer.{Pointer as PointerOf};
+ghost use Rattle.btr_walk.specs.Events.{TreeItem};
+ghost use Rattle.btr_walk.specs.Walks.{LieOn, wrong};
+ghost use Rattle.fs_rows.specs.Rows.{WholeRow, row_of};
+ghost use Rattle.indexmap.specs.IndexMap.{get};
+ghost use Rattle.indexmap.specs.IndexSet.{contains};
+ghost use Rattle.path_list.specs.Links.{same_node};
 ghost use Rattle.btr_files.specs.Blocks.{AreInBlocks};
-ghost use Rattle.btr_names.specs.Inodes.{kind_of_mode};
-ghost use Rattle.btr_names.specs.Steps.{inode_node, links_of};
-ghost use Rattle.btr_contents.specs.Contents.{wanted_inode, HasContents};
-ghost use Rattle.btr_contents.specs.declared.wanted.Wanted.{Wanted as WantedOf};
-ghost use Rattle.btr_reader.specs.Made.{IsContent, IsMemory, IsReadTree, RefusesRows, RefusesTree, bytes_at, made_row};
+ghost use Rattle.btr_reader.specs.Made.{IsMemory, IsReadTree, RefusesRows, RefusesTree};
 ghost use Rattle.btr_reader.specs.Opening.{IsOpened, root_tree as root_tree_of, tree_of};
 ghost use Rattle.btr_reader.specs.Reading.{IsWalkable};
 ghost use Rattle.btr_reader.specs.Roots.{root_item, pointer_of};
 ghost use Rattle.btr_reader.specs.Rows.{AreBtrfsRows, AreRows, roots_on};
 
-use crate::open::{form_of, root_tree};
-use crate::roots::find_root;
 use crate::placed::row_at;
 use crate::volume::Btrfs;
-use btr_contents::{Content, Contents, wanted_inode};
-use btr_keys::Inode;
-use btr_names::{Names, inode_node, kind_of_mode, root_numbers};
+use btr_contents::Contents;
+use btr_names::{Names, inode_node, root_numbers};
 use btr_walk::Tree;
-use fs_rows::{Row, Rows};
+use fs_rows::Rows;
 use indexmap::IndexSet;
-use outside::{BlockSource, BtrAnswer, BtrRefusal, BtrRule, Memory};
-use path_list::{NodeId, PathTo, paths};
+use outside::{BlockSource, BtrAnswer, BtrRefusal, BtrRule};
+use path_list::{NodeId, paths};
 use std::alloc::Global;
 
 /// The number of the file tree.
@@ -112,7 +99,7 @@ impl Btrfs {
     {
         let ranges = self.ranges.as_slice();
         let names = Names::read(alloc, src, tree, ranges)?;
-        let roots = root_numbers(alloc, src, root_tree(&self.sup), ranges)?;
+        let roots = root_numbers(alloc, src, self.roots(), ranges)?;
         let named = names.check(alloc, tree.root.address, &roots)?;
         let contents = Contents::read(alloc, src, tree, ranges, &names, &named)?;
         rows_of(alloc, &names, &named, &contents)
