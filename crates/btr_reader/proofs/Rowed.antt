@@ -1,19 +1,15 @@
 -- The rows that are made for the paths of a file tree are its rows.
-use Rattle.std.proofs.Common.{◌≡◌, ℕ, ◌+◌, ◌<◌, ◌≤◌, ◌==◌, Bool, true, false, List, [], ◌∷◌, ◌++◌, map, length, get_or, take, count_by, Contains, Option, Some, None, unwrap_or, refl, sym, ap, subst, ◌∙◌, true≢false, if◌then◌else◌, arith}
+use Rattle.std.proofs.Common.{◌≡◌, ℕ, ◌+◌, ◌<◌, ◌≤◌, ◌==◌, Bool, true, false, List, [], ◌∷◌, ◌++◌, map, length, get_or, take, count_by, Contains, Option, Some, None, refl, sym, ap, subst, ◌∙◌, true≢false, if◌then◌else◌, arith}
 use Rattle.std.specs.Ordering.{is_le}
-use Rattle.std.specs.Prelude.{Result, Ok, Err}
-use Rattle.std.specs.Result.{MatchResult}
 use Rattle.std.proofs.lemmas.Simd.{map-map}
 use Rattle.std.proofs.lemmas.List.{get_or-map, length-map, map-append, take_more, take_all, get_or_default}
 use Rattle.outside.specs.History.{Image}
-use Rattle.outside.specs.declared.answer.BtrAnswer.{BtrAnswer}
 use Rattle.btr_keys.specs.declared.inode.Inode.{Inode}
 use Rattle.btr_walk.specs.declared.map.MapRange.{MapRange}
 use Rattle.btr_walk.specs.Events.{TreeItem}
 use Rattle.fs_rows.specs.Rows.{NameList, WholeRow, AscendsByPath, path_cmp, is_same_path, name_count, row_of}
 use Rattle.fs_rows.specs.declared.row.Row.{Row}
 use Rattle.fs_rows.specs.declared.row.Kind.{Kind}
-use Rattle.fs_rows.specs.declared.row.Kind.TheVariants.{File}
 use Rattle.path_list.specs.declared.link.Link.{Link}
 use Rattle.path_list.specs.declared.link.PathTo.{PathTo}
 use Rattle.path_list.specs.declared.node.NodeId.{NodeId}
@@ -28,10 +24,11 @@ use Rattle.btr_names.specs.Rules.{KeepsNames}
 use Rattle.btr_names.specs.Steps.{inode_node, tree_node, node_of}
 use Rattle.btr_names.specs.TreeLinks.{AreTreeLinks}
 use Rattle.btr_names.proofs.Members.{from_map}
-use Rattle.btr_reader.specs.Made.{row_by, bytes_at, own_at, no_inode, kind_by, first_path, made_inode, made_row, IsMemory}
+use Rattle.btr_reader.specs.Made.{row_by, bytes_at, first_path, made_inode, made_row}
 use Rattle.btr_reader.specs.Rows.{IsLeastPath, IsInodeRow, IsTreeRow, IsRowOf, AreRows, subvolume_row, top}
 use Rattle.btr_reader.proofs.Known.{IsKnown, own_on, is_known, leads_named}
 use Rattle.btr_reader.proofs.FirstPlaces.{both, count_among, same_names, one_place, first_within, first_in, first_leads, is_least, same_first}
+use Rattle.btr_reader.proofs.RowMade.{path_is, tree_is, inode_is}
 
 -- a node of an inode is no other tree
 space_of : (a b : NodeId) → a ≡ b → a.space ≡ b.space
@@ -57,33 +54,23 @@ module _ (image : Image) (ranges : List MapRange) (items : List TreeItem) (list 
   unfolding made_row
   made_is = refl
 
-  path_by : (b : Bool) → (by_kind b).path ≡ p.path
-  path_by true = refl
-  path_by false = refl
-
   least_by : (b : Bool) → (by_kind b).least ≡ (if b then first_path list p else p.path)
   least_by true = refl
   least_by false = refl
 
-  pub path_is : (made_row image ranges items list p).path ≡ p.path
-  path_is = ap (λ (w : WholeRow). w.path) made_is ∙ path_by (is_inode p)
-
   pub least_is : (made_row image ranges items list p).least ≡ least_in list p
   least_is = ap (λ (w : WholeRow). w.least) made_is ∙ least_by (is_inode p)
 
-  pub tree_made : (number : ℕ) → p.target ≡ tree_node number → made_row image ranges items list p ≡ subvolume_row p.path
-  tree_made number to = made_is ∙ ap (λ (n : NodeId). by_kind (n.space == 0)) to
+  tree_made : (number : ℕ) → p.target ≡ tree_node number → made_row image ranges items list p ≡ subvolume_row p.path
+  tree_made number to = tree_is image ranges items list p (ap (λ (n : NodeId). n.space == 0) to)
 
   -- the row with the inode and its kind
-  pub inode_made : (ino : ℕ) (own : Inode) (kind : Kind) → p.target ≡ inode_node ino → inode_on items ino ≡ Some own → kind_of_mode own.mode ≡ Some kind
+  inode_made : (ino : ℕ) (own : Inode) (kind : Kind) → p.target ≡ inode_node ino → inode_on items ino ≡ Some own → kind_of_mode own.mode ≡ Some kind
       → made_row image ranges items list p ≡ row_by own kind p.path (first_path list p) p.names (bytes_at image ranges items ino own kind)
   inode_made ino own kind to there known =
-      let row : ℕ → Inode → Kind → WholeRow = λ number i k. row_by i k p.path (first_path list p) p.names (bytes_at image ranges items number i k) in
-      let same : own_at items ino ≡ own = ap (λ (o : Option Inode). unwrap_or o no_inode) there in
-      let kind_same : kind_by own ≡ kind = ap (λ (o : Option Kind). unwrap_or o File) known in
-      made_is
-      ∙ (ap (λ (n : NodeId). by_kind (n.space == 0)) to
-      ∙ (ap (λ (n : NodeId). row n.number (own_at items n.number) (kind_by (own_at items n.number))) to ∙ (ap (λ (i : Inode). row ino i (kind_by i)) same ∙ ap (row ino own) kind_same)))
+      let number : p.target.number ≡ ino = ap (λ (n : NodeId). n.number) to in
+      inode_is image ranges items list p own kind (ap (λ (n : NodeId). n.space) to) (ap (inode_on items) number ∙ there) known
+      ∙ ap (λ (n : ℕ). row_by own kind p.path (first_path list p) p.names (bytes_at image ranges items n own kind)) number
 
 module _ (links : List Link) (root : NodeId) (list : List PathTo) (are : ArePaths links root list) where
   -- of the paths to one inode, and of no others, the rows have this least path

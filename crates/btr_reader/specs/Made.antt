@@ -95,12 +95,12 @@ unfoldable pub made_row : Image → List MapRange → List TreeItem → List Pat
 made_row image ranges items list p = if p.target.space == 0 then made_inode image ranges items list p else subvolume_row p.path
 
 -- What is known of a file tree with which nothing is wrong.
-pub record IsReadTree (names : Names) (named : NodeId → Bool) (contents : ℕ → Option Content) (image : Image) (ranges : List MapRange) (items : List TreeItem) (root : ℕ) (has_root : ℕ → Bool) : Type 0 where
+pub record IsReadTree (names : Names) (named : NodeId → Bool) (told : ℕ → Option Content) (image : Image) (ranges : List MapRange) (items : List TreeItem) (root : ℕ) (has_root : ℕ → Bool) : Type 0 where
   pub noted : HasNoted names items
   pub are_named : AreNamed items named
   pub keeps : KeepsNames has_root items root
   pub links : AreTreeLinks items (links_of names named)
-  pub contents : HasContents (wanted_at named items) image ranges items contents
+  pub contents : HasContents (wanted_at named items) image ranges items told
 
 -- what a row has of these bytes
 pub record IsContent (kind : Kind) (bytes : List ℕ) (length : ℕ) (mark target : List ℕ) : Type 0 where

@@ -14,6 +14,7 @@ mod inodes;
 mod laws;
 mod open;
 mod placed;
+mod refused;
 mod roots;
 mod row;
 mod rows;

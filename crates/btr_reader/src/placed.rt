@@ -1,45 +1,30 @@
-ghost use Rattle.std.specs.Prelude.{◌≡◌, ◌≤◌, ◌<◌, ℕ, Bool, Option, List, [], map, take, length, slice_get, Some, nat_eq, IsTrue, IfOk};
+ghost use Rattle.std.specs.Prelude.{◌≡◌, ◌≤◌, ◌<◌, ℕ, Bool, Option, List, map, take, length, slice_get, Some, nat_eq, IfOk};
 ghost use Rattle.std.specs.Result.{MatchResult};
-ghost use Rattle.outside.specs.Fault.{HasCauseOf};
 ghost use Rattle.outside.specs.History.{Image};
-ghost use Rattle.btr_walk.specs.Walks.{LieOn, wrong};
-ghost use Rattle.fs_rows.specs.Rows.{WholeRow, row_of};
+ghost use Rattle.fs_rows.specs.Rows.{row_of};
 ghost use Rattle.fs_rows.specs.declared.row.Kind.{Kind as KindOf};
 ghost use Rattle.fs_rows.specs.declared.row.Kind.TheVariants.{Symlink};
 ghost use Rattle.fs_rows.specs.declared.row.Row.{Row as RowOf};
 ghost use Rattle.indexmap.specs.IndexMap.{get};
-ghost use Rattle.indexmap.specs.IndexSet.{contains};
 ghost use Rattle.path_list.specs.declared.link.PathTo.{PathTo as PathOf};
 ghost use Rattle.path_list.specs.declared.node.NodeId.{NodeId as NodeOf};
-ghost use Rattle.path_list.specs.Links.{same_node};
 ghost use Rattle.path_list.specs.Paths.{ArePaths};
 ghost use Rattle.btr_walk.specs.Events.{TreeItem};
 ghost use Rattle.btr_walk.specs.declared.map.MapRange.{MapRange as RangeOf};
-ghost use Rattle.btr_walk.specs.declared.tree.Pointer.{Pointer as PointerOf};
-ghost use Rattle.btr_files.specs.Blocks.{AreInBlocks};
 ghost use Rattle.btr_names.specs.Inodes.{kind_of_mode};
 ghost use Rattle.btr_names.specs.Steps.{inode_node, links_of};
 ghost use Rattle.btr_contents.specs.Contents.{wanted_inode, HasContents};
 ghost use Rattle.btr_contents.specs.declared.wanted.Wanted.{Wanted as WantedOf};
-ghost use Rattle.btr_reader.specs.Made.{IsContent, IsMemory, IsReadTree, RefusesRows, RefusesTree, bytes_at, made_row};
-ghost use Rattle.btr_reader.specs.Opening.{IsOpened, root_tree as root_tree_of, tree_of};
-ghost use Rattle.btr_reader.specs.Reading.{IsWalkable};
-ghost use Rattle.btr_reader.specs.Roots.{root_item, pointer_of};
-ghost use Rattle.btr_reader.specs.Rows.{AreBtrfsRows, AreRows, roots_on};
+ghost use Rattle.btr_reader.specs.Made.{IsContent, IsMemory, IsReadTree, bytes_at, made_row};
 
-
-
+use crate::refused::refused;
 use crate::row::{Spot, copy_path, inode_row, no_content, tree_row};
-use crate::rows::refused;
-
 use btr_contents::{Content, Contents, wanted_inode};
 use btr_keys::Inode;
-use btr_names::{Names, inode_node, kind_of_mode, root_numbers};
-use btr_walk::Tree;
+use btr_names::{Names, kind_of_mode};
 use fs_rows::{Row, Rows};
-use indexmap::IndexSet;
-use outside::{BlockSource, BtrAnswer, BtrRefusal, BtrRule, Memory};
-use path_list::{NodeId, PathTo, paths};
+use outside::{BtrAnswer, BtrRule, Memory};
+use path_list::PathTo;
 use std::alloc::Global;
 
 /// The root directory.
@@ -74,12 +59,7 @@ pub fn row_at(
 }
 
 /// What a row has of the bytes of an inode.
-fn content(
-    alloc: Global,
-    contents: &Contents,
-    ino: u64,
-    own: &Inode,
-) -> Result<Content, Memory>
+fn content(alloc: Global, contents: &Contents, ino: u64, own: &Inode) -> Result<Content, Memory>
     ensures { (kind : KindOf) (plan : ℕ → Option WantedOf) (image : Image) (ranges : List RangeOf) (items : List TreeItem) → HasContents plan image ranges items (λ ino. get nat_eq contents.now.known ino) → plan ino ≡ wanted_inode own.now →
         kind_of_mode own.now.mode ≡ Some kind → (kind ≡ Symlink → own.now.size ≤ 4095) → IfOk result (λ c. IsContent kind (bytes_at image ranges items ino own.now kind) c.length c.mark c.target) }
 {

@@ -113,19 +113,22 @@ fn minor_of(kind: Kind, rdev: u64) -> u64
 fn names_of(kind: Kind, names: u64) -> u64
     ensures { result ≡ (if is_directory kind then 0 else names) }
 {
-    if is_directory(kind) { 0 } else { names }
+    match kind {
+        Kind::Directory => 0,
+        Kind::File
+        | Kind::Symlink
+        | Kind::Character
+        | Kind::Block
+        | Kind::Fifo
+        | Kind::Socket
+        | Kind::Subvolume => names,
+    }
 }
 
 fn is_device(kind: Kind) -> bool
     ensures { result ≡ is_device kind }
 {
     matches!(kind, Kind::Character | Kind::Block)
-}
-
-fn is_directory(kind: Kind) -> bool
-    ensures { result ≡ is_directory kind }
-{
-    matches!(kind, Kind::Directory)
 }
 
 fn is_symlink(kind: Kind) -> bool

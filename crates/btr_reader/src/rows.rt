@@ -18,6 +18,7 @@ ghost use Rattle.btr_reader.specs.Roots.{root_item, pointer_of};
 ghost use Rattle.btr_reader.specs.Rows.{AreBtrfsRows, AreRows, roots_on};
 
 use crate::placed::row_at;
+use crate::refused::refused;
 use crate::volume::Btrfs;
 use btr_contents::Contents;
 use btr_names::{Names, inode_node, root_numbers};
@@ -33,13 +34,6 @@ const FILE_TREE: u64 = 5;
 
 /// The root directory.
 const ROOT: u64 = 256;
-
-/// A refusal by a rule at an address.
-pub fn refused(address: u64, rule: BtrRule) -> BtrAnswer
-    ensures { result ≡ BtrAnswer.Refused (BtrRefusal.BadBtrfs address rule) }
-{
-    BtrAnswer::Refused(BtrRefusal::BadBtrfs { address, rule })
-}
 
 impl Btrfs {
     /// The rows of the file tree, number 5: one for each path, ascending. The entry of the saved image is no part of it.
