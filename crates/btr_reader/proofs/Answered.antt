@@ -16,13 +16,12 @@ use Rattle.fs_rows.specs.Rows.{WholeRow, row_of}
 use Rattle.fs_rows.specs.declared.row.Row.{Row}
 use Rattle.path_list.specs.declared.node.NodeId.{NodeId}
 use Rattle.btr_names.specs.Read.{BlamesTree}
-use Rattle.btr_names.specs.Refuses.{RefusesNames}
 use Rattle.btr_names.specs.Roots.{has_root}
 use Rattle.btr_names.specs.Rules.{BreaksNames, KeepsNames}
 use Rattle.btr_names.specs.Steps.{AreNamed}
 use Rattle.btr_contents.specs.Contents.{wanted_at, RefusesContents}
-use Rattle.btr_reader.specs.Made.{IsMemory, RefusesRows, RefusesTree}
-use Rattle.btr_reader.specs.Opening.{tree_of}
+use Rattle.btr_reader.specs.Made.{IsMemory, RefusesChecked, RefusesRows, RefusesTree}
+use Rattle.btr_reader.specs.Opening.{root_tree, tree_of}
 use Rattle.btr_reader.specs.Reading.{FindsTree}
 use Rattle.btr_reader.specs.Roots.{root_item, pointer_of}
 use Rattle.btr_reader.specs.Rows.{AreRows, AreBtrfsRows, BreaksExtents, roots_on, IsTreeRefusal, no_root_item, bad_root_item, bad_tree, bad_names, bad_extents}
@@ -34,11 +33,11 @@ some_none x o some none = cc
 same_some : {X : Type 0} (x y : X) (o : Option X) → o ≡ Some x → o ≡ Some y → x ≡ y
 same_some x y o first second = cc
 
--- nothing is wrong with a tree
-pub nothing_wrong : (image : Image) (s : Super) (ranges : List MapRange) (t : Tree) (e : BtrAnswer) → wrong image ranges t ≡ [] → BlamesTree image ranges t e → RefusesTree image s ranges e
-nothing_wrong image s ranges t (Refused r) sound among = absurd (none_among (wrong image ranges t) r sound among)
-nothing_wrong image s ranges t Fault sound h = tt
-nothing_wrong image s ranges t Memory sound h = tt
+-- the numbers of the trees of the root tree
+pub numbers_are : (image : Image) (s : Super) (slice ranges : List MapRange) (t : Tree) (told : ℕ → Bool) → slice ≡ ranges → t ≡ root_tree s → ((number : ℕ) → told number ≡ has_root (found image slice t) number)
+    → told ≡ has_root (roots_on image s ranges)
+numbers_are image s slice ranges t told same here numbers =
+    λ j number. (numbers number ∙ (ap (λ (r : List MapRange). has_root (found image r t) number) same ∙ ap (λ (x : Tree). has_root (found image ranges x) number) here)) j
 
 pub of_memory : (image : Image) (s : Super) (ranges : List MapRange) (e : BtrAnswer) → IsMemory e → RefusesTree image s ranges e
 of_memory image s ranges (Refused r) h = absurd h
@@ -69,10 +68,10 @@ module _ (image : Image) (s : Super) (ranges : List MapRange) (i : TreeItem) (p 
   tree_refused Fault h = tt
   tree_refused Memory h = tt
 
-  pub names_refused : (told : ℕ → Bool) (e : BtrAnswer) → told ≡ roots → RefusesNames told items p.address e → RefusesTree image s ranges e
-  names_refused told (Refused r) same broken = bad_names i p there at (subst (λ (h : ℕ → Bool). BreaksNames h items p.address r) same broken)
-  names_refused told Fault same h = tt
-  names_refused told Memory same h = tt
+  pub names_refused : (e : BtrAnswer) → RefusesChecked roots items p.address e → RefusesTree image s ranges e
+  names_refused (Refused r) broken = bad_names i p there at broken
+  names_refused Fault h = tt
+  names_refused Memory h = tt
 
   pub contents_refused : (has : NodeId → Bool) (e : BtrAnswer) → AreNamed items has → RefusesContents (wanted_at has items) image ranges (tree_of s 5 p) e → RefusesTree image s ranges e
   contents_refused has (Refused r) named (inl among) = bad_tree i p there at among

@@ -176,9 +176,9 @@ rows_more f list i p old new row within at before own is =
     is ∙ (ap (λ l. l ++ row ∷ []) before ∙ (ap (λ y. map f (take i list) ++ y ∷ []) own ∙ (sym (map-append f (take i list) (p ∷ [])) ∙ ap (map f) (sym more))))
 
 -- the rows of all paths
-pub all_rows : (image : Image) (ranges : List MapRange) (items : List TreeItem) (list : List PathTo) (i : ℕ) (rows : List Row) → length list ≤ i
-    → rows ≡ map (λ p. row_of (made_row image ranges items list p)) (take i list) → rows ≡ map row_of (map (made_row image ranges items list) list)
-all_rows image ranges items list i rows all is =
+pub all_rows : (image : Image) (ranges : List MapRange) (items : List TreeItem) (list : List PathTo) (i : ℕ) (got : List Row) → length list ≤ i
+    → got ≡ map (λ p. row_of (made_row image ranges items list p)) (take i list) → got ≡ map row_of (map (made_row image ranges items list) list)
+all_rows image ranges items list i got all is =
     is ∙ (ap (map (λ p. row_of (made_row image ranges items list p))) (take_all i list all) ∙ sym (map-map row_of (made_row image ranges items list) list))
 
 -- the paths of the links that a tree has

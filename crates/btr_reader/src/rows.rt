@@ -1,4 +1,4 @@
-ghost use Rattle.std.specs.Prelude.{◌≡◌, ◌≤◌, ℕ, Bool, List, [], map, length, Some, nat_eq, IsTrue, IfOk};
+ghost use Rattle.std.specs.Prelude.{◌≡◌, ◌≤◌, ℕ, Bool, List, [], map, length, Some, nat_eq, IsTrue, IfErr, IfOk};
 ghost use Rattle.std.specs.Result.{MatchResult};
 ghost use Rattle.outside.specs.Fault.{HasCauseOf};
 ghost use Rattle.outside.specs.History.{Image};
@@ -11,8 +11,10 @@ ghost use Rattle.indexmap.specs.IndexMap.{get};
 ghost use Rattle.indexmap.specs.IndexSet.{contains};
 ghost use Rattle.path_list.specs.Links.{same_node};
 ghost use Rattle.btr_files.specs.Blocks.{AreInBlocks};
-ghost use Rattle.btr_reader.specs.Made.{IsMemory, IsReadTree, RefusesRows, RefusesTree};
-ghost use Rattle.btr_reader.specs.Opening.{IsOpened, root_tree as root_tree_of, tree_of};
+ghost use Rattle.btr_names.specs.Roots.{has_root};
+ghost use Rattle.btr_names.specs.Table.{HasNoted};
+ghost use Rattle.btr_reader.specs.Made.{IsChecked, IsMemory, IsReadTree, RefusesChecked, RefusesRows, RefusesTree};
+ghost use Rattle.btr_reader.specs.Opening.{IsNoFault, IsOpened, root_tree as root_tree_of, tree_of};
 ghost use Rattle.btr_reader.specs.Reading.{IsWalkable};
 ghost use Rattle.btr_reader.specs.Roots.{root_item, pointer_of};
 ghost use Rattle.btr_reader.specs.Rows.{AreBtrfsRows, AreRows, roots_on};
@@ -76,6 +78,31 @@ impl Btrfs {
         }
     }
 
+    /// The inodes that are named in a tree with these names, whose root node has this address, where all the rules of names
+    /// are kept.
+    fn named<S: BlockSource>(
+        &self,
+        alloc: Global,
+        src: &mut S,
+        names: &Names,
+        root: u64,
+    ) -> Result<IndexSet<NodeId>, BtrAnswer>
+        requires inside { LieOn (S.size src.old) self.now.ranges.items }
+        ensures kept { S.kept src.old src.new }
+        ensures cause { HasCauseOf BtrAnswer.Fault (S.faults src.old) (S.faults src.new) result }
+        ensures named { IsTrue S.tells → (image : Image) → S.blocks src.old ≡ image → wrong image self.now.ranges.items (root_tree_of self.now.sup) ≡ [] →
+            (items : List TreeItem) → HasNoted names.now items →
+            MatchResult result (λ named. IsChecked names.now (contains same_node named) items root (has_root (roots_on image self.now.sup self.now.ranges.items))) (RefusesChecked (has_root (roots_on image self.now.sup self.now.ranges.items)) items root) }
+    {
+        let roots = root_numbers(alloc, src, self.roots(), self.ranges.as_slice())?;
+        match names.check(alloc, root, &roots) {
+            Ok(named) => Ok(named),
+            Err(BtrAnswer::Refused(refusal)) => Err(BtrAnswer::Refused(refusal)),
+            // No call of the device was made, so that there was no memory.
+            Err(_) => Err(BtrAnswer::Memory),
+        }
+    }
+
     /// The rows of the file tree.
     fn read_rows<S: BlockSource>(
         &self,
@@ -93,8 +120,7 @@ impl Btrfs {
     {
         let ranges = self.ranges.as_slice();
         let names = Names::read(alloc, src, tree, ranges)?;
-        let roots = root_numbers(alloc, src, self.roots(), ranges)?;
-        let named = names.check(alloc, tree.root.address, &roots)?;
+        let named = self.named(alloc, src, &names, tree.root.address)?;
         let contents = Contents::read(alloc, src, tree, ranges, &names, &named)?;
         rows_of(alloc, &names, &named, &contents)
     }
@@ -107,7 +133,8 @@ fn rows_of(
     named: &IndexSet<NodeId>,
     contents: &Contents,
 ) -> Result<Rows, BtrAnswer>
-    ensures { (image : Image) (ranges : List RangeOf) (items : List TreeItem) (root : ℕ) (has_root : ℕ → Bool) → IsReadTree names.now (contains same_node named.now) (λ ino. get nat_eq contents.now.known ino) image ranges items root has_root →
+    ensures cause { IfErr result IsNoFault }
+    ensures rows { (image : Image) (ranges : List RangeOf) (items : List TreeItem) (root : ℕ) (has_root : ℕ → Bool) → IsReadTree names.now (contains same_node named.now) (λ ino. get nat_eq contents.now.known ino) image ranges items root has_root →
         MatchResult result (λ rows. (whole : List WholeRow) × AreRows image ranges items whole × (rows ≡ map row_of whole)) IsMemory }
 {
     let links = names.links(alloc, named)?;
