@@ -56,6 +56,12 @@ tree_or_log image s ranges (Refused r) none h = inr (none, h)
 tree_or_log image s ranges Fault none h = tt
 tree_or_log image s ranges Memory none h = tt
 
+pub without_log : (image : Image) (s : Super) (ranges : List MapRange) (result : Result (List Row) BtrAnswer) → s.log_root ≡ 0
+    → MatchResult result (λ rows. (whole : List WholeRow) × AreBtrfsRows image s ranges whole × (rows ≡ map row_of whole)) (RefusesTree image s ranges)
+    → MatchResult result (λ rows. (s.log_root ≡ 0) × ((whole : List WholeRow) × AreBtrfsRows image s ranges whole × (rows ≡ map row_of whole))) (RefusesRows image s ranges)
+without_log image s ranges (Ok rows) none h = (none, h)
+without_log image s ranges (Err e) none h = tree_or_log image s ranges e none h
+
 module _ (image : Image) (s : Super) (ranges : List MapRange) (i : TreeItem) (p : Pointer) (there : root_item 5 (roots_on image s ranges) ≡ Some i) (at : pointer_of i.body ≡ Some p) where
   abbrev items : List TreeItem
   items = found image ranges (tree_of s 5 p)
@@ -63,21 +69,32 @@ module _ (image : Image) (s : Super) (ranges : List MapRange) (i : TreeItem) (p 
   abbrev roots : ℕ → Bool
   roots = has_root (roots_on image s ranges)
 
-  pub tree_refused : (e : BtrAnswer) → BlamesTree image ranges (tree_of s 5 p) e → RefusesTree image s ranges e
-  tree_refused (Refused r) among = bad_tree i p there at among
-  tree_refused Fault h = tt
-  tree_refused Memory h = tt
+  tree_blamed : (e : BtrAnswer) → BlamesTree image ranges (tree_of s 5 p) e → RefusesTree image s ranges e
+  tree_blamed (Refused r) among = bad_tree i p there at among
+  tree_blamed Fault h = tt
+  tree_blamed Memory h = tt
 
   pub names_refused : (e : BtrAnswer) → RefusesChecked roots items p.address e → RefusesTree image s ranges e
   names_refused (Refused r) broken = bad_names i p there at broken
   names_refused Fault h = tt
   names_refused Memory h = tt
 
-  pub contents_refused : (has : NodeId → Bool) (e : BtrAnswer) → AreNamed items has → RefusesContents (wanted_at has items) image ranges (tree_of s 5 p) e → RefusesTree image s ranges e
-  contents_refused has (Refused r) named (inl among) = bad_tree i p there at among
-  contents_refused has (Refused r) named (inr broken) = bad_extents i p there at (breaks_named has ranges items r named broken)
-  contents_refused has Fault named h = tt
-  contents_refused has Memory named h = tt
+  contents_blamed : (has : NodeId → Bool) (e : BtrAnswer) → AreNamed items has → RefusesContents (wanted_at has items) image ranges (tree_of s 5 p) e → RefusesTree image s ranges e
+  contents_blamed has (Refused r) named (inl among) = bad_tree i p there at among
+  contents_blamed has (Refused r) named (inr broken) = bad_extents i p there at (breaks_named has ranges items r named broken)
+  contents_blamed has Fault named h = tt
+  contents_blamed has Memory named h = tt
+
+  -- the tree that is read is the file tree
+  module _ (slice : List MapRange) (t : Tree) (same : slice ≡ ranges) (is : t ≡ tree_of s 5 p) where
+    pub here : (P : List MapRange → Tree → Type 0) → P slice t → P ranges (tree_of s 5 p)
+    here P h = subst (P ranges) is (subst (λ (r : List MapRange). P r t) same h)
+
+    pub tree_refused : (e : BtrAnswer) → BlamesTree image slice t e → RefusesTree image s ranges e
+    tree_refused e h = tree_blamed e (here (λ r x. BlamesTree image r x e) h)
+
+    pub contents_refused : (has : NodeId → Bool) (e : BtrAnswer) → AreNamed items has → RefusesContents (wanted_at has (found image slice t)) image slice t e → RefusesTree image s ranges e
+    contents_refused has e named h = contents_blamed has e named (here (λ r x. RefusesContents (wanted_at has (found image r x)) image r x e) h)
 
   module _ (sound : wrong image ranges (tree_of s 5 p) ≡ []) (keeps : KeepsNames roots items p.address) (right : (r : BtrRefusal) → BreaksExtents ranges items r → ⊥) where
     same_at : (j : TreeItem) (q : Pointer) → root_item 5 (roots_on image s ranges) ≡ Some j → pointer_of j.body ≡ Some q → q ≡ p
