@@ -7,10 +7,12 @@ use Rattle.reiser_make.specs.Items.{items}
 use Rattle.reiser_make.specs.Shape.{shape}
 use Rattle.reiser_walk.specs.Tree.{items_of}
 use Rattle.reiser_volume.specs.Volume.{superblock, used_of, tree_of, volume_items}
+use Rattle.sample_laws.proofs.Cleanness.{clean}
 use Rattle.sample_laws.proofs.Items.{samples_items}
 use Rattle.sample_laws.proofs.Keeping.{objects_are, names_hold}
+use Rattle.sample_laws.proofs.Marked.{marks_system}
 use Rattle.sample_laws.proofs.Objects.{shape_is}
-use Rattle.sample_laws.proofs.Sound.{in_order}
+use Rattle.sample_laws.proofs.Sound.{trees_sound}
 use Rattle.sample_laws.specs.Accepted.{SamplesHaveObjects, SamplesHaveNames, SamplesAreAccepted}
 use Rattle.sample_laws.specs.Laws.{Fits, made}
 use Rattle.sample_laws.specs.Walk.{content, laid_content}
@@ -30,12 +32,10 @@ pub have_names : SamplesHaveNames
 have_names number old blocks image fits = names_hold (shape number old) (shape_is number old fits.number_low) (volume_items (made (shape number old) blocks image)) (found_items number old blocks image fits)
 
 pub accepted : SamplesAreAccepted
-accepted number old blocks image fits =
-    let order = in_order number old blocks image fits in
-    record {
-      clean = order.clean;
-      system = order.system;
-      tree = order.tree;
-      objects = have_objects number old blocks image fits;
-      names = have_names number old blocks image fits;
-    }
+accepted number old blocks image fits = record {
+  clean = clean number old blocks image fits;
+  system = marks_system number old blocks image fits;
+  tree = trees_sound number old blocks image fits;
+  objects = have_objects number old blocks image fits;
+  names = have_names number old blocks image fits;
+}

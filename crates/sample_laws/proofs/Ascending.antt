@@ -25,10 +25,10 @@ use Rattle.reiser_walk.proofs.Lists.{Each, Pairs, all_pairs_from_pairs}
 use Rattle.sample_laws.proofs.Items.{samples_items}
 use Rattle.sample_laws.specs.Walk.{content, laid_content, SamplesAscend}
 
-cmp_less : (x y : ℕ) → x < y → nat_cmp x y ≡ Less
+pub cmp_less : (x y : ℕ) → x < y → nat_cmp x y ≡ Less
 cmp_less x y lt = let is : nat_lt x y ≡ true = grind (arith, nat_tests, lt) in ap (λ b. cond b Less (cond (x == y) Equal Greater)) is
 
-cmp_same : (x y : ℕ) → x ≡ y → nat_cmp x y ≡ Equal
+pub cmp_same : (x y : ℕ) → x ≡ y → nat_cmp x y ≡ Equal
 cmp_same x y same =
     let not_less : nat_lt x y ≡ false = grind (arith, nat_tests, same) in
     ap (λ b. cond b Less (cond (x == y) Equal Greater)) not_less ∙ ap (λ b. cond b Equal Greater) (eq-eqb x y same)

@@ -67,7 +67,7 @@ numbers_read g a (suc n) at front is low =
     ap (λ x. x ∷ numbers_at bytes (at + 4) n) first
     ∙ ap (λ z. g a ∷ z) (ap (λ z. numbers_at z (at + 4) n) next ∙ numbers_read g (a + 1) n (at + 4) (front ++ own) (omega (arith, length-append front own, is)) (λ k above below. low k (omega (arith, above)) (omega (arith, below))))
 
-place_some : (j : ℕ) → place j ≢ 0
+pub place_some : (j : ℕ) → place j ≢ 0
 unfolding place
 place_some j = λ is. omega (arith, is)
 
@@ -133,7 +133,7 @@ pointers_sized first sparse a zero = refl
 pointers_sized first sparse a (suc n) = omega (arith, pointers_sized first sparse (a + 1) n)
 
 -- the pointers of a file read back
-pointers_back : (first whole : ℕ) (sparse : Bool) → whole ≤ 20 → first ≤ 100000 → pointers (pointers_bytes first sparse whole) ≡ map (pointer first sparse) (range_with_len 0 whole)
+pub pointers_back : (first whole : ℕ) (sparse : Bool) → whole ≤ 20 → first ≤ 100000 → pointers (pointers_bytes first sparse whole) ≡ map (pointer first sparse) (range_with_len 0 whole)
 pointers_back first whole sparse few low =
     let count : length (pointers_bytes first sparse whole) / 4 ≡ whole = omega (arith, pointers_sized first sparse 0 whole) in
     ap (numbers_at (pointers_bytes first sparse whole) 0) count
@@ -147,7 +147,7 @@ named_if : (link : Bool) (xs : List ℕ) → link ≡ false → cond (true && no
 named_if true xs is = cc
 named_if false xs is = refl
 
-pointers_are : (s : Shape) (i : ℕ) (content : Content) (whole rest : ℕ) (sparse old : Bool) → get_or s.names i Name ≡ content → content ≡ File whole rest sparse
+pub pointers_are : (s : Shape) (i : ℕ) (content : Content) (whole rest : ℕ) (sparse old : Bool) → get_or s.names i Name ≡ content → content ≡ File whole rest sparse
     → body_bytes s old (Pointers i) ≡ pointers_bytes (stored_before s.names i) sparse whole
 unfolding body_bytes
 pointers_are s i content whole rest sparse old here is = ap (pointers_of_content s i) (here ∙ is)
@@ -225,7 +225,7 @@ module _ (s : Shape) (few : length s.names ≤ 4000) (small : AreSmall s.names) 
       let next : o + 1 - (directories + 1) ≡ 0 = omega (arith, low) in
       (ap (stored_before s.names) first, ap (stored_before s.names) next)
 
-  before_low : (i : ℕ) → stored_before s.names i ≤ 100000
+  pub before_low : (i : ℕ) → stored_before s.names i ≤ 100000
   before_low i = omega (arith, sum_by-take-le stored_blocks s.names i, stored_few s.names small, few)
 
   object_runs_by : (o : ℕ) (a b : Bool) → (o == 0) ≡ a → nat_lt o (directories + 1) ≡ b → o < object_count (length s.names)

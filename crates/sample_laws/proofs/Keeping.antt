@@ -114,7 +114,7 @@ directory_one j k low_j low_k same =
     let d : 48 + j / 1 % 10 ≡ 48 + k / 1 % 10 = ap (λ (z : List ℕ). get_or z 4 0) same in
     omega (arith, a, b, c, d, low_j, low_k, tens j, tens k, hundreds j, hundreds k, thousands j, thousands k, ten_thousands j, ten_thousands k)
 
-file_one : (j k : ℕ) → j < 100000 → k < 100000 → file_name j ≡ file_name k → j ≡ k
+pub file_one : (j k : ℕ) → j < 100000 → k < 100000 → file_name j ≡ file_name k → j ≡ k
 unfolding file_name
 file_one j k low_j low_k same =
     let a : 48 + j / 10000 % 10 ≡ 48 + k / 10000 % 10 = ap (λ (z : List ℕ). get_or z 1 0) same in

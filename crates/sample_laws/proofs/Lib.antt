@@ -3,9 +3,13 @@ pub mod Ascending
 pub mod Attributes
 pub mod Blocks
 pub mod Cleanness
+pub mod Climbing
+pub mod Contents
+pub mod Counted
 pub mod Crowding
 pub mod Data
 pub mod Entries
+pub mod Fields
 pub mod Found
 pub mod Heads
 pub mod Held
@@ -23,7 +27,10 @@ pub mod Objects
 pub mod Parts
 pub mod Places
 pub mod Reached
+pub mod Rowed
 pub mod Small
+pub mod Sorting
 pub mod Sound
 pub mod Walked
+pub mod Ways
 pub mod Writable

@@ -63,7 +63,7 @@ bare_either : (b : Bool) (leaf : ℕ) (key : ObjectKey) (es : List EntryValue) �
 bare_either true leaf key es = bare_all leaf key es
 bare_either false leaf key es = refl
 
-abbrev item_of : ItemHead × List ℕ → Item
+abbrev pub item_of : ItemHead × List ℕ → Item
 item_of c = record { leaf = 0; head = c.0; body = c.1 }
 
 bare_by : (kind : ItemKind) (i : Item) → map bare (namings_by_kind kind i) ≡ namings_by_kind kind (item_of (content i))

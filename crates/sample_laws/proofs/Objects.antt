@@ -11,7 +11,7 @@ use Rattle.fs_rows.specs.declared.row.Kind.TheVariants as kinds
 use Rattle.reiser_node.specs.declared.head.ItemHead.{ItemHead}
 use Rattle.reiser_node.specs.declared.head.ItemKind.TheVariants.{Indirect, Direct, Directory}
 use Rattle.reiser_items.specs.declared.stat.StatData.{StatData}
-use Rattle.reiser_make.specs.Content.{IsSmallContent, is_further_name}
+use Rattle.reiser_make.specs.Content.{IsSmallContent, is_further_name, is_symlink}
 use Rattle.reiser_make.specs.Items.{items, items_of_content, directory_items, item, stat_item, pointer_items, byte_items, attributes, base_time, no_direct_byte, file_units, first_direct_of, body_bytes}
 use Rattle.reiser_make.specs.Shape.{Shape, shape, directory_count, names_in, object_count, root_id, directory_id, file_id, name_count, stored_of}
 use Rattle.reiser_make.specs.declared.content.Content.{Content}
@@ -36,7 +36,7 @@ use Rattle.sample_laws.proofs.Attributes.{read_back, HasStatRoom}
 use Rattle.sample_laws.proofs.Found.{HasStatOf, first_found, fits_found, IsClear, apart_found, each_found}
 use Rattle.sample_laws.proofs.Lists.{each_rows}
 use Rattle.sample_laws.proofs.Parts.{directory_key, file_key, file_items, of_root, of_directory, of_file}
-use Rattle.sample_laws.proofs.Small.{AreSmall, small_at, contents_small, length_contents, IsOwn, contents_own}
+use Rattle.sample_laws.proofs.Small.{AreSmall, small_at, contents_small, length_contents, IsOwn, contents_own, contents_links}
 use Rattle.sample_laws.proofs.Writable.{pointers_body}
 use Rattle.sample_laws.specs.Walk.{content, laid_content}
 
@@ -216,18 +216,20 @@ no_links s few =
     each_rows (λ x. NoSaveLink (laid_content s x)) _ 0 (object_count (length s.names))
     (λ o low high. each_to (IsOf (dir_of s o) (2 + o)) (λ x. NoSaveLink (laid_content s x)) (λ x is. no_link s o x (omega (arith, high, few)) is) _ (object_is s o).owned)
 
--- What a sample is made of: not too many names, what they stand for is small, and only further names have no object of
--- their own.
+-- What a sample is made of: not too many names, what they stand for is small, only further names have no object of their
+-- own, and symlinks come in a fixed pattern.
 pub record IsSampleShape (s : Shape) : Type 0 where
   pub few : length s.names ≤ 4000
   pub small : AreSmall s.names
   pub own : (i : ℕ) → i < length s.names → is_further_name i ≡ false → IsOwn (get_or s.names i Name)
+  pub links : (i : ℕ) → get_or s.names i Name ≡ Symlink → is_symlink i ≡ true
 
 pub shape_is : (number : ℕ) (old : Bool) → number ≤ 4000 → IsSampleShape (shape number old)
 shape_is number old few = record {
   few = omega (arith, few, length_contents number);
   small = contents_small number;
   own = λ i lt first. contents_own number i (omega (arith, lt, length_contents number)) first;
+  links = contents_links number;
 }
 
 -- a named object in order, whose target is short if it is a symlink

@@ -97,3 +97,39 @@ unfolding contents
 contents_own number i lt first =
     let here : i ≡ 0 + i = omega arith in
     own_from number 0 number i lt (subst (λ (k : ℕ). is_further_name k ≡ false) here first)
+
+-- a file has whole blocks and a rest
+abbrev IsFile : Content → Type 0
+IsFile Name = ⊥
+IsFile Symlink = ⊥
+IsFile (File whole rest sparse) = Unit {0}
+
+either_file : (b : Bool) (x y : Content) → IsFile x → IsFile y → IsFile (cond b x y)
+either_file true x y first second = first
+either_file false x y first second = second
+
+file_file : (class state : ℕ) → IsFile (file_of class state)
+file_file class state = either_file (class == 0) _ _ tt (either_file (class == 1) _ _ tt (either_file (class == 2) _ _ tt (either_file (class == 3) _ _ tt tt)))
+
+link_by : (further link : Bool) (c : Content) → IsFile c → cond further Name (cond link Symlink c) ≡ Symlink → link ≡ true
+link_by true link c file is = absurd cc
+link_by false true c file is = refl
+link_by false false c file is = absurd (subst IsFile is file)
+
+content_link : (i state : ℕ) → content_of i state ≡ Symlink → is_symlink i ≡ true
+unfolding content_of
+content_link i state is = link_by (is_further_name i) (is_symlink i) (file_of (drawn 5 (next_state state)) (next_state state)) (file_file (drawn 5 (next_state state)) (next_state state)) is
+
+link_from : (n i state j : ℕ) → get_or (contents_from n i state) j Name ≡ Symlink → is_symlink (i + j) ≡ true
+link_from zero i state j is = absurd cc
+link_from (suc n) i state zero is = let here : i ≡ i + 0 = omega arith in subst (λ (k : ℕ). is_symlink k ≡ true) here (content_link i state is)
+link_from (suc n) i state (suc j) is =
+    let next : i + 1 + j ≡ i + suc j = omega arith in
+    subst (λ (k : ℕ). is_symlink k ≡ true) next (link_from n (i + 1) (state_after i state) j is)
+
+-- symlinks are those names that the pattern says
+pub contents_links : (number i : ℕ) → get_or (contents number) i Name ≡ Symlink → is_symlink i ≡ true
+unfolding contents
+contents_links number i is =
+    let here : 0 + i ≡ i = omega arith in
+    subst (λ (k : ℕ). is_symlink k ≡ true) here (link_from number 0 number i is)

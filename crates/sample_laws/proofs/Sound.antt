@@ -20,16 +20,16 @@ use Rattle.reiser_walk.proofs.Lists.{all_from_each, all_pairs_from_pairs}
 use Rattle.reiser_walk.proofs.Rules.{sound_exactly}
 use Rattle.reiser_volume.specs.Volume.{superblock, used_of, tree_of}
 use Rattle.sample_laws.proofs.Ascending.{ascend, each_to}
-use Rattle.sample_laws.proofs.Cleanness.{HasFields, super_made, clean}
+use Rattle.sample_laws.proofs.Cleanness.{HasFields, super_made}
 use Rattle.sample_laws.proofs.Items.{edge, edge_in, edge_out, first_leaf_zero, one_root}
 use Rattle.sample_laws.proofs.Kept.{keeps_grammar, fit_heads}
-use Rattle.sample_laws.proofs.Marked.{marks_used, marks_system, taken_low, block_later}
+use Rattle.sample_laws.proofs.Marked.{marks_used, taken_low, block_later}
 use Rattle.sample_laws.proofs.Places.{place_no_map}
 use Rattle.sample_laws.proofs.Reached.{Reaches, Below, IsPlaced, placed, level_reaches}
 use Rattle.sample_laws.proofs.Small.{length_contents}
 use Rattle.sample_laws.proofs.Walked.{samples_walked}
 use Rattle.sample_laws.specs.Laws.{Fits, made}
-use Rattle.sample_laws.specs.Walk.{laid_events, SamplesKeepTreeRules, SampleTreesAreSound, SamplesAreInOrder}
+use Rattle.sample_laws.specs.Walk.{laid_events, SamplesKeepTreeRules, SampleTreesAreSound}
 
 none_of : (a b c d : Bool) → a ≡ false → b ≡ false → d ≡ false → (a || (b || (c && d))) ≡ false
 none_of true b c d is-a is-b is-d = cc
@@ -129,10 +129,3 @@ pub trees_sound : SampleTreesAreSound
 trees_sound number old blocks image fits =
     let volume : Image = made (shape number old) blocks image in
     (sound_exactly (tree_of (superblock volume)) volume (used_of volume)).1 (tree_kept number old blocks image fits)
-
-pub in_order : SamplesAreInOrder
-in_order number old blocks image fits = record {
-  clean = clean number old blocks image fits;
-  system = marks_system number old blocks image fits;
-  tree = trees_sound number old blocks image fits;
-}

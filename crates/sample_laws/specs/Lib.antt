@@ -1,4 +1,5 @@
 pub mod Accepted
 pub mod Laws
 pub mod Nodes
+pub mod Rows
 pub mod Walk

@@ -1,9 +1,8 @@
 -- What a walk meets in the tree of a sample.
-use Rattle.std.specs.Prelude.{◌≡◌, ℕ, zero, suc, Bool, List, [], ◌∷◌, length, map, true, All, AllPairs, Contains}
+use Rattle.std.specs.Prelude.{◌≡◌, ℕ, zero, suc, Bool, List, [], ◌∷◌, length, map, true, All, AllPairs}
 use Rattle.std.specs.List.{range_with_len, flat_map}
 use Rattle.std.specs.Ordering.{is_lt}
 use Rattle.outside.specs.History.{Image, block_at}
-use Rattle.reiser_bitmap.specs.Bits.{has}
 use Rattle.reiser_items.specs.Order.{key_order}
 use Rattle.reiser_make.specs.Inner.{node_place, leaf_at, level_nodes, root_level, first_child, child_count}
 use Rattle.reiser_make.specs.Items as laid
@@ -12,13 +11,12 @@ use Rattle.reiser_make.specs.Leaf.{leaves}
 use Rattle.reiser_make.specs.Shape.{Shape, shape}
 use Rattle.reiser_make.specs.declared.item.Item as parts
 use Rattle.reiser_node.specs.declared.head.ItemHead.{ItemHead}
-use Rattle.reiser_super.specs.Journal.{IsClean}
 use Rattle.reiser_walk.specs.Items.{Item, Event, node, item_events}
 use Rattle.reiser_walk.specs.Laws.{IsNode, FitsHead, KeepsRules}
 use Rattle.reiser_walk.specs.Rules.{tree_damages}
 use Rattle.reiser_walk.specs.Tree.{tree_events, items_of, visits}
 use Rattle.reiser_volume.specs.Volume.{superblock, used_of, tree_of}
-use Rattle.sample_laws.specs.Laws.{Fits, made, own_blocks}
+use Rattle.sample_laws.specs.Laws.{Fits, made}
 
 -- an item of the layout as a walk meets it in a leaf
 abbrev pub met : Shape → ℕ → parts.Item → Item
@@ -91,12 +89,3 @@ abbrev pub SampleTreesAreSound : Type 0
 SampleTreesAreSound =
     (number : ℕ) (old : Bool) (blocks : ℕ) (image : Image) → Fits number old blocks image
     → let volume = made (shape number old) blocks image in tree_damages (tree_of (superblock volume)) volume (used_of volume) ≡ []
-
--- A volume in order as far as its tree: superblock and journal, the bitmap, and the tree.
-pub record IsInOrder (image : Image) : Type 0 where
-  pub clean : IsClean image
-  pub system : (b : ℕ) → Contains (own_blocks (superblock image)) b → has (used_of image) b ≡ true
-  pub tree : tree_damages (tree_of (superblock image)) image (used_of image) ≡ []
-
-abbrev pub SamplesAreInOrder : Type 0
-SamplesAreInOrder = (number : ℕ) (old : Bool) (blocks : ℕ) (image : Image) → Fits number old blocks image → IsInOrder (made (shape number old) blocks image)

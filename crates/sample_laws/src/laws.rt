@@ -1,7 +1,8 @@
 ghost use Rattle.sample_laws.specs.Accepted.{SamplesHaveObjects, SamplesHaveNames, SamplesAreAccepted};
 ghost use Rattle.sample_laws.specs.Laws.{SamplesAreClean, SamplesMarkUsed, SamplesMarkSystem, SamplesHoldTheirBlocks};
+ghost use Rattle.sample_laws.specs.Rows.{SamplesHaveTheirRows, SamplesAreAsDescribed};
 ghost use Rattle.sample_laws.specs.Nodes.{LeavesReadBack, InnerNodesReadBack, SampleLeavesReadBack, SampleInnerNodesReadBack};
-ghost use Rattle.sample_laws.specs.Walk.{SamplesAreWalked, SamplesHoldTheirItems, SamplesKeepGrammar, SamplesFitTheirHeads, SamplesAscend, SamplesKeepTreeRules, SampleTreesAreSound, SamplesAreInOrder};
+ghost use Rattle.sample_laws.specs.Walk.{SamplesAreWalked, SamplesHoldTheirItems, SamplesKeepGrammar, SamplesFitTheirHeads, SamplesAscend, SamplesKeepTreeRules, SampleTreesAreSound};
 
 /// The superblock of a sample is that of a clean volume, and no transaction waits in its journal.
 pub fn samples_are_clean()
@@ -79,11 +80,6 @@ pub fn sample_trees_are_sound()
     ensures { SampleTreesAreSound }
 {}
 
-/// A sample is in order as far as its tree: superblock and journal, the bitmap, and the tree.
-pub fn samples_are_in_order()
-    ensures { SamplesAreInOrder }
-{}
-
 /// The objects of a sample are in order: no save link, a root directory, and each named object with stat data of a known
 /// kind, items that fit the kind and do not overlap, and a size in its range.
 pub fn samples_have_objects()
@@ -98,4 +94,14 @@ pub fn samples_have_names()
 /// A sample is an accepted volume: it keeps each rule that a reader asks for.
 pub fn samples_are_accepted()
     ensures { SamplesAreAccepted }
+{}
+
+/// A sample has the rows of its number, and no others: paths with their kinds, owners, times, names and bytes.
+pub fn samples_have_their_rows()
+    ensures { SamplesHaveTheirRows }
+{}
+
+/// A sample is what its number says: an accepted volume with the rows of the number.
+pub fn samples_are_as_described()
+    ensures { SamplesAreAsDescribed }
 {}
