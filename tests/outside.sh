@@ -96,6 +96,20 @@ expected_super() {
     printf 'label %s\n' "${label:--}"
 }
 
+# the same of dump-super and a Btrfs volume without a saved image
+expected_btrfs() {
+    local said
+    said=$(btrfs inspect-internal dump-super "$1" 2>/dev/null)
+    of() { printf '%s\n' "$said" | sed -n "s/^$1[[:space:]][[:space:]]*//p" | head -1; }
+    printf 'format btrfs\n'
+    printf 'fsid %s\n' "$(of fsid)"
+    printf 'blocks %s\n' "$(($(of total_bytes) / 4096))"
+    printf 'generation %s\n' "$(of generation)"
+    printf 'nodesize %s\n' "$(of nodesize)"
+    printf 'label %s\n' "$(of label | sed 's/ /\\x20/g')"
+    printf 'image -\n'
+}
+
 # the numbers of blocks, free and used, of the last output; "adds up" where used is the rest of the blocks
 used_adds_up() {
     awk '$1 == "blocks" { b = $2 } $1 == "free" { f = $2 } $1 == "used" { u = $2 }
@@ -153,8 +167,13 @@ refusals() {
     fi
     if need mkfs.btrfs btrfs-progs; then
         truncate -s 128M btrfs
-        mkfs.btrfs -q btrfs >/dev/null 2>&1
-        ends 'a Btrfs volume' 1 'refused 16 format' inspect btrfs
+        mkfs.btrfs -q -m dup btrfs >/dev/null 2>&1
+        ends 'a Btrfs volume with two copies' 1 'refused 3 unsupported 16 34' inspect btrfs
+        mkfs.btrfs -q -f -m single -d single -L 'My label' btrfs >/dev/null 2>&1
+        run inspect btrfs
+        same 'inspect of a Btrfs volume' "0||$(expected_btrfs btrfs)" "$status|$err|$out"
+        put btrfs $((super + 72)) '\xff'
+        ends 'a wrong checksum' 1 'refused 13 badbtrfs 65536 1' inspect btrfs
     else
         echo 'skipped: a Btrfs volume, since mkfs.btrfs is not to be had'
     fi

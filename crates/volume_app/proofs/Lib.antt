@@ -1,3 +1,4 @@
-pub mod Superblock
-pub mod Outcomes
+pub mod Formats
+pub mod Inspecting
 pub mod Listing
+pub mod Outcomes

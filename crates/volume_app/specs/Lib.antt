@@ -1,5 +1,9 @@
+pub mod Answers
 pub mod Command
 pub mod Ending
+pub mod Format
 pub mod Inspect
+pub mod Listing
 pub mod Outcome
+pub mod Reiser
 pub mod Texts

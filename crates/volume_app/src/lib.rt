@@ -4,10 +4,13 @@
 //! [`run`] is what the whole program promises; each command has a module of its own below it.
 #![tactic(auto)]
 
+mod answers;
 mod command;
 mod ending;
+mod format;
 mod inspect;
 mod list;
+mod reiser;
 #[cfg(test)]
 mod tests;
 mod texts;

@@ -4,6 +4,7 @@ ghost use Rattle.std.specs.Prelude.{◌≡◌, ◌≤◌, None, IfOk, length};
 mod sample;
 
 use crate::run;
+use btr_samples::Sample;
 use outside::Memory;
 use outside_mem::{MemDisk, MemSink};
 use sample::{change, changed, pointing_to, sample};
@@ -142,8 +143,40 @@ fn what_is_no_volume(rt: HostRuntime) -> Result<(), Fail> {
         let mut disk = MemDisk::new(rt.alloc(), blocks)?;
         refused(&rt, &mut disk, "refused 1 novolume\n")?;
     }
+    // The magic of Btrfs alone, without a right checksum.
     let mut disk = changed(rt.alloc(), 16, 64, b"_BHRfS_M")?;
-    refused(&rt, &mut disk, "refused 16 format\n")
+    refused(&rt, &mut disk, "refused 13 badbtrfs 65536 1\n")
+}
+
+/// A run of `inspect` over a Btrfs volume ends so.
+fn inspects(
+    rt: &(impl Abort + AllocGlobal),
+    sample: &Sample,
+    status: u8,
+    out: &str,
+    err: &str,
+) -> Result<(), Fail> {
+    let mut disk = sample.disk(rt.alloc())?;
+    ends(rt, &["inspect", "x"], &mut disk, status, out, err)
+}
+
+const BTRFS: &str =
+    "format btrfs\nfsid 22222222-2222-2222-2222-222222222222\nblocks 12288\ngeneration 1\nnodesize 16384\nlabel -\nimage -\n";
+
+/// A log tree is not looked at.
+#[test]
+fn inspect_reads_btrfs(rt: HostRuntime) -> Result<(), Fail> {
+    let logged = Sample {
+        log_root: 35651584,
+        ..Sample::PLAIN
+    };
+    let foreign = Sample {
+        owner: 7,
+        ..Sample::PLAIN
+    };
+    inspects(&rt, &Sample::PLAIN, 0, BTRFS, "")?;
+    inspects(&rt, &logged, 0, BTRFS, "")?;
+    inspects(&rt, &foreign, 1, "", "refused 13 badbtrfs 35667968 6\n")
 }
 
 #[test]
