@@ -17,6 +17,7 @@ mod placed;
 mod refused;
 mod roots;
 mod row;
+mod rows;
 mod volume;
 
 pub use chunk::ChunkAt;
