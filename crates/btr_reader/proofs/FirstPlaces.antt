@@ -21,7 +21,7 @@ use Rattle.path_list.proofs.Lists.{in_tail}
 use Rattle.path_list.proofs.Nodes.{same_node-true, same_node-self, pointwise-true, same_name-true}
 use Rattle.btr_reader.specs.Made.{first_path}
 
-both : (a b : Bool) → (a ≡ true → b ≡ true) → (b ≡ true → a ≡ true) → a ≡ b
+pub both : (a b : Bool) → (a ≡ true → b ≡ true) → (b ≡ true → a ≡ true) → a ≡ b
 both true true there back = refl
 both false false there back = refl
 both true false there back = sym (there refl)
