@@ -1,8 +1,8 @@
 -- The row that is made for a path of a file tree.
-use Rattle.std.proofs.Common.{◌≡◌, ℕ, ◌+◌, ◌<◌, ◌≤◌, ◌==◌, Bool, true, false, List, ◌∷◌, map, length, get_or, take, Contains, Option, Some, None, unwrap_or, if◌then◌else◌, ⊎_elim, refl, sym, ap, subst, ◌∙◌, arith}
+use Rattle.std.proofs.Common.{◌≡◌, ℕ, ◌<◌, ◌≤◌, ◌==◌, Bool, true, false, List, map, length, get_or, take, Contains, Option, Some, None, unwrap_or, if◌then◌else◌, ⊎_elim, refl, sym, ap, subst, ◌∙◌, arith}
 use Rattle.std.specs.Prelude.{slice_get}
 use Rattle.std.specs.Option.{option_and_then}
-use Rattle.std.proofs.lemmas.Bool.{eqb-true, cases_lt}
+use Rattle.std.proofs.lemmas.Bool.{cases_lt}
 use Rattle.std.proofs.lemmas.List.{get_or-map, length-map, length-take, get_or-take}
 use Rattle.std.proofs.lemmas.Option.{slice_get_within, get_or_from_slice_get, slice_get-get_or}
 use Rattle.outside.specs.History.{Image}
@@ -21,7 +21,6 @@ use Rattle.btr_names.specs.Inodes.{inode_on, kind_of_mode}
 use Rattle.btr_names.specs.Links.{IsNamed, Target, inode, tree, Leads}
 use Rattle.btr_names.specs.Steps.{inode_node, node_of, links_of}
 use Rattle.btr_contents.specs.declared.content.Content.{Content}
-use Rattle.btr_contents.specs.declared.wanted.Wanted.{Wanted}
 use Rattle.btr_contents.specs.Contents.{wanted_inode, wanted_at}
 use Rattle.btr_reader.specs.Made.{IsReadTree, bytes_at, first_path, kind_by, made_inode, made_row, no_inode, own_at, row_by}
 use Rattle.btr_reader.specs.Rows.{subvolume_row}

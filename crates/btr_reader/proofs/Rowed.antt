@@ -1,5 +1,5 @@
 -- The rows that are made for the paths of a file tree are its rows.
-use Rattle.std.proofs.Common.{◌≡◌, ℕ, ◌+◌, ◌<◌, ◌≤◌, ◌==◌, Bool, true, false, List, [], ◌∷◌, ◌++◌, map, length, get_or, take, count_by, Contains, Option, Some, None, refl, sym, ap, subst, ◌∙◌, true≢false, if◌then◌else◌, arith}
+use Rattle.std.proofs.Common.{◌≡◌, ℕ, ◌+◌, ◌<◌, ◌≤◌, ◌==◌, Bool, true, false, List, [], ◌∷◌, ◌++◌, map, length, get_or, take, count_by, Contains, Some, refl, sym, ap, subst, ◌∙◌, true≢false, if◌then◌else◌, arith}
 use Rattle.std.specs.Ordering.{is_le}
 use Rattle.std.proofs.lemmas.Simd.{map-map}
 use Rattle.std.proofs.lemmas.List.{get_or-map, length-map, map-append, take_more, take_all, get_or_default}
@@ -26,7 +26,7 @@ use Rattle.btr_names.specs.TreeLinks.{AreTreeLinks}
 use Rattle.btr_names.proofs.Members.{from_map}
 use Rattle.btr_reader.specs.Made.{row_by, bytes_at, first_path, made_inode, made_row}
 use Rattle.btr_reader.specs.Rows.{IsLeastPath, IsInodeRow, IsTreeRow, IsRowOf, AreRows, subvolume_row, top}
-use Rattle.btr_reader.proofs.Known.{IsKnown, own_on, is_known, leads_named}
+use Rattle.btr_reader.proofs.Known.{own_on, is_known, leads_named}
 use Rattle.btr_reader.proofs.FirstPlaces.{both, count_among, same_names, one_place, first_within, first_in, first_leads, is_least, same_first}
 use Rattle.btr_reader.proofs.RowMade.{path_is, tree_is, inode_is}
 

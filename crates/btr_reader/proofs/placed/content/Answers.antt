@@ -1,5 +1,5 @@
 use Rattle.std.proofs.Common.{◌∙◌, sym}
-use Rattle.btr_reader.proofs.RowContents.{content_kept, content_none}
+use Rattle.btr_reader.proofs.RowContents.{content_kept}
 use Rattle.btr_reader.proofs.placed.content.Goals as goal
 
 pub returns-in-Some : goal.returns-in-Some
