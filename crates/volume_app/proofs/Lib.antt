@@ -1,3 +1,5 @@
-pub mod Superblock
-pub mod Outcomes
+pub mod Formats
+pub mod Inspecting
 pub mod Listing
+pub mod Logs
+pub mod Outcomes

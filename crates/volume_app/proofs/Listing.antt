@@ -1,54 +1,81 @@
 -- What `list` answers.
-use Rattle.std.proofs.Common.{inl, inr}
-use Rattle.std.specs.Prelude.{Result, Ok, Err, List, IfOk, IfErr}
-use Rattle.std.specs.Result.{MatchResult}
+use Rattle.std.proofs.Common.{◌≡◌, inl, inr, sym, ap, subst}
+use Rattle.std.specs.Prelude.{◌≢◌, List, map}
+use Rattle.vol_block.specs.declared.format.Format.{Format}
+use Rattle.vol_block.specs.declared.format.Format.TheVariants as formats
+use Rattle.fs_rows.specs.Rows.{WholeRow, row_of}
+use Rattle.fs_rows.specs.Text.{rows_text}
 use Rattle.fs_rows.specs.declared.row.Row.{Row}
 use Rattle.object_files.specs.Answers.{IsFileAnswer, IsFaultOrMemory}
 use Rattle.outside.specs.History.{Image}
-use Rattle.outside.specs.declared.answer.Answer.{Answer}
-use Rattle.outside.specs.declared.answer.Answer.TheVariants as answers
+use Rattle.outside.specs.declared.answer.BtrAnswer.{BtrAnswer}
+use Rattle.outside.specs.declared.answer.BtrAnswer.TheVariants as of_btr
 use Rattle.outside.specs.declared.answer.VolAnswer.{VolAnswer}
 use Rattle.outside.specs.declared.answer.VolAnswer.TheVariants.{Refused, Fault, Memory}
-use Rattle.reiser_volume.specs.Answers.{IsVolumeAnswer}
-use Rattle.volume_app.specs.Inspect.{of_volume}
-use Rattle.volume_app.specs.Outcome.{InspectRefuses, IsInspectAnswer, IsListAnswer}
+use Rattle.reiser_volume.specs.Answers.{IsVolumeAnswer, RefusesVolume}
+use Rattle.reiser_volume.specs.Volume.{AreRowsOf, IsAccepted}
+use Rattle.volume_app.specs.Answers.{of_volume, of_btrfs}
+use Rattle.volume_app.specs.Btrfs.{IsListableBtrfs, AreRowsOfBtrfs, RefusesBtrfsRows}
+use Rattle.volume_app.specs.Format.{format_in}
+use Rattle.volume_app.specs.Listing.{IsListable, AreRowsIn, IsListText, Lists, ListRefuses, IsRowsAnswer, IsListAnswer}
+use Rattle.volume_app.proofs.Formats.{reiser_found}
 
-pub rows_refused : (disk : Image) (answer : VolAnswer) → IsFaultOrMemory answer → InspectRefuses disk (of_volume answer)
+pub reiser_listed : (disk : Image) (rows : List Row) → format_in disk ≢ formats.Btrfs → IsAccepted disk → (whole : List WholeRow) × AreRowsOf disk whole × (rows ≡ map row_of whole) → Lists disk rows
+reiser_listed disk rows other accepted (whole, are, seen) =
+    let format = sym (reiser_found disk accepted other) in
+    record {
+      listable = subst (λ (f : Format). IsListable f disk) format accepted;
+      whole = whole;
+      are_rows = subst (λ (f : Format). AreRowsIn f disk whole) format are;
+      seen = seen;
+    }
+
+pub btrfs_listed : (disk : Image) (rows : List Row) → format_in disk ≡ formats.Btrfs → IsListableBtrfs disk → (whole : List WholeRow) × AreRowsOfBtrfs disk whole × (rows ≡ map row_of whole) → Lists disk rows
+btrfs_listed disk rows format listable (whole, are, seen) =
+    record {
+      listable = subst (λ (f : Format). IsListable f disk) (sym format) listable;
+      whole = whole;
+      are_rows = subst (λ (f : Format). AreRowsIn f disk whole) (sym format) are;
+      seen = seen;
+    }
+
+-- the text of rows that are listed is that of the disk
+pub listed_text : (disk : Image) (rows : List Row) → Lists disk rows → IsListText disk (rows_text rows)
+listed_text disk rows lists = (lists.whole, lists.are_rows, ap (λ (r : List Row). rows_text r) lists.seen)
+
+-- what is refused of a volume
+pub reiser_refused : (disk : Image) (answer : VolAnswer) → format_in disk ≢ formats.Btrfs → RefusesVolume disk answer → ListRefuses disk (of_volume answer)
+reiser_refused disk (Refused refusal) other refuses = (other, refuses)
+reiser_refused disk Fault other refuses = tt
+reiser_refused disk Memory other refuses = tt
+
+pub btrfs_refused : (disk : Image) (answer : BtrAnswer) → format_in disk ≡ formats.Btrfs → RefusesBtrfsRows disk answer → ListRefuses disk (of_btrfs answer)
+btrfs_refused disk (of_btr.Refused refusal) format refuses = (format, refuses)
+btrfs_refused disk of_btr.Fault format refuses = tt
+btrfs_refused disk of_btr.Memory format refuses = tt
+
+-- an accepted volume's rows are refused by no rule
+pub rows_refused : (disk : Image) (answer : VolAnswer) → IsFaultOrMemory answer → RefusesVolume disk answer
 rows_refused disk (Refused refusal) is = absurd is
 rows_refused disk Fault is = tt
 rows_refused disk Memory is = tt
 
-pub rows_known : (answer : VolAnswer) → IsFileAnswer answer → IsListAnswer (of_volume answer)
-rows_known (Refused refusal) is = inr is
-rows_known Fault is = tt
-rows_known Memory is = tt
+pub again_known : (answer : VolAnswer) → IsFileAnswer answer → IsRowsAnswer answer
+again_known (Refused refusal) is = inr is
+again_known Fault is = tt
+again_known Memory is = tt
 
-pub volume_listed : (answer : VolAnswer) → IsVolumeAnswer answer → IsListAnswer (of_volume answer)
-volume_listed (Refused refusal) is = inl is
-volume_listed Fault is = tt
-volume_listed Memory is = tt
+pub volume_known : (answer : VolAnswer) → IsVolumeAnswer answer → IsRowsAnswer answer
+volume_known (Refused refusal) is = inl is
+volume_known Fault is = tt
+volume_known Memory is = tt
 
-pub inspect_listed : (answer : Answer) → IsInspectAnswer answer → IsListAnswer answer
-inspect_listed (answers.Volume refusal) is = inl is
-inspect_listed answers.WrongFormat is = tt
-inspect_listed answers.Fault is = tt
-inspect_listed answers.Memory is = tt
-inspect_listed (answers.Btr refusal) is = is
-inspect_listed (answers.NoSpace needed free run_needed longest_run) is = is
-inspect_listed answers.ImageMissing is = is
-inspect_listed (answers.ImageMoved block) is = is
-inspect_listed (answers.ImageDamaged refusal) is = is
-inspect_listed (answers.ReservedUsed block) is = is
+pub reiser_known : (answer : VolAnswer) → IsRowsAnswer answer → IsListAnswer (of_volume answer)
+reiser_known (Refused refusal) known = known
+reiser_known Fault known = tt
+reiser_known Memory known = tt
 
--- where rows are told or an answer is refused
-pub told_ok : {T E : Type 0} (r : Result T E) (P : T → Type 0) (Q : E → Type 0) → MatchResult r P Q → IfOk r P
-told_ok (Ok v) P Q is = is
-told_ok (Err e) P Q is = tt
-
-pub told_err : {T E : Type 0} (r : Result T E) (P : T → Type 0) (Q : E → Type 0) → MatchResult r P Q → IfErr r Q
-told_err (Ok v) P Q is = tt
-told_err (Err e) P Q is = is
-
-pub always_ok : {T E : Type 0} (r : Result T E) (P : Type 0) → P → IfOk r (λ _. P)
-always_ok (Ok v) P is = is
-always_ok (Err e) P is = tt
+pub btrfs_known : (answer : BtrAnswer) → IsListAnswer (of_btrfs answer)
+btrfs_known (of_btr.Refused refusal) = tt
+btrfs_known of_btr.Fault = tt
+btrfs_known of_btr.Memory = tt

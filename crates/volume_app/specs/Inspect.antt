@@ -1,63 +1,63 @@
--- What `inspect` finds of a disk, and what it prints.
-use Rattle.std.specs.Prelude.{ℕ, Bool, List, [], ◌∷◌, length, codes, decimal, nat_le, nat_eq, if◌then◌else◌}
-use Rattle.std.specs.List.{before_first}
-use Rattle.uuid.specs.Text.{hyphenated_text, lower}
+-- What `inspect` answers and prints, by the format of the disk.
+use Rattle.std.specs.Prelude.{◌≡◌, ◌≢◌, ℕ, List, []}
 use Rattle.vol_block.specs.declared.format.Format.{Format}
 use Rattle.vol_block.specs.declared.format.Format.TheVariants as formats
-use Rattle.vol_block.specs.Format.{format}
-use Rattle.outside.specs.History.{Image, block_at}
-use Rattle.outside.specs.declared.answer.VolAnswer.{VolAnswer}
-use Rattle.outside.specs.declared.answer.VolAnswer.TheVariants as answers
+use Rattle.outside.specs.History.{Image}
 use Rattle.outside.specs.declared.answer.Answer.{Answer}
-use Rattle.outside.specs.declared.answer.Answer.TheVariants.{Volume, Fault, Memory}
-use Rattle.reiser_super.specs.declared.superblock.Super.{Super}
-use Rattle.reiser_bitmap.specs.Bits.{used_blocks}
-use Rattle.reiser_bitmap.specs.Units.{free_units}
-use Rattle.reiser_volume.specs.Volume.{superblock, used_of}
+use Rattle.outside.specs.declared.answer.Answer.TheVariants.{Volume, Btr, NoSpace, WrongFormat, ImageMissing, ImageMoved, ImageDamaged, ReservedUsed, Fault, Memory}
+use Rattle.reiser_volume.specs.Answers.{NamesVolumeRule}
+use Rattle.reiser_volume.specs.Volume.{IsAccepted, IsRefusal}
+use Rattle.btr_summary.specs.Readable.{IsReadable, IsBtrfsRefusal}
+use Rattle.btr_summary.specs.Text.{btrfs_text, summary_text as btrfs_summary_text}
 use Rattle.volume_app.specs.declared.inspect.Inspected.{Inspected}
-use Rattle.sink_text.specs.Escape.{escaped}
-use Rattle.volume_app.specs.Texts.{text_of_lines}
+use Rattle.volume_app.specs.declared.inspect.Inspected.TheVariants.{Reiser, Btrfs}
+use Rattle.volume_app.specs.Format.{format_in}
+use Rattle.volume_app.specs.Reiser.{reiser_text, summary_text}
 
--- the format of block 16; without that block it is neither
-abbrev pub format_in : Image → Format
-format_in disk = if nat_le (length disk) 16 then formats.Neither else format (block_at disk 16)
+-- a volume of this format of which `inspect` tells
+abbrev pub IsInspectable : Format → Image → Type 0
+IsInspectable formats.Reiser disk = IsAccepted disk
+IsInspectable formats.Btrfs disk = IsReadable disk
+IsInspectable formats.Neither disk = ⊥
 
--- what `inspect` prints, by the superblock and the bitmap
-abbrev pub inspected_with : Super → List Bool → Inspected
-inspected_with s used = record { superblock = s; used = length (used_blocks used); units = length (free_units used) }
+-- what it prints of a volume of this format
+abbrev pub inspect_text : Format → Image → List ℕ
+inspect_text formats.Reiser disk = reiser_text disk
+inspect_text formats.Btrfs disk = btrfs_text disk
+inspect_text formats.Neither disk = []
 
-abbrev pub inspected : Image → Inspected
-inspected disk = inspected_with (superblock disk) (used_of disk)
+-- the text of what was found
+abbrev pub inspected_text : Inspected → List ℕ
+inspected_text (Reiser told) = summary_text told
+inspected_text (Btrfs told) = btrfs_summary_text told
 
--- the answer of a command that a ReiserFS volume gives cause to
-abbrev pub of_volume : VolAnswer → Answer
-of_volume (answers.Refused refusal) = Volume refusal
-of_volume answers.Fault = Fault
-of_volume answers.Memory = Memory
+-- what was found is what is to be printed of the disk
+pub record Inspects (disk : Image) (found : Inspected) : Type 0 where
+  pub inspectable : IsInspectable (format_in disk) disk
+  pub text : inspected_text found ≡ inspect_text (format_in disk) disk
 
--- a label ends before its first zero byte
-abbrev pub label_of : List ℕ → List ℕ
-label_of bytes = before_first (λ c. nat_eq c 0) bytes
+-- `inspect` may refuse a disk so; that a device failed or memory was short is said elsewhere
+abbrev pub InspectRefuses : Image → Answer → Type 0
+InspectRefuses disk (Volume refusal) = (format_in disk ≢ formats.Btrfs) × IsRefusal disk refusal
+InspectRefuses disk (Btr refusal) = (format_in disk ≡ formats.Btrfs) × IsBtrfsRefusal disk refusal
+InspectRefuses disk Fault = Unit {0}
+InspectRefuses disk Memory = Unit {0}
+InspectRefuses disk WrongFormat = ⊥
+InspectRefuses disk (NoSpace needed free run_needed longest_run) = ⊥
+InspectRefuses disk ImageMissing = ⊥
+InspectRefuses disk (ImageMoved block) = ⊥
+InspectRefuses disk (ImageDamaged refusal) = ⊥
+InspectRefuses disk (ReservedUsed block) = ⊥
 
--- a dash for an empty label, else the label with its bytes escaped
-abbrev pub label_text : List ℕ → List ℕ
-label_text [] = codes "-"
-label_text (c ∷ cs) = escaped (c ∷ cs)
-
-abbrev pub inspect_lines : Inspected → List (List ℕ × List (List ℕ))
-inspect_lines i =
-    let s = i.superblock in
-    (codes "format", codes "reiserfs" ∷ [])
-    ∷ (codes "blocks", decimal s.blocks ∷ [])
-    ∷ (codes "free", decimal s.free ∷ [])
-    ∷ (codes "root", decimal s.root ∷ [])
-    ∷ (codes "height", decimal s.height ∷ [])
-    ∷ (codes "journal", decimal s.journal_first ∷ decimal s.journal_size ∷ [])
-    ∷ (codes "uuid", hyphenated_text lower s.uuid ∷ [])
-    ∷ (codes "label", label_text (label_of s.label) ∷ [])
-    ∷ (codes "used", decimal i.used ∷ [])
-    ∷ (codes "units", decimal i.units ∷ [])
-    ∷ []
-
-abbrev pub inspect_text : Image → List ℕ
-inspect_text disk = text_of_lines (inspect_lines (inspected disk))
+-- The answers that `inspect` knows, whatever the disk gives: its refusals are those of volumes.
+abbrev pub IsInspectAnswer : Answer → Type 0
+IsInspectAnswer (Volume refusal) = NamesVolumeRule refusal
+IsInspectAnswer (Btr refusal) = Unit {0}
+IsInspectAnswer Fault = Unit {0}
+IsInspectAnswer Memory = Unit {0}
+IsInspectAnswer WrongFormat = ⊥
+IsInspectAnswer (NoSpace needed free run_needed longest_run) = ⊥
+IsInspectAnswer ImageMissing = ⊥
+IsInspectAnswer (ImageMoved block) = ⊥
+IsInspectAnswer (ImageDamaged refusal) = ⊥
+IsInspectAnswer (ReservedUsed block) = ⊥

@@ -1,5 +1,11 @@
+pub mod Answers
+pub mod Btrfs
 pub mod Command
 pub mod Ending
+pub mod Format
 pub mod Inspect
+pub mod Laws
+pub mod Listing
 pub mod Outcome
+pub mod Reiser
 pub mod Texts

@@ -1,29 +1,24 @@
 -- What an ending means of the disk that was found, and what the sinks gained.
-use Rattle.std.specs.Prelude.{◌≡◌, ◌≢◌, ◌⊎◌, ℕ, ◌≤◌, List, [], ◌++◌, map, take, Option, Some, None, Result, Ok, Err}
-use Rattle.vol_block.specs.declared.format.Format.TheVariants as formats
-use Rattle.fs_rows.specs.Rows.{WholeRow, row_of}
-use Rattle.fs_rows.specs.Text.{rows_text}
-use Rattle.fs_rows.specs.declared.row.Row.{Row}
-use Rattle.object_files.specs.Answers.{IsChanged}
+use Rattle.std.specs.Prelude.{◌≡◌, ◌⊎◌, ℕ, ◌≤◌, List, [], ◌++◌, take, Option, Some, None, Result, Ok, Err}
 use Rattle.outside.specs.Fault.{Rose}
 use Rattle.outside.specs.History.{Image}
 use Rattle.outside.specs.declared.fault.Fault as faults
 use Rattle.outside.specs.declared.answer.Answer.{Answer}
-use Rattle.outside.specs.declared.answer.Answer.TheVariants.{Volume, Btr, NoSpace, WrongFormat, ImageMissing, ImageMoved, ImageDamaged, ReservedUsed, Fault, Memory}
+use Rattle.outside.specs.declared.answer.Answer.TheVariants.{Fault}
 use Rattle.volume_app.specs.declared.ending.Ending.{Ending}
 use Rattle.volume_app.specs.declared.ending.Ending.TheVariants.{Done, Usage, Failed, OutputFault}
 use Rattle.volume_app.specs.Command.{Asked, inspect, list, help, version}
 use Rattle.volume_app.specs.Ending.{status, error_line}
-use Rattle.reiser_volume.specs.Answers.{NamesVolumeRule}
-use Rattle.reiser_volume.specs.Volume.{AreRowsOf, IsAccepted, IsRefusal}
-use Rattle.volume_app.specs.Inspect.{format_in, inspect_text}
+use Rattle.volume_app.specs.Format.{format_in}
+use Rattle.volume_app.specs.Inspect.{IsInspectable, inspect_text, InspectRefuses, IsInspectAnswer}
+use Rattle.volume_app.specs.Listing.{IsListable, IsListText, ListRefuses, IsListAnswer}
 use Rattle.volume_app.specs.Texts.{help_text, version_text}
 
 -- a command is done on these disks
 abbrev pub IsDone : Option Asked → Image → Type 0
 IsDone None disk = ⊥
-IsDone (Some (inspect path)) disk = (format_in disk ≡ formats.Reiser) × IsAccepted disk
-IsDone (Some (list path)) disk = (format_in disk ≡ formats.Reiser) × IsAccepted disk
+IsDone (Some (inspect path)) disk = IsInspectable (format_in disk) disk
+IsDone (Some (list path)) disk = IsListable (format_in disk) disk
 IsDone (Some help) disk = Unit {0}
 IsDone (Some version) disk = Unit {0}
 
@@ -35,69 +30,13 @@ TakesMemory (Some (list path)) = Unit {0}
 TakesMemory (Some help) = ⊥
 TakesMemory (Some version) = ⊥
 
--- the rows of the volume on a disk, as the program has them
-abbrev pub AreListed : Image → List Row → Type 0
-AreListed disk rows = (whole : List WholeRow) × AreRowsOf disk whole × (rows ≡ map row_of whole)
-
 -- the text that a command prints of a disk
 abbrev pub IsTextOf : Option Asked → Image → List ℕ → Type 0
 IsTextOf None disk text = text ≡ []
-IsTextOf (Some (inspect path)) disk text = text ≡ inspect_text disk
-IsTextOf (Some (list path)) disk text = (rows : List Row) × AreListed disk rows × (text ≡ rows_text rows)
+IsTextOf (Some (inspect path)) disk text = text ≡ inspect_text (format_in disk) disk
+IsTextOf (Some (list path)) disk text = IsListText disk text
 IsTextOf (Some help) disk text = text ≡ help_text
 IsTextOf (Some version) disk text = text ≡ version_text
-
--- `inspect` and `list` may refuse a disk so; that a device failed or memory was short is said elsewhere
-abbrev pub InspectRefuses : Image → Answer → Type 0
-InspectRefuses disk (Volume refusal) = (format_in disk ≢ formats.Btrfs) × IsRefusal disk refusal
-InspectRefuses disk WrongFormat = format_in disk ≡ formats.Btrfs
-InspectRefuses disk Fault = Unit {0}
-InspectRefuses disk Memory = Unit {0}
-InspectRefuses disk (Btr refusal) = ⊥
-InspectRefuses disk (NoSpace needed free run_needed longest_run) = ⊥
-InspectRefuses disk ImageMissing = ⊥
-InspectRefuses disk (ImageMoved block) = ⊥
-InspectRefuses disk (ImageDamaged refusal) = ⊥
-InspectRefuses disk (ReservedUsed block) = ⊥
-
--- the disk holds a Btrfs volume, or the device failed
-abbrev pub IsWrongFormat : Image → Answer → Type 0
-IsWrongFormat disk (Volume refusal) = ⊥
-IsWrongFormat disk WrongFormat = format_in disk ≡ formats.Btrfs
-IsWrongFormat disk Fault = Unit {0}
-IsWrongFormat disk Memory = ⊥
-IsWrongFormat disk (Btr refusal) = ⊥
-IsWrongFormat disk (NoSpace needed free run_needed longest_run) = ⊥
-IsWrongFormat disk ImageMissing = ⊥
-IsWrongFormat disk (ImageMoved block) = ⊥
-IsWrongFormat disk (ImageDamaged refusal) = ⊥
-IsWrongFormat disk (ReservedUsed block) = ⊥
-
--- The answers that `inspect` knows, whatever the disk gives: its refusals are those of volumes.
-abbrev pub IsInspectAnswer : Answer → Type 0
-IsInspectAnswer (Volume refusal) = NamesVolumeRule refusal
-IsInspectAnswer WrongFormat = Unit {0}
-IsInspectAnswer Fault = Unit {0}
-IsInspectAnswer Memory = Unit {0}
-IsInspectAnswer (Btr refusal) = ⊥
-IsInspectAnswer (NoSpace needed free run_needed longest_run) = ⊥
-IsInspectAnswer ImageMissing = ⊥
-IsInspectAnswer (ImageMoved block) = ⊥
-IsInspectAnswer (ImageDamaged refusal) = ⊥
-IsInspectAnswer (ReservedUsed block) = ⊥
-
--- The answers that `list` knows: also that a block reads otherwise than before.
-abbrev pub IsListAnswer : Answer → Type 0
-IsListAnswer (Volume refusal) = NamesVolumeRule refusal ⊎ IsChanged refusal
-IsListAnswer WrongFormat = Unit {0}
-IsListAnswer Fault = Unit {0}
-IsListAnswer Memory = Unit {0}
-IsListAnswer (Btr refusal) = ⊥
-IsListAnswer (NoSpace needed free run_needed longest_run) = ⊥
-IsListAnswer ImageMissing = ⊥
-IsListAnswer (ImageMoved block) = ⊥
-IsListAnswer (ImageDamaged refusal) = ⊥
-IsListAnswer (ReservedUsed block) = ⊥
 
 -- an answer that a command knows
 abbrev pub KnowsAnswer : Option Asked → Answer → Type 0
@@ -118,7 +57,7 @@ Knows asked OutputFault = Unit {0}
 abbrev pub Answers : Option Asked → Image → Answer → Type 0
 Answers None disk answer = ⊥
 Answers (Some (inspect path)) disk answer = InspectRefuses disk answer
-Answers (Some (list path)) disk answer = InspectRefuses disk answer
+Answers (Some (list path)) disk answer = ListRefuses disk answer
 Answers (Some help) disk answer = ⊥
 Answers (Some version) disk answer = ⊥
 

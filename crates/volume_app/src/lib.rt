@@ -4,10 +4,15 @@
 //! [`run`] is what the whole program promises; each command has a module of its own below it.
 #![tactic(auto)]
 
+mod answers;
+mod btrfs;
 mod command;
 mod ending;
+mod format;
 mod inspect;
+mod laws;
 mod list;
+mod reiser;
 #[cfg(test)]
 mod tests;
 mod texts;
@@ -15,4 +20,5 @@ mod top;
 
 pub use command::{Command, read_words};
 pub use ending::Ending;
+pub use laws::listable_has_no_refusal;
 pub use top::run;

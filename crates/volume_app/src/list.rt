@@ -1,18 +1,19 @@
-ghost use Rattle.std.specs.Prelude.{◌≡◌, ◌≢◌, None, IfOk, IfErr, IsTrue};
+ghost use Rattle.std.specs.Prelude.{◌≡◌, ◌≢◌, None, IfErr, IsTrue};
 ghost use Rattle.std.specs.Result.{MatchResult};
 ghost use Rattle.outside.specs.Fault.{HasCauseOf};
 ghost use Rattle.outside.specs.History.{Image, reads};
-ghost use Rattle.reiser_volume.specs.Opened.{IsOpened};
-ghost use Rattle.reiser_volume.specs.Volume.{IsAccepted};
 ghost use Rattle.vol_block.specs.declared.format.Format.TheVariants as formats;
-ghost use Rattle.volume_app.specs.Inspect.{format_in};
-ghost use Rattle.volume_app.specs.Outcome.{AreListed, InspectRefuses, IsListAnswer};
+ghost use Rattle.volume_app.specs.Format.{format_in};
+ghost use Rattle.volume_app.specs.Listing.{Lists, ListRefuses, IsListAnswer};
 
-use crate::inspect::{check_format, of_volume};
+use crate::answers::{of_btrfs, of_volume};
+use crate::btrfs::btrfs_rows;
+use crate::format::open_format;
+use crate::reiser::reiser_rows;
 use fs_rows::Rows;
 use outside::{Access, Answer, BlockSource, Disk, Fault};
-use reiser_volume::Volume;
 use std::alloc::Global;
+use vol_block::Format;
 
 /// Opens the disk for reading, checks the volume, and makes its rows.
 pub fn list<D: Disk>(alloc: Global, path: &str, disk: &mut D) -> Result<Rows, Answer>
@@ -20,58 +21,50 @@ pub fn list<D: Disk>(alloc: Global, path: &str, disk: &mut D) -> Result<Rows, An
     requires wanted { D.wants path.now Access.Read }
     ensures unchanged { IsTrue D.tells → D.history disk.new ≡ D.history disk.old }
     ensures cause { HasCauseOf Answer.Fault (D.faults disk.old) (D.faults disk.new) result }
-    ensures reiser { IsTrue D.tells → IfOk result (λ s. format_in (reads (D.history disk.old)) ≡ formats.Reiser) }
-    ensures accepted { IsTrue D.tells → IfOk result (λ s. IsAccepted (reads (D.history disk.old))) }
-    ensures rows { IsTrue D.tells → IfOk result (AreListed (reads (D.history disk.old))) }
-    ensures refused { IsTrue D.tells → IfErr result (InspectRefuses (reads (D.history disk.old))) }
+    ensures right { IsTrue D.tells → MatchResult result (Lists (reads (D.history disk.old))) (ListRefuses (reads (D.history disk.old))) }
     ensures known { IfErr result IsListAnswer }
 {
-    match disk.open(path, Access::Read) {
-        Ok(()) => list_disk(alloc, disk),
+    match open_format(path, disk) {
+        Ok(format) => list_as(format, alloc, disk),
         Err(Fault) => Err(Answer::Fault),
     }
 }
 
-/// The rows of the volume, if the disk does not hold one of Btrfs.
-fn list_disk<S: BlockSource>(alloc: Global, source: &mut S) -> Result<Rows, Answer>
+/// The rows of a volume of this format.
+fn list_as<S: BlockSource>(format: Format, alloc: Global, source: &mut S) -> Result<Rows, Answer>
     ensures kept { S.kept source.old source.new }
     ensures cause { HasCauseOf Answer.Fault (S.faults source.old) (S.faults source.new) result }
-    ensures reiser { IsTrue S.tells → IfOk result (λ s. format_in (S.blocks source.old) ≡ formats.Reiser) }
-    ensures accepted { IsTrue S.tells → IfOk result (λ s. IsAccepted (S.blocks source.old)) }
-    ensures rows { IsTrue S.tells → IfOk result (AreListed (S.blocks source.old)) }
-    ensures refused { IsTrue S.tells → IfErr result (InspectRefuses (S.blocks source.old)) }
+    ensures right { IsTrue S.tells → (image : Image) → S.blocks source.old ≡ image → format_in image ≡ format → MatchResult result (Lists image) (ListRefuses image) }
     ensures known { IfErr result IsListAnswer }
 {
-    match check_format(source) {
-        Ok(()) => list_volume(alloc, source),
-        Err(answer) => Err(answer),
+    match format {
+        Format::Btrfs => list_btrfs(alloc, source),
+        Format::Reiser | Format::Neither => list_reiser(alloc, source),
     }
 }
 
-/// The rows of the volume.
-fn list_volume<S: BlockSource>(alloc: Global, source: &mut S) -> Result<Rows, Answer>
+/// The rows of a volume that is not one of Btrfs.
+fn list_reiser<S: BlockSource>(alloc: Global, source: &mut S) -> Result<Rows, Answer>
     ensures kept { S.kept source.old source.new }
     ensures cause { HasCauseOf Answer.Fault (S.faults source.old) (S.faults source.new) result }
-    ensures accepted { IsTrue S.tells → (image : Image) → S.blocks source.old ≡ image → IfOk result (λ s. IsAccepted image) }
-    ensures rows { IsTrue S.tells → (image : Image) → S.blocks source.old ≡ image → IfOk result (AreListed image) }
-    ensures refused { IsTrue S.tells → (image : Image) → S.blocks source.old ≡ image → format_in image ≢ formats.Btrfs → IfErr result (InspectRefuses image) }
+    ensures right { IsTrue S.tells → (image : Image) → S.blocks source.old ≡ image → format_in image ≢ formats.Btrfs → MatchResult result (Lists image) (ListRefuses image) }
     ensures known { IfErr result IsListAnswer }
 {
-    match Volume::open(alloc, source) {
-        Ok(volume) => rows_of(alloc, source, &volume),
-        Err(answer) => Err(of_volume(answer)),
-    }
-}
-
-/// The rows of an opened volume.
-fn rows_of<S: BlockSource>(alloc: Global, source: &mut S, volume: &Volume) -> Result<Rows, Answer>
-    ensures kept { S.kept source.old source.new }
-    ensures cause { HasCauseOf Answer.Fault (S.faults source.old) (S.faults source.new) result }
-    ensures rows { IsTrue S.tells → (image : Image) → S.blocks source.old ≡ image → IsAccepted image → IsOpened volume.now image → MatchResult result (AreListed image) (InspectRefuses image) }
-    ensures known { IfErr result IsListAnswer }
-{
-    match volume.rows(alloc, source) {
+    match reiser_rows(alloc, source) {
         Ok(rows) => Ok(rows),
         Err(answer) => Err(of_volume(answer)),
+    }
+}
+
+/// The rows of a Btrfs volume.
+fn list_btrfs<S: BlockSource>(alloc: Global, source: &mut S) -> Result<Rows, Answer>
+    ensures kept { S.kept source.old source.new }
+    ensures cause { HasCauseOf Answer.Fault (S.faults source.old) (S.faults source.new) result }
+    ensures right { IsTrue S.tells → (image : Image) → S.blocks source.old ≡ image → format_in image ≡ formats.Btrfs → MatchResult result (Lists image) (ListRefuses image) }
+    ensures known { IfErr result IsListAnswer }
+{
+    match btrfs_rows(alloc, source) {
+        Ok(rows) => Ok(rows),
+        Err(answer) => Err(of_btrfs(answer)),
     }
 }

@@ -6,7 +6,7 @@ ghost use Rattle.volume_app.specs.Outcome.{IsTextOf, Prints, Reports, IsDone, En
 
 use crate::Ending;
 use crate::command::{Command, read_words};
-use crate::inspect::{inspect, print_inspected};
+use crate::inspect::inspect;
 use crate::list::list;
 use crate::texts::{HELP, VERSION};
 use fs_rows::write_rows;
@@ -72,7 +72,7 @@ fn perform<D: Disk, O: Sink>(alloc: Global, words: &[String], disk: &mut D, out:
     match read_words(words) {
         None => Ending::Usage,
         Some(Command::Inspect(path)) => match inspect(alloc, path, disk) {
-            Ok(found) => printed(print_inspected(&found, out)),
+            Ok(found) => printed(found.print(out)),
             Err(answer) => Ending::Failed(answer),
         },
         Some(Command::List(path)) => match list(alloc, path, disk) {

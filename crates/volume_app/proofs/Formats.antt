@@ -1,0 +1,42 @@
+-- The format of a disk, by block 16 and the disk's length, and what it comes to.
+use Rattle.std.proofs.Common.{◌≡◌, ◌<◌, ◌≤◌, Bool, true, false, cond, length, refl, ◌∙◌, arith}
+use Rattle.std.specs.Prelude.{◌≢◌, nat_le}
+use Rattle.std.proofs.lemmas.Bool.Decides.{nat_tests}
+use Rattle.vol_block.specs.declared.format.Format.{Format}
+use Rattle.vol_block.specs.declared.format.Format.TheVariants as formats
+use Rattle.vol_block.specs.Format.{format, has_reiser_magic}
+use Rattle.outside.specs.History.{Image, block_at}
+use Rattle.reiser_volume.specs.Volume.{IsAccepted}
+use Rattle.volume_app.specs.Format.{format_in}
+
+format_cases : (btrfs reiser : Bool) → cond btrfs formats.Btrfs (cond reiser formats.Reiser formats.Neither) ≢ formats.Btrfs → reiser ≡ true
+    → cond btrfs formats.Btrfs (cond reiser formats.Reiser formats.Neither) ≡ formats.Reiser
+format_cases true reiser other is = absurd (other refl)
+format_cases false true other is = refl
+format_cases false false other is = cc
+
+by_block : (b : Bool) (f : Format) → b ≡ false → cond b formats.Neither f ≡ f
+by_block false f is = refl
+by_block true f is = cc
+
+by_length : (b : Bool) (f : Format) → b ≡ true → cond b formats.Neither f ≡ formats.Neither
+by_length true f is = refl
+by_length false f is = cc
+
+-- a disk that has block 16 has the format of that block
+pub format_long : (disk : Image) → 16 < length disk → format_in disk ≡ format (block_at disk 16)
+format_long disk long =
+    let no : nat_le (length disk) 16 ≡ false = grind (arith, nat_tests) in
+    by_block (nat_le (length disk) 16) (format (block_at disk 16)) no
+
+-- and a shorter one has none
+pub format_short : (disk : Image) → length disk ≤ 16 → format_in disk ≡ formats.Neither
+format_short disk short =
+    let yes : nat_le (length disk) 16 ≡ true = grind (arith, nat_tests) in
+    by_length (nat_le (length disk) 16) (format (block_at disk 16)) yes
+
+-- an accepted volume that is not one of Btrfs has the format of ReiserFS
+pub reiser_found : (disk : Image) → IsAccepted disk → format_in disk ≢ formats.Btrfs → format_in disk ≡ formats.Reiser
+reiser_found disk accepted other =
+    let long = format_long disk accepted.clean.superblock.there in
+    long ∙ format_cases _ (has_reiser_magic (block_at disk 16)) (λ is. other (long ∙ is)) accepted.clean.superblock.magic

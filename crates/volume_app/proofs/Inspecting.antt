@@ -1,0 +1,58 @@
+-- What `inspect` answers.
+use Rattle.std.proofs.Common.{◌≡◌, sym, ◌∙◌, ap, subst}
+use Rattle.std.specs.Prelude.{◌≢◌}
+use Rattle.vol_block.specs.declared.format.Format.{Format}
+use Rattle.vol_block.specs.declared.format.Format.TheVariants as formats
+use Rattle.outside.specs.History.{Image}
+use Rattle.outside.specs.declared.answer.BtrAnswer.{BtrAnswer}
+use Rattle.outside.specs.declared.answer.BtrAnswer.TheVariants as of_btr
+use Rattle.outside.specs.declared.answer.VolAnswer.{VolAnswer}
+use Rattle.outside.specs.declared.answer.VolAnswer.TheVariants as of_reiser
+use Rattle.reiser_volume.specs.Answers.{IsVolumeAnswer, RefusesVolume}
+use Rattle.reiser_volume.specs.Volume.{IsAccepted}
+use Rattle.btr_summary.specs.declared.summary.Summary.{Summary}
+use Rattle.btr_summary.specs.Readable.{IsReadable, BtrfsRefuses, summary_of}
+use Rattle.btr_summary.specs.Text.{summary_text as btrfs_summary_text}
+use Rattle.volume_app.specs.declared.inspect.Inspected.TheVariants.{Reiser, Btrfs}
+use Rattle.volume_app.specs.declared.reiser.ReiserSummary.{ReiserSummary}
+use Rattle.volume_app.specs.Answers.{of_volume, of_btrfs}
+use Rattle.volume_app.specs.Format.{format_in}
+use Rattle.volume_app.specs.Inspect.{IsInspectable, inspect_text, Inspects, InspectRefuses, IsInspectAnswer}
+use Rattle.volume_app.specs.Reiser.{reiser_summary, summary_text}
+use Rattle.volume_app.proofs.Formats.{reiser_found}
+
+pub reiser_inspected : (disk : Image) (told : ReiserSummary) → format_in disk ≢ formats.Btrfs → IsAccepted disk → told ≡ reiser_summary disk → Inspects disk (Reiser told)
+reiser_inspected disk told other accepted is =
+    let format = sym (reiser_found disk accepted other) in
+    record {
+      inspectable = subst (λ (f : Format). IsInspectable f disk) format accepted;
+      text = ap (λ (s : ReiserSummary). summary_text s) is ∙ ap (λ (f : Format). inspect_text f disk) format;
+    }
+
+pub btrfs_inspected : (disk : Image) (told : Summary) → format_in disk ≡ formats.Btrfs → IsReadable disk → told ≡ summary_of disk → Inspects disk (Btrfs told)
+btrfs_inspected disk told format readable is =
+    record {
+      inspectable = subst (λ (f : Format). IsInspectable f disk) (sym format) readable;
+      text = ap (λ (s : Summary). btrfs_summary_text s) is ∙ ap (λ (f : Format). inspect_text f disk) (sym format);
+    }
+
+-- what is refused of a volume
+pub reiser_refused : (disk : Image) (answer : VolAnswer) → format_in disk ≢ formats.Btrfs → RefusesVolume disk answer → InspectRefuses disk (of_volume answer)
+reiser_refused disk (of_reiser.Refused refusal) other refuses = (other, refuses)
+reiser_refused disk of_reiser.Fault other refuses = tt
+reiser_refused disk of_reiser.Memory other refuses = tt
+
+pub btrfs_refused : (disk : Image) (answer : BtrAnswer) → format_in disk ≡ formats.Btrfs → BtrfsRefuses disk answer → InspectRefuses disk (of_btrfs answer)
+btrfs_refused disk (of_btr.Refused refusal) format refuses = (format, refuses)
+btrfs_refused disk of_btr.Fault format refuses = tt
+btrfs_refused disk of_btr.Memory format refuses = tt
+
+pub reiser_known : (answer : VolAnswer) → IsVolumeAnswer answer → IsInspectAnswer (of_volume answer)
+reiser_known (of_reiser.Refused refusal) known = known
+reiser_known of_reiser.Fault known = tt
+reiser_known of_reiser.Memory known = tt
+
+pub btrfs_known : (answer : BtrAnswer) → IsInspectAnswer (of_btrfs answer)
+btrfs_known (of_btr.Refused refusal) = tt
+btrfs_known of_btr.Fault = tt
+btrfs_known of_btr.Memory = tt

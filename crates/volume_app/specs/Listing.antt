@@ -1,0 +1,72 @@
+-- What `list` answers and prints, by the format of the disk.
+use Rattle.std.specs.Prelude.{◌≡◌, ◌≢◌, ◌⊎◌, ℕ, List, map}
+use Rattle.vol_block.specs.declared.format.Format.{Format}
+use Rattle.vol_block.specs.declared.format.Format.TheVariants.{Reiser, Btrfs, Neither}
+use Rattle.fs_rows.specs.Rows.{WholeRow, row_of}
+use Rattle.fs_rows.specs.Text.{rows_text}
+use Rattle.fs_rows.specs.declared.row.Row.{Row}
+use Rattle.object_files.specs.Answers.{IsChanged}
+use Rattle.outside.specs.History.{Image}
+use Rattle.outside.specs.declared.answer.Answer.{Answer}
+use Rattle.outside.specs.declared.answer.Answer.TheVariants.{Volume, Btr, NoSpace, WrongFormat, ImageMissing, ImageMoved, ImageDamaged, ReservedUsed, Fault, Memory}
+use Rattle.outside.specs.declared.answer.VolAnswer.{VolAnswer}
+use Rattle.outside.specs.declared.answer.VolAnswer.TheVariants as of_reiser
+use Rattle.reiser_volume.specs.Answers.{NamesVolumeRule}
+use Rattle.reiser_volume.specs.Volume.{AreRowsOf, IsAccepted, IsRefusal}
+use Rattle.volume_app.specs.Btrfs.{IsListableBtrfs, AreRowsOfBtrfs, IsRowsRefusal}
+use Rattle.volume_app.specs.Format.{format_in}
+
+-- a volume of this format that `list` reads
+abbrev pub IsListable : Format → Image → Type 0
+IsListable Reiser disk = IsAccepted disk
+IsListable Btrfs disk = IsListableBtrfs disk
+IsListable Neither disk = ⊥
+
+-- the rows of a volume of this format
+abbrev pub AreRowsIn : Format → Image → List WholeRow → Type 0
+AreRowsIn Reiser disk whole = AreRowsOf disk whole
+AreRowsIn Btrfs disk whole = AreRowsOfBtrfs disk whole
+AreRowsIn Neither disk whole = ⊥
+
+-- the text of a disk
+abbrev pub IsListText : Image → List ℕ → Type 0
+IsListText disk text = (whole : List WholeRow) × AreRowsIn (format_in disk) disk whole × (text ≡ rows_text (map row_of whole))
+
+-- the rows that the program has are those of the disk
+pub record Lists (disk : Image) (rows : List Row) : Type 0 where
+  pub listable : IsListable (format_in disk) disk
+  pub whole : List WholeRow
+  pub are_rows : AreRowsIn (format_in disk) disk whole
+  pub seen : rows ≡ map row_of whole
+
+-- `list` may refuse a disk so; that a device failed or memory was short is said elsewhere
+abbrev pub ListRefuses : Image → Answer → Type 0
+ListRefuses disk (Volume refusal) = (format_in disk ≢ Btrfs) × IsRefusal disk refusal
+ListRefuses disk (Btr refusal) = (format_in disk ≡ Btrfs) × IsRowsRefusal disk refusal
+ListRefuses disk Fault = Unit {0}
+ListRefuses disk Memory = Unit {0}
+ListRefuses disk WrongFormat = ⊥
+ListRefuses disk (NoSpace needed free run_needed longest_run) = ⊥
+ListRefuses disk ImageMissing = ⊥
+ListRefuses disk (ImageMoved block) = ⊥
+ListRefuses disk (ImageDamaged refusal) = ⊥
+ListRefuses disk (ReservedUsed block) = ⊥
+
+-- what is answered of the rows of a ReiserFS volume, whatever the source gives: a refusal of volumes, or that a block reads otherwise than before
+abbrev pub IsRowsAnswer : VolAnswer → Type 0
+IsRowsAnswer (of_reiser.Refused refusal) = NamesVolumeRule refusal ⊎ IsChanged refusal
+IsRowsAnswer of_reiser.Fault = Unit {0}
+IsRowsAnswer of_reiser.Memory = Unit {0}
+
+-- The answers that `list` knows, whatever the disk gives.
+abbrev pub IsListAnswer : Answer → Type 0
+IsListAnswer (Volume refusal) = NamesVolumeRule refusal ⊎ IsChanged refusal
+IsListAnswer (Btr refusal) = Unit {0}
+IsListAnswer Fault = Unit {0}
+IsListAnswer Memory = Unit {0}
+IsListAnswer WrongFormat = ⊥
+IsListAnswer (NoSpace needed free run_needed longest_run) = ⊥
+IsListAnswer ImageMissing = ⊥
+IsListAnswer (ImageMoved block) = ⊥
+IsListAnswer (ImageDamaged refusal) = ⊥
+IsListAnswer (ReservedUsed block) = ⊥

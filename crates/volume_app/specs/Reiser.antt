@@ -1,0 +1,50 @@
+-- What `inspect` tells of a ReiserFS volume, and what it prints of it.
+use Rattle.std.specs.Prelude.{ℕ, Bool, List, [], ◌∷◌, length, codes, decimal, nat_eq}
+use Rattle.std.specs.List.{before_first}
+use Rattle.uuid.specs.Text.{hyphenated_text, lower}
+use Rattle.outside.specs.History.{Image}
+use Rattle.reiser_super.specs.declared.superblock.Super.{Super}
+use Rattle.reiser_bitmap.specs.Bits.{used_blocks}
+use Rattle.reiser_bitmap.specs.Units.{free_units}
+use Rattle.reiser_volume.specs.Volume.{superblock, used_of}
+use Rattle.volume_app.specs.declared.reiser.ReiserSummary.{ReiserSummary}
+use Rattle.sink_text.specs.Escape.{escaped}
+use Rattle.volume_app.specs.Texts.{text_of_lines}
+
+-- what is told, by the superblock and the bitmap
+abbrev pub summary_with : Super → List Bool → ReiserSummary
+summary_with s used = record { superblock = s; used = length (used_blocks used); units = length (free_units used) }
+
+abbrev pub reiser_summary : Image → ReiserSummary
+reiser_summary disk = summary_with (superblock disk) (used_of disk)
+
+-- a label ends before its first zero byte
+abbrev pub label_of : List ℕ → List ℕ
+label_of bytes = before_first (λ c. nat_eq c 0) bytes
+
+-- a dash for an empty label, else the label with its bytes escaped
+abbrev pub label_text : List ℕ → List ℕ
+label_text [] = codes "-"
+label_text (c ∷ cs) = escaped (c ∷ cs)
+
+abbrev pub summary_lines : ReiserSummary → List (List ℕ × List (List ℕ))
+summary_lines told =
+    let s = told.superblock in
+    (codes "format", codes "reiserfs" ∷ [])
+    ∷ (codes "blocks", decimal s.blocks ∷ [])
+    ∷ (codes "free", decimal s.free ∷ [])
+    ∷ (codes "root", decimal s.root ∷ [])
+    ∷ (codes "height", decimal s.height ∷ [])
+    ∷ (codes "journal", decimal s.journal_first ∷ decimal s.journal_size ∷ [])
+    ∷ (codes "uuid", hyphenated_text lower s.uuid ∷ [])
+    ∷ (codes "label", label_text (label_of s.label) ∷ [])
+    ∷ (codes "used", decimal told.used ∷ [])
+    ∷ (codes "units", decimal told.units ∷ [])
+    ∷ []
+
+abbrev pub summary_text : ReiserSummary → List ℕ
+summary_text told = text_of_lines (summary_lines told)
+
+-- the text of a disk
+abbrev pub reiser_text : Image → List ℕ
+reiser_text disk = summary_text (reiser_summary disk)

@@ -1,0 +1,125 @@
+ghost use Rattle.std.specs.Prelude.{◌≡◌, [], IfOk, IfErr, IsTrue, List, map};
+ghost use Rattle.std.specs.Result.{MatchResult};
+ghost use Rattle.fs_rows.specs.Rows.{WholeRow, row_of};
+ghost use Rattle.outside.specs.Fault.{HasCause, HasCauseOf, Takes};
+ghost use Rattle.outside.specs.History.{Image};
+ghost use Rattle.reiser_volume.specs.Answers.{IsVolumeAnswer, RefusesVolume};
+ghost use Rattle.reiser_volume.specs.Volume.{AreRowsOf, IsAccepted};
+ghost use Rattle.sink_text.specs.Text.{piece_text};
+ghost use Rattle.volume_app.specs.Listing.{IsRowsAnswer};
+ghost use Rattle.volume_app.specs.Reiser.{label_of, label_text, reiser_summary, summary_text, summary_with};
+
+use fs_rows::Rows;
+use outside::{BlockSource, Fault, Sink, VolAnswer};
+use reiser_super::Super;
+use reiser_volume::Volume;
+use sink_text::Piece::{Decimal, Escaped, Hyphenated, Plain};
+use sink_text::{Piece, write_pieces};
+use std::alloc::Global;
+
+/// What is told of a ReiserFS volume.
+#[derive(Clone, Copy, Debug)]
+pub struct ReiserSummary {
+    /// The fields of the superblock.
+    pub superblock: Super,
+    /// The number of blocks that the bitmap marks as used.
+    pub used: u64,
+    /// The number of free units of 256 blocks.
+    pub units: u64,
+}
+
+impl ReiserSummary {
+    /// Checks the volume of a source, and reads what is told of it.
+    pub fn read<S: BlockSource>(alloc: Global, source: &mut S) -> Result<ReiserSummary, VolAnswer>
+        ensures kept { S.kept source.old source.new }
+        ensures cause { HasCauseOf VolAnswer.Fault (S.faults source.old) (S.faults source.new) result }
+        ensures accepted { IsTrue S.tells → (image : Image) → S.blocks source.old ≡ image → IfOk result (λ s. IsAccepted image) }
+        ensures told { IsTrue S.tells → (image : Image) → S.blocks source.old ≡ image → IfOk result (λ s. s ≡ reiser_summary image) }
+        ensures refused { IsTrue S.tells → (image : Image) → S.blocks source.old ≡ image → IfErr result (RefusesVolume image) }
+        ensures answers { IfErr result IsVolumeAnswer }
+    {
+        match Volume::open(alloc, source) {
+            Ok(volume) => Ok(summary_of(&volume)),
+            Err(answer) => Err(answer),
+        }
+    }
+
+    /// Prints ten lines. After a fault the sink gained a first part of them.
+    pub fn print<O: Sink>(&self, out: &mut O) -> Result<(), Fault>
+        ensures taken { IsTrue O.tells → Takes (O.taken out.old) (summary_text self.now) result (O.taken out.new) }
+        ensures cause { HasCause (O.faults out.old) (O.faults out.new) result }
+    {
+        let volume = &self.superblock;
+        let pieces = [
+            Plain(b"format reiserfs\nblocks "),
+            Decimal(volume.blocks),
+            Plain(b"\nfree "),
+            Decimal(u64::from(volume.free)),
+            Plain(b"\nroot "),
+            Decimal(volume.root),
+            Plain(b"\nheight "),
+            Decimal(u64::from(volume.height)),
+            Plain(b"\njournal "),
+            Decimal(volume.journal_first),
+            Plain(b" "),
+            Decimal(volume.journal_size),
+            Plain(b"\nuuid "),
+            Hyphenated(volume.uuid),
+            Plain(b"\nlabel "),
+            label_piece(label_of(&volume.label)),
+            Plain(b"\nused "),
+            Decimal(self.used),
+            Plain(b"\nunits "),
+            Decimal(self.units),
+            Plain(b"\n"),
+        ];
+        write_pieces(&pieces, out)
+    }
+}
+
+/// What is told of an opened volume.
+fn summary_of(volume: &Volume) -> ReiserSummary
+    ensures { result ≡ summary_with volume.now.sup volume.now.bitmap }
+{
+    let map = volume.bitmap();
+    ReiserSummary {
+        superblock: *volume.sup(),
+        used: map.used(),
+        units: map.free_units(),
+    }
+}
+
+/// How a label is printed: a dash where it is empty.
+fn label_piece(label: &[u8]) -> Piece<'_>
+    ensures { piece_text result ≡ label_text label.now }
+{
+    match label {
+        [] => Plain(b"-"),
+        _ => Escaped(label),
+    }
+}
+
+/// The label without the zeros that fill it up.
+fn label_of(label: &[u8; 16]) -> &[u8]
+    ensures { result.now ≡ label_of label.now }
+{
+    let mut end = 0;
+    while end < label.len() && label[end] != 0 {
+        end += 1;
+    }
+    &label[..end]
+}
+
+/// Checks the volume of a source, and makes its rows.
+pub fn reiser_rows<S: BlockSource>(alloc: Global, source: &mut S) -> Result<Rows, VolAnswer>
+    ensures kept { S.kept source.old source.new }
+    ensures cause { HasCauseOf VolAnswer.Fault (S.faults source.old) (S.faults source.new) result }
+    ensures rows { IsTrue S.tells → (image : Image) → S.blocks source.old ≡ image →
+        MatchResult result (λ rows. IsAccepted image × ((whole : List WholeRow) × AreRowsOf image whole × (rows ≡ map row_of whole))) (RefusesVolume image) }
+    ensures answers { IfErr result IsRowsAnswer }
+{
+    match Volume::open(alloc, source) {
+        Ok(volume) => volume.rows(alloc, source),
+        Err(answer) => Err(answer),
+    }
+}
