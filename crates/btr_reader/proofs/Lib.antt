@@ -9,3 +9,7 @@ pub mod Gathering
 pub mod OneExtent
 pub mod Stages
 pub mod MapBlocks
+pub mod RowContents
+pub mod RowMade
+pub mod FirstPlaces
+pub mod Known

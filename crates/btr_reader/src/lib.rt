@@ -13,7 +13,10 @@ mod image_place;
 mod inodes;
 mod laws;
 mod open;
+mod placed;
+mod refused;
 mod roots;
+mod row;
 mod volume;
 
 pub use chunk::ChunkAt;
