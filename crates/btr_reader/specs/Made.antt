@@ -17,7 +17,7 @@ use Rattle.btr_contents.specs.declared.content.Content.{Content}
 use Rattle.btr_contents.specs.Contents.{wanted_at, HasContents}
 use Rattle.btr_names.specs.declared.table.Names.{Names}
 use Rattle.btr_names.specs.Inodes.{inode_on, kind_of_mode, is_directory, is_symlink}
-use Rattle.btr_names.specs.Rules.{KeepsNames}
+use Rattle.btr_names.specs.Rules.{KeepsNames, BreaksNames}
 use Rattle.btr_names.specs.Steps.{AreNamed, links_of}
 use Rattle.btr_names.specs.Table.{HasNoted}
 use Rattle.btr_names.specs.TreeLinks.{AreTreeLinks}
@@ -94,6 +94,12 @@ made_inode image ranges items list p =
 unfoldable pub made_row : Image → List MapRange → List TreeItem → List PathTo → PathTo → WholeRow
 made_row image ranges items list p = if p.target.space == 0 then made_inode image ranges items list p else subvolume_row p.path
 
+-- The rules of names are kept: what that says of the named inodes and of the links.
+pub record IsChecked (names : Names) (named : NodeId → Bool) (items : List TreeItem) (root : ℕ) (has_root : ℕ → Bool) : Type 0 where
+  pub are_named : AreNamed items named
+  pub keeps : KeepsNames has_root items root
+  pub links : AreTreeLinks items (links_of names named)
+
 -- What is known of a file tree with which nothing is wrong.
 pub record IsReadTree (names : Names) (named : NodeId → Bool) (told : ℕ → Option Content) (image : Image) (ranges : List MapRange) (items : List TreeItem) (root : ℕ) (has_root : ℕ → Bool) : Type 0 where
   pub noted : HasNoted names items
@@ -119,6 +125,12 @@ abbrev pub RefusesTree : Image → Super → List MapRange → BtrAnswer → Typ
 RefusesTree image s ranges (Refused r) = IsTreeRefusal image s ranges r
 RefusesTree image s ranges Fault = Unit {0}
 RefusesTree image s ranges Memory = Unit {0}
+
+-- a rule of names is broken, or a call failed
+abbrev pub RefusesChecked : (ℕ → Bool) → List TreeItem → ℕ → BtrAnswer → Type 0
+RefusesChecked has_root items root (Refused r) = BreaksNames has_root items root r
+RefusesChecked has_root items root Fault = Unit {0}
+RefusesChecked has_root items root Memory = Unit {0}
 
 -- there was no memory
 abbrev pub IsMemory : BtrAnswer → Type 0

@@ -1,4 +1,4 @@
-ghost use Rattle.std.specs.Prelude.{◌≡◌, ◌≤◌, ◌<◌, ℕ, Bool, Option, List, map, take, length, slice_get, Some, nat_eq, IfOk};
+ghost use Rattle.std.specs.Prelude.{◌≡◌, ◌≤◌, ◌<◌, ℕ, Bool, Option, List, map, take, length, slice_get, Some, nat_eq, IfErr, IfOk};
 ghost use Rattle.std.specs.Result.{MatchResult};
 ghost use Rattle.outside.specs.History.{Image};
 ghost use Rattle.fs_rows.specs.Rows.{row_of};
@@ -16,6 +16,7 @@ ghost use Rattle.btr_names.specs.Steps.{inode_node, links_of};
 ghost use Rattle.btr_contents.specs.Contents.{wanted_inode, HasContents};
 ghost use Rattle.btr_contents.specs.declared.wanted.Wanted.{Wanted as WantedOf};
 ghost use Rattle.btr_reader.specs.Made.{IsContent, IsMemory, IsReadTree, bytes_at, made_row};
+ghost use Rattle.btr_reader.specs.Opening.{IsNoFault};
 
 use crate::refused::refused;
 use crate::row::{Spot, copy_path, inode_row, no_content, tree_row};
@@ -38,7 +39,8 @@ pub fn row_at(
     path: &PathTo,
     rows: &Rows,
 ) -> Result<Row, BtrAnswer>
-    ensures { (named : NodeOf → Bool) (image : Image) (ranges : List RangeOf) (items : List TreeItem) (root : ℕ) (has_root : ℕ → Bool) → IsReadTree names.now named (λ ino. get nat_eq contents.now.known ino) image ranges items root has_root →
+    ensures cause { IfErr result IsNoFault }
+    ensures row { (named : NodeOf → Bool) (image : Image) (ranges : List RangeOf) (items : List TreeItem) (root : ℕ) (has_root : ℕ → Bool) → IsReadTree names.now named (λ ino. get nat_eq contents.now.known ino) image ranges items root has_root →
         (list : List PathOf) → ArePaths (links_of names.now named) (inode_node 256) list → (i : ℕ) → slice_get list i ≡ Some path.now → rows.now ≡ map (λ p. row_of (made_row image ranges items list p)) (take i list) →
         MatchResult result (λ row. row ≡ row_of (made_row image ranges items list path.now)) IsMemory }
 {

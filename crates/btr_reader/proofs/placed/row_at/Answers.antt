@@ -4,27 +4,27 @@ use Rattle.fs_rows.specs.Rows.{row_of}
 use Rattle.btr_reader.proofs.RowMade.{tree_is, inode_there, kind_there, not_longer, target_wanted, least_is, row_made}
 use Rattle.btr_reader.proofs.placed.row_at.Goals as goal
 
-pub returns-then-path-ne0 : goal.returns-then-path-ne0
-returns-then-path-ne0 c = λ named image ranges items root has_root is_read list are i at before.
+pub returns-then-path-ne0-clause-row : goal.returns-then-path-ne0-clause-row
+returns-then-path-ne0-clause-row c = λ named image ranges items root has_root is_read list are i at before.
     let p = c.args.path.now in
     let other : (p.target.space == 0) ≡ false = grind (arith, nat_tests, c.if-path-ne0.true) in
     c.in_ok-row.ensures ∙ ap row_of (sym (tree_is image ranges items list p other))
 
-pub returns-in_default : goal.returns-in_default
-returns-in_default c = λ named image ranges items root has_root is_read list are i at before.
+pub returns-in_default-clause-row : goal.returns-in_default-clause-row
+returns-in_default-clause-row c = λ named image ranges items root has_root is_read list are i at before.
     let p = c.args.path.now in
     let space : p.target.space ≡ 0 = omega (arith, c.if-path-ne0.false) in
     absurd (inode_there c.args.names.now named _ image ranges items root has_root is_read list are i p at space (sym (c.in_default.ensures items is_read.noted)))
 
-pub returns-in_default-kind_of_mode : goal.returns-in_default-kind_of_mode
-returns-in_default-kind_of_mode c = λ named image ranges items root has_root is_read list are i at before.
+pub returns-in_default-kind_of_mode-clause-row : goal.returns-in_default-kind_of_mode-clause-row
+returns-in_default-kind_of_mode-clause-row c = λ named image ranges items root has_root is_read list are i at before.
     let p = c.args.path.now in
     let space : p.target.space ≡ 0 = omega (arith, c.if-path-ne0.false) in
     let there = sym (c.in-Some.ensures items is_read.noted) in
     absurd (kind_there c.args.names.now named _ image ranges items root has_root is_read list are i p at c.in-Some.own space there (sym c.in_default-kind_of_mode.ensures))
 
-pub returns : goal.returns
-returns c = λ named image ranges items root has_root is_read list are i at before.
+pub returns-clause-row : goal.returns-clause-row
+returns-clause-row c = λ named image ranges items root has_root is_read list are i at before.
     let names = c.args.names.now in
     let p = c.args.path.now in
     let own = c.in-Some.own in
