@@ -1,9 +1,9 @@
 -- What a disk holds behind a make and a sync.
 use Rattle.std.proofs.Common.{◌≡◌, ◌^◌, ◌≤◌, length, sym, subst}
 use Rattle.outside.specs.History.{History, reads, after, synced, IsSettled}
-use Rattle.reiser_volume.specs.Volume.{IsAccepted}
 use Rattle.sample_laws.specs.Laws.{Fits}
-use Rattle.sample_laws.proofs.Accepted.{accepted}
+use Rattle.sample_laws.specs.Rows.{IsAsDescribed}
+use Rattle.sample_laws.proofs.Rowed.{are_as_described}
 use Rattle.sample_app.specs.Order.{Ordered}
 use Rattle.sample_app.specs.Outcome.{needed_by, HasSample, IsMade}
 
@@ -14,9 +14,5 @@ pub made_whole : (o : Ordered) (old mid new : History) → o.number ≤ 4000 →
     → IsMade o old new
 made_whole o old mid new few most enough inside has settled =
     let fits : Fits o.number o.old o.blocks (reads old) = record { number_low = few; needed_low = enough; blocks_low = most; inside = inside } in
-    subst (IsMade o old) (sym settled)
-    (record {
-      written = has;
-      settled = synced_settled mid;
-      accepted = subst IsAccepted (sym has) (accepted o.number o.old o.blocks (reads old) fits);
-    })
+    let is : IsAsDescribed o.number (reads mid) = subst (IsAsDescribed o.number) (sym has) (are_as_described o.number o.old o.blocks (reads old) fits) in
+    subst (IsMade o old) (sym settled) (record { written = has; settled = synced_settled mid; accepted = is.accepted; rows = is.rows })

@@ -5,8 +5,9 @@ use Rattle.outside.specs.History.{History, Image, reads, IsSettled, WritesOnly}
 use Rattle.reiser_make.specs.Inner.{needed}
 use Rattle.reiser_make.specs.Layout.{IsUsed, laid_over, volume_blocks}
 use Rattle.reiser_make.specs.Maker.{usage_of}
+use Rattle.reiser_make.specs.Rows.{sample_rows}
 use Rattle.reiser_make.specs.Shape.{Shape, shape}
-use Rattle.reiser_volume.specs.Volume.{IsAccepted}
+use Rattle.reiser_volume.specs.Volume.{IsAccepted, AreRowsOf}
 use Rattle.sample_app.specs.declared.ending.Ending.{Ending}
 use Rattle.sample_app.specs.declared.ending.Ending.TheVariants.{Made, Usage, Short, Full, Fault, Memory}
 use Rattle.sample_app.specs.Ending.{status, error_line}
@@ -27,11 +28,12 @@ Uses o b = IsUsed (usage_of (shape_by o) o.blocks) b
 abbrev pub HasSample : Ordered → Image → Image → Type 0
 HasSample o old new = new ≡ laid_over (volume_blocks (shape_by o) o.blocks) old
 
--- Reads give the sample, and so they do after a crash. It is a volume that keeps every rule.
+-- Reads give the sample, and so they do after a crash. It is a volume that keeps every rule, and has the rows of its number.
 pub record IsMade (o : Ordered) (old new : History) : Type 0 where
   pub written : HasSample o (reads old) (reads new)
   pub settled : IsSettled new
   pub accepted : IsAccepted (reads new)
+  pub rows : AreRowsOf (reads new) (sample_rows o.number)
 
 -- an ending is right on a device of so many blocks
 abbrev pub FitsDevice : Ordered → ℕ → Ending → Type 0

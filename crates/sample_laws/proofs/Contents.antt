@@ -29,11 +29,10 @@ use Rattle.reiser_node.specs.declared.head.ItemKind.TheVariants.{Stat, Indirect,
 use Rattle.reiser_items.specs.declared.stat.StatData.{StatData}
 use Rattle.reiser_walk.specs.Items.{Item}
 use Rattle.sample_laws.proofs.Data.{pointers_back, pointers_are, place_some}
-use Rattle.sample_laws.proofs.Held.{in_row}
+use Rattle.sample_laws.proofs.Held.{in_row, in_rows}
 use Rattle.sample_laws.proofs.Namings.{item_of}
 use Rattle.sample_laws.proofs.Objects.{file_stat}
 use Rattle.sample_laws.proofs.Places.{holds_blocks, stored_next}
-use Rattle.sample_laws.proofs.Ways.{in_rows}
 use Rattle.sample_laws.proofs.Writable.{rest_body}
 use Rattle.sample_laws.specs.Laws.{Fits, made}
 use Rattle.sample_laws.specs.Walk.{content, laid_content}

@@ -58,6 +58,7 @@ same_path i j low_i low_j = same_path_by i j (i == j) low_i low_j refl
 abbrev hits : ℕ → ℕ → ℕ → ℕ
 hits j a n = count_by (λ i. named_by i == j) (range_with_len a n)
 
+-- 1 where a test holds
 abbrev one : Bool → ℕ
 one b = cond b 1 0
 

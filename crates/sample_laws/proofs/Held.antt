@@ -26,14 +26,14 @@ pub in_row : {X : Type 0} (f : ℕ → X) (a n k : ℕ) → a ≤ k → k < a + 
 in_row f a n k low high =
     (k - a, omega (arith, low, high, length-map-range_with_len f a n), get_or-map-range_with_len f a n (k - a) k (f k) (omega (arith, low, high)) (omega (arith, low)))
 
-in_rows_by : (f : ℕ → List Placed) (a n k : ℕ) (p : Placed) → (a ≡ k) ⊎ (a + 1 ≤ k) → Contains (f k) p → (a + 1 ≤ k → Contains (flat_map f (range_with_len (a + 1) n)) p)
-    → Contains (flat_map f (range_with_len a (suc n))) p
-in_rows_by f a n k p (inl is) here later = Contains-append_left (f a) (flat_map f (range_with_len (a + 1) n)) p (subst (λ (j : ℕ). Contains (f j) p) (sym is) here)
-in_rows_by f a n k p (inr more) here later = Contains-append_right (f a) (flat_map f (range_with_len (a + 1) n)) p (later more)
+in_rows_by : {X : Type 0} (f : ℕ → List X) (a n k : ℕ) (x : X) → (a ≡ k) ⊎ (a + 1 ≤ k) → Contains (f k) x → (a + 1 ≤ k → Contains (flat_map f (range_with_len (a + 1) n)) x) → Contains (flat_map f (range_with_len a (suc n))) x
+in_rows_by f a n k x (inl is) here later = Contains-append_left (f a) (flat_map f (range_with_len (a + 1) n)) x (subst (λ (j : ℕ). Contains (f j) x) (sym is) here)
+in_rows_by f a n k x (inr more) here later = Contains-append_right (f a) (flat_map f (range_with_len (a + 1) n)) x (later more)
 
-in_rows : (f : ℕ → List Placed) (a n k : ℕ) (p : Placed) → a ≤ k → k < a + n → Contains (f k) p → Contains (flat_map f (range_with_len a n)) p
-in_rows f a zero k p low high here = absurd (omega (arith, low, high))
-in_rows f a (suc n) k p low high here = in_rows_by f a n k p (grind (arith, low)) here (λ more. in_rows f (a + 1) n k p more (omega (arith, high)) here)
+-- an element of a row of rows
+pub in_rows : {X : Type 0} (f : ℕ → List X) (a n k : ℕ) (x : X) → a ≤ k → k < a + n → Contains (f k) x → Contains (flat_map f (range_with_len a n)) x
+in_rows f a zero k x low high here = absurd (omega (arith, low, high))
+in_rows f a (suc n) k x low high here = in_rows_by f a n k x (grind (arith, low)) here (λ more. in_rows f (a + 1) n k x more (omega (arith, high)) here)
 
 module _ (s : Shape) (blocks : ℕ) where
   abbrev maps : List Placed

@@ -128,10 +128,10 @@ file_one j k low_j low_k same =
 abbrev OneName : Naming → Naming → Type 0
 OneName m n = m.dir ≡ n.dir → m.name ≢ n.name
 
-abbrev object_number : ObjectKey → ℕ
+abbrev pub object_number : ObjectKey → ℕ
 object_number key = key.object
 
-abbrev dir_number : ObjectKey → ℕ
+abbrev pub dir_number : ObjectKey → ℕ
 dir_number key = key.dir
 
 laid_once : (number : ℕ) → number ≤ 4000 → Pairs OneName (laid_namings number)

@@ -31,13 +31,13 @@ use Rattle.sample_laws.proofs.Contents.{file_read, target_read, data_held}
 use Rattle.sample_laws.proofs.Counted.{row_by, rows_in, rows_by, own_path, counted}
 use Rattle.sample_laws.proofs.Data.{before_low}
 use Rattle.sample_laws.proofs.Fields.{stat_by, has_stat}
-use Rattle.sample_laws.proofs.Held.{in_row}
+use Rattle.sample_laws.proofs.Held.{in_row, in_rows}
 use Rattle.sample_laws.proofs.Lists.{each_in, each_row, each_rows}
 use Rattle.sample_laws.proofs.Named.{IsOwnName, named_own, links_are}
 use Rattle.sample_laws.proofs.Objects.{IsSampleShape, shape_is, directory_stat, symlink_stat, file_stat, root_object, names_object, symlink_object, file_object}
 use Rattle.sample_laws.proofs.Parts.{directory_key, file_key, of_file}
 use Rattle.sample_laws.proofs.Small.{IsOwn, length_contents, small_at}
-use Rattle.sample_laws.proofs.Ways.{IsPath, at_root, at_directory, at_name, in_rows, path_leads, leads_path, root_least, directory_least, name_least}
+use Rattle.sample_laws.proofs.Ways.{IsPath, at_root, at_directory, at_name, path_leads, leads_path, root_least, directory_least, name_least}
 use Rattle.sample_laws.specs.Laws.{made}
 use Rattle.sample_laws.specs.Rows.{SamplesHaveTheirRows, SamplesAreAsDescribed}
 use Rattle.sample_laws.specs.Walk.{content, laid_content}

@@ -1,5 +1,5 @@
 -- Which paths lead where in a sample: the root's, one for each directory, and one for each name of a file.
-use Rattle.std.proofs.Common.{◌≡◌, ◌⊎◌, inl, inr, ℕ, zero, suc, ◌+◌, ◌-◌, ◌*◌, ◌/◌, ◌≤◌, ◌<◌, true, List, [], ◌∷◌, length, map, refl, sym, ◌∙◌, ap, subst, arith, Contains}
+use Rattle.std.proofs.Common.{◌≡◌, ◌⊎◌, inl, inr, ℕ, ◌-◌, ◌*◌, ◌/◌, ◌≤◌, ◌<◌, true, List, [], ◌∷◌, length, map, refl, sym, ◌∙◌, ap, subst, arith, Contains}
 use Rattle.std.specs.List.{range_with_len, flat_map}
 use Rattle.std.specs.Ordering.{is_le}
 use Rattle.std.proofs.lemmas.Bool.{cond_both}
@@ -17,7 +17,8 @@ use Rattle.reiser_objects.specs.Keys.{root}
 use Rattle.reiser_objects.specs.Names.{namings}
 use Rattle.reiser_volume.proofs.Leading.{from_map}
 use Rattle.reiser_volume.specs.Rows.{Leads, IsLeastPath}
-use Rattle.sample_laws.proofs.Held.{in_row}
+use Rattle.sample_laws.proofs.Held.{in_row, in_rows}
+use Rattle.sample_laws.proofs.Keeping.{dir_number, object_number}
 use Rattle.sample_laws.proofs.Named.{IsLaid, in_root, in_directory, names_are, laid}
 use Rattle.sample_laws.proofs.Namings.{bare, root_naming, file_naming, root_row, names_row, laid_namings}
 use Rattle.sample_laws.proofs.Parts.{directory_key, file_key}
@@ -29,21 +30,6 @@ pub data IsPath (number : ℕ) (path : NameList) (key : ObjectKey) : Type 0 wher
   at_root : path ≡ [] → key ≡ root → IsPath number path key
   at_directory : (k : ℕ) → k < directory_count number → path ≡ directory_name k ∷ [] → key ≡ directory_key k → IsPath number path key
   at_name : (i : ℕ) → i < number → path ≡ path_of i → key ≡ file_key number (named_by i) → IsPath number path key
-
-abbrev dir_number : ObjectKey → ℕ
-dir_number key = key.dir
-
-abbrev object_number : ObjectKey → ℕ
-object_number key = key.object
-
-in_rows_by : {X : Type 0} (f : ℕ → List X) (a n k : ℕ) (x : X) → (a ≡ k) ⊎ (a + 1 ≤ k) → Contains (f k) x → (a + 1 ≤ k → Contains (flat_map f (range_with_len (a + 1) n)) x) → Contains (flat_map f (range_with_len a (suc n))) x
-in_rows_by f a n k x (inl is) here later = Contains-append_left (f a) (flat_map f (range_with_len (a + 1) n)) x (subst (λ (j : ℕ). Contains (f j) x) (sym is) here)
-in_rows_by f a n k x (inr more) here later = Contains-append_right (f a) (flat_map f (range_with_len (a + 1) n)) x (later more)
-
--- an element of a row of rows
-pub in_rows : {X : Type 0} (f : ℕ → List X) (a n k : ℕ) (x : X) → a ≤ k → k < a + n → Contains (f k) x → Contains (flat_map f (range_with_len a n)) x
-in_rows f a zero k x low high here = absurd (omega (arith, low, high))
-in_rows f a (suc n) k x low high here = in_rows_by f a n k x (grind (arith, low)) here (λ more. in_rows f (a + 1) n k x more (omega (arith, high)) here)
 
 -- the first name of the object that name i names
 pub first_name : (i : ℕ) → named_by i ≤ i
