@@ -22,7 +22,7 @@ use Rattle.reiser_walk.specs.Tree.{tree_events, reached_in, items_of as items_of
 use Rattle.reiser_walk.proofs.Lists.{Each, Pairs, each_from_all, all_from_each, each_map, each_both, pairs_from_all_pairs, all_pairs_from_pairs}
 use Rattle.reiser_walk.proofs.Rules.{sound_exactly}
 use Rattle.reiser_files.specs.Bytes.{AlignedByKind, IsAligned, MayFollow, target_bytes, file_bytes, tail_block, direct_content}
-use Rattle.reiser_files.specs.Laws.{IsOf, IsNoIndirect, AreInOrder, AreApart as AreApartItems}
+use Rattle.reiser_files.specs.Laws.{IsOf, IsNoIndirect, AreInOrder, AreApart}
 use Rattle.reiser_files.specs.Pieces.{is_inside, are_inside}
 use Rattle.reiser_files.proofs.Deciding.{apart_follow}
 use Rattle.reiser_files.proofs.Functions.{zero_block}
@@ -115,7 +115,7 @@ file_items objects key tree image used m room holds =
     let test : Item → Bool = λ i. same_key (key_of i.head) key in
     let no_save : Each (λ (i : Item). is_save_link i.head ≡ false) items = none_any (λ (i : Item). is_save_link i.head) items holds.no_save_link in
     let fits : Each (λ (i : Item). FitsHead i.head i.body) items = each_from_all (λ (i : Item). FitsHead i.head i.body) items k.bodies in
-    let named : Each (NamesBelow n) items = named_inside n image n (tree.height - 1) 16 tree.root (each_from_all (λ (p : Pointer). p.block < n) (reached_in (tree_events tree image n)) k.inside) in
+    let named : Each (NamesBelow n) items = named_inside (λ (b : ℕ). b < n) image n (tree.height - 1) 16 tree.root (each_from_all (λ (p : Pointer). p.block < n) (reached_in (tree_events tree image n)) k.inside) in
     let aligned : Each IsAligned items =
     each_both (λ (i : Item). is_save_link i.head ≡ false) (λ (i : Item). FitsHead i.head i.body) IsAligned items
     (λ i none fit. ⊎_elim (λ save. absurd (true≢false (sym save ∙ none))) (λ f. aligned_by i.head.kind i.head i.body f.0) fit) no_save fits in
@@ -128,8 +128,7 @@ file_items objects key tree image used m room holds =
     record {
       order = keys_order key.dir key.object own (all_from_each (IsOf key.dir key.object) own of_key)
           (all_pairs_from_pairs IsBelow own (pairs_kept test IsBelow items (pairs_from_all_pairs IsBelow items k.ascending)));
-      apart = λ i j d before within shares.
-          holds.apart i j d before within (record { byte = shares.byte; first_from = shares.first_from; first_to = shares.first_to; second_from = shares.second_from; second_to = shares.second_to });
+      apart = holds.apart;
       aligned = all_from_each IsAligned own (each_kept test IsAligned items aligned);
       inside = all_from_each (λ (i : Item). are_inside i.head.kind i.body m ≡ true) own (each_kept test (λ (i : Item). are_inside i.head.kind i.body m ≡ true) items inside);
     }
@@ -143,7 +142,7 @@ module _ (n : ℕ) (all given : List Item) (i : Item) (later : List Item) (are :
   next_follows =
       let aligned : Each IsAligned (i ∷ later) = each_right IsAligned given (i ∷ later) (subst (λ (xs : List Item). Each IsAligned xs) (sym parts) (each_from_all IsAligned all are.aligned)) in
       let order = subst (λ (xs : List Item). AreInOrder xs) (sym parts) are.order in
-      let apart = subst (λ (xs : List Item). AreApartItems xs) (sym parts) are.apart in
+      let apart = subst (λ (xs : List Item). AreApart xs) (sym parts) are.apart in
       record { aligned = aligned.0; follows = apart_follow given i later order apart }
 
   pub next_inside : are_inside i.head.kind i.body n ≡ true

@@ -1,4 +1,4 @@
--- The blocks that the items of a tree name are among those that are reached.
+-- What holds of each block that a walk of the tree reaches holds of each block that an item names.
 use Rattle.std.proofs.Common.{◌≡◌, ◌<◌, ℕ, zero, suc, Bool, true, false, ◌&&◌, nat_lt, List, [], ◌∷◌, ◌++◌, map, Option, Some, None, if◌then◌else◌, refl, sym, subst}
 use Rattle.outside.specs.History.{Image, block_at}
 use Rattle.reiser_node.specs.Leaf.{count, is_leaf}
@@ -11,24 +11,24 @@ use Rattle.reiser_walk.proofs.Lists.{Each}
 use Rattle.object_files.proofs.Same.{each_left, each_right, each_append}
 use Rattle.object_files.proofs.Trees.{at_each}
 
-module _ (m : ℕ) where
-  -- each block that an item names is below m
-  abbrev pub NamesBelow : Item → Type 0
-  NamesBelow i = Each (λ (b : ℕ). b < m) (blocks_named i.head i.body)
+module _ (P : ℕ → Type 0) where
+  -- each block that an item names has P
+  abbrev pub Names : Item → Type 0
+  Names i = Each P (blocks_named i.head i.body)
 
-  abbrev Below : Pointer → Type 0
-  Below p = p.block < m
+  abbrev Has : Pointer → Type 0
+  Has p = P p.block
 
   abbrev Named : List Event → Type 0
-  Named events = Each Below (reached_in events) → Each NamesBelow (items_in events)
+  Named events = Each Has (reached_in events) → Each Names (items_in events)
 
   named_both : (xs ys : List Event) → Named xs → Named ys → Named (xs ++ ys)
   named_both xs ys a b h =
-      let parts = subst (λ (ps : List Pointer). Each Below ps) (reached_in-append xs ys) h in
-      subst (λ (is : List Item). Each NamesBelow is) (sym (items_in-append xs ys))
-      (each_append NamesBelow (items_in xs) (items_in ys) (a (each_left Below (reached_in xs) (reached_in ys) parts)) (b (each_right Below (reached_in xs) (reached_in ys) parts)))
+      let parts = subst (λ (ps : List Pointer). Each Has ps) (reached_in-append xs ys) h in
+      subst (λ (is : List Item). Each Names is) (sym (items_in-append xs ys))
+      (each_append Names (items_in xs) (items_in ys) (a (each_left Has (reached_in xs) (reached_in ys) parts)) (b (each_right Has (reached_in xs) (reached_in ys) parts)))
 
-  named_pointers : (leaf : ℕ) (bs : List ℕ) → Each Below (reached_in (map pointer (held_by leaf bs))) → Each (λ (b : ℕ). b < m) bs
+  named_pointers : (leaf : ℕ) (bs : List ℕ) → Each Has (reached_in (map pointer (held_by leaf bs))) → Each P bs
   named_pointers leaf [] h = tt
   named_pointers leaf (b ∷ bs) h = (h.0, named_pointers leaf bs h.1)
 
@@ -39,7 +39,7 @@ module _ (m : ℕ) where
   named_one : (o : Option Item) → Named (events_of o)
   named_one None h = tt
   named_one (Some i) h =
-      (named_pointers i.leaf (blocks_named i.head i.body) h, subst (λ (is : List Item). Each NamesBelow is) (sym (no_items (held_by i.leaf (blocks_named i.head i.body)))) tt)
+      (named_pointers i.leaf (blocks_named i.head i.body) h, subst (λ (is : List Item). Each Names is) (sym (no_items (held_by i.leaf (blocks_named i.head i.body)))) tt)
 
   named_leaf : (b : ℕ) (bytes : List ℕ) (i k : ℕ) → Named (leaf_events b bytes i k)
   named_leaf b bytes i zero h = tt
@@ -59,3 +59,7 @@ module _ (m : ℕ) where
       by : ((c : ℕ) → Named (node_events image n (suc level) b c)) → (t : Bool) → Named (if t then at_children (node_events image n (suc level) b) (block_at image b) 0 (children (block_at image b)) else [])
       by below true k = at_each Named (λ none. tt) named_both (node_events image n (suc level) b) below (block_at image b) 0 (children (block_at image b)) k
       by below false k = tt
+
+-- each block that an item names is below m
+abbrev pub NamesBelow : ℕ → Item → Type 0
+NamesBelow m = Names (λ (b : ℕ). b < m)

@@ -9,11 +9,11 @@ use Rattle.reiser_walk.specs.Items.{Item}
 use Rattle.reiser_walk.specs.Rules.{tree_damages}
 use Rattle.reiser_walk.specs.Tree.{items_of as items_of_tree}
 use Rattle.reiser_files.specs.Bytes.{IsAligned}
-use Rattle.reiser_files.specs.Laws.{AreInOrder, AreApart as AreApartItems}
+use Rattle.reiser_files.specs.Laws.{AreInOrder, AreApart}
 use Rattle.reiser_files.specs.Pieces.{are_inside}
 use Rattle.reiser_objects.specs.declared.key.ObjectKey.{ObjectKey}
 use Rattle.reiser_objects.specs.declared.table.Objects.{Objects}
-use Rattle.reiser_objects.specs.Items.{AreApart, fits_kind}
+use Rattle.reiser_objects.specs.Items.{fits_kind}
 use Rattle.reiser_objects.specs.Keys.{items_of}
 use Rattle.reiser_objects.specs.Table.{HasNoted}
 
@@ -39,6 +39,6 @@ pub record HoldsLink (objects : Objects) (key : ObjectKey) (tree : Tree) (image 
 -- begins with a block of the file, and each block that is named is one of the first n.
 pub record AreFileItems (n : ℕ) (items : List Item) : Type 0 where
   pub order : AreInOrder items
-  pub apart : AreApartItems items
+  pub apart : AreApart items
   pub aligned : All IsAligned items
   pub inside : All (λ i. are_inside i.head.kind i.body n ≡ true) items

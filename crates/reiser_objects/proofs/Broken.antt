@@ -8,7 +8,8 @@ use Rattle.reiser_walk.specs.Items.{Item}
 use Rattle.reiser_walk.specs.Bodies.{is_save_link}
 use Rattle.reiser_objects.specs.declared.key.ObjectKey.{ObjectKey}
 use Rattle.reiser_objects.specs.declared.stat.ObjectStat.{ObjectStat}
-use Rattle.reiser_objects.specs.Items.{SharesByte, AreApart, IsOverlap, fits_kind}
+use Rattle.reiser_files.specs.Laws.{SharesByte, AreApart}
+use Rattle.reiser_objects.specs.Items.{IsOverlap, fits_kind}
 use Rattle.reiser_objects.specs.Keys.{items_of}
 use Rattle.reiser_objects.specs.Kinds.{kind_of_mode, fits_size}
 use Rattle.reiser_objects.specs.Rules.{AreObjects, IsObject, IsKnown, IsObjectsRefusal, save_link, no_root, other_root, no_stat, unknown_kind, other_items, overlap, size_range}

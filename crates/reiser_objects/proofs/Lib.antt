@@ -4,5 +4,6 @@ pub mod Broken
 pub mod Checking
 pub mod Repeats
 pub mod Ordered
+pub mod Nodes
 pub mod Reaching
 pub mod Tables

@@ -1,13 +1,14 @@
 -- How the set of named objects grows, and that in the end it is whole.
-use Rattle.std.proofs.Common.{◌≡◌, ℕ, zero, suc, ◌+◌, ◌<◌, ◌≤◌, ◌==◌, Bool, true, false, not, cond, ◌||◌, List, [], ◌∷◌, length, filter, take, drop, get_or, Option, Some, None, is_some, Contains, ◌⊎◌, inl, inr, ⊎_elim, refl, sym, ap, subst, ◌∙◌, true≢false, if◌then◌else◌, arith}
+use Rattle.std.proofs.Common.{◌≡◌, ℕ, zero, suc, ◌+◌, ◌<◌, ◌≤◌, ◌==◌, Bool, true, false, ◌||◌, List, [], ◌∷◌, length, filter, take, get_or, Option, Some, None, is_some, Result, Ok, Err, Contains, ◌⊎◌, inl, inr, ⊎_elim, refl, sym, ap, subst, ◌∙◌, true≢false, if◌then◌else◌, arith}
 use Rattle.std.proofs.lemmas.List.Elements.{Contains-get_or, Contains-push_cases, Contains-append_cases, Contains-append_right}
-use Rattle.std.proofs.lemmas.List.{take_more}
-use Rattle.std.proofs.lemmas.List.Sums.{sum_by-le-sum_by, sum_by-take-drop, sum_by-drop_more}
+use Rattle.std.specs.Result.{MatchResult}
+use Rattle.std.proofs.lemmas.List.{take_more, take_all}
 use Rattle.outside.specs.declared.answer.VolAnswer.{VolAnswer}
 use Rattle.outside.specs.declared.answer.VolAnswer.TheVariants.{Refused}
 use Rattle.outside.specs.declared.refusal.VolumeRefusal.TheVariants.{Damaged}
 use Rattle.outside.specs.declared.rule.Rule.TheVariants.{ObjectForm}
 use Rattle.fs_rows.specs.declared.row.Kind.TheVariants.{Directory, File, Symlink, Character, Block, Fifo, Socket}
+use Rattle.path_list.specs.declared.node.NodeId.{NodeId}
 use Rattle.reiser_walk.specs.Items.{Item}
 use Rattle.reiser_objects.specs.declared.key.ObjectKey.{ObjectKey}
 use Rattle.reiser_objects.specs.declared.naming.Naming.{Naming}
@@ -16,8 +17,8 @@ use Rattle.reiser_objects.specs.Keys.{same_key, root}
 use Rattle.reiser_objects.specs.Kinds.{kind_of_code, is_directory_mode}
 use Rattle.reiser_objects.specs.Items.{stat_of_object}
 use Rattle.reiser_objects.specs.Names.{is_followed, namings, followed, IsNamed, IsReachedBy}
-use Rattle.reiser_objects.specs.Rules.{other_root, no_stat}
-use Rattle.reiser_objects.specs.Reach.{Refuses, Keys, IsSeen, AreSeen, Closes, waiting, Keeps, Follows, Spreads}
+use Rattle.reiser_objects.specs.Rules.{IsDirectory, other_root, no_stat}
+use Rattle.reiser_objects.specs.Reach.{Refuses, Keys, IsSeen, AreSeen, TellsNamed, Closes, Follows}
 use Rattle.reiser_objects.specs.declared.table.Objects.{Objects}
 use Rattle.reiser_objects.specs.Table.{HasNoted}
 use Rattle.reiser_objects.proofs.Tables.{same_key-true}
@@ -64,14 +65,14 @@ or_cases : (a b : Bool) → (a || b) ≡ true → (a ≡ true) ⊎ (b ≡ true)
 or_cases true b h = inl refl
 or_cases false b h = inr h
 
--- what an entry that counts names is seen
-pub seen_more : (items : List Item) (n : Naming) (old new : Keys) → Contains (namings items) n → is_followed n ≡ true → old n.dir ≡ true → is_some (stat_of_object items n.target) ≡ true
+-- what an entry of a named directory names is seen, if it counts
+pub seen_more : (items : List Item) (n : Naming) (old new : Keys) → Contains (namings items) n → is_followed n ≡ true → IsNamed items n.dir → is_some (stat_of_object items n.target) ≡ true
     → AreSeen items old → ((q : ObjectKey) → new q ≡ (same_key n.target q || old q)) → AreSeen items new
 seen_more items n old new among counts dir stated seen grows key has =
     ⊎_elim (λ own. subst (IsSeen items) (same_key-true n.target key own) here) (λ before. seen key before) (or_cases (same_key n.target key) (old key) (sym (grows key) ∙ has))
   where
     here : IsSeen items n.target
-    here = let d = (seen n.dir dir).named in record { named = (suc d.0, (n, Contains-filter is_followed (namings items) n among counts, refl, d.1)); has_stat = stated }
+    here = record { named = (suc dir.0, (n, Contains-filter is_followed (namings items) n among counts, refl, dir.1)); has_stat = stated }
 
 -- no other code is that of a directory
 not_directory : (a b c d e f : Bool) → (if a then Some File else (if b then Some Symlink else (if c then Some Character else (if d then Some Block else (if e then Some Fifo else (if f then Some Socket else None)))))) ≡ Some Directory → ⊥
@@ -95,66 +96,34 @@ pub other_root_refused : (items : List Item) (root_block : ℕ) (stat : ObjectSt
 other_root_refused items root_block stat e has other is =
     subst (Refuses root_block items) (sym is) (other_root stat has (λ kind. true≢false (sym (code_of_directory _ _ refl kind) ∙ other)) refl)
 
-abbrev weight : Keys → Naming → ℕ
-weight has n = cond (not (has n.target)) 1 0
-
--- fewer or as many entries are waiting where a set only grows
-waiting_grows : (ns : List Naming) (old new : Keys) → Keeps old new → waiting ns new ≤ waiting ns old
-waiting_grows ns old new keeps = sum_by-le-sum_by _ _ ns (λ n. one (old n.target) (new n.target) (keeps n.target))
+-- a set that holds the root and what the entries of named directories name holds each named object
+pub reach_is_whole : (items : List Item) (reached : NodeId → Bool) (has : Keys) → TellsNamed items reached → has root ≡ true → ((n : Naming) → Contains (namings items) n → Closes reached has n) → (key : ObjectKey) → IsNamed items key → has key ≡ true
+reach_is_whole items reached has tells root_in closed key named = by named.0 named.1
   where
-    one : (a b : Bool) → (a ≡ true → b ≡ true) → cond (not b) 1 0 ≤ cond (not a) 1 0
-    one true true h = omega arith
-    one false true h = omega arith
-    one false false h = omega arith
-    one true false h = absurd (true≢false (sym (h refl)))
+    by : (steps : ℕ) → IsReachedBy (followed items) steps key → has key ≡ true
+    by zero is = ap has is ∙ root_in
+    by (suc steps) r = let f = from_filter is_followed (namings items) r.0 r.1 in sym (ap has r.2) ∙ closed r.0 f.0 f.1 (tells.whole r.0.dir (steps, r.3))
 
--- fewer where it gains what one of them names
-waiting_falls : (ns : List Naming) (n : Naming) (old new : Keys) → Keeps old new → Contains ns n → old n.target ≡ false → new n.target ≡ true → waiting ns new < waiting ns old
-waiting_falls ns n old new keeps among before after =
-    let k : ℕ = among.0 in
-    let early = waiting_grows (take k ns) old new keeps in
-    let late = waiting_grows (drop (k + 1) ns) old new keeps in
-    let was : weight old (get_or ns k n) ≡ 1 = ap (λ (m : Naming). weight old m) among.2 ∙ ap (λ (b : Bool). cond (not b) 1 0) before in
-    let is : weight new (get_or ns k n) ≡ 0 = ap (λ (m : Naming). weight new m) among.2 ∙ ap (λ (b : Bool). cond (not b) 1 0) after in
-    omega (arith, early, late, was, is, sum_by-take-drop (weight old) ns k, sum_by-take-drop (weight new) ns k, sum_by-drop_more (weight old) ns k n among.1, sum_by-drop_more (weight new) ns k n among.1)
-
-or_false_left : (a b : Bool) → (a || b) ≡ false → a ≡ false
-or_false_left true b h = h
-or_false_left false b h = refl
-
-or_false_right : (a b : Bool) → (a || b) ≡ false → b ≡ false
-or_false_right true b h = cc
-or_false_right false b h = h
-
-unchanged_closes : (n : Naming) (old new : Keys) → ((key : ObjectKey) → new key ≡ old key) → Closes old n → Closes new n
-unchanged_closes n old new same closed counts dir = same n.target ∙ closed counts (sym (same n.dir) ∙ dir)
+-- the root alone is seen
+pub root_seen : (items : List Item) (old new : Keys) → IsDirectory items root → ((q : ObjectKey) → old q ≡ false) → ((q : ObjectKey) → new q ≡ (same_key root q || old q)) → AreSeen items new
+root_seen items old new directory none grows key has =
+    ⊎_elim (λ own. subst (IsSeen items) (same_key-true root key own) (record { named = (0, refl); has_stat = ap is_some directory.has_stat })) (λ before. absurd (true≢false (sym before ∙ none key))) (or_cases (same_key root key) (old key) (sym (grows key) ∙ has))
 
 -- one more entry was followed
-pub spread_more : (all : List Naming) (i : ℕ) (n : Naming) (first old new : Keys) (before more : Bool) → get_or all i n ≡ n → i < length all
-    → Spreads all (take i all) first old before → Follows n old new more → Spreads all (take (i + 1) all) first new (before || more)
-spread_more all i n first old new before more at within s f = record {
-  keeps = λ key has. f.keeps key (s.keeps key has);
-  less = omega (arith, waiting_grows all old new f.keeps, s.less);
-  fewer = fewer before more s f;
-  same = λ none key. f.same (or_false_right before more none) key ∙ s.same (or_false_left before more none) key;
-  closed = λ none m among.
-      ⊎_elim (λ old_one. unchanged_closes m old new (f.same (or_false_right before more none)) (s.closed (or_false_left before more none) m old_one))
-      (λ this. subst (Closes new) (sym at ∙ this) (f.closed (or_false_right before more none)))
-      (Contains-push_cases (take i all) (get_or all i n) m (subst (λ (l : List Naming). Contains l m) (take_more all i n within) among));
-}
-  where
-    fewer : (b m : Bool) → Spreads all (take i all) first old b → Follows n old new m → (b || m) ≡ true → waiting all new < waiting all first
-    fewer true m s f h = omega (arith, waiting_grows all old new f.keeps, s.fewer refl)
-    fewer false true s f h = omega (arith, waiting_falls all n old new f.keeps (i, within, at) (f.before refl) (f.after refl), s.less)
-    fewer false false s f h = cc
+pub closes_more : (all : List Naming) (i : ℕ) (n : Naming) (reached : NodeId → Bool) (old new : Keys) → get_or all i n ≡ n → i < length all
+    → ((m : Naming) → Contains (take i all) m → Closes reached old m) → Follows n reached old new → (m : Naming) → Contains (take (i + 1) all) m → Closes reached new m
+closes_more all i n reached old new at within closed f m among =
+    ⊎_elim (λ earlier counts dir. f.keeps m.target (closed m earlier counts dir)) (λ this. subst (Closes reached new) (sym at ∙ this) f.closed)
+    (Contains-push_cases (take i all) (get_or all i n) m (subst (λ (l : List Naming). Contains l m) (take_more all i n within) among))
 
--- a set that holds the root and that no entry leaves holds each named object
-pub closed_is_whole : (items : List Item) (has : Keys) → has root ≡ true → ((n : Naming) → Contains (namings items) n → Closes has n) → (key : ObjectKey) → IsNamed items key → has key ≡ true
-closed_is_whole items has root_in closed key named = by named.0 key named.1
-  where
-    by : (steps : ℕ) (k : ObjectKey) → IsReachedBy (followed items) steps k → has k ≡ true
-    by zero k is = ap has is ∙ root_in
-    by (suc steps) k r = let f = from_filter is_followed (namings items) r.0 r.1 in sym (ap has r.2) ∙ closed r.0 f.0 f.1 (by steps r.0.dir r.3)
+-- an element is among the first, where those are all
+pub taken_all : (ns : List Naming) (k : ℕ) (n : Naming) → length ns ≤ k → Contains ns n → Contains (take k ns) n
+taken_all ns k n all among = subst (λ (l : List Naming). Contains l n) (sym (take_all k ns all)) among
+
+-- a refusal that holds whatever the root's block is, holds with this one
+pub any_root : {T : Type 0} (P : T → Type 0) (items : List Item) (root_block : ℕ) (r : Result T VolAnswer) → MatchResult r P (λ e. (b : ℕ) → Refuses b items e) → MatchResult r P (Refuses root_block items)
+any_root P items root_block (Ok t) h = h
+any_root P items root_block (Err e) h = h root_block
 
 -- the naming at an index is one of the items that were noted
 pub indexed_naming : (t : Objects) (items : List Item) (i : ℕ) (n : Naming) → HasNoted t items → i < length t.namings.items → n ≡ get_or t.namings.items i n → Contains (namings items) n

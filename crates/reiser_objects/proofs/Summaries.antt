@@ -10,7 +10,9 @@ use Rattle.std.proofs.Math.Nat.{le-max_left, le-max_right}
 use Rattle.reiser_walk.specs.Items.{Item}
 use Rattle.reiser_objects.specs.declared.object.Object.{Object}
 use Rattle.reiser_objects.specs.declared.stat.ObjectStat.{ObjectStat}
-use Rattle.reiser_objects.specs.Items.{stat_by_kind, first_stat, first_byte, byte_count, end_of, SharesByte, AreApart, IsOverlap}
+use Rattle.reiser_files.specs.Bytes.{first_byte, byte_count, end_of}
+use Rattle.reiser_files.specs.Laws.{SharesByte, AreApart}
+use Rattle.reiser_objects.specs.Items.{stat_by_kind, first_stat, IsOverlap}
 use Rattle.reiser_objects.specs.Summary.{Summarises, with_item, overlap_at, has_pointers, has_bytes, has_entries, has_form, HasForm}
 
 -- the first stat data of a list with one more item

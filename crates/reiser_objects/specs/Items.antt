@@ -1,11 +1,12 @@
 -- What the items of one object say of it.
-use Rattle.std.specs.Prelude.{◌≡◌, ℕ, ◌+◌, ◌-◌, ◌*◌, ◌/◌, ◌≤◌, ◌<◌, Bool, false, List, [], ◌∷◌, ◌++◌, length, Option, None, Contains, AllPairs}
+use Rattle.std.specs.Prelude.{◌≡◌, ℕ, Bool, false, List, [], ◌∷◌, ◌++◌, Option, None, Contains}
 use Rattle.std.specs.Option.{option_map, option_map_or, option_or}
 use Rattle.std.specs.List.{list_all}
 use Rattle.reiser_node.specs.declared.head.ItemKind.{ItemKind}
 use Rattle.reiser_node.specs.declared.head.ItemKind.TheVariants.{Stat, Indirect, Direct, Directory}
 use Rattle.reiser_items.specs.Stat.{stat_of}
 use Rattle.reiser_walk.specs.Items.{Item}
+pub use Rattle.reiser_files.specs.Laws.{SharesByte, AreApart}
 use Rattle.fs_rows.specs.declared.row.Kind.{Kind}
 use Rattle.reiser_objects.specs.declared.stat.ObjectStat.{ObjectStat}
 use Rattle.reiser_objects.specs.declared.key.ObjectKey.{ObjectKey}
@@ -34,32 +35,6 @@ is_directory_at items key = option_map_or (λ stat. is_directory_mode stat.field
 -- Each item is one that an object of the kind may have.
 abbrev pub fits_kind : Kind → List Item → Bool
 fits_kind kind items = list_all (λ i. may_have kind i.head.kind) items
-
--- the first byte of the file that an item holds or names a block for: offsets of keys begin with 1
-abbrev pub first_byte : Item → ℕ
-first_byte i = i.head.offset - 1
-
--- and how many: a pointer stands for 4096
-abbrev pub byte_count : ItemKind → List ℕ → ℕ
-byte_count Stat body = 0
-byte_count Indirect body = 4096 * (length body / 4)
-byte_count Direct body = length body
-byte_count Directory body = 0
-
-abbrev pub end_of : Item → ℕ
-end_of i = first_byte i + byte_count i.head.kind i.body
-
--- a byte of the file is held by both items
-pub record SharesByte (i j : Item) : Type 0 where
-  pub byte : ℕ
-  pub first_from : first_byte i ≤ byte
-  pub first_to : byte < end_of i
-  pub second_from : first_byte j ≤ byte
-  pub second_to : byte < end_of j
-
--- no two of the items hold one byte
-abbrev pub AreApart : List Item → Type 0
-AreApart items = AllPairs (λ i j. ¬ SharesByte i j) items
 
 -- an item in this leaf holds a byte that an item before it holds
 pub record IsOverlap (items : List Item) (leaf : ℕ) : Type 0 where

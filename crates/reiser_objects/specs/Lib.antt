@@ -4,6 +4,7 @@ pub mod Kinds
 pub mod Laws
 pub mod Leaves
 pub mod Names
+pub mod Nodes
 pub mod Reach
 pub mod Read
 pub mod Rules

@@ -1,5 +1,5 @@
--- How the objects that the root reaches are found: a set of keys that grows along the entries.
-use Rattle.std.specs.Prelude.{◌≡◌, ℕ, ◌≤◌, ◌<◌, Bool, true, false, not, List, Contains, is_some, count_by}
+-- How the objects that the root reaches are found: the nodes that are reached over the steps of the entries, and their keys.
+use Rattle.std.specs.Prelude.{◌≡◌, ℕ, Bool, true, List, Contains, is_some}
 use Rattle.outside.specs.declared.answer.VolAnswer.{VolAnswer}
 use Rattle.outside.specs.declared.answer.VolAnswer.TheVariants.{Refused, Fault, Memory}
 use Rattle.outside.specs.declared.refusal.VolumeRefusal.{VolumeRefusal}
@@ -7,12 +7,14 @@ use Rattle.outside.specs.declared.refusal.VolumeRefusal.TheVariants.{NotVolume, 
 use Rattle.outside.specs.declared.rule.Rule.{Rule}
 use Rattle.outside.specs.declared.rule.Rule.TheVariants.{ObjectForm, Overlap, SizeRange}
 use Rattle.std.specs.Prelude.{[], ◌∷◌}
+use Rattle.path_list.specs.declared.node.NodeId.{NodeId}
 use Rattle.reiser_walk.specs.Items.{Item}
 use Rattle.reiser_objects.specs.declared.key.ObjectKey.{ObjectKey}
 use Rattle.reiser_objects.specs.declared.naming.Naming.{Naming}
 use Rattle.reiser_objects.specs.Keys.{root}
 use Rattle.reiser_objects.specs.Items.{stat_of_object}
 use Rattle.reiser_objects.specs.Names.{is_followed, IsNamed}
+use Rattle.reiser_objects.specs.Nodes.{node_of}
 use Rattle.reiser_objects.specs.Rules.{IsDirectory, IsObjectsRefusal}
 
 -- the rules of objects
@@ -57,32 +59,22 @@ pub record IsSeen (items : List Item) (key : ObjectKey) : Type 0 where
 abbrev pub AreSeen : List Item → Keys → Type 0
 AreSeen items has = (key : ObjectKey) → has key ≡ true → IsSeen items key
 
--- where the entry counts and its directory is in the set, what it names is too
-abbrev pub Closes : Keys → Naming → Type 0
-Closes has n = is_followed n ≡ true → has n.dir ≡ true → has n.target ≡ true
+-- a set of nodes, as a test, that has exactly those of the named objects
+pub record TellsNamed (items : List Item) (reached : NodeId → Bool) : Type 0 where
+  pub sound : (key : ObjectKey) → reached (node_of key) ≡ true → IsNamed items key
+  pub whole : (key : ObjectKey) → IsNamed items key → reached (node_of key) ≡ true
 
--- how many entries name an object that is not in the set
-abbrev pub waiting : List Naming → Keys → ℕ
-waiting ns has = count_by (λ n. not (has n.target)) ns
+-- where the entry counts and its directory is reached, the set has what it names
+abbrev pub Closes : (NodeId → Bool) → Keys → Naming → Type 0
+Closes reached has n = is_followed n ≡ true → reached (node_of n.dir) ≡ true → has n.target ≡ true
 
 abbrev pub Keeps : Keys → Keys → Type 0
 Keeps old new = (key : ObjectKey) → old key ≡ true → new key ≡ true
 
--- one entry was followed: what it names is new, or nothing changed
-pub record Follows (n : Naming) (old new : Keys) (more : Bool) : Type 0 where
+-- one entry was followed
+pub record Follows (n : Naming) (reached : NodeId → Bool) (old new : Keys) : Type 0 where
   pub keeps : Keeps old new
-  pub before : more ≡ true → old n.target ≡ false
-  pub after : more ≡ true → new n.target ≡ true
-  pub same : more ≡ false → (key : ObjectKey) → new key ≡ old key
-  pub closed : more ≡ false → Closes new n
-
--- some of all entries were followed: fewer are waiting, or nothing changed
-pub record Spreads (all some : List Naming) (old new : Keys) (more : Bool) : Type 0 where
-  pub keeps : Keeps old new
-  pub less : waiting all new ≤ waiting all old
-  pub fewer : more ≡ true → waiting all new < waiting all old
-  pub same : more ≡ false → (key : ObjectKey) → new key ≡ old key
-  pub closed : more ≡ false → (n : Naming) → Contains some n → Closes new n
+  pub closed : Closes reached new n
 
 -- the keys of exactly the named objects, which all have stat data
 pub record IsReach (items : List Item) (has : Keys) : Type 0 where

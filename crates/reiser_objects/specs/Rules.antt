@@ -13,7 +13,8 @@ use Rattle.reiser_objects.specs.declared.stat.ObjectStat.{ObjectStat}
 use Rattle.reiser_objects.specs.declared.naming.Naming.{Naming}
 use Rattle.reiser_objects.specs.Keys.{root, items_of}
 use Rattle.reiser_objects.specs.Kinds.{kind_of_mode, fits_size}
-use Rattle.reiser_objects.specs.Items.{stat_of_object, fits_kind, AreApart, IsOverlap}
+use Rattle.reiser_files.specs.Laws.{AreApart}
+use Rattle.reiser_objects.specs.Items.{stat_of_object, fits_kind, IsOverlap}
 use Rattle.reiser_objects.specs.Names.{followed, IsNamed}
 
 -- An object has stat data of a known kind, and beside it only items of that kind; no two of them hold one byte; and its

@@ -9,7 +9,9 @@ use Rattle.reiser_walk.specs.Items.{Item}
 use Rattle.fs_rows.specs.declared.row.Kind.{Kind}
 use Rattle.reiser_objects.specs.Kinds.{is_file, is_symlink, is_directory}
 use Rattle.reiser_objects.specs.declared.object.Object.{Object}
-use Rattle.reiser_objects.specs.Items.{stat_by_kind, first_stat, first_byte, byte_count, end_of, AreApart, IsOverlap}
+use Rattle.reiser_files.specs.Bytes.{first_byte, byte_count, end_of}
+use Rattle.reiser_files.specs.Laws.{AreApart}
+use Rattle.reiser_objects.specs.Items.{stat_by_kind, first_stat, IsOverlap}
 
 abbrev pub has_pointers : ItemKind → Bool
 has_pointers Stat = false

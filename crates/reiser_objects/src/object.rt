@@ -1,5 +1,6 @@
 ghost use Rattle.std.specs.Prelude.{◌≡◌, [], Some, None, ◌&&◌, nat_lt, if◌then◌else◌};
-ghost use Rattle.reiser_objects.specs.Items.{stat_by_kind, byte_count};
+ghost use Rattle.reiser_files.specs.Bytes.{byte_count};
+ghost use Rattle.reiser_objects.specs.Items.{stat_by_kind};
 ghost use Rattle.reiser_objects.specs.Summary.{Summarises, with_item, has_pointers, has_bytes, has_entries, has_form};
 
 use crate::ObjectStat;

@@ -17,7 +17,8 @@ use Rattle.reiser_files.specs.Bytes.{file_bytes, file_byte}
 use Rattle.reiser_files.proofs.Functions.{length_bytes}
 use Rattle.reiser_objects.specs.declared.key.ObjectKey.{ObjectKey}
 use Rattle.reiser_objects.specs.declared.stat.ObjectStat.{ObjectStat}
-use Rattle.reiser_objects.specs.Items.{AreApart, fits_kind, stat_of_object}
+use Rattle.reiser_files.specs.Laws.{AreApart}
+use Rattle.reiser_objects.specs.Items.{fits_kind, stat_of_object}
 use Rattle.reiser_objects.specs.Keys.{items_of}
 use Rattle.reiser_objects.specs.Kinds.{kind_of_mode}
 use Rattle.reiser_objects.specs.Rules.{IsObject}

@@ -16,7 +16,7 @@ use Rattle.path_list.specs.declared.node.NodeId.{NodeId}
 use Rattle.path_list.specs.Links as tree
 use Rattle.path_list.specs.Links.{AreNamedOnce}
 use Rattle.path_list.specs.Paths.{ArePaths}
-use Rattle.path_list.proofs.Lists.{in_map, in_tail, head_or_tail}
+use Rattle.path_list.proofs.Lists.{in_map, in_tail}
 use Rattle.reiser_node.specs.declared.head.ItemKind.{ItemKind}
 use Rattle.reiser_node.specs.declared.head.ItemKind.TheVariants.{Stat, Indirect, Direct, Directory as Entries}
 use Rattle.reiser_items.specs.Entries.{are_entries, entries}
@@ -26,7 +26,9 @@ use Rattle.reiser_objects.specs.declared.naming.Naming.{Naming}
 use Rattle.reiser_objects.specs.Keys.{root, same_key, key_of, items_of}
 use Rattle.reiser_objects.specs.Kinds.{may_have, is_directory}
 use Rattle.reiser_objects.specs.Names.{namings, namings_in, namings_by_kind, naming_by, is_listed, is_followed, IsNamed}
+use Rattle.reiser_objects.specs.Nodes.{node_of, Fits}
 use Rattle.reiser_objects.specs.Rules.{AreObjects, IsDirectory}
+use Rattle.reiser_objects.proofs.Nodes.{from_map, node_same}
 use Rattle.reiser_objects.proofs.Reaching.{Contains-filter, from_filter}
 use Rattle.reiser_objects.proofs.Tables.{same_key-self}
 use Rattle.reiser_volume.specs.declared.volume.Volume.{Volume}
@@ -35,14 +37,8 @@ use Rattle.reiser_names.specs.Names.{AreNames, KeepsNames}
 use Rattle.reiser_volume.specs.Opened.{IsOpened, links_in}
 use Rattle.reiser_volume.specs.Rows.{Leads}
 use Rattle.reiser_volume.specs.Volume.{IsAccepted, volume_items}
-use Rattle.reiser_volume.specs.Ways.{node_of, link_of, Fits, HasPaths}
+use Rattle.reiser_volume.specs.Ways.{link_of, HasPaths}
 use Rattle.reiser_names.proofs.Uniqueness.{links_one}
-
--- an element of a list that was made of another
-pub from_map : {X Y : Type 0} (f : X → Y) (xs : List X) (y : Y) → Contains (map f xs) y → (x : X) × Contains xs x × (f x ≡ y)
-from_map f [] y among = absurd (omega (arith, among.1))
-from_map f (x ∷ xs) y among =
-    ⊎_elim (λ first. (x, (0, omega arith, refl), first)) (λ later. let r = from_map f xs y later in (r.0, in_tail x xs r.0 r.1, r.2)) (head_or_tail (f x) (map f xs) y among)
 
 from_flat_map : {X Y : Type 0} (f : X → List Y) (xs : List X) (y : Y) → Contains (flat_map f xs) y → (x : X) × Contains xs x × Contains (f x) y
 from_flat_map f [] y among = absurd (omega (arith, among.1))
@@ -59,12 +55,6 @@ pairs_map any f R xs pairs i j d below within =
 -- what holds of each element
 pub all_of : {X : Type 0} (P : X → Type 0) (xs : List X) → ((x : X) → Contains xs x → P x) → All P xs
 all_of P xs each k d within = each (get_or xs k d) (All-contains_itself xs k d within)
-
-pub node_same : (a b : ObjectKey) → node_of a ≡ node_of b → a ≡ b
-node_same a b is =
-    let dir : a.dir ≡ b.dir = ap (λ (n : NodeId). n.space) is in
-    let object : a.object ≡ b.object = ap (λ (n : NodeId). n.number) is in
-    λ j. record { dir = dir j; object = object j }
 
 module _ (ns : List Naming) where
   -- a way over the links is one over the entries

@@ -3,7 +3,6 @@ pub mod Holding
 pub mod Leading
 pub mod Placed
 pub mod Placing
-pub mod Reached
 pub mod Refusals
 pub mod Rowed
 pub mod SameRows

@@ -37,8 +37,10 @@ use Rattle.reiser_volume.specs.Made.{IsContent, IsKnownAt, IsOf, row_by, bytes_a
 use Rattle.reiser_volume.specs.Opened.{IsOpened, links_in}
 use Rattle.reiser_volume.specs.Rows.{Leads, IsLeastPath, IsRow}
 use Rattle.reiser_volume.specs.Volume.{IsAccepted, AreRowsOf, superblock, volume_items}
-use Rattle.reiser_volume.specs.Ways.{node_of, link_of, key_at, Fits, HasPaths}
-use Rattle.reiser_volume.proofs.Leading.{from_map, up, down, leads_named}
+use Rattle.reiser_volume.specs.Ways.{link_of, HasPaths}
+use Rattle.reiser_objects.proofs.Nodes.{from_map}
+use Rattle.reiser_objects.specs.Nodes.{node_of, key_at, Fits}
+use Rattle.reiser_volume.proofs.Leading.{up, down, leads_named}
 use Rattle.reiser_volume.proofs.Placed.{first_in, first_leads, first_before, is_least, names_counted}
 
 -- a node whose numbers have 32 bits stands for the object that it was made of

@@ -1,17 +1,20 @@
 -- The used blocks of an accepted volume decide the bytes of its files, and so its rows.
-use Rattle.std.proofs.Common.{◌≡◌, ◌-◌, ℕ, Bool, true, false, ◌||◌, List, [], length, Contains, if◌then◌else◌, sym, ◌∙◌, ap, true≢false}
+use Rattle.std.proofs.Common.{◌≡◌, ◌≢◌, ◌-◌, ℕ, Bool, true, false, not, ◌&&◌, ◌||◌, List, [], length, filter, Contains, if◌then◌else◌, sym, ◌∙◌, ap, subst, true≢false}
 use Rattle.std.specs.List.{list_any}
-use Rattle.std.proofs.lemmas.Bool.{false_from_ne_true}
+use Rattle.std.proofs.lemmas.Bool.{false_from_ne_true, ne_eqb}
 use Rattle.std.proofs.lemmas.List.Elements.{All-contains}
 use Rattle.std.proofs.lemmas.List.Folds.{list_any-from_Any}
 use Rattle.outside.specs.History.{Image}
 use Rattle.fs_rows.specs.Rows.{WholeRow}
 use Rattle.reiser_bitmap.specs.Bits.{has}
-use Rattle.reiser_bitmap.proofs.Ranges.{filter_contains}
+use Rattle.reiser_bitmap.proofs.Ranges.{contains_filter, filter_contains}
+use Rattle.reiser_node.specs.declared.head.ItemKind.{ItemKind}
+use Rattle.reiser_node.specs.declared.head.ItemKind.TheVariants.{Indirect}
+use Rattle.reiser_items.specs.Pointers.{pointers}
 use Rattle.reiser_walk.specs.Bodies.{is_save_link}
 use Rattle.reiser_walk.specs.declared.pointer.Pointer.{Pointer}
 use Rattle.reiser_walk.specs.declared.tree.Tree.{Tree}
-use Rattle.reiser_walk.specs.Items.{Item, blocks_named}
+use Rattle.reiser_walk.specs.Items.{Item, is_indirect, is_no_hole, blocks_named}
 use Rattle.reiser_walk.specs.Rules.{tree_damages}
 use Rattle.reiser_walk.specs.Tree.{tree_events, reached_in, items_of as items_of_tree}
 use Rattle.reiser_walk.proofs.Lists.{Each, each_from_all, all_from_each}
@@ -24,12 +27,19 @@ use Rattle.reiser_objects.specs.declared.naming.Naming.{Naming}
 use Rattle.reiser_objects.specs.Keys.{key_of, same_key, items_of}
 use Rattle.reiser_objects.specs.Kinds.{is_file, is_symlink}
 use Rattle.object_files.specs.Laws.{SameUsed}
+use Rattle.object_files.proofs.Inside.{Names, named_inside}
 use Rattle.reiser_volume.specs.Rows.{IsRow, AreReiserRows}
-use Rattle.reiser_volume.proofs.Reached.{Names, at_node, is_named}
 
 none_saves : (items : List Item) (i : Item) → list_any (λ x. is_save_link x.head) items ≡ false → Contains items i → is_save_link i.head ≡ false
 none_saves items i none among =
     false_from_ne_true (is_save_link i.head) (λ is. true≢false (sym (list_any-from_Any (λ x. is_save_link x.head) items (among.0, i, among.1, among.2, is)) ∙ none))
+
+-- a pointer of an indirect item that is no save link, and no hole, is a block that the item names
+pub is_named : (i : Item) (b : ℕ) → i.head.kind ≡ Indirect → is_save_link i.head ≡ false → Contains (pointers i.body) b → b ≢ 0 → Contains (blocks_named i.head i.body) b
+is_named i b kind own among some =
+    let no_hole : is_no_hole b ≡ true = ap not (ne_eqb b 0 some) in
+    subst (λ (k : ItemKind). Contains (if is_indirect k && not (is_save_link i.head) then filter is_no_hole (pointers i.body) else []) b) (sym kind)
+    (subst (λ (t : Bool). Contains (if not t then filter is_no_hole (pointers i.body) else []) b) (sym own) (contains_filter is_no_hole (pointers i.body) b no_hole among))
 
 -- the files of a tree with which nothing is wrong, and that has no save link
 module _ (tree : Tree) (image other : Image) (used : List Bool) (sound : tree_damages tree image used ≡ []) (same : SameUsed used image other)
@@ -42,7 +52,7 @@ module _ (tree : Tree) (image other : Image) (used : List Bool) (sound : tree_da
 
   names_used : Each (Names Used) items
   names_used =
-      at_node Used image (length used) (tree.height - 1) 16 tree.root
+      named_inside Used image (length used) (tree.height - 1) 16 tree.root
       (each_from_all (λ (p : Pointer). has used p.block ≡ true) (reached_in (tree_events tree image (length used))) ((sound_exactly tree image used).0 sound).all_used)
 
   block_used : (i : Item) (b : ℕ) → Contains items i → Contains (blocks_named i.head i.body) b → Used b

@@ -18,7 +18,7 @@ use Rattle.reiser_volume.specs.declared.volume.Volume.{Volume}
 use Rattle.reiser_volume.specs.Opened.{IsOpened}
 use Rattle.reiser_volume.specs.Rows.{flag, is_device, major_of, minor_of, time_of}
 use Rattle.reiser_volume.specs.Volume.{IsAccepted, volume_items, superblock}
-use Rattle.reiser_volume.specs.Ways.{key_at}
+use Rattle.reiser_objects.specs.Nodes.{key_at}
 
 -- the row of an object at a path
 abbrev pub row_by : ℕ → ObjectStat → Kind → NameList → NameList → ℕ → List ℕ → WholeRow

@@ -1,29 +1,17 @@
 -- The links of a volume as those of a tree of paths.
-use Rattle.std.specs.Prelude.{◌<◌, ◌%◌, ◌^◌, List, map}
+use Rattle.std.specs.Prelude.{List, map}
 use Rattle.std.specs.List.{All}
 use Rattle.path_list.specs.declared.link.Link.{Link}
 use Rattle.path_list.specs.declared.link.PathTo.{PathTo}
-use Rattle.path_list.specs.declared.node.NodeId.{NodeId}
 use Rattle.path_list.specs.Paths.{ArePaths}
-use Rattle.reiser_objects.specs.declared.key.ObjectKey.{ObjectKey}
 use Rattle.reiser_objects.specs.declared.naming.Naming.{Naming}
 use Rattle.reiser_objects.specs.Keys.{root}
+use Rattle.reiser_objects.specs.Nodes.{node_of, Fits}
 use Rattle.reiser_volume.specs.declared.volume.Volume.{Volume}
 use Rattle.reiser_volume.specs.Opened.{links_in}
 
-abbrev pub node_of : ObjectKey → NodeId
-node_of key = record { space = key.dir; number = key.object }
-
 abbrev pub link_of : Naming → Link
 link_of n = record { dir = node_of n.dir; target = node_of n.target; name = n.name }
-
--- the object that a node stands for: its numbers have 32 bits
-abbrev pub key_at : NodeId → ObjectKey
-key_at node = record { dir = node.space % 2 ^ 32; object = node.number % 2 ^ 32 }
-
-pub record Fits (node : NodeId) : Type 0 where
-  pub space : node.space < 2 ^ 32
-  pub number : node.number < 2 ^ 32
 
 -- the paths of the volume's tree
 pub record HasPaths (volume : Volume) (list : List PathTo) : Type 0 where

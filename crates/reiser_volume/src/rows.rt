@@ -12,16 +12,17 @@ ghost use Rattle.object_files.specs.Answers.{IsFileAnswer, IsFaultOrMemory};
 ghost use Rattle.reiser_volume.specs.Made.{IsKnownAt, IsOf, whole_row};
 ghost use Rattle.reiser_volume.specs.Opened.{IsOpened};
 ghost use Rattle.reiser_volume.specs.Volume.{AreRowsOf, IsAccepted, volume_items};
-ghost use Rattle.reiser_volume.specs.Ways.{HasPaths, key_at};
+ghost use Rattle.reiser_objects.specs.Nodes.{key_at};
+ghost use Rattle.reiser_volume.specs.Ways.{HasPaths};
 
 use crate::Volume;
 use crate::content::content;
 use crate::row::{Known, Spot, copy_path, make_row};
-use crate::ways::{key_at, paths_of};
+use crate::ways::paths_of;
 use fs_rows::{Row, Rows};
 use outside::{BlockSource, Memory, Rule, VolAnswer, VolumeRefusal};
 use path_list::PathTo;
-use reiser_objects::{ObjectKey, kind_of_mode};
+use reiser_objects::{ObjectKey, key_at, kind_of_mode};
 use std::alloc::Global;
 use vol_block::BlockNo;
 

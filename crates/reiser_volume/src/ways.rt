@@ -5,13 +5,14 @@ ghost use Rattle.reiser_names.specs.Known.{is_known};
 ghost use Rattle.reiser_volume.specs.Opened.{IsOpened, links_in};
 ghost use Rattle.reiser_names.specs.Passes.{is_link};
 ghost use Rattle.reiser_volume.specs.Volume.{IsAccepted};
-ghost use Rattle.reiser_volume.specs.Ways.{node_of, link_of, key_at, Fits, HasPaths};
+ghost use Rattle.reiser_objects.specs.Nodes.{Fits};
+ghost use Rattle.reiser_volume.specs.Ways.{link_of, HasPaths};
 
 use crate::Volume;
 use fs_rows::Name;
 use outside::Memory;
-use path_list::{Link, NodeId, PathTo, paths};
-use reiser_objects::{Naming, ObjectKey, ROOT};
+use path_list::{Link, PathTo, paths};
+use reiser_objects::{Naming, ROOT, node_of};
 use std::alloc::Global;
 
 /// The paths of the volume's tree, which ascend.
@@ -59,24 +60,4 @@ fn link_of(alloc: Global, naming: &Naming) -> Result<Link, Memory>
         target: node_of(naming.target),
         name: Name::new(alloc, naming.name.bytes())?,
     })
-}
-
-fn node_of(key: ObjectKey) -> NodeId
-    ensures node { result ≡ node_of key }
-    ensures fits { Fits result }
-{
-    NodeId {
-        space: key.dir as u64,
-        number: key.object as u64,
-    }
-}
-
-/// The object that a node stands for.
-pub fn key_at(node: NodeId) -> ObjectKey
-    ensures { result ≡ key_at node }
-{
-    ObjectKey {
-        dir: (node.space % (1 << 32)) as u32,
-        object: (node.number % (1 << 32)) as u32,
-    }
 }

@@ -1,29 +1,20 @@
-use Rattle.std.proofs.Common.{List, sym, subst, Contains}
-use Rattle.std.proofs.lemmas.Result.{err_from_is_err_and}
+use Rattle.std.proofs.Common.{◌≡◌, List, ap, subst, ◌∙◌}
 use Rattle.indexmap.specs.IndexSet.{contains}
-use Rattle.outside.specs.declared.answer.VolAnswer.{VolAnswer}
-use Rattle.reiser_objects.specs.declared.naming.Naming.{Naming}
-use Rattle.reiser_objects.specs.Keys.{same_key, root}
-use Rattle.reiser_objects.specs.Reach.{Refuses}
-use Rattle.reiser_objects.proofs.Reaching.{closed_is_whole}
+use Rattle.path_list.specs.declared.link.Link.{Link}
+use Rattle.path_list.specs.declared.node.NodeId.{NodeId}
+use Rattle.path_list.specs.Links.{same_node}
+use Rattle.path_list.specs.Reached.{AreReached}
+use Rattle.reiser_objects.specs.Keys.{root, same_key}
+use Rattle.reiser_objects.specs.Names.{namings}
+use Rattle.reiser_objects.specs.Nodes.{node_of, steps}
+use Rattle.reiser_objects.specs.Reach.{IsReach}
+use Rattle.reiser_objects.proofs.Nodes.{nodes_tell}
+use Rattle.reiser_objects.proofs.Reaching.{any_root}
 use Rattle.reiser_objects.proofs.reach.reach.Goals as goal
 
-pub returns-in_err-spread-clause-reached : goal.returns-in_err-spread-clause-reached
-returns-in_err-spread-clause-reached c = λ items noted.
-    let refused = c.in_err-spread.ensures.sound items noted (c.loop-named.invariant.seen items noted) c.args.root_block in
-    let err = err_from_is_err_and c.from_residual-in_err-spread.result c.from_residual-in_err-spread.ensures.1 in
-    rw err.1 (subst (λ (e : VolAnswer). Refuses c.args.root_block items e) (sym err.2) refused)
-
-pub loop-named-preserved : goal.loop-named-preserved
-loop-named-preserved c = record {
-  seen = λ items noted. c.in_ok-spread.ensures.sound items noted (c.loop-named.invariant.seen items noted);
-  root_in = c.in_ok-spread.ensures.spreads.keeps root c.loop-named.invariant.root_in;
-}
-
 pub returns-clause-reached : goal.returns-clause-reached
-returns-clause-reached c = λ items noted. record {
-  seen = c.in_ok-spread.ensures.sound items noted (c.loop-named.invariant.seen items noted);
-  whole = closed_is_whole items (contains same_key c.spread.new.named) (c.in_ok-spread.ensures.spreads.keeps root c.loop-named.invariant.root_in)
-      (λ n among. c.in_ok-spread.ensures.spreads.closed c.if-branch.false n (subst (λ (ns : List Naming). Contains ns n) (sym noted.namings) among));
-  root_directory = c.in_ok-check_root.ensures.checked items noted;
-}
+returns-clause-reached c = λ items noted.
+    let links : c.in_ok-steps_of.field-0.items ≡ steps (namings items) = c.in_ok-steps_of.ensures ∙ ap steps noted.namings in
+    let from : AreReached c.in_ok-steps_of.field-0.items (node_of root) (contains same_node c.in_ok-nodes.nodes) = subst (λ (n : NodeId). AreReached c.in_ok-steps_of.field-0.items n (contains same_node c.in_ok-nodes.nodes)) c.node_of.ensures.node c.in_ok-nodes.ensures in
+    let reached = subst (λ (ls : List Link). AreReached ls (node_of root) (contains same_node c.in_ok-nodes.nodes)) links from in
+    any_root (λ named. IsReach items (contains same_key named)) items c.args.root_block c.named_by.result (c.named_by.ensures.named items noted (c.in_ok-check_root.ensures.checked items noted) (nodes_tell items (contains same_node c.in_ok-nodes.nodes) reached))
