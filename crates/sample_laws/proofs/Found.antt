@@ -11,7 +11,8 @@ use Rattle.reiser_make.specs.declared.item.Item as parts
 use Rattle.reiser_make.specs.declared.object.ObjectId.{ObjectId}
 use Rattle.reiser_walk.specs.Items.{Item}
 use Rattle.reiser_walk.proofs.Lists.{Each, Pairs, all_pairs_from_pairs}
-use Rattle.reiser_objects.specs.Items.{stat_by_kind, first_stat, fits_kind, byte_count, SharesByte, AreApart}
+use Rattle.reiser_objects.specs.Items.{stat_by_kind, first_stat, fits_kind, SharesByte, AreApart}
+use Rattle.reiser_files.specs.Bytes.{byte_count}
 use Rattle.reiser_objects.specs.Kinds.{may_have}
 use Rattle.reiser_objects.specs.declared.stat.ObjectStat.{ObjectStat}
 use Rattle.sample_laws.proofs.Attributes.{read_back, HasStatRoom, stat_back}
