@@ -17,7 +17,7 @@ use Rattle.reiser_objects.specs.Reach.{Keys}
 use Rattle.reiser_objects.proofs.Reaching.{Contains-filter, from_filter}
 use Rattle.reiser_objects.proofs.Tables.{same_key-true, same_key-self}
 use Rattle.reiser_names.specs.Links.{TellsNamed, AreLinks, AreNamedKeys}
-use Rattle.reiser_volume.proofs.Leading.{from_map}
+use Rattle.reiser_objects.proofs.Nodes.{from_map}
 use Rattle.sample_laws.proofs.Ascending.{each_to, each_join}
 use Rattle.sample_laws.proofs.Held.{in_row}
 use Rattle.sample_laws.proofs.Lists.{each_in, each_from_map, each_row, each_rows, pairs_row, pairs_filter, filter_all}
