@@ -17,7 +17,8 @@ use Rattle.reiser_volume.specs.Volume.{AreRowsOf, IsAccepted}
 use Rattle.volume_app.specs.Answers.{of_volume, of_btrfs}
 use Rattle.volume_app.specs.Btrfs.{IsListableBtrfs, AreRowsOfBtrfs, RefusesBtrfsRows}
 use Rattle.volume_app.specs.Format.{format_in}
-use Rattle.volume_app.specs.Listing.{IsListable, AreRowsIn, IsListText, Lists, ListRefuses, IsRowsAnswer, IsListAnswer}
+use Rattle.volume_app.specs.Listing.{IsListable, AreRowsIn, IsListText, Lists, ListRefuses, IsListAnswer}
+use Rattle.volume_app.specs.Reiser.{IsRowsAnswer}
 use Rattle.volume_app.proofs.Formats.{reiser_found}
 
 pub reiser_listed : (disk : Image) (rows : List Row) → format_in disk ≢ formats.Btrfs → IsAccepted disk → (whole : List WholeRow) × AreRowsOf disk whole × (rows ≡ map row_of whole) → Lists disk rows

@@ -1,5 +1,5 @@
 -- Which Btrfs volumes `list` reads, and how each other one is refused.
-use Rattle.std.specs.Prelude.{◌≡◌, ◌==◌, ℕ, List, [], Contains, Option, Some, None, if◌then◌else◌, Result, Ok, Err}
+use Rattle.std.specs.Prelude.{◌≡◌, ◌==◌, ℕ, List, [], Contains, map, Option, Some, None, if◌then◌else◌, Result, Ok, Err}
 use Rattle.outside.specs.History.{Image}
 use Rattle.outside.specs.declared.answer.BtrAnswer.{BtrAnswer}
 use Rattle.outside.specs.declared.answer.BtrAnswer.TheVariants.{Refused, Fault, Memory}
@@ -8,7 +8,8 @@ use Rattle.outside.specs.declared.refusal.BtrRefusal.TheVariants.{LogPending}
 use Rattle.btr_super.specs.declared.superblock.Super.{Super}
 use Rattle.btr_reader.specs.Opening.{super_on, chunk_map, opening_refusals}
 use Rattle.btr_reader.specs.Rows.{AreBtrfsRows, IsTreeRefusal}
-use Rattle.fs_rows.specs.Rows.{WholeRow}
+use Rattle.fs_rows.specs.Rows.{WholeRow, row_of}
+use Rattle.fs_rows.specs.declared.row.Row.{Row}
 
 -- the address of the log tree that a superblock names, if it is read and names one
 abbrev pub log_of : Result Super BtrRefusal → Option ℕ
@@ -36,6 +37,10 @@ pub record AreRowsOfBtrfs (image : Image) (whole : List WholeRow) : Type 0 where
   pub sup : Super
   pub read : super_on image ≡ Ok sup
   pub are_rows : AreBtrfsRows image sup (chunk_map image sup) whole
+
+-- the volume is listed, and these are its rows as the program has them
+abbrev pub ListsBtrfs : Image → List Row → Type 0
+ListsBtrfs image rows = IsListableBtrfs image × ((whole : List WholeRow) × AreRowsOfBtrfs image whole × (rows ≡ map row_of whole))
 
 -- a volume may be refused so; that a device failed or memory was short is said elsewhere
 abbrev pub RefusesBtrfsRows : Image → BtrAnswer → Type 0

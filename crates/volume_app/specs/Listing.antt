@@ -9,8 +9,6 @@ use Rattle.object_files.specs.Answers.{IsChanged}
 use Rattle.outside.specs.History.{Image}
 use Rattle.outside.specs.declared.answer.Answer.{Answer}
 use Rattle.outside.specs.declared.answer.Answer.TheVariants.{Volume, Btr, NoSpace, WrongFormat, ImageMissing, ImageMoved, ImageDamaged, ReservedUsed, Fault, Memory}
-use Rattle.outside.specs.declared.answer.VolAnswer.{VolAnswer}
-use Rattle.outside.specs.declared.answer.VolAnswer.TheVariants as of_reiser
 use Rattle.reiser_volume.specs.Answers.{NamesVolumeRule}
 use Rattle.reiser_volume.specs.Volume.{AreRowsOf, IsAccepted, IsRefusal}
 use Rattle.volume_app.specs.Btrfs.{IsListableBtrfs, AreRowsOfBtrfs, IsRowsRefusal}
@@ -51,12 +49,6 @@ ListRefuses disk ImageMissing = ⊥
 ListRefuses disk (ImageMoved block) = ⊥
 ListRefuses disk (ImageDamaged refusal) = ⊥
 ListRefuses disk (ReservedUsed block) = ⊥
-
--- what is answered of the rows of a ReiserFS volume, whatever the source gives: a refusal of volumes, or that a block reads otherwise than before
-abbrev pub IsRowsAnswer : VolAnswer → Type 0
-IsRowsAnswer (of_reiser.Refused refusal) = NamesVolumeRule refusal ⊎ IsChanged refusal
-IsRowsAnswer of_reiser.Fault = Unit {0}
-IsRowsAnswer of_reiser.Memory = Unit {0}
 
 -- The answers that `list` knows, whatever the disk gives.
 abbrev pub IsListAnswer : Answer → Type 0

@@ -1,10 +1,9 @@
-ghost use Rattle.std.specs.Prelude.{◌≡◌, None, IsTrue, List, map};
+ghost use Rattle.std.specs.Prelude.{◌≡◌, None, IsTrue};
 ghost use Rattle.std.specs.Result.{MatchResult};
 ghost use Rattle.btr_super.specs.Rules.{super_of};
-ghost use Rattle.fs_rows.specs.Rows.{WholeRow, row_of};
 ghost use Rattle.outside.specs.Fault.{HasCauseOf};
 ghost use Rattle.outside.specs.History.{Image};
-ghost use Rattle.volume_app.specs.Btrfs.{log_of, log_tree, AreRowsOfBtrfs, IsListableBtrfs, NamesLog, RefusesBtrfsRows};
+ghost use Rattle.volume_app.specs.Btrfs.{log_of, log_tree, ListsBtrfs, NamesLog, RefusesBtrfsRows};
 
 use crate::format::SUPERBLOCK;
 use btr_reader::Btrfs;
@@ -20,8 +19,7 @@ use vol_block::Block;
 pub fn btrfs_rows<S: BlockSource>(alloc: Global, source: &mut S) -> Result<Rows, BtrAnswer>
     ensures kept { S.kept source.old source.new }
     ensures cause { HasCauseOf BtrAnswer.Fault (S.faults source.old) (S.faults source.new) result }
-    ensures rows { IsTrue S.tells → (image : Image) → S.blocks source.old ≡ image →
-        MatchResult result (λ rows. IsListableBtrfs image × ((whole : List WholeRow) × AreRowsOfBtrfs image whole × (rows ≡ map row_of whole))) (RefusesBtrfsRows image) }
+    ensures rows { IsTrue S.tells → (image : Image) → S.blocks source.old ≡ image → MatchResult result (ListsBtrfs image) (RefusesBtrfsRows image) }
 {
     match check_log(source) {
         Ok(()) => open_rows(alloc, source),
@@ -33,8 +31,7 @@ pub fn btrfs_rows<S: BlockSource>(alloc: Global, source: &mut S) -> Result<Rows,
 fn open_rows<S: BlockSource>(alloc: Global, source: &mut S) -> Result<Rows, BtrAnswer>
     ensures kept { S.kept source.old source.new }
     ensures cause { HasCauseOf BtrAnswer.Fault (S.faults source.old) (S.faults source.new) result }
-    ensures rows { IsTrue S.tells → (image : Image) → S.blocks source.old ≡ image → log_tree image ≡ None →
-        MatchResult result (λ rows. IsListableBtrfs image × ((whole : List WholeRow) × AreRowsOfBtrfs image whole × (rows ≡ map row_of whole))) (RefusesBtrfsRows image) }
+    ensures rows { IsTrue S.tells → (image : Image) → S.blocks source.old ≡ image → log_tree image ≡ None → MatchResult result (ListsBtrfs image) (RefusesBtrfsRows image) }
 {
     match Btrfs::open(alloc, source) {
         Ok(volume) => volume.rows(alloc, source),
