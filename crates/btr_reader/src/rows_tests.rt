@@ -24,7 +24,7 @@ fn refusal_of(alloc: Global, sample: &Sample) -> Result<Option<BtrAnswer>, Fail>
 
 /// The mark of the empty file is the SHA-256 of nothing.
 const PLAIN: &str =
-    "d 0755 0 0 1000000000 1000000000 1000000000 - - - - - /\nf 0644 0 0 1000000000 1000000000 1000000000 - - 1 0 e3b0c44298fc1c149afbf4c8996fb92427ae41e4649b934ca495991b7852b855 /a\n";
+    "d 0755 0 0 1000000000 1000000000 1000000000 - - - - - /\nf 0644 1000 100 1000000001 1000000001 1000000001 - - 1 0 e3b0c44298fc1c149afbf4c8996fb92427ae41e4649b934ca495991b7852b855 /a\n";
 
 #[test]
 fn rows_of_a_sample(rt: HostRuntime) -> Result<(), Fail> {

@@ -1,7 +1,7 @@
 // The bodies of the items of a sample.
 ghost use Rattle.std.specs.Prelude.{◌≡◌};
 
-use crate::sample::{BLOCKS, CHUNK, DEVICE, FILE_LEAF, FSID, MOMENT};
+use crate::sample::{BLOCKS, CHUNK, DEVICE, FILE_LEAF, FSID, MOMENT, Origin, SYSTEM_MADE};
 use btr_keys::{DirEntry, Inode, InodeRef, Key, Stamp};
 use btr_space_items::{Chunk, Device, RootItem, Stripe};
 
@@ -59,7 +59,7 @@ pub fn chunk(at: u64, kind: u64) -> [u8; 80] {
 }
 
 /// An inode with one name.
-pub fn inode(mode: u32, size: u64, atime: Stamp) -> Inode {
+pub fn inode(mode: u32, size: u64, origin: Origin, atime: Stamp) -> Inode {
     Inode {
         generation: 1,
         transid: 1,
@@ -67,23 +67,23 @@ pub fn inode(mode: u32, size: u64, atime: Stamp) -> Inode {
         nbytes: 0,
         block_group: 0,
         nlink: 1,
-        uid: 0,
-        gid: 0,
+        uid: origin.uid,
+        gid: origin.gid,
         mode,
         rdev: 0,
         flags: 0,
         sequence: 0,
         atime,
-        ctime: MOMENT,
-        mtime: MOMENT,
-        otime: MOMENT,
+        ctime: origin.moment,
+        mtime: origin.moment,
+        otime: origin.moment,
     }
 }
 
 /// The root item of the file tree.
 pub fn file_root() -> [u8; 439] {
     let root = RootItem {
-        inode: inode(0o40755, 3, MOMENT),
+        inode: inode(0o40755, 3, SYSTEM_MADE, MOMENT),
         generation: 1,
         root_dirid: 256,
         bytenr: FILE_LEAF,

@@ -3,8 +3,8 @@ ghost use Rattle.std.specs.Prelude.{◌≡◌, ◌+◌, ◌≤◌, length};
 
 use crate::bodies::{chunk, device, entry, file_name, file_root, inode, key, root_name};
 use crate::sample::{
-    CHUNK_LEAF, CHUNK_TREE, FILE_LEAF, FSID, METADATA, MOMENT, NODE, ROOT_LEAF, SYSTEM, Sample,
-    SampleAnswer,
+    CHUNK_LEAF, CHUNK_TREE, FILE_LEAF, FSID, METADATA, MOMENT, NODE, ROOT_LEAF, SYSTEM,
+    SYSTEM_MADE, Sample, SampleAnswer, USER_MADE,
 };
 use btr_node::{Expect, NodeWriter};
 use castagnoli::name_hash;
@@ -86,11 +86,17 @@ pub fn put_file_leaf(alloc: Global, disk: &mut MemDisk, sample: &Sample) -> Resu
 {
     let mut writer = NodeWriter::new(alloc, NODE)?;
     writer.start(&want(FILE_LEAF, sample.owner), CHUNK_TREE);
-    writer.push(key(256, 1, 0), &inode(0o40755, 2, MOMENT).to_bytes())?;
+    writer.push(
+        key(256, 1, 0),
+        &inode(0o40755, 2, SYSTEM_MADE, MOMENT).to_bytes(),
+    )?;
     writer.push(key(256, 12, 256), &root_name())?;
     writer.push(key(256, 84, u64::from(name_hash(b"a"))), &entry())?;
     writer.push(key(256, 96, 2), &entry())?;
-    writer.push(key(257, 1, 0), &inode(0o100644, 0, sample.atime).to_bytes())?;
+    writer.push(
+        key(257, 1, 0),
+        &inode(0o100644, 0, USER_MADE, sample.atime).to_bytes(),
+    )?;
     writer.push(key(257, 12, 256), &file_name())?;
     put_node(disk, FILE_LEAF / 4096, writer.finish())?;
     Ok(())

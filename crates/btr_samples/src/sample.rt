@@ -32,14 +32,41 @@ pub const ROOT_LEAF: u64 = METADATA;
 /// The address of the leaf that is the file tree, number 5, of a sample.
 pub const FILE_LEAF: u64 = METADATA + 16384;
 
-/// The time of all inodes.
+/// The time of the root directory, and that of the file.
 pub const MOMENT: Stamp = Stamp {
     sec: 1_000_000_000,
     nsec: 0,
 };
 
+const LATER: Stamp = Stamp {
+    sec: 1_000_000_001,
+    nsec: 0,
+};
+
+/// Who an inode belongs to, and when it was made.
+#[derive(Clone, Copy)]
+pub struct Origin {
+    pub uid: u32,
+    pub gid: u32,
+    pub moment: Stamp,
+}
+
+/// Of the root directory.
+pub const SYSTEM_MADE: Origin = Origin {
+    uid: 0,
+    gid: 0,
+    moment: MOMENT,
+};
+
+/// Of the file.
+pub const USER_MADE: Origin = Origin {
+    uid: 1000,
+    gid: 100,
+    moment: LATER,
+};
+
 /// A volume of 12,288 blocks and one transaction: a system chunk in MiB 33 and a metadata chunk in MiB 34; the chunk tree,
-/// the root tree and the file tree, each one leaf of 16 KiB; and in the root directory an empty file `a`.
+/// the root tree and the file tree, each one leaf of 16 KiB; and in the root directory an empty file `a` of user 1000 and group 100.
 #[derive(Clone, Copy, Debug)]
 pub struct Sample {
     /// The label, up to its first zero byte.
@@ -58,7 +85,7 @@ impl Sample {
         label: [0; 256],
         log_root: 0,
         owner: 5,
-        atime: MOMENT,
+        atime: LATER,
     };
 }
 
