@@ -47,7 +47,7 @@ fn bad_body(leaf: u64) -> BtrAnswer
 impl Btrfs {
     /// The root tree.
     #[tactic(auto, using(btr_walk::proofs::Stacks::sized))]
-    fn roots(&self) -> Tree
+    pub(crate) fn roots(&self) -> Tree
         ensures value { result ≡ root_tree_of self.now.sup }
         ensures walkable { IsWalkable result }
     {
@@ -165,7 +165,7 @@ fn map_of(
 
 impl Btrfs {
     /// The tree with this number, if it has a root item.
-    fn find_tree<S: BlockSource>(
+    pub(crate) fn find_tree<S: BlockSource>(
         &self,
         alloc: Global,
         src: &mut S,

@@ -13,7 +13,11 @@ mod image_place;
 mod inodes;
 mod laws;
 mod open;
+mod placed;
+mod refused;
 mod roots;
+mod row;
+mod rows;
 mod volume;
 
 pub use chunk::ChunkAt;
@@ -24,5 +28,7 @@ pub use laws::opened_maps_are_in_blocks;
 pub use roots::{RootFound, find_root};
 pub use volume::Btrfs;
 
+#[cfg(test)]
+mod rows_tests;
 #[cfg(test)]
 mod tests;

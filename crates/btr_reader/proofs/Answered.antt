@@ -1,0 +1,115 @@
+-- What is answered where the rows of a volume are read.
+use Rattle.std.proofs.Common.{◌≡◌, inl, inr, ℕ, Bool, List, [], map, Contains, Option, Some, None, ◌∙◌, ap, subst}
+use Rattle.std.specs.Prelude.{Result, Ok, Err}
+use Rattle.std.specs.Result.{MatchResult}
+use Rattle.outside.specs.History.{Image}
+use Rattle.outside.specs.declared.answer.BtrAnswer.{BtrAnswer}
+use Rattle.outside.specs.declared.answer.BtrAnswer.TheVariants.{Refused, Fault, Memory}
+use Rattle.outside.specs.declared.refusal.BtrRefusal.{BtrRefusal}
+use Rattle.btr_super.specs.declared.superblock.Super.{Super}
+use Rattle.btr_walk.specs.declared.map.MapRange.{MapRange}
+use Rattle.btr_walk.specs.declared.tree.Pointer.{Pointer}
+use Rattle.btr_walk.specs.declared.tree.Tree.{Tree}
+use Rattle.btr_walk.specs.Events.{TreeItem}
+use Rattle.btr_walk.specs.Walks.{found, wrong}
+use Rattle.fs_rows.specs.Rows.{WholeRow, row_of}
+use Rattle.fs_rows.specs.declared.row.Row.{Row}
+use Rattle.path_list.specs.declared.node.NodeId.{NodeId}
+use Rattle.btr_names.specs.Read.{BlamesTree}
+use Rattle.btr_names.specs.Roots.{has_root}
+use Rattle.btr_names.specs.Rules.{BreaksNames, KeepsNames}
+use Rattle.btr_names.specs.Steps.{AreNamed}
+use Rattle.btr_contents.specs.Contents.{wanted_at, RefusesContents}
+use Rattle.btr_reader.specs.Made.{IsMemory, RefusesChecked, RefusesRows, RefusesTree}
+use Rattle.btr_reader.specs.Opening.{root_tree, tree_of}
+use Rattle.btr_reader.specs.Reading.{FindsTree}
+use Rattle.btr_reader.specs.Roots.{root_item, pointer_of}
+use Rattle.btr_reader.specs.Rows.{AreRows, AreBtrfsRows, BreaksExtents, roots_on, IsTreeRefusal, no_root_item, bad_root_item, bad_tree, bad_names, bad_extents}
+use Rattle.btr_reader.proofs.Bridging.{breaks_named, none_among}
+
+some_none : {X : Type 0} (x : X) (o : Option X) → o ≡ Some x → o ≡ None → ⊥
+some_none x o some none = cc
+
+same_some : {X : Type 0} (x y : X) (o : Option X) → o ≡ Some x → o ≡ Some y → x ≡ y
+same_some x y o first second = cc
+
+-- the numbers of the trees of the root tree
+pub numbers_are : (image : Image) (s : Super) (slice ranges : List MapRange) (t : Tree) (told : ℕ → Bool) → slice ≡ ranges → t ≡ root_tree s → ((number : ℕ) → told number ≡ has_root (found image slice t) number)
+    → told ≡ has_root (roots_on image s ranges)
+numbers_are image s slice ranges t told same here numbers =
+    λ j number. (numbers number ∙ (ap (λ (r : List MapRange). has_root (found image r t) number) same ∙ ap (λ (x : Tree). has_root (found image ranges x) number) here)) j
+
+pub of_memory : (image : Image) (s : Super) (ranges : List MapRange) (e : BtrAnswer) → IsMemory e → RefusesTree image s ranges e
+of_memory image s ranges (Refused r) h = absurd h
+of_memory image s ranges Fault h = absurd h
+of_memory image s ranges Memory h = tt
+
+-- no file tree is found
+pub not_found : (image : Image) (s : Super) (ranges : List MapRange) (e : BtrAnswer) → FindsTree s 5 (root_item 5 (roots_on image s ranges)) (Err e) → RefusesTree image s ranges e
+not_found image s ranges (Refused r) (i, there, off, is) = bad_root_item i there off is
+not_found image s ranges Fault h = tt
+not_found image s ranges Memory h = tt
+
+-- a volume without a log tree
+pub tree_or_log : (image : Image) (s : Super) (ranges : List MapRange) (e : BtrAnswer) → s.log_root ≡ 0 → RefusesTree image s ranges e → RefusesRows image s ranges e
+tree_or_log image s ranges (Refused r) none h = inr (none, h)
+tree_or_log image s ranges Fault none h = tt
+tree_or_log image s ranges Memory none h = tt
+
+pub without_log : (image : Image) (s : Super) (ranges : List MapRange) (result : Result (List Row) BtrAnswer) → s.log_root ≡ 0
+    → MatchResult result (λ rows. (whole : List WholeRow) × AreBtrfsRows image s ranges whole × (rows ≡ map row_of whole)) (RefusesTree image s ranges)
+    → MatchResult result (λ rows. (s.log_root ≡ 0) × ((whole : List WholeRow) × AreBtrfsRows image s ranges whole × (rows ≡ map row_of whole))) (RefusesRows image s ranges)
+without_log image s ranges (Ok rows) none h = (none, h)
+without_log image s ranges (Err e) none h = tree_or_log image s ranges e none h
+
+module _ (image : Image) (s : Super) (ranges : List MapRange) (i : TreeItem) (p : Pointer) (there : root_item 5 (roots_on image s ranges) ≡ Some i) (at : pointer_of i.body ≡ Some p) where
+  abbrev items : List TreeItem
+  items = found image ranges (tree_of s 5 p)
+
+  abbrev roots : ℕ → Bool
+  roots = has_root (roots_on image s ranges)
+
+  tree_blamed : (e : BtrAnswer) → BlamesTree image ranges (tree_of s 5 p) e → RefusesTree image s ranges e
+  tree_blamed (Refused r) among = bad_tree i p there at among
+  tree_blamed Fault h = tt
+  tree_blamed Memory h = tt
+
+  pub names_refused : (e : BtrAnswer) → RefusesChecked roots items p.address e → RefusesTree image s ranges e
+  names_refused (Refused r) broken = bad_names i p there at broken
+  names_refused Fault h = tt
+  names_refused Memory h = tt
+
+  contents_blamed : (has : NodeId → Bool) (e : BtrAnswer) → AreNamed items has → RefusesContents (wanted_at has items) image ranges (tree_of s 5 p) e → RefusesTree image s ranges e
+  contents_blamed has (Refused r) named (inl among) = bad_tree i p there at among
+  contents_blamed has (Refused r) named (inr broken) = bad_extents i p there at (breaks_named has ranges items r named broken)
+  contents_blamed has Fault named h = tt
+  contents_blamed has Memory named h = tt
+
+  -- the tree that is read is the file tree
+  module _ (slice : List MapRange) (t : Tree) (same : slice ≡ ranges) (is : t ≡ tree_of s 5 p) where
+    pub here : (P : List MapRange → Tree → Type 0) → P slice t → P ranges (tree_of s 5 p)
+    here P h = subst (P ranges) is (subst (λ (r : List MapRange). P r t) same h)
+
+    pub tree_refused : (e : BtrAnswer) → BlamesTree image slice t e → RefusesTree image s ranges e
+    tree_refused e h = tree_blamed e (here (λ r x. BlamesTree image r x e) h)
+
+    pub contents_refused : (has : NodeId → Bool) (e : BtrAnswer) → AreNamed items has → RefusesContents (wanted_at has (found image slice t)) image slice t e → RefusesTree image s ranges e
+    contents_refused has e named h = contents_blamed has e named (here (λ r x. RefusesContents (wanted_at has (found image r x)) image r x e) h)
+
+  module _ (sound : wrong image ranges (tree_of s 5 p) ≡ []) (keeps : KeepsNames roots items p.address) (right : (r : BtrRefusal) → BreaksExtents ranges items r → ⊥) where
+    same_at : (j : TreeItem) (q : Pointer) → root_item 5 (roots_on image s ranges) ≡ Some j → pointer_of j.body ≡ Some q → q ≡ p
+    same_at j q other off = same_some q p (pointer_of i.body) (ap (λ (x : TreeItem). pointer_of x.body) (same_some i j (root_item 5 (roots_on image s ranges)) there other) ∙ off) at
+
+    readable : (r : BtrRefusal) → IsTreeRefusal image s ranges r → ⊥
+    readable r (no_root_item none is) = some_none i (root_item 5 (roots_on image s ranges)) there none
+    readable r (bad_root_item j other off is) =
+        some_none p (pointer_of i.body) at (ap (λ (x : TreeItem). pointer_of x.body) (same_some i j (root_item 5 (roots_on image s ranges)) there other) ∙ off)
+    readable r (bad_tree j q other off among) =
+        none_among (wrong image ranges (tree_of s 5 p)) r sound (subst (λ (x : Pointer). Contains (wrong image ranges (tree_of s 5 x)) r) (same_at j q other off) among)
+    readable r (bad_names j q other off broken) = keeps r (subst (λ (x : Pointer). BreaksNames roots (found image ranges (tree_of s 5 x)) x.address r) (same_at j q other off) broken)
+    readable r (bad_extents j q other off broken) = right r (subst (λ (x : Pointer). BreaksExtents ranges (found image ranges (tree_of s 5 x)) r) (same_at j q other off) broken)
+
+    pub rows_answered : (result : Result (List Row) BtrAnswer) → MatchResult result (λ rows. (whole : List WholeRow) × AreRows image ranges items whole × (rows ≡ map row_of whole)) IsMemory
+        → MatchResult result (λ rows. (whole : List WholeRow) × AreBtrfsRows image s ranges whole × (rows ≡ map row_of whole)) (RefusesTree image s ranges)
+    rows_answered (Ok rows) (whole, are, made) = (whole, record { readable = readable; item = i; has_item = there; at = p; has_root = at; rows_are = are }, made)
+    rows_answered (Err e) h = of_memory image s ranges e h

@@ -1,0 +1,78 @@
+-- What the row of an inode has of its bytes.
+use Rattle.std.proofs.Common.{◌≡◌, ℕ, ◌≤◌, nat_le, Bool, true, false, List, [], replicate, Option, Some, None, IfOk, Result, Ok, Err, if◌then◌else◌, refl, sym, ap, ◌∙◌, arith}
+use Rattle.std.specs.Option.{option_and_then}
+use Rattle.std.proofs.lemmas.Bool.Decides.{nat_tests}
+use Rattle.outside.specs.History.{Image}
+use Rattle.btr_keys.specs.declared.inode.Inode.{Inode}
+use Rattle.btr_walk.specs.declared.map.MapRange.{MapRange}
+use Rattle.btr_walk.specs.Events.{TreeItem}
+use Rattle.btr_files.specs.Extents.{file_bytes}
+use Rattle.btr_names.specs.Inodes.{kind_of_mode}
+use Rattle.btr_contents.specs.declared.content.Content.{Content}
+use Rattle.btr_contents.specs.declared.wanted.Wanted.{Wanted}
+use Rattle.btr_contents.specs.Contents.{wanted_by, wanted_inode, content_of, content_in}
+use Rattle.fs_rows.specs.declared.row.Kind.{Kind}
+use Rattle.fs_rows.specs.declared.row.Kind.TheVariants.{Directory, File, Symlink, Character, Block, Fifo, Socket, Subvolume}
+use Rattle.btr_reader.specs.Made.{IsContent, bytes_at}
+
+no_some : {X : Type 0} (x : X) → None ≡ Some x → ⊥
+no_some x is = cc is
+
+same_some : {X : Type 0} (x y : X) → Some x ≡ Some y → x ≡ y
+same_some x y is = cc is
+
+wanted_is : (own : Inode) (kind : Kind) (o : Option Wanted) → kind_of_mode own.mode ≡ Some kind → wanted_inode own ≡ o → wanted_by own.size kind ≡ o
+wanted_is own kind o known is = sym (ap (option_and_then (wanted_by own.size)) known) ∙ is
+
+module _ (image : Image) (ranges : List MapRange) (items : List TreeItem) (ino : ℕ) (own : Inode) where
+  abbrev bytes : List ℕ
+  bytes = file_bytes image ranges items ino own.size
+
+  abbrev Has : Kind → ℕ → List ℕ → List ℕ → Type 0
+  Has kind size mark target = IsContent kind (bytes_at image ranges items ino own kind) size mark target
+
+  same_content : (w v : Wanted) (c : Content) → w ≡ v → c ≡ content_in image ranges items ino v → c ≡ content_in image ranges items ino w
+  same_content w v c same is = is ∙ ap (content_in image ranges items ino) (sym same)
+
+  of_file : (c : Content) → c ≡ content_of false bytes → Has File c.length c.mark c.target
+  of_file c is = record { is_length = ap (λ (x : Content). x.length) is; is_mark = ap (λ (x : Content). x.mark) is; is_target = ap (λ (x : Content). x.target) is }
+
+  of_link : (c : Content) → c ≡ content_of true bytes → Has Symlink c.length c.mark c.target
+  of_link c is = record { is_length = ap (λ (x : Content). x.length) is; is_mark = ap (λ (x : Content). x.mark) is; is_target = ap (λ (x : Content). x.target) is }
+
+  link_kept : (b : Bool) (w : Wanted) (c : Content) → (if b then Some (record { link = true; size = own.size }) else None) ≡ Some w → c ≡ content_in image ranges items ino w → Has Symlink c.length c.mark c.target
+  link_kept true w c wanted is = of_link c (same_content (record { link = true; size = own.size }) w c (same_some _ w wanted) is)
+  link_kept false w c wanted is = absurd (no_some w wanted)
+
+  kept_by : (kind : Kind) (w : Wanted) (c : Content) → wanted_by own.size kind ≡ Some w → c ≡ content_in image ranges items ino w → Has kind c.length c.mark c.target
+  kept_by File w c wanted is = of_file c (same_content (record { link = false; size = own.size }) w c (same_some _ w wanted) is)
+  kept_by Symlink w c wanted is = link_kept (nat_le own.size 4095) w c wanted is
+  kept_by Directory w c wanted is = absurd (no_some w wanted)
+  kept_by Character w c wanted is = absurd (no_some w wanted)
+  kept_by Block w c wanted is = absurd (no_some w wanted)
+  kept_by Fifo w c wanted is = absurd (no_some w wanted)
+  kept_by Socket w c wanted is = absurd (no_some w wanted)
+  kept_by Subvolume w c wanted is = absurd (no_some w wanted)
+
+  -- a file and a symlink have what is kept of them
+  pub content_kept : {E : Type 0} (kind : Kind) (w : Wanted) (r : Result Content E) → kind_of_mode own.mode ≡ Some kind → wanted_inode own ≡ Some w → IfOk r (λ c. c ≡ content_in image ranges items ino w) → IfOk r (λ c. Has kind c.length c.mark c.target)
+  content_kept kind w (Ok c) known wanted is = kept_by kind w c (wanted_is own kind (Some w) known wanted) is
+  content_kept kind w (Err e) known wanted is = is
+
+  none_by : (kind : Kind) (size : ℕ) (mark target : List ℕ) → wanted_by own.size kind ≡ None → (kind ≡ Symlink → own.size ≤ 4095) → size ≡ 0 → mark ≡ replicate 32 0 → target ≡ [] → Has kind size mark target
+  none_by File size mark target wanted short zero zeros none = absurd (no_some _ (sym wanted))
+  none_by Symlink size mark target wanted short zero zeros none =
+      let fits : nat_le own.size 4095 ≡ true = grind (arith, nat_tests, short refl) in
+      absurd (no_some _ (sym wanted ∙ ap (λ (b : Bool). if b then Some (record { link = true; size = own.size }) else None) fits))
+  none_by Directory size mark target wanted short zero zeros none = record { is_length = zero; is_mark = zeros; is_target = none }
+  none_by Character size mark target wanted short zero zeros none = record { is_length = zero; is_mark = zeros; is_target = none }
+  none_by Block size mark target wanted short zero zeros none = record { is_length = zero; is_mark = zeros; is_target = none }
+  none_by Fifo size mark target wanted short zero zeros none = record { is_length = zero; is_mark = zeros; is_target = none }
+  none_by Socket size mark target wanted short zero zeros none = record { is_length = zero; is_mark = zeros; is_target = none }
+  none_by Subvolume size mark target wanted short zero zeros none = record { is_length = zero; is_mark = zeros; is_target = none }
+
+  -- another inode has nothing
+  pub content_none : {E : Type 0} (kind : Kind) (r : Result Content E) → kind_of_mode own.mode ≡ Some kind → wanted_inode own ≡ None → (kind ≡ Symlink → own.size ≤ 4095) → IfOk r (λ c. c.length ≡ 0) → IfOk r (λ c. c.mark ≡ replicate 32 0)
+      → IfOk r (λ c. c.target ≡ []) → IfOk r (λ c. Has kind c.length c.mark c.target)
+  content_none kind (Ok c) known wanted short zero zeros none = none_by kind c.length c.mark c.target (wanted_is own kind None known wanted) short zero zeros none
+  content_none kind (Err e) known wanted short zero zeros none = zero

@@ -1,0 +1,91 @@
+ghost use Rattle.std.specs.Prelude.{◌≡◌, ◌≤◌, ◌<◌, ℕ, Bool, Option, List, map, take, length, slice_get, Some, nat_eq, IfErr, IfOk};
+ghost use Rattle.std.specs.Result.{MatchResult};
+ghost use Rattle.outside.specs.History.{Image};
+ghost use Rattle.fs_rows.specs.Rows.{row_of};
+ghost use Rattle.fs_rows.specs.declared.row.Kind.{Kind as KindOf};
+ghost use Rattle.fs_rows.specs.declared.row.Kind.TheVariants.{Symlink};
+ghost use Rattle.fs_rows.specs.declared.row.Row.{Row as RowOf};
+ghost use Rattle.indexmap.specs.IndexMap.{get};
+ghost use Rattle.path_list.specs.declared.link.PathTo.{PathTo as PathOf};
+ghost use Rattle.path_list.specs.declared.node.NodeId.{NodeId as NodeOf};
+ghost use Rattle.path_list.specs.Paths.{ArePaths};
+ghost use Rattle.btr_walk.specs.Events.{TreeItem};
+ghost use Rattle.btr_walk.specs.declared.map.MapRange.{MapRange as RangeOf};
+ghost use Rattle.btr_names.specs.Inodes.{kind_of_mode};
+ghost use Rattle.btr_names.specs.Steps.{inode_node, links_of};
+ghost use Rattle.btr_contents.specs.Contents.{wanted_inode, HasContents};
+ghost use Rattle.btr_contents.specs.declared.wanted.Wanted.{Wanted as WantedOf};
+ghost use Rattle.btr_reader.specs.Made.{IsContent, IsMemory, IsReadTree, bytes_at, made_row};
+ghost use Rattle.btr_reader.specs.Opening.{IsNoFault};
+
+use crate::refused::refused;
+use crate::row::{Spot, copy_path, inode_row, no_content, tree_row};
+use btr_contents::{Content, Contents, wanted_inode};
+use btr_keys::Inode;
+use btr_names::{Names, kind_of_mode};
+use fs_rows::{Row, Rows};
+use outside::{BtrAnswer, BtrRule, Memory};
+use path_list::PathTo;
+use std::alloc::Global;
+
+/// The root directory.
+const ROOT: u64 = 256;
+
+/// The row at a path, behind those of the paths before it.
+pub fn row_at(
+    alloc: Global,
+    names: &Names,
+    contents: &Contents,
+    path: &PathTo,
+    rows: &Rows,
+) -> Result<Row, BtrAnswer>
+    ensures cause { IfErr result IsNoFault }
+    ensures row { (named : NodeOf → Bool) (image : Image) (ranges : List RangeOf) (items : List TreeItem) (root : ℕ) (has_root : ℕ → Bool) → IsReadTree names.now named (λ ino. get nat_eq contents.now.known ino) image ranges items root has_root →
+        (list : List PathOf) → ArePaths (links_of names.now named) (inode_node 256) list → (i : ℕ) → slice_get list i ≡ Some path.now → rows.now ≡ map (λ p. row_of (made_row image ranges items list p)) (take i list) →
+        MatchResult result (λ row. row ≡ row_of (made_row image ranges items list path.now)) IsMemory }
+{
+    if path.target.space != 0 {
+        let row = tree_row(alloc, &path.path)?;
+        return Ok(row);
+    }
+    let ino = path.target.number;
+    let Some(own) = names.inode(ino) else {
+        return Err(refused(ROOT, BtrRule::NoInode));
+    };
+    let Some(kind) = kind_of_mode(own.mode) else {
+        return Err(refused(ROOT, BtrRule::Body));
+    };
+    let content = content(alloc, contents, ino, &own)?;
+    let spot = spot(alloc, path, rows)?;
+    Ok(inode_row(spot, &own, kind, content))
+}
+
+/// What a row has of the bytes of an inode.
+fn content(alloc: Global, contents: &Contents, ino: u64, own: &Inode) -> Result<Content, Memory>
+    ensures { (kind : KindOf) (plan : ℕ → Option WantedOf) (image : Image) (ranges : List RangeOf) (items : List TreeItem) → HasContents plan image ranges items (λ ino. get nat_eq contents.now.known ino) → plan ino ≡ wanted_inode own.now →
+        kind_of_mode own.now.mode ≡ Some kind → (kind ≡ Symlink → own.now.size ≤ 4095) → IfOk result (λ c. IsContent kind (bytes_at image ranges items ino own.now kind) c.length c.mark c.target) }
+{
+    match wanted_inode(own) {
+        Some(wanted) => contents.content(alloc, ino, wanted),
+        None => no_content(alloc),
+    }
+}
+
+/// Where a row stands, behind those of the paths before it.
+fn spot(alloc: Global, path: &PathTo, rows: &Rows) -> Result<Spot, Memory>
+    ensures path { IfOk result (λ spot. spot.path ≡ path.now.path) }
+    ensures names { IfOk result (λ spot. spot.names ≡ path.now.names) }
+    ensures earlier { path.now.least < length rows.now → IfOk result (λ spot. (row : RowOf) → slice_get rows.now path.now.least ≡ Some row → spot.least ≡ row.path) }
+    ensures first { length rows.now ≤ path.now.least → IfOk result (λ spot. spot.least ≡ path.now.path) }
+{
+    let least = if path.least < rows.len() {
+        copy_path(alloc, &rows.get(path.least).path)?
+    } else {
+        copy_path(alloc, &path.path)?
+    };
+    Ok(Spot {
+        path: copy_path(alloc, &path.path)?,
+        least,
+        names: path.names,
+    })
+}

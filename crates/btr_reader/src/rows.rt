@@ -1,0 +1,148 @@
+ghost use Rattle.std.specs.Prelude.{◌≡◌, ◌≤◌, ℕ, Bool, List, [], map, length, Some, nat_eq, IsTrue, IfErr, IfOk};
+ghost use Rattle.std.specs.Result.{MatchResult};
+ghost use Rattle.outside.specs.Fault.{HasCauseOf};
+ghost use Rattle.outside.specs.History.{Image};
+ghost use Rattle.btr_walk.specs.declared.map.MapRange.{MapRange as RangeOf};
+ghost use Rattle.btr_walk.specs.declared.tree.Pointer.{Pointer as PointerOf};
+ghost use Rattle.btr_walk.specs.Events.{TreeItem};
+ghost use Rattle.btr_walk.specs.Walks.{LieOn, wrong};
+ghost use Rattle.fs_rows.specs.Rows.{WholeRow, row_of};
+ghost use Rattle.indexmap.specs.IndexMap.{get};
+ghost use Rattle.indexmap.specs.IndexSet.{contains};
+ghost use Rattle.path_list.specs.Links.{same_node};
+ghost use Rattle.btr_files.specs.Blocks.{AreInBlocks};
+ghost use Rattle.btr_names.specs.Roots.{has_root};
+ghost use Rattle.btr_names.specs.Table.{HasNoted};
+ghost use Rattle.btr_reader.specs.Made.{IsChecked, IsMemory, IsReadTree, RefusesChecked, RefusesRows, RefusesTree};
+ghost use Rattle.btr_reader.specs.Opening.{IsNoFault, IsOpened, root_tree as root_tree_of, tree_of};
+ghost use Rattle.btr_reader.specs.Reading.{IsWalkable};
+ghost use Rattle.btr_reader.specs.Roots.{root_item, pointer_of};
+ghost use Rattle.btr_reader.specs.Rows.{AreBtrfsRows, AreRows, roots_on};
+
+use crate::placed::row_at;
+use crate::refused::refused;
+use crate::volume::Btrfs;
+use btr_contents::Contents;
+use btr_names::{Names, inode_node, root_numbers};
+use btr_walk::Tree;
+use fs_rows::Rows;
+use indexmap::IndexSet;
+use outside::{BlockSource, BtrAnswer, BtrRefusal, BtrRule};
+use path_list::{NodeId, paths};
+use std::alloc::Global;
+
+/// The number of the file tree.
+const FILE_TREE: u64 = 5;
+
+/// The root directory.
+const ROOT: u64 = 256;
+
+impl Btrfs {
+    /// The rows of the file tree, number 5: one for each path, ascending. The entry of the saved image is no part of it.
+    ///
+    /// Over the source that was opened it is refused exactly where there is a log tree, or else where something is wrong
+    /// with the tree, its names or the extents of a named file or symlink, by one of the things that are. The blocks of
+    /// each file are read once, however many names it has. Over a source with another number of blocks it is refused.
+    pub fn rows<S: BlockSource>(&self, alloc: Global, src: &mut S) -> Result<Rows, BtrAnswer>
+        ensures kept { S.kept src.old src.new }
+        ensures cause { HasCauseOf BtrAnswer.Fault (S.faults src.old) (S.faults src.new) result }
+        ensures rows { IsTrue S.tells → (image : Image) → S.blocks src.old ≡ image → length image ≡ self.now.device → IsOpened image self.now.sup self.now.ranges.items →
+            MatchResult result (λ rows. (self.now.sup.log_root ≡ 0) × ((whole : List WholeRow) × AreBtrfsRows image self.now.sup self.now.ranges.items whole × (rows ≡ map row_of whole)))
+            (RefusesRows image self.now.sup self.now.ranges.items) }
+    {
+        if self.sup.log_root != 0 {
+            return Err(BtrAnswer::Refused(BtrRefusal::LogPending {
+                address: self.sup.log_root,
+            }));
+        }
+        if src.len() != self.device {
+            return Err(refused(65536, BtrRule::SuperField));
+        }
+        let tree = self.file_tree(alloc, src)?;
+        self.read_rows(alloc, src, tree)
+    }
+
+    /// The file tree.
+    fn file_tree<S: BlockSource>(&self, alloc: Global, src: &mut S) -> Result<Tree, BtrAnswer>
+        requires inside { LieOn (S.size src.old) self.now.ranges.items }
+        ensures kept { S.kept src.old src.new }
+        ensures cause { HasCauseOf BtrAnswer.Fault (S.faults src.old) (S.faults src.new) result }
+        ensures walkable { IfOk result IsWalkable }
+        ensures finds { IsTrue S.tells → (image : Image) → S.blocks src.old ≡ image → wrong image self.now.ranges.items (root_tree_of self.now.sup) ≡ [] →
+            MatchResult result (λ t. (i : TreeItem) × (p : PointerOf) × (root_item 5 (roots_on image self.now.sup self.now.ranges.items) ≡ Some i) × (pointer_of i.body ≡ Some p) × (t ≡ tree_of self.now.sup 5 p))
+            (RefusesTree image self.now.sup self.now.ranges.items) }
+    {
+        match self.find_tree(alloc, src, FILE_TREE)? {
+            Some(tree) => Ok(tree),
+            None => Err(refused(self.sup.root, BtrRule::NoInode)),
+        }
+    }
+
+    /// The inodes that are named in a tree with these names, whose root node has this address, where all the rules of names
+    /// are kept.
+    fn named<S: BlockSource>(
+        &self,
+        alloc: Global,
+        src: &mut S,
+        names: &Names,
+        root: u64,
+    ) -> Result<IndexSet<NodeId>, BtrAnswer>
+        requires inside { LieOn (S.size src.old) self.now.ranges.items }
+        ensures kept { S.kept src.old src.new }
+        ensures cause { HasCauseOf BtrAnswer.Fault (S.faults src.old) (S.faults src.new) result }
+        ensures named { IsTrue S.tells → (image : Image) → S.blocks src.old ≡ image → wrong image self.now.ranges.items (root_tree_of self.now.sup) ≡ [] →
+            (items : List TreeItem) → HasNoted names.now items →
+            MatchResult result (λ named. IsChecked names.now (contains same_node named) items root (has_root (roots_on image self.now.sup self.now.ranges.items))) (RefusesChecked (has_root (roots_on image self.now.sup self.now.ranges.items)) items root) }
+    {
+        let roots = root_numbers(alloc, src, self.roots(), self.ranges.as_slice())?;
+        match names.check(alloc, root, &roots) {
+            Ok(named) => Ok(named),
+            Err(BtrAnswer::Refused(refusal)) => Err(BtrAnswer::Refused(refusal)),
+            // No call of the device was made, so that there was no memory.
+            Err(_) => Err(BtrAnswer::Memory),
+        }
+    }
+
+    /// The rows of the file tree.
+    fn read_rows<S: BlockSource>(
+        &self,
+        alloc: Global,
+        src: &mut S,
+        tree: Tree,
+    ) -> Result<Rows, BtrAnswer>
+        requires inside { LieOn (S.size src.old) self.now.ranges.items }
+        requires walkable { IsWalkable tree }
+        ensures kept { S.kept src.old src.new }
+        ensures cause { HasCauseOf BtrAnswer.Fault (S.faults src.old) (S.faults src.new) result }
+        ensures rows { IsTrue S.tells → (image : Image) → S.blocks src.old ≡ image → AreInBlocks self.now.ranges.items → wrong image self.now.ranges.items (root_tree_of self.now.sup) ≡ [] →
+            (i : TreeItem) (p : PointerOf) → root_item 5 (roots_on image self.now.sup self.now.ranges.items) ≡ Some i → pointer_of i.body ≡ Some p → tree ≡ tree_of self.now.sup 5 p →
+            MatchResult result (λ rows. (whole : List WholeRow) × AreBtrfsRows image self.now.sup self.now.ranges.items whole × (rows ≡ map row_of whole)) (RefusesTree image self.now.sup self.now.ranges.items) }
+    {
+        let ranges = self.ranges.as_slice();
+        let names = Names::read(alloc, src, tree, ranges)?;
+        let named = self.named(alloc, src, &names, tree.root.address)?;
+        let contents = Contents::read(alloc, src, tree, ranges, &names, &named)?;
+        rows_of(alloc, &names, &named, &contents)
+    }
+}
+
+/// The rows of the paths of a tree whose names and contents are these.
+fn rows_of(
+    alloc: Global,
+    names: &Names,
+    named: &IndexSet<NodeId>,
+    contents: &Contents,
+) -> Result<Rows, BtrAnswer>
+    ensures cause { IfErr result IsNoFault }
+    ensures rows { (image : Image) (ranges : List RangeOf) (items : List TreeItem) (root : ℕ) (has_root : ℕ → Bool) → IsReadTree names.now (contains same_node named.now) (λ ino. get nat_eq contents.now.known ino) image ranges items root has_root →
+        MatchResult result (λ rows. (whole : List WholeRow) × AreRows image ranges items whole × (rows ≡ map row_of whole)) IsMemory }
+{
+    let links = names.links(alloc, named)?;
+    let paths = paths(alloc, links, inode_node(ROOT))?;
+    let mut rows = Rows::new(alloc);
+    for i in 0..paths.len() {
+        let row = row_at(alloc, names, contents, &paths[i], &rows)?;
+        rows.add(row)?;
+    }
+    Ok(rows)
+}
