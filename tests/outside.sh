@@ -110,6 +110,14 @@ expected_btrfs() {
     printf 'image -\n'
 }
 
+# tree_of DIRECTORY: of the directory and all that is below it, what `list` says of kind, mode, owners, names, length and path
+tree_of() {
+    find "$1" -printf '%y 0%m %U %G %n %s /%P\n' | awk '
+        $1 == "d" { $5 = "-" }
+        $1 == "d" || $1 == "p" { $6 = "-" }
+        { print }' | LC_ALL=C sort
+}
+
 # the numbers of blocks, free and used, of the last output; "adds up" where used is the rest of the blocks
 used_adds_up() {
     awk '$1 == "blocks" { b = $2 } $1 == "free" { f = $2 } $1 == "used" { u = $2 }
@@ -164,18 +172,6 @@ refusals() {
         ends 'an ext4 volume' 1 'refused 1 novolume' inspect ext4
     else
         echo 'skipped: an ext4 volume, since mkfs.ext4 is not to be had'
-    fi
-    if need mkfs.btrfs btrfs-progs; then
-        truncate -s 128M btrfs
-        mkfs.btrfs -q -m dup btrfs >/dev/null 2>&1
-        ends 'a Btrfs volume with two copies' 1 'refused 3 unsupported 16 34' inspect btrfs
-        mkfs.btrfs -q -f -m single -d single -L 'My label' btrfs >/dev/null 2>&1
-        run inspect btrfs
-        same 'inspect of a Btrfs volume' "0||$(expected_btrfs btrfs)" "$status|$err|$out"
-        put btrfs $((super + 72)) '\xff'
-        ends 'a wrong checksum' 1 'refused 13 badbtrfs 65536 1' inspect btrfs
-    else
-        echo 'skipped: a Btrfs volume, since mkfs.btrfs is not to be had'
     fi
     volume old 20000 --format 3.5
     ends 'a volume of format 3.5' 1 'refused 3 unsupported 1 35' inspect old
@@ -372,6 +368,39 @@ samples() {
     done <"$top/tests/samples.table"
 }
 
+# ---- Btrfs -----------------------------------------------------------------------------------------------------------
+
+btrfs_volumes() {
+    local size
+    mkdir -p tree/sub/deep tree/empty
+    echo hello >tree/small
+    head -c 300000 /dev/urandom >tree/big
+    truncate -s 1M tree/sparse
+    echo tail >>tree/sparse
+    ln -s ../some/place tree/sub/link
+    ln tree/big tree/sub/hard
+    mkfifo tree/sub/fifo
+    for i in {1..300}; do echo "$i" >"tree/sub/deep/$i"; done
+    for size in 4096 16384 65536; do
+        rm -f btrfs
+        truncate -s 256M btrfs
+        mkfs.btrfs -q -n $size -m single -d single -L 'My label' --rootdir tree btrfs >/dev/null 2>&1
+        run inspect btrfs
+        same "inspect of a Btrfs volume with nodes of $size bytes" "0||$(expected_btrfs btrfs)" "$status|$err|$out"
+        run list btrfs
+        same "list of a Btrfs volume with nodes of $size bytes" "0||$(tree_of tree)" \
+            "$status|$err|$(awk '{ print $1, $2, $3, $4, $10, $11, $13 }' "$work/.out" | LC_ALL=C sort)"
+    done
+    put btrfs $((super + 72)) '\xff'
+    ends 'a wrong checksum' 1 'refused 13 badbtrfs 65536 1' inspect btrfs
+    ends 'a wrong checksum, listed' 1 'refused 13 badbtrfs 65536 1' list btrfs
+    rm -f btrfs
+    truncate -s 128M btrfs
+    mkfs.btrfs -q -m dup btrfs >/dev/null 2>&1
+    ends 'a Btrfs volume with two copies' 1 'refused 3 unsupported 16 34' inspect btrfs
+    ends 'a Btrfs volume with two copies, listed' 1 'refused 3 unsupported 16 34' list btrfs
+}
+
 # ---- all -------------------------------------------------------------------------------------------------------------
 
 if ! "$top/reiserconv" --version >/dev/null; then
@@ -385,6 +414,11 @@ if ! "$top/sample_volume" 0 1 /dev/null 2>/dev/null && [ ! -x "$maker" ]; then
     exit 1
 fi
 words_and_statuses
+if need mkfs.btrfs btrfs-progs; then
+    btrfs_volumes
+else
+    echo 'skipped: Btrfs volumes, since mkfs.btrfs is not to be had'
+fi
 if need mkfs.reiserfs reiserfsprogs && need debugreiserfs reiserfsprogs; then
     refusals
     fresh_volumes

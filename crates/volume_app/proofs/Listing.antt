@@ -8,13 +8,17 @@ use Rattle.fs_rows.specs.Text.{rows_text}
 use Rattle.fs_rows.specs.declared.row.Row.{Row}
 use Rattle.object_files.specs.Answers.{IsFileAnswer, IsFaultOrMemory}
 use Rattle.outside.specs.History.{Image}
+use Rattle.outside.specs.declared.answer.BtrAnswer.{BtrAnswer}
+use Rattle.outside.specs.declared.answer.BtrAnswer.TheVariants as of_btr
 use Rattle.outside.specs.declared.answer.VolAnswer.{VolAnswer}
 use Rattle.outside.specs.declared.answer.VolAnswer.TheVariants.{Refused, Fault, Memory}
 use Rattle.reiser_volume.specs.Answers.{IsVolumeAnswer, RefusesVolume}
 use Rattle.reiser_volume.specs.Volume.{AreRowsOf, IsAccepted}
-use Rattle.volume_app.specs.Answers.{of_volume}
+use Rattle.volume_app.specs.Answers.{of_volume, of_btrfs}
+use Rattle.volume_app.specs.Btrfs.{IsListableBtrfs, AreRowsOfBtrfs, RefusesBtrfsRows}
 use Rattle.volume_app.specs.Format.{format_in}
-use Rattle.volume_app.specs.Listing.{IsListable, AreRowsIn, IsListText, Lists, ListRefuses, IsRowsAnswer, IsListAnswer}
+use Rattle.volume_app.specs.Listing.{IsListable, AreRowsIn, IsListText, Lists, ListRefuses, IsListAnswer}
+use Rattle.volume_app.specs.Reiser.{IsRowsAnswer}
 use Rattle.volume_app.proofs.Formats.{reiser_found}
 
 pub reiser_listed : (disk : Image) (rows : List Row) → format_in disk ≢ formats.Btrfs → IsAccepted disk → (whole : List WholeRow) × AreRowsOf disk whole × (rows ≡ map row_of whole) → Lists disk rows
@@ -27,6 +31,15 @@ reiser_listed disk rows other accepted (whole, are, seen) =
       seen = seen;
     }
 
+pub btrfs_listed : (disk : Image) (rows : List Row) → format_in disk ≡ formats.Btrfs → IsListableBtrfs disk → (whole : List WholeRow) × AreRowsOfBtrfs disk whole × (rows ≡ map row_of whole) → Lists disk rows
+btrfs_listed disk rows format listable (whole, are, seen) =
+    record {
+      listable = subst (λ (f : Format). IsListable f disk) (sym format) listable;
+      whole = whole;
+      are_rows = subst (λ (f : Format). AreRowsIn f disk whole) (sym format) are;
+      seen = seen;
+    }
+
 -- the text of rows that are listed is that of the disk
 pub listed_text : (disk : Image) (rows : List Row) → Lists disk rows → IsListText disk (rows_text rows)
 listed_text disk rows lists = (lists.whole, lists.are_rows, ap (λ (r : List Row). rows_text r) lists.seen)
@@ -36,6 +49,11 @@ pub reiser_refused : (disk : Image) (answer : VolAnswer) → format_in disk ≢ 
 reiser_refused disk (Refused refusal) other refuses = (other, refuses)
 reiser_refused disk Fault other refuses = tt
 reiser_refused disk Memory other refuses = tt
+
+pub btrfs_refused : (disk : Image) (answer : BtrAnswer) → format_in disk ≡ formats.Btrfs → RefusesBtrfsRows disk answer → ListRefuses disk (of_btrfs answer)
+btrfs_refused disk (of_btr.Refused refusal) format refuses = (format, refuses)
+btrfs_refused disk of_btr.Fault format refuses = tt
+btrfs_refused disk of_btr.Memory format refuses = tt
 
 -- an accepted volume's rows are refused by no rule
 pub rows_refused : (disk : Image) (answer : VolAnswer) → IsFaultOrMemory answer → RefusesVolume disk answer
@@ -57,3 +75,8 @@ pub reiser_known : (answer : VolAnswer) → IsRowsAnswer answer → IsListAnswer
 reiser_known (Refused refusal) known = known
 reiser_known Fault known = tt
 reiser_known Memory known = tt
+
+pub btrfs_known : (answer : BtrAnswer) → IsListAnswer (of_btrfs answer)
+btrfs_known (of_btr.Refused refusal) = tt
+btrfs_known of_btr.Fault = tt
+btrfs_known of_btr.Memory = tt

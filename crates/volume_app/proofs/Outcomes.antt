@@ -18,6 +18,7 @@ use Rattle.btr_summary.proofs.Telling.{readable_exactly}
 use Rattle.volume_app.specs.Format.{format_in}
 use Rattle.volume_app.specs.Inspect.{IsInspectable, InspectRefuses}
 use Rattle.volume_app.specs.Listing.{IsListable, ListRefuses}
+use Rattle.volume_app.proofs.Logs.{not_refused as rows_not_refused}
 use Rattle.volume_app.specs.Outcome.{IsDone, EndsRight, Prints, HasFaults, ending_of}
 
 -- a text that was written is that of the ending
@@ -57,10 +58,11 @@ accepted_where formats.Neither disk other is = absurd is
 list_done : (disk : Image) (answer : Answer) (disk_old disk_new : ℕ) → IsListable (format_in disk) disk → ListRefuses disk answer
     → (answer ≡ Fault → Rose disk_old disk_new) → disk_new ≡ disk_old → disk_old < 2 ^ 64 - 1 → (status (Failed answer) ≡ 0) ⊎ (status (Failed answer) ≡ 4)
 list_done disk (Volume refusal) disk_old disk_new done refuses device same low = absurd (not_refused disk refusal refuses.1 (accepted_where (format_in disk) disk refuses.0 done))
-list_done disk (Btr refusal) disk_old disk_new done refuses device same low = absurd refuses
+list_done disk (Btr refusal) disk_old disk_new done refuses device same low =
+    absurd (rows_not_refused disk refusal (subst (λ (f : Format). IsListable f disk) refuses.0 done) refuses.1)
 list_done disk Fault disk_old disk_new done refuses device same low = absurd (not_risen disk_old disk_new same low (device refl))
 list_done disk Memory disk_old disk_new done refuses device same low = inr refl
-list_done disk WrongFormat disk_old disk_new done refuses device same low = absurd (subst (λ (f : Format). IsListable f disk) refuses done)
+list_done disk WrongFormat disk_old disk_new done refuses device same low = absurd refuses
 list_done disk (NoSpace needed free run_needed longest_run) disk_old disk_new done refuses device same low = absurd refuses
 list_done disk ImageMissing disk_old disk_new done refuses device same low = absurd refuses
 list_done disk (ImageMoved block) disk_old disk_new done refuses device same low = absurd refuses

@@ -1,8 +1,10 @@
 pub mod Answers
+pub mod Btrfs
 pub mod Command
 pub mod Ending
 pub mod Format
 pub mod Inspect
+pub mod Laws
 pub mod Listing
 pub mod Outcome
 pub mod Reiser

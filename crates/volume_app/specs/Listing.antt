@@ -9,22 +9,21 @@ use Rattle.object_files.specs.Answers.{IsChanged}
 use Rattle.outside.specs.History.{Image}
 use Rattle.outside.specs.declared.answer.Answer.{Answer}
 use Rattle.outside.specs.declared.answer.Answer.TheVariants.{Volume, Btr, NoSpace, WrongFormat, ImageMissing, ImageMoved, ImageDamaged, ReservedUsed, Fault, Memory}
-use Rattle.outside.specs.declared.answer.VolAnswer.{VolAnswer}
-use Rattle.outside.specs.declared.answer.VolAnswer.TheVariants as of_reiser
 use Rattle.reiser_volume.specs.Answers.{NamesVolumeRule}
 use Rattle.reiser_volume.specs.Volume.{AreRowsOf, IsAccepted, IsRefusal}
+use Rattle.volume_app.specs.Btrfs.{IsListableBtrfs, AreRowsOfBtrfs, IsRowsRefusal}
 use Rattle.volume_app.specs.Format.{format_in}
 
 -- a volume of this format that `list` reads
 abbrev pub IsListable : Format → Image → Type 0
 IsListable Reiser disk = IsAccepted disk
-IsListable Btrfs disk = ⊥
+IsListable Btrfs disk = IsListableBtrfs disk
 IsListable Neither disk = ⊥
 
 -- the rows of a volume of this format
 abbrev pub AreRowsIn : Format → Image → List WholeRow → Type 0
 AreRowsIn Reiser disk whole = AreRowsOf disk whole
-AreRowsIn Btrfs disk whole = ⊥
+AreRowsIn Btrfs disk whole = AreRowsOfBtrfs disk whole
 AreRowsIn Neither disk whole = ⊥
 
 -- the text of a disk
@@ -41,29 +40,23 @@ pub record Lists (disk : Image) (rows : List Row) : Type 0 where
 -- `list` may refuse a disk so; that a device failed or memory was short is said elsewhere
 abbrev pub ListRefuses : Image → Answer → Type 0
 ListRefuses disk (Volume refusal) = (format_in disk ≢ Btrfs) × IsRefusal disk refusal
-ListRefuses disk WrongFormat = format_in disk ≡ Btrfs
+ListRefuses disk (Btr refusal) = (format_in disk ≡ Btrfs) × IsRowsRefusal disk refusal
 ListRefuses disk Fault = Unit {0}
 ListRefuses disk Memory = Unit {0}
-ListRefuses disk (Btr refusal) = ⊥
+ListRefuses disk WrongFormat = ⊥
 ListRefuses disk (NoSpace needed free run_needed longest_run) = ⊥
 ListRefuses disk ImageMissing = ⊥
 ListRefuses disk (ImageMoved block) = ⊥
 ListRefuses disk (ImageDamaged refusal) = ⊥
 ListRefuses disk (ReservedUsed block) = ⊥
 
--- what is answered of the rows of a ReiserFS volume, whatever the source gives: a refusal of volumes, or that a block reads otherwise than before
-abbrev pub IsRowsAnswer : VolAnswer → Type 0
-IsRowsAnswer (of_reiser.Refused refusal) = NamesVolumeRule refusal ⊎ IsChanged refusal
-IsRowsAnswer of_reiser.Fault = Unit {0}
-IsRowsAnswer of_reiser.Memory = Unit {0}
-
 -- The answers that `list` knows, whatever the disk gives.
 abbrev pub IsListAnswer : Answer → Type 0
 IsListAnswer (Volume refusal) = NamesVolumeRule refusal ⊎ IsChanged refusal
-IsListAnswer WrongFormat = Unit {0}
+IsListAnswer (Btr refusal) = Unit {0}
 IsListAnswer Fault = Unit {0}
 IsListAnswer Memory = Unit {0}
-IsListAnswer (Btr refusal) = ⊥
+IsListAnswer WrongFormat = ⊥
 IsListAnswer (NoSpace needed free run_needed longest_run) = ⊥
 IsListAnswer ImageMissing = ⊥
 IsListAnswer (ImageMoved block) = ⊥

@@ -1,12 +1,18 @@
--- What `inspect` tells of a ReiserFS volume, and what it prints of it.
-use Rattle.std.specs.Prelude.{ℕ, Bool, List, [], ◌∷◌, length, codes, decimal, nat_eq}
+-- What `inspect` tells of a ReiserFS volume and prints of it, and what `list` makes of one.
+use Rattle.std.specs.Prelude.{◌≡◌, ◌⊎◌, ℕ, Bool, List, [], ◌∷◌, length, map, codes, decimal, nat_eq}
 use Rattle.std.specs.List.{before_first}
 use Rattle.uuid.specs.Text.{hyphenated_text, lower}
+use Rattle.fs_rows.specs.Rows.{WholeRow, row_of}
+use Rattle.fs_rows.specs.declared.row.Row.{Row}
+use Rattle.object_files.specs.Answers.{IsChanged}
 use Rattle.outside.specs.History.{Image}
+use Rattle.outside.specs.declared.answer.VolAnswer.{VolAnswer}
+use Rattle.outside.specs.declared.answer.VolAnswer.TheVariants.{Refused, Fault, Memory}
 use Rattle.reiser_super.specs.declared.superblock.Super.{Super}
 use Rattle.reiser_bitmap.specs.Bits.{used_blocks}
 use Rattle.reiser_bitmap.specs.Units.{free_units}
-use Rattle.reiser_volume.specs.Volume.{superblock, used_of}
+use Rattle.reiser_volume.specs.Answers.{NamesVolumeRule}
+use Rattle.reiser_volume.specs.Volume.{superblock, used_of, AreRowsOf, IsAccepted}
 use Rattle.volume_app.specs.declared.reiser.ReiserSummary.{ReiserSummary}
 use Rattle.sink_text.specs.Escape.{escaped}
 use Rattle.volume_app.specs.Texts.{text_of_lines}
@@ -48,3 +54,13 @@ summary_text told = text_of_lines (summary_lines told)
 -- the text of a disk
 abbrev pub reiser_text : Image → List ℕ
 reiser_text disk = summary_text (reiser_summary disk)
+
+-- the volume is accepted, and these are its rows as the program has them
+abbrev pub ListsReiser : Image → List Row → Type 0
+ListsReiser disk rows = IsAccepted disk × ((whole : List WholeRow) × AreRowsOf disk whole × (rows ≡ map row_of whole))
+
+-- what is answered of the rows, whatever the source gives: a refusal of volumes, or that a block reads otherwise than before
+abbrev pub IsRowsAnswer : VolAnswer → Type 0
+IsRowsAnswer (Refused refusal) = NamesVolumeRule refusal ⊎ IsChanged refusal
+IsRowsAnswer Fault = Unit {0}
+IsRowsAnswer Memory = Unit {0}

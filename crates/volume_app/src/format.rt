@@ -7,7 +7,7 @@ use outside::{Access, BlockSource, Disk, Fault};
 use vol_block::{Block, BlockNo, Format, format_of};
 
 /// The block of the superblock, of both formats.
-const SUPERBLOCK: BlockNo = 16;
+pub const SUPERBLOCK: BlockNo = 16;
 
 /// Opens the disk at a path for reading, and finds the format of its volume.
 pub fn open_format<D: Disk>(path: &str, disk: &mut D) -> Result<Format, Fault>

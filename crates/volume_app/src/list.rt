@@ -6,7 +6,8 @@ ghost use Rattle.vol_block.specs.declared.format.Format.TheVariants as formats;
 ghost use Rattle.volume_app.specs.Format.{format_in};
 ghost use Rattle.volume_app.specs.Listing.{Lists, ListRefuses, IsListAnswer};
 
-use crate::answers::of_volume;
+use crate::answers::{of_btrfs, of_volume};
+use crate::btrfs::btrfs_rows;
 use crate::format::open_format;
 use crate::reiser::reiser_rows;
 use fs_rows::Rows;
@@ -37,7 +38,7 @@ fn list_as<S: BlockSource>(format: Format, alloc: Global, source: &mut S) -> Res
     ensures known { IfErr result IsListAnswer }
 {
     match format {
-        Format::Btrfs => Err(Answer::WrongFormat),
+        Format::Btrfs => list_btrfs(alloc, source),
         Format::Reiser | Format::Neither => list_reiser(alloc, source),
     }
 }
@@ -52,5 +53,18 @@ fn list_reiser<S: BlockSource>(alloc: Global, source: &mut S) -> Result<Rows, An
     match reiser_rows(alloc, source) {
         Ok(rows) => Ok(rows),
         Err(answer) => Err(of_volume(answer)),
+    }
+}
+
+/// The rows of a Btrfs volume.
+fn list_btrfs<S: BlockSource>(alloc: Global, source: &mut S) -> Result<Rows, Answer>
+    ensures kept { S.kept source.old source.new }
+    ensures cause { HasCauseOf Answer.Fault (S.faults source.old) (S.faults source.new) result }
+    ensures right { IsTrue S.tells → (image : Image) → S.blocks source.old ≡ image → format_in image ≡ formats.Btrfs → MatchResult result (Lists image) (ListRefuses image) }
+    ensures known { IfErr result IsListAnswer }
+{
+    match btrfs_rows(alloc, source) {
+        Ok(rows) => Ok(rows),
+        Err(answer) => Err(of_btrfs(answer)),
     }
 }

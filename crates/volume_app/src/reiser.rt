@@ -1,13 +1,11 @@
-ghost use Rattle.std.specs.Prelude.{◌≡◌, [], IfOk, IfErr, IsTrue, List, map};
+ghost use Rattle.std.specs.Prelude.{◌≡◌, [], IfOk, IfErr, IsTrue};
 ghost use Rattle.std.specs.Result.{MatchResult};
-ghost use Rattle.fs_rows.specs.Rows.{WholeRow, row_of};
 ghost use Rattle.outside.specs.Fault.{HasCause, HasCauseOf, Takes};
 ghost use Rattle.outside.specs.History.{Image};
 ghost use Rattle.reiser_volume.specs.Answers.{IsVolumeAnswer, RefusesVolume};
-ghost use Rattle.reiser_volume.specs.Volume.{AreRowsOf, IsAccepted};
+ghost use Rattle.reiser_volume.specs.Volume.{IsAccepted};
 ghost use Rattle.sink_text.specs.Text.{piece_text};
-ghost use Rattle.volume_app.specs.Listing.{IsRowsAnswer};
-ghost use Rattle.volume_app.specs.Reiser.{label_of, label_text, reiser_summary, summary_text, summary_with};
+ghost use Rattle.volume_app.specs.Reiser.{label_of, label_text, reiser_summary, summary_text, summary_with, IsRowsAnswer, ListsReiser};
 
 use fs_rows::Rows;
 use outside::{BlockSource, Fault, Sink, VolAnswer};
@@ -114,8 +112,7 @@ fn label_of(label: &[u8; 16]) -> &[u8]
 pub fn reiser_rows<S: BlockSource>(alloc: Global, source: &mut S) -> Result<Rows, VolAnswer>
     ensures kept { S.kept source.old source.new }
     ensures cause { HasCauseOf VolAnswer.Fault (S.faults source.old) (S.faults source.new) result }
-    ensures rows { IsTrue S.tells → (image : Image) → S.blocks source.old ≡ image →
-        MatchResult result (λ rows. IsAccepted image × ((whole : List WholeRow) × AreRowsOf image whole × (rows ≡ map row_of whole))) (RefusesVolume image) }
+    ensures rows { IsTrue S.tells → (image : Image) → S.blocks source.old ≡ image → MatchResult result (ListsReiser image) (RefusesVolume image) }
     ensures answers { IfErr result IsRowsAnswer }
 {
     match Volume::open(alloc, source) {

@@ -4,6 +4,7 @@ ghost use Rattle.std.specs.Prelude.{◌≡◌, ◌≤◌, None, IfOk, length};
 mod sample;
 
 use crate::run;
+use btr_keys::Stamp;
 use btr_samples::Sample;
 use outside::Memory;
 use outside_mem::{MemDisk, MemSink};
@@ -148,35 +149,45 @@ fn what_is_no_volume(rt: HostRuntime) -> Result<(), Fail> {
     refused(&rt, &mut disk, "refused 13 badbtrfs 65536 1\n")
 }
 
-/// A run of `inspect` over a Btrfs volume ends so.
-fn inspects(
+/// A command over a Btrfs volume ends so.
+fn btrfs_ends(
     rt: &(impl Abort + AllocGlobal),
+    word: &str,
     sample: &Sample,
     status: u8,
     out: &str,
     err: &str,
 ) -> Result<(), Fail> {
     let mut disk = sample.disk(rt.alloc())?;
-    ends(rt, &["inspect", "x"], &mut disk, status, out, err)
+    ends(rt, &[word, "x"], &mut disk, status, out, err)
 }
 
 const BTRFS: &str =
     "format btrfs\nfsid 22222222-2222-2222-2222-222222222222\nblocks 12288\ngeneration 1\nnodesize 16384\nlabel -\nimage -\n";
 
-/// A log tree is not looked at.
+/// A volume whose superblock names a log tree, and one whose file tree says that it is another.
+const LOGGED: Sample = Sample {
+    log_root: 35651584,
+    ..Sample::PLAIN
+};
+
+const FOREIGN: Sample = Sample {
+    owner: 7,
+    ..Sample::PLAIN
+};
+
 #[test]
-fn inspect_reads_btrfs(rt: HostRuntime) -> Result<(), Fail> {
-    let logged = Sample {
-        log_root: 35651584,
-        ..Sample::PLAIN
-    };
-    let foreign = Sample {
-        owner: 7,
-        ..Sample::PLAIN
-    };
-    inspects(&rt, &Sample::PLAIN, 0, BTRFS, "")?;
-    inspects(&rt, &logged, 0, BTRFS, "")?;
-    inspects(&rt, &foreign, 1, "", "refused 13 badbtrfs 35667968 6\n")
+fn inspect_looks_at_no_log_tree(rt: HostRuntime) -> Result<(), Fail> {
+    btrfs_ends(&rt, "inspect", &Sample::PLAIN, 0, BTRFS, "")?;
+    btrfs_ends(&rt, "inspect", &LOGGED, 0, BTRFS, "")?;
+    btrfs_ends(
+        &rt,
+        "inspect",
+        &FOREIGN,
+        1,
+        "",
+        "refused 13 badbtrfs 35667968 6\n",
+    )
 }
 
 #[test]
@@ -314,7 +325,12 @@ fn list_prints_the_rows(rt: HostRuntime) -> Result<(), Fail> {
     let mut disk = sample(rt.alloc(), 2048)?;
     ends(&rt, &["list", "x"], &mut disk, 0, ROOT, "")?;
     for (n, at, bytes, line) in [
-        (16, 64, b"_BHRfS_M".as_slice(), "refused 16 format\n"),
+        (
+            16,
+            64,
+            b"_BHRfS_M".as_slice(),
+            "refused 13 badbtrfs 65536 1\n",
+        ),
         (16, 50, b"\x02".as_slice(), "refused 2 unclean 2\n"),
         (51, 4053, b"\x81".as_slice(), "refused 6 damaged 51 11\n"),
     ] {
@@ -337,4 +353,32 @@ fn failed_calls_end_a_list(rt: HostRuntime) -> Result<(), Fail> {
     assert!(rt; ROOT.as_bytes().starts_with(ended.out.bytes()));
     assert!(rt; ended.err.bytes() == b"output fault\n".as_slice());
     Ok(())
+}
+
+const BTRFS_ROWS: &str =
+    "d 0755 0 0 1000000000 1000000000 1000000000 - - - - - /\nf 0644 0 0 1000000000 1000000000 1000000000 - - 1 0 e3b0c44298fc1c149afbf4c8996fb92427ae41e4649b934ca495991b7852b855 /a\n";
+
+const READ_LATER: &str =
+    "d 0755 0 0 1000000000 1000000000 1000000000 - - - - - /\nf 0644 0 0 1000000001.000000500 1000000000 1000000000 - - 1 0 e3b0c44298fc1c149afbf4c8996fb92427ae41e4649b934ca495991b7852b855 /a\n";
+
+#[test]
+fn list_prints_the_rows_of_btrfs(rt: HostRuntime) -> Result<(), Fail> {
+    let later = Sample {
+        atime: Stamp {
+            sec: 1_000_000_001,
+            nsec: 500,
+        },
+        ..Sample::PLAIN
+    };
+    btrfs_ends(&rt, "list", &Sample::PLAIN, 0, BTRFS_ROWS, "")?;
+    btrfs_ends(&rt, "list", &later, 0, READ_LATER, "")?;
+    btrfs_ends(&rt, "list", &LOGGED, 1, "", "refused 14 log 35651584\n")?;
+    btrfs_ends(
+        &rt,
+        "list",
+        &FOREIGN,
+        1,
+        "",
+        "refused 13 badbtrfs 35667968 6\n",
+    )
 }
