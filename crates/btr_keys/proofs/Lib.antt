@@ -1,4 +1,3 @@
-pub mod Fronts
 pub mod Layouts
 pub mod Records
 pub mod Starts

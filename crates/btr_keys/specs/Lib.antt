@@ -1,5 +1,4 @@
 pub mod Layout
-pub mod Field
 pub mod Key
 pub mod Stamp
 pub mod Inode

@@ -2,11 +2,10 @@ ghost use Rattle.std.specs.Prelude.{◌≡◌, ◌<◌, ◌+◌, ◌≤◌, leng
 ghost use Rattle.vol_block.specs.Volume.{field};
 ghost use Rattle.btr_keys.specs.DirEntry.{dir_entry_value, dir_entry_bytes, dir_entry_front, dir_items_of};
 
-use crate::field::{Field, put_fields};
 use crate::key::Key;
 use crate::named::{NamedForm, record_count, record_start};
 use std::marker::Model;
-use vol_block::{u16_at, u64_at};
+use vol_block::{Field, put_fields, u16_at, u64_at};
 
 /// An entry of a directory: a record of a dir item, key (directory, 84, hash of the name), or of a dir index, key
 /// (directory, 96, index), as the Btrfs on-disk format documentation has it.

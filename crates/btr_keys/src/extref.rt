@@ -2,10 +2,9 @@ ghost use Rattle.std.specs.Prelude.{◌≡◌, ◌<◌, ◌+◌, ◌≤◌, leng
 ghost use Rattle.vol_block.specs.Volume.{field};
 ghost use Rattle.btr_keys.specs.Extref.{extref_value, extref_bytes, extref_front, extrefs_of};
 
-use crate::field::{Field, put_fields};
 use crate::named::{NamedForm, record_count, record_start};
 use std::marker::Model;
-use vol_block::{u16_at, u64_at};
+use vol_block::{Field, put_fields, u16_at, u64_at};
 
 /// A name of an inode in any directory: a record of an extref, key (inode, 13, hash), as the Btrfs on-disk format
 /// documentation has it. The hash is over the directory and the name.

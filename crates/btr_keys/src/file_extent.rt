@@ -13,8 +13,7 @@ ghost use Rattle.btr_keys.specs.FileExtent.{
   file_extent_size,
 };
 
-use crate::field::{Field, put_fields};
-use vol_block::{u16_at, u64_at};
+use vol_block::{Field, put_fields, u16_at, u64_at};
 
 /// Where the bytes of a regular or preallocated file extent lie. All are in bytes.
 #[derive(Clone, Copy, Debug, PartialEq, Eq)]

@@ -1,9 +1,8 @@
 ghost use Rattle.std.specs.Prelude.{◌≡◌, ◌+◌, ◌≤◌, length};
 ghost use Rattle.btr_keys.specs.Inode.{inode_layout, inode_at, inode_of, inode_bytes};
 
-use crate::field::{Field, put_fields};
 use crate::stamp::Stamp;
-use vol_block::{u32_at, u64_at};
+use vol_block::{Field, put_fields, u32_at, u64_at};
 
 /// The body of an inode item, key (inode, 1, 0): 160 bytes, as the Btrfs on-disk format documentation has it.
 #[derive(Clone, Copy, Debug, PartialEq, Eq)]

@@ -2,10 +2,9 @@ ghost use Rattle.std.specs.Prelude.{◌≡◌, ◌<◌, ◌+◌, ◌≤◌, leng
 ghost use Rattle.vol_block.specs.Volume.{field};
 ghost use Rattle.btr_keys.specs.InodeRef.{inode_ref_value, inode_ref_bytes, inode_ref_front, inode_refs_of};
 
-use crate::field::{Field, put_fields};
 use crate::named::{NamedForm, record_count, record_start};
 use std::marker::Model;
-use vol_block::{u16_at, u64_at};
+use vol_block::{Field, put_fields, u16_at, u64_at};
 
 /// A name of an inode in a directory: a record of an inode ref, key (inode, 12, directory), as the Btrfs on-disk
 /// format documentation has it.

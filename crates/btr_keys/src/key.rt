@@ -1,8 +1,7 @@
 ghost use Rattle.std.specs.Prelude.{◌≡◌, ◌+◌, ◌≤◌, ◌↔◌, length, IsTrue};
 ghost use Rattle.btr_keys.specs.Key.{key_at, key_of, key_bytes, IsBefore};
 
-use crate::field::{Field, put_fields};
-use vol_block::u64_at;
+use vol_block::{Field, put_fields, u64_at};
 
 /// The key of an item in a Btrfs tree: 17 bytes, as the Btrfs on-disk format documentation has it.
 ///

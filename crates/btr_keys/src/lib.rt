@@ -7,7 +7,6 @@
 
 mod dir_entry;
 mod extref;
-mod field;
 mod file_extent;
 mod inode;
 mod inode_ref;
@@ -18,7 +17,6 @@ mod stamp;
 
 pub use dir_entry::{DirEntry, DirItems};
 pub use extref::{Extref, Extrefs};
-pub use field::{Field, array_at, put_fields};
 pub use file_extent::{DiskRange, ExtentContent, FileExtent};
 pub use inode::Inode;
 pub use inode_ref::{InodeRef, InodeRefs};

@@ -1,8 +1,7 @@
 ghost use Rattle.std.specs.Prelude.{◌≡◌, ◌+◌, ◌≤◌, length};
 ghost use Rattle.btr_keys.specs.Stamp.{stamp_at, stamp_of, stamp_bytes};
 
-use crate::field::{Field, put_fields};
-use vol_block::{u32_at, u64_at};
+use vol_block::{Field, put_fields, u32_at, u64_at};
 
 /// A time of an inode or a tree: 12 bytes, as the Btrfs on-disk format documentation has it.
 #[derive(Clone, Copy, Debug, PartialEq, Eq)]

@@ -2,8 +2,8 @@ ghost use Rattle.std.specs.Prelude.{◌≡◌, ◌≤◌, ◌+◌, length, drop}
 ghost use Rattle.btr_keys.specs.Layout.{spelling};
 ghost use Rattle.btr_node.specs.Inner.{child_layout};
 
-use btr_keys::{Field, Key, put_fields};
-use vol_block::u64_at;
+use btr_keys::Key;
+use vol_block::{Field, put_fields, u64_at};
 
 /// A child of an inner node, 33 bytes, as the Btrfs on-disk format documentation has it.
 #[derive(Clone, Copy, Debug, PartialEq, Eq)]

@@ -4,9 +4,8 @@ ghost use Rattle.btr_node.specs.Head.{head_layout, head_in, behind_head, expecte
 
 use crate::expect::Expect;
 use crate::sum::SUM_SIZE;
-use btr_keys::{Field, put_fields};
 use csum_kinds::SumKind;
-use vol_block::{u32_at, u64_at};
+use vol_block::{Field, put_fields, u32_at, u64_at};
 
 /// The bytes of a node's checksum and head.
 pub const HEAD_SIZE: usize = 101;

@@ -2,8 +2,8 @@ ghost use Rattle.std.specs.Prelude.{◌≡◌, ◌≤◌, ◌+◌, length, drop}
 ghost use Rattle.btr_keys.specs.Layout.{spelling};
 ghost use Rattle.btr_node.specs.Leaf.{item_layout};
 
-use btr_keys::{Field, Key, put_fields};
-use vol_block::u32_at;
+use btr_keys::Key;
+use vol_block::{Field, put_fields, u32_at};
 
 /// The head of a leaf's item, 25 bytes, as the Btrfs on-disk format documentation has it.
 #[derive(Clone, Copy, Debug, PartialEq, Eq)]

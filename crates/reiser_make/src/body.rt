@@ -11,9 +11,8 @@ use crate::item::{Body, Item};
 use crate::name::file_name;
 use crate::place::place;
 use crate::sample::Sample;
-use btr_keys::{Field, put_fields};
 use reiser_items::StatData;
-use vol_block::{Block, put_u32};
+use vol_block::{Block, Field, put_fields, put_u32};
 
 impl Sample {
     /// Writes the body of an item into a slice of its length.

@@ -9,9 +9,8 @@ use crate::leaf::{ItemPlace, NODE_HEAD, NODE_ROOM};
 use crate::level::Level;
 use crate::node::{key_bytes, put_node_head};
 use crate::plan::Plan;
-use btr_keys::{Field, put_fields};
 use reiser_node::ItemHead;
-use vol_block::Block;
+use vol_block::{Block, Field, put_fields};
 
 /// A node as its parent names it.
 #[derive(Clone, Copy, Debug, PartialEq, Eq)]

@@ -6,8 +6,7 @@ use crate::bitmap::Usage;
 use crate::level::Level;
 use crate::object::directory_count;
 use crate::plan::Plan;
-use btr_keys::{Field, put_fields};
-use vol_block::Block;
+use vol_block::{Block, Field, put_fields};
 
 /// What a superblock has of the volume that it begins.
 #[derive(Clone, Copy, Debug, PartialEq, Eq)]

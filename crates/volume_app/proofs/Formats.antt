@@ -7,7 +7,7 @@ use Rattle.vol_block.specs.declared.format.Format.TheVariants as formats
 use Rattle.vol_block.specs.Format.{format, has_reiser_magic}
 use Rattle.outside.specs.History.{Image, block_at}
 use Rattle.reiser_volume.specs.Volume.{IsAccepted}
-use Rattle.volume_app.specs.Format.{format_in}
+use Rattle.outside.specs.Format.{format_in}
 
 format_cases : (btrfs reiser : Bool) → cond btrfs formats.Btrfs (cond reiser formats.Reiser formats.Neither) ≢ formats.Btrfs → reiser ≡ true
     → cond btrfs formats.Btrfs (cond reiser formats.Reiser formats.Neither) ≡ formats.Reiser

@@ -16,7 +16,7 @@ use Rattle.btr_summary.specs.Text.{summary_text as btrfs_summary_text}
 use Rattle.volume_app.specs.declared.inspect.Inspected.TheVariants.{Reiser, Btrfs}
 use Rattle.volume_app.specs.declared.reiser.ReiserSummary.{ReiserSummary}
 use Rattle.volume_app.specs.Answers.{of_volume, of_btrfs}
-use Rattle.volume_app.specs.Format.{format_in}
+use Rattle.outside.specs.Format.{format_in}
 use Rattle.volume_app.specs.Inspect.{IsInspectable, inspect_text, Inspects, InspectRefuses, IsInspectAnswer}
 use Rattle.volume_app.specs.Reiser.{reiser_summary, summary_text}
 use Rattle.volume_app.proofs.Formats.{reiser_found}

@@ -16,7 +16,7 @@ use Rattle.reiser_volume.specs.Answers.{IsVolumeAnswer, RefusesVolume}
 use Rattle.reiser_volume.specs.Volume.{AreRowsOf, IsAccepted}
 use Rattle.volume_app.specs.Answers.{of_volume, of_btrfs}
 use Rattle.volume_app.specs.Btrfs.{IsListableBtrfs, AreRowsOfBtrfs, RefusesBtrfsRows}
-use Rattle.volume_app.specs.Format.{format_in}
+use Rattle.outside.specs.Format.{format_in}
 use Rattle.volume_app.specs.Listing.{IsListable, AreRowsIn, IsListText, Lists, ListRefuses, IsListAnswer}
 use Rattle.volume_app.specs.Reiser.{IsRowsAnswer}
 use Rattle.volume_app.proofs.Formats.{reiser_found}

@@ -15,7 +15,7 @@ use Rattle.volume_app.specs.Ending.{status}
 use Rattle.reiser_volume.specs.Volume.{IsAccepted}
 use Rattle.reiser_volume.proofs.Refusals.{not_refused}
 use Rattle.btr_summary.proofs.Telling.{readable_exactly}
-use Rattle.volume_app.specs.Format.{format_in}
+use Rattle.outside.specs.Format.{format_in}
 use Rattle.volume_app.specs.Inspect.{IsInspectable, InspectRefuses}
 use Rattle.volume_app.specs.Listing.{IsListable, ListRefuses}
 use Rattle.volume_app.proofs.Logs.{not_refused as rows_not_refused}

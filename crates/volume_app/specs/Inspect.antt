@@ -11,7 +11,7 @@ use Rattle.btr_summary.specs.Readable.{IsReadable, IsBtrfsRefusal}
 use Rattle.btr_summary.specs.Text.{btrfs_text, summary_text as btrfs_summary_text}
 use Rattle.volume_app.specs.declared.inspect.Inspected.{Inspected}
 use Rattle.volume_app.specs.declared.inspect.Inspected.TheVariants.{Reiser, Btrfs}
-use Rattle.volume_app.specs.Format.{format_in}
+use Rattle.outside.specs.Format.{format_in}
 use Rattle.volume_app.specs.Reiser.{reiser_text, summary_text}
 
 -- a volume of this format of which `inspect` tells

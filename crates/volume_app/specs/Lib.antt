@@ -2,7 +2,6 @@ pub mod Answers
 pub mod Btrfs
 pub mod Command
 pub mod Ending
-pub mod Format
 pub mod Inspect
 pub mod Laws
 pub mod Listing

@@ -12,7 +12,7 @@ use Rattle.outside.specs.declared.answer.Answer.TheVariants.{Volume, Btr, NoSpac
 use Rattle.reiser_volume.specs.Answers.{NamesVolumeRule}
 use Rattle.reiser_volume.specs.Volume.{AreRowsOf, IsAccepted, IsRefusal}
 use Rattle.volume_app.specs.Btrfs.{IsListableBtrfs, AreRowsOfBtrfs, IsRowsRefusal}
-use Rattle.volume_app.specs.Format.{format_in}
+use Rattle.outside.specs.Format.{format_in}
 
 -- a volume of this format that `list` reads
 abbrev pub IsListable : Format → Image → Type 0

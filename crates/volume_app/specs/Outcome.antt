@@ -9,7 +9,7 @@ use Rattle.volume_app.specs.declared.ending.Ending.{Ending}
 use Rattle.volume_app.specs.declared.ending.Ending.TheVariants.{Done, Usage, Failed, OutputFault}
 use Rattle.volume_app.specs.Command.{Asked, inspect, list, help, version}
 use Rattle.volume_app.specs.Ending.{status, error_line}
-use Rattle.volume_app.specs.Format.{format_in}
+use Rattle.outside.specs.Format.{format_in}
 use Rattle.volume_app.specs.Inspect.{IsInspectable, inspect_text, InspectRefuses, IsInspectAnswer}
 use Rattle.volume_app.specs.Listing.{IsListable, IsListText, ListRefuses, IsListAnswer}
 use Rattle.volume_app.specs.Texts.{help_text, version_text}

@@ -1,7 +1,7 @@
 ghost use Rattle.std.specs.Prelude.{◌≡◌, None, IfOk, OnOk, IsTrue};
 ghost use Rattle.outside.specs.Fault.{HasCause};
 ghost use Rattle.outside.specs.History.{reads};
-ghost use Rattle.volume_app.specs.Format.{format_in};
+ghost use Rattle.outside.specs.Format.{format_in};
 
 use outside::{Access, BlockSource, Disk, Fault};
 use vol_block::{Block, BlockNo, Format, format_of};

@@ -3,7 +3,7 @@ ghost use Rattle.std.specs.Result.{MatchResult};
 ghost use Rattle.outside.specs.Fault.{HasCause, HasCauseOf, Takes};
 ghost use Rattle.outside.specs.History.{Image, reads};
 ghost use Rattle.vol_block.specs.declared.format.Format.TheVariants as formats;
-ghost use Rattle.volume_app.specs.Format.{format_in};
+ghost use Rattle.outside.specs.Format.{format_in};
 ghost use Rattle.volume_app.specs.Inspect.{inspected_text, Inspects, InspectRefuses, IsInspectAnswer};
 
 use crate::answers::{of_btrfs, of_volume};

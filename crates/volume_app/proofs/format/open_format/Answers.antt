@@ -1,6 +1,6 @@
 use Rattle.std.proofs.Common.{◌≡◌, ◌∙◌, ap, subst, IfOk}
 use Rattle.outside.specs.History.{Image, History, reads}
-use Rattle.volume_app.specs.Format.{format_in}
+use Rattle.outside.specs.Format.{format_in}
 use Rattle.volume_app.proofs.format.open_format.Goals as goal
 
 pub returns-clause-found : goal.returns-clause-found

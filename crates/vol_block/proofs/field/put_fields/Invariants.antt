@@ -1,6 +1,6 @@
 use Rattle.std.proofs.Common.{◌≡◌, take}
-use Rattle.btr_keys.specs.Field.{fields_width, fields_bytes}
-use Rattle.btr_keys.proofs.field.put_fields.Given as goal
+use Rattle.vol_block.specs.Field.{fields_width, fields_bytes}
+use Rattle.vol_block.proofs.field.put_fields.Given as goal
 
 abbrev pub invariant-loop-field : goal.invariant-loop-field
 invariant-loop-field l =

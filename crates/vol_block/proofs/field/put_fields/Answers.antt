@@ -1,7 +1,7 @@
 use Rattle.std.proofs.Common.{arith}
-use Rattle.btr_keys.specs.declared.field.Field.TheVariants.{U8}
-use Rattle.btr_keys.proofs.Fronts.{fields_bytes_more, fields_width_more, room_for_field}
-use Rattle.btr_keys.proofs.field.put_fields.Goals as goal
+use Rattle.vol_block.specs.declared.field.Field.TheVariants.{U8}
+use Rattle.vol_block.proofs.Fronts.{fields_bytes_more, fields_width_more, room_for_field}
+use Rattle.vol_block.proofs.field.put_fields.Goals as goal
 
 pub put_field-at-requires : goal.put_field-at-requires
 put_field-at-requires c = omega (arith, room_for_field c.args.fields.now c.loop-field.field-index (U8 0) c.loop-field-test.true)

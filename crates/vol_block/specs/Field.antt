@@ -1,8 +1,8 @@
 -- What fields to be written are, byte for byte.
 use Rattle.std.specs.Prelude.{ℕ, ◌+◌, List, [], ◌∷◌, ◌++◌, length, replicate}
 use Rattle.byteorder.specs.Endian.{little_bytes}
-use Rattle.btr_keys.specs.declared.field.Field.{Field}
-use Rattle.btr_keys.specs.declared.field.Field.TheVariants.{U8, U16, U32, U64, Bytes, Zeros}
+use Rattle.vol_block.specs.declared.field.Field.{Field}
+use Rattle.vol_block.specs.declared.field.Field.TheVariants.{U8, U16, U32, U64, Bytes, Zeros}
 
 abbrev pub field_width : Field → ℕ
 field_width (U8 x) = 1

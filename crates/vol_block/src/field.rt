@@ -1,7 +1,7 @@
 ghost use Rattle.std.specs.Prelude.{◌≡◌, ◌+◌, ◌≤◌, ◌++◌, length, take, drop};
-ghost use Rattle.btr_keys.specs.Field.{field_width, field_bytes, fields_width, fields_bytes};
+ghost use Rattle.vol_block.specs.Field.{field_width, field_bytes, fields_width, fields_bytes};
 
-use vol_block::{put_u16, put_u32, put_u64};
+use crate::{put_u16, put_u32, put_u64};
 
 /// A field of a record, as it is to be written. Numbers are little-endian.
 #[derive(Clone, Copy, Debug)]

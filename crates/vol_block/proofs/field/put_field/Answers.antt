@@ -1,6 +1,6 @@
 use Rattle.std.proofs.Common.{refl}
-use Rattle.btr_keys.proofs.Fronts.{front_of_field}
-use Rattle.btr_keys.proofs.field.put_field.Goals as goal
+use Rattle.vol_block.proofs.Fronts.{front_of_field}
+use Rattle.vol_block.proofs.field.put_field.Goals as goal
 
 pub returns-in-U16-clause-front : goal.returns-in-U16-clause-front
 returns-in-U16-clause-front c = front_of_field _ _ _ 2 _ _ _ c.in-U16.is c.put_u16.ensures refl c.requires
