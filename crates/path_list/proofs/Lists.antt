@@ -1,7 +1,7 @@
 -- Members of lists that are made of others.
 use Rattle.std.proofs.Common.{◌≡◌, ℕ, zero, suc, ◌<◌, Bool, true, false, cond, List, [], ◌∷◌, map, length, get_or, filter, flat_map, Contains, ◌⊎◌, inl, inr, ⊎_elim, refl, sym, ap, subst, ◌∙◌, true≢false, arith}
 use Rattle.std.proofs.lemmas.List.{length-map, get_or-map}
-use Rattle.std.proofs.lemmas.List.Elements.{Contains-append_left, Contains-append_right}
+use Rattle.std.proofs.lemmas.List.Elements.{All-filter, All-contains_itself, Contains-append_left, Contains-append_right, Contains-append_cases, filter_passes}
 
 pub at_head : {X : Type 0} (x : X) (xs : List X) → Contains (x ∷ xs) x
 at_head x xs = (0, omega arith, refl)
@@ -36,3 +36,18 @@ pub in_flat_map : {X Y : Type 0} (f : X → List Y) (xs : List X) (x : X) (y : Y
 in_flat_map f [] x y among inner = absurd (omega (arith, among.1))
 in_flat_map f (z ∷ xs) x y among inner =
     ⊎_elim (λ first. Contains-append_left (f z) (flat_map f xs) y (subst (λ w. Contains (f w) y) (sym first) inner)) (λ later. Contains-append_right (f z) (flat_map f xs) y (in_flat_map f xs x y later inner)) (head_or_tail z xs x among)
+
+-- an element of what is made of a list is made of one of its elements
+pub from_map : {X Y : Type 0} (f : X → Y) (xs : List X) (y : Y) → Contains (map f xs) y → (x : X) × Contains xs x × (f x ≡ y)
+from_map f [] y among = absurd (omega (arith, among.1))
+from_map f (x ∷ xs) y among =
+    ⊎_elim (λ first. (x, at_head x xs, first)) (λ later. let r = from_map f xs y later in (r.0, in_tail x xs r.0 r.1, r.2)) (head_or_tail (f x) (map f xs) y among)
+
+pub from_filter : {X : Type 0} (p : X → Bool) (xs : List X) (x : X) → Contains (filter p xs) x → Contains xs x × (p x ≡ true)
+from_filter p xs x among =
+    (subst (Contains xs) among.2 (All-filter p (Contains xs) xs (All-contains_itself xs) among.0 x among.1), subst (λ y. p y ≡ true) among.2 (filter_passes p xs among.0 x among.1))
+
+pub from_flat_map : {X Y : Type 0} (f : X → List Y) (xs : List X) (y : Y) → Contains (flat_map f xs) y → (x : X) × Contains xs x × Contains (f x) y
+from_flat_map f [] y among = absurd (omega (arith, among.1))
+from_flat_map f (x ∷ xs) y among =
+    ⊎_elim (λ first. (x, at_head x xs, first)) (λ later. let r = from_flat_map f xs y later in (r.0, in_tail x xs r.0 r.1, r.2)) (Contains-append_cases (f x) (flat_map f xs) y among)

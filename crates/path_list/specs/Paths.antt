@@ -1,5 +1,5 @@
 -- The paths of a tree as a list.
-use Rattle.std.specs.Prelude.{◌≡◌, Bool, List, length, count_by, Contains}
+use Rattle.std.specs.Prelude.{◌≡◌, Bool, List, length, slice_index_or, count_by, Contains}
 use Rattle.std.specs.List.{AllAdjacentBelow, position_or_len}
 use Rattle.std.specs.declared.cmp.Ordering.TheVariants.{Less}
 use Rattle.fs_rows.specs.Rows.{NameList, path_cmp}
@@ -20,3 +20,7 @@ pub record ArePaths (links : List Link) (root : NodeId) (list : List PathTo) : T
   pub whole : (path : NameList) (to : NodeId) → Leads links root path to → (p : PathTo) × Contains list p × (p.path ≡ path) × (p.target ≡ to)
   pub least : (p : PathTo) → Contains list p → p.least ≡ position_or_len (leads_to p.target) list
   pub names : (p : PathTo) → Contains list p → p.names ≡ count_by (leads_to p.target) list
+
+-- the first path of the list to the same object
+abbrev pub first_path : List PathTo → PathTo → NameList
+first_path list p = (slice_index_or list p.least p).path
