@@ -1,7 +1,7 @@
 ghost use Rattle.std.specs.Prelude.{◌≡◌, ◌≤◌, ◌<◌, ◌+◌, ◌*◌, ◌++◌, ◌∷◌, [], List, Bool, true, false, length, is_err, vec_capacity, IsTrue, IfOk, IfErr, IfSome, OnOk, Contains};
 ghost use Rattle.std.specs.Result.{MatchResult};
 ghost use Rattle.outside.specs.Fault.{HasCauseOf};
-ghost use Rattle.outside.specs.History.{Image};
+ghost use Rattle.outside.specs.History.{Image, OverTold};
 ghost use Rattle.btr_node.specs.NodeSize.{IsNodeSize};
 ghost use Rattle.btr_walk.specs.declared.map.MapRange.{MapRange as RangeOf};
 ghost use Rattle.btr_walk.specs.Events.{TreeItem};
@@ -207,8 +207,8 @@ impl TreeWalker {
         ensures kept_on { self.new.spent ≡ self.old.spent }
         ensures stands { IfOk result (λ more. IsTrue more → HasItem self.new) }
         ensures ends { IfOk result (λ more. IsTrue more → fuel self.new < fuel self.old) }
-        ensures comes { IsTrue S.tells → (image : Image) → S.blocks src.old ≡ image → (given : List TreeItem) → Walks self.old image ranges.now given →
-            MatchResult result (λ more. Comes more self.old.tree self.new image ranges.now given) (Blames (wrong image ranges.now self.old.tree)) }
+        ensures comes { OverTold S.tells (S.blocks src.old) (λ image. (given : List TreeItem) → Walks self.old image ranges.now given →
+            MatchResult result (λ more. Comes more self.old.tree self.new image ranges.now given) (Blames (wrong image ranges.now self.old.tree))) }
     {
         while self.at.left == 0 {
             match self.descend(src, ranges) {
@@ -240,8 +240,8 @@ impl TreeWalker {
         ensures stands { IfOk result (λ more. IsTrue more → HasItem self.new) }
         // It ends, whatever the source gives.
         ensures ends { IfOk result (λ more. IsTrue more → fuel self.new < fuel self.old) }
-        ensures comes { IsTrue S.tells → (image : Image) → S.blocks src.old ≡ image → (given : List TreeItem) → Walks self.old image ranges.now given →
-            MatchResult result (λ more. Comes more self.old.tree self.new image ranges.now given) (Blames (wrong image ranges.now self.old.tree)) }
+        ensures comes { OverTold S.tells (S.blocks src.old) (λ image. (given : List TreeItem) → Walks self.old image ranges.now given →
+            MatchResult result (λ more. Comes more self.old.tree self.new image ranges.now given) (Blames (wrong image ranges.now self.old.tree))) }
     {
         match self.step(src, ranges) {
             Ok(more) => Ok(more),

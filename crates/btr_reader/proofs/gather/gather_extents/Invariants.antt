@@ -1,4 +1,4 @@
-use Rattle.std.proofs.Common.{◌≡◌, ◌≤◌, ◌<◌, ◌^◌, List, false, IsTrue}
+use Rattle.std.proofs.Common.{◌≡◌, ◌<◌, ◌^◌, List, false, IsTrue}
 use Rattle.btr_walk.specs.Events.{TreeItem}
 use Rattle.btr_walk.specs.Walks.{Walks, fuel}
 use Rattle.btr_files.specs.Extents.{extents_of}
@@ -8,7 +8,7 @@ use Rattle.btr_reader.proofs.gather.gather_extents.Given as goal
 abbrev pub invariant-loop-walker : goal.invariant-loop-walker
 invariant-loop-walker g l = record {
   kept : g.S.BlockSource.kept l.fn.src l.src;
-  later : g.S.BlockSource.faults l.fn.src ≤ g.S.BlockSource.faults l.src;
+  same : g.S.BlockSource.faults l.src ≡ g.S.BlockSource.faults l.fn.src;
   tree : l.walker.tree ≡ l.fn.tree;
   fresh : l.walker.spent ≡ false;
   few : l.g.reach.covered < 2 ^ 59;

@@ -13,7 +13,7 @@ loop-i-preserved g c =
     let block : List ℕ = c.read.new.into.bytes in
     record {
       kept = g.met.S.BlockSource.kept_trans _ _ _ before.kept c.read.ensures.kept;
-      faults = omega (arith, before.faults, c.read.ensures.cause.later);
+      same = c.in_ok-read.ensures.cause.kept ∙ before.same;
       size = c.put_block.ensures.size ∙ before.size;
       read = λ tells.
           let image : Image = g.S.BlockSource.blocks c.args.src.now in

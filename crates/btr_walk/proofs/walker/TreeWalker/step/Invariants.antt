@@ -7,7 +7,7 @@ use Rattle.btr_walk.proofs.walker.TreeWalker.step.Given as goal
 abbrev pub invariant-loop-self : goal.invariant-loop-self
 invariant-loop-self g l = record {
   kept : g.S.BlockSource.kept l.fn.src l.src;
-  later : g.S.BlockSource.faults l.fn.src ≤ g.S.BlockSource.faults l.src;
+  same : g.S.BlockSource.faults l.src ≡ g.S.BlockSource.faults l.fn.src;
   tree : l.self.tree ≡ l.fn.self.tree;
   kept_on : l.self.spent ≡ l.fn.self.spent;
   ends : fuel l.self ≤ fuel l.fn.self;
