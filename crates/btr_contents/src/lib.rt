@@ -15,6 +15,3 @@ mod wanted;
 pub use content::Content;
 pub use contents::Contents;
 pub use wanted::{Wanted, wanted_inode};
-
-#[cfg(test)]
-mod tests;

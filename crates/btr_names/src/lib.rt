@@ -23,6 +23,3 @@ pub use links::inode_node;
 pub use naming::{Naming, OffForm};
 pub use roots::root_numbers;
 pub use table::Names;
-
-#[cfg(test)]
-mod tests;

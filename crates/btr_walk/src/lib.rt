@@ -13,6 +13,3 @@ pub use laws::{children_give_items, leaves_give_items, nodes_decide, subtrees_ar
 pub use map::{MapRange, is_mapped, place};
 pub use tree::{Form, Pointer, Tree};
 pub use walker::{Place, TreeWalker};
-
-#[cfg(test)]
-mod tests;

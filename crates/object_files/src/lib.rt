@@ -15,8 +15,6 @@ mod object_items;
 mod open;
 mod reading;
 mod tail;
-#[cfg(test)]
-mod tests;
 
 pub use calls::{file_map, file_mark, file_tail, link_target};
 pub use laws::used_blocks_decide;

@@ -15,8 +15,6 @@ mod laws;
 mod schedule;
 mod sink;
 mod store;
-#[cfg(test)]
-mod tests;
 
 pub use disk::MemDisk;
 pub use laws::{choice_decides_each_block, every_choice_is_a_crash, every_crash_has_a_choice};

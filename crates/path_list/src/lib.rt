@@ -18,8 +18,3 @@ pub use link::{Link, PathTo};
 pub use list::paths;
 pub use node::NodeId;
 pub use reach::reached;
-
-#[cfg(test)]
-mod reach_tests;
-#[cfg(test)]
-mod tests;

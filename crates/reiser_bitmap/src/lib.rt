@@ -21,6 +21,3 @@ pub use laws::{
 };
 pub use layout::{bitmap_block, is_system};
 pub use runs::{Run, Runs};
-
-#[cfg(test)]
-mod tests;

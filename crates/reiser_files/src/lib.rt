@@ -14,8 +14,6 @@ mod marker;
 mod marking;
 mod pieces;
 mod tail;
-#[cfg(test)]
-mod tests;
 
 pub use laws::{
     apart_items_follow, blocks_are_held, blocks_of_bytes, file_runs_say, items_name_blocks,

@@ -24,6 +24,3 @@ pub use object::Object;
 pub use reach::{ROOT, is_followed};
 pub use stat::ObjectStat;
 pub use table::Objects;
-
-#[cfg(test)]
-mod tests;

@@ -11,6 +11,3 @@ mod superblock;
 pub use journal::journal_state;
 pub use laws::{clean_is_not_refused, log_decides_journal};
 pub use superblock::Super;
-
-#[cfg(test)]
-mod tests;

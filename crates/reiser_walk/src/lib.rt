@@ -21,6 +21,3 @@ mod walker;
 pub use laws::{sound_trees_keep_rules, walks_are_first_parts};
 pub use stats::count_stats;
 pub use walker::Walker;
-
-#[cfg(test)]
-mod tests;

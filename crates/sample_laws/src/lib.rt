@@ -4,8 +4,6 @@
 #![tactic(auto)]
 
 mod laws;
-#[cfg(test)]
-mod tests;
 
 pub use laws::{
     inner_nodes_read_back, leaves_read_back, sample_inner_nodes_read_back, sample_leaves_read_back,
