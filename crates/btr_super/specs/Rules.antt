@@ -1,7 +1,7 @@
 -- The rules of a superblock that is read, each a test and what is answered where it fails, in their order.
-use Rattle.std.specs.Prelude.{ℕ, ◌*◌, ◌%◌, ◌^◌, ◌==◌, nat_lt, nat_le, Bool, ◌&&◌, ◌||◌, if◌then◌else◌, bit_and, List, [], ◌∷◌, ◌++◌, codes, is_some, Result, Ok, Err}
+use Rattle.std.specs.Prelude.{ℕ, ◌+◌, ◌-◌, ◌*◌, ◌%◌, ◌^◌, ◌==◌, nat_lt, nat_le, Bool, ◌&&◌, ◌||◌, if◌then◌else◌, bit_and, List, [], ◌∷◌, ◌++◌, codes, is_some, Result, Ok, Err}
 use Rattle.outside.specs.declared.refusal.BtrRefusal.{BtrRefusal}
-use Rattle.outside.specs.declared.refusal.BtrRefusal.TheVariants.{BadBtrfs, Unsupported}
+use Rattle.outside.specs.declared.refusal.BtrRefusal.TheVariants.{BadBtrfs, Unsupported, LogPending}
 use Rattle.outside.specs.declared.rule.BtrRule.TheVariants.{SuperCsum, SuperField}
 use Rattle.outside.specs.declared.rule.Feature.TheVariants.{Incompat, ChecksumType, SectorSize, NodeSize, DeviceCount}
 use Rattle.vol_block.specs.Format.{has_bytes_at}
@@ -26,10 +26,37 @@ has_fields s place device =
     && (nat_le s.sys_chunk_array_size 2048
     && (nat_le s.total_bytes (4096 * device) && (nat_le s.total_bytes (2 ^ 48) && (s.total_bytes % 4096 == 0)))))))
 
--- The bits beside those of features that are read: mixed backrefs 0x1, a default subvolume 0x2, LZO 0x8, ZSTD 0x10, big
--- metadata 0x20, extended inode refs 0x40, skinny metadata 0x100 and no holes 0x200.
+-- the bits of the incompatible features that are read
+abbrev pub mixed_backrefs : ℕ
+mixed_backrefs = 0x1
+
+abbrev pub default_subvolume : ℕ
+default_subvolume = 0x2
+
+abbrev pub compress_lzo : ℕ
+compress_lzo = 0x8
+
+abbrev pub compress_zstd : ℕ
+compress_zstd = 0x10
+
+abbrev pub big_metadata : ℕ
+big_metadata = 0x20
+
+abbrev pub extended_inode_refs : ℕ
+extended_inode_refs = 0x40
+
+abbrev pub skinny_metadata : ℕ
+skinny_metadata = 0x100
+
+abbrev pub no_holes : ℕ
+no_holes = 0x200
+
+abbrev pub read_bits : ℕ
+read_bits = mixed_backrefs + default_subvolume + compress_lzo + compress_zstd + big_metadata + extended_inode_refs + skinny_metadata + no_holes
+
+-- the bits of other features, in a field of 64 bits
 abbrev pub unread_bits : ℕ → ℕ
-unread_bits incompat = bit_and incompat 0xFFFFFFFFFFFFFC84
+unread_bits incompat = bit_and incompat (2 ^ 64 - 1 - read_bits)
 
 abbrev pub is_node_size : ℕ → Bool
 is_node_size n = (n == 4096) || ((n == 8192) || ((n == 16384) || ((n == 32768) || (n == 65536))))
@@ -72,3 +99,9 @@ unless_refused (refusal ∷ refusals) x = Err refusal
 -- the superblock that a block is, at this place of a device of so many blocks
 unfoldable pub super_of : List ℕ → ℕ → ℕ → Result Super BtrRefusal
 super_of block place device = unless_refused (super_refusals block place device) (super_in block)
+
+-- A refusal that names no log tree: what is wrong with a superblock says nothing of one.
+abbrev pub NamesNoLog : BtrRefusal → Type 0
+NamesNoLog (BadBtrfs address rule) = Unit {0}
+NamesNoLog (Unsupported feature value) = Unit {0}
+NamesNoLog (LogPending address) = ⊥

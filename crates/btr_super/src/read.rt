@@ -1,4 +1,4 @@
-ghost use Rattle.std.specs.Prelude.{◌≡◌, ◌≤◌, ◌↔◌, [], length, codes, IsOk};
+ghost use Rattle.std.specs.Prelude.{◌≡◌, ◌≤◌, ◌↔◌, [], length, codes, IsOk, IfErr};
 ghost use Rattle.vol_block.specs.Format.{has_bytes_at};
 ghost use Rattle.btr_super.specs.Rules.{
   is_super,
@@ -11,6 +11,7 @@ ghost use Rattle.btr_super.specs.Rules.{
   unless_refused,
   super_refusals,
   super_of,
+  NamesNoLog,
 };
 
 use crate::sums::{has_sum, sum_kind};
@@ -21,9 +22,31 @@ use vol_block::{Block, BlockNo, u16_at};
 /// The address of the first superblock in bytes, which each refusal names.
 const ADDRESS: u64 = 65536;
 
-/// The bits of incompatible features that are not read: all but mixed backrefs, a default subvolume, LZO, ZSTD, big
-/// metadata, extended inode refs, skinny metadata and no holes.
-const UNREAD: u64 = 0xFFFF_FFFF_FFFF_FC84;
+/// The bits of the incompatible features that are read.
+const MIXED_BACKREFS: u64 = 0x1;
+
+const DEFAULT_SUBVOLUME: u64 = 0x2;
+
+const COMPRESS_LZO: u64 = 0x8;
+
+const COMPRESS_ZSTD: u64 = 0x10;
+
+const BIG_METADATA: u64 = 0x20;
+
+const EXTENDED_INODE_REFS: u64 = 0x40;
+
+const SKINNY_METADATA: u64 = 0x100;
+
+const NO_HOLES: u64 = 0x200;
+
+const READ: u64 = MIXED_BACKREFS
+    | DEFAULT_SUBVOLUME
+    | COMPRESS_LZO
+    | COMPRESS_ZSTD
+    | BIG_METADATA
+    | EXTENDED_INODE_REFS
+    | SKINNY_METADATA
+    | NO_HOLES;
 
 const BAD_FIELD: BtrRefusal = BtrRefusal::BadBtrfs {
     address: ADDRESS,
@@ -41,6 +64,7 @@ impl Super {
     pub fn read(block: &Block, place: BlockNo, device: u64) -> Result<Super, BtrRefusal>
         ensures value { result ≡ super_of block.now.bytes place device }
         ensures rules { IsOk result ↔ (super_refusals block.now.bytes place device ≡ []) }
+        ensures known { IfErr result NamesNoLog }
     {
         check_block(block, place, device)?;
         let found = Super::first(&block.bytes);
@@ -49,12 +73,13 @@ impl Super {
     }
 
     fn check_fields(&self, place: BlockNo, device: u64) -> Result<(), BtrRefusal>
-        ensures { result ≡ unless_refused (failing (field_rules self.now place device)) tt }
+        ensures value { result ≡ unless_refused (failing (field_rules self.now place device)) tt }
+        ensures known { IfErr result NamesNoLog }
     {
         if !self.has_fields(place, device) {
             return Err(BAD_FIELD);
         }
-        let unread = self.incompat & UNREAD;
+        let unread = self.incompat & !READ;
         if unread != 0 {
             return unsupported(Feature::Incompat, unread);
         }
@@ -99,7 +124,8 @@ fn unsupported(feature: Feature, value: u64) -> Result<(), BtrRefusal>
 }
 
 fn check_block(block: &Block, place: BlockNo, device: u64) -> Result<(), BtrRefusal>
-    ensures { result ≡ unless_refused (failing (block_rules block.now.bytes place device)) tt }
+    ensures value { result ≡ unless_refused (failing (block_rules block.now.bytes place device)) tt }
+    ensures known { IfErr result NamesNoLog }
 {
     if !is_super(&block.bytes, place, device) {
         return Err(BAD_FIELD);

@@ -1,4 +1,4 @@
-use Rattle.std.proofs.Common.{◌≡◌, List, [], ◌∷◌, ◌++◌, sym, ◌∙◌, ap, subst, arith}
+use Rattle.std.proofs.Common.{◌≡◌, List, [], ◌∷◌, ◌++◌, sym, ◌∙◌, ap, subst, refl}
 use Rattle.std.proofs.lemmas.Result.{err_from_is_err_and}
 use Rattle.outside.specs.History.{Image}
 use Rattle.btr_walk.specs.declared.tree.Tree.{Tree}
@@ -13,7 +13,7 @@ use Rattle.btr_reader.proofs.roots.find_root.Goals as goal
 pub loop-walker-init : goal.loop-walker-init
 loop-walker-init g c = record {
   kept = g.met.S.BlockSource.kept_refl c.args.src.now;
-  later = omega arith;
+  same = refl;
   tree = c.in_ok-walker.ensures.tree;
   fresh = c.in_ok-walker.ensures.fresh;
   walks = λ tells. ([], c.in_ok-walker.ensures.walks _ _, tt);
@@ -36,7 +36,7 @@ loop-walker-preserved g c =
     let before = c.loop-walker.invariant in
     record {
       kept = g.met.S.BlockSource.kept_trans _ _ _ before.kept c.advance.ensures.kept;
-      later = omega (arith, before.later, c.advance.ensures.cause.later);
+      same = c.in_ok-advance.ensures.cause.kept (λ e. absurd cc) ∙ before.same;
       tree = c.advance.ensures.tree ∙ before.tree;
       fresh = c.in_ok-advance.ensures.spent;
       walks = λ tells.

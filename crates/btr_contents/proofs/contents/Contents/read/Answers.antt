@@ -1,4 +1,4 @@
-use Rattle.std.proofs.Common.{◌≡◌, ℕ, List, [], ◌∷◌, ◌++◌, Option, nat_eq, sym, ◌∙◌, ap, subst, arith}
+use Rattle.std.proofs.Common.{◌≡◌, ℕ, List, [], ◌∷◌, ◌++◌, Option, nat_eq, sym, ◌∙◌, ap, subst, refl}
 use Rattle.std.proofs.lemmas.Result.{err_from_is_err_and}
 use Rattle.outside.specs.History.{Image}
 use Rattle.indexmap.specs.IndexMap.{get}
@@ -19,7 +19,7 @@ use Rattle.btr_contents.proofs.contents.Contents.read.Goals as goal
 pub loop-walker-init : goal.loop-walker-init
 loop-walker-init g c = record {
   kept = g.met.S.BlockSource.kept_refl c.args.src.now;
-  later = omega arith;
+  same = refl;
   tree = c.in_ok-walker.ensures.tree;
   fresh = c.in_ok-walker.ensures.fresh;
   walks = λ tells blocks noted. ([], c.in_ok-walker.ensures.walks _ _, c.new-gathering.ensures _ _ _);
@@ -43,7 +43,7 @@ loop-walker-preserved g c =
     let before = c.loop-walker.invariant in
     record {
       kept = g.met.S.BlockSource.kept_trans _ _ _ (g.met.S.BlockSource.kept_trans _ _ _ before.kept c.advance.ensures.kept) c.add_item.ensures.kept;
-      later = omega (arith, before.later, c.advance.ensures.cause.later, c.add_item.ensures.cause.later);
+      same = c.in_ok-add_item.ensures.cause.kept (λ e. absurd cc) ∙ (c.in_ok-advance.ensures.cause.kept (λ e. absurd cc) ∙ before.same);
       tree = c.advance.ensures.tree ∙ before.tree;
       fresh = c.in_ok-advance.ensures.spent;
       walks = λ tells blocks noted.

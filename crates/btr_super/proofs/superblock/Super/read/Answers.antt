@@ -11,15 +11,15 @@ pub returns-in_err-check_block-clause-value : goal.returns-in_err-check_block-cl
 unfolding super_of
 returns-in_err-check_block-clause-value c =
     let p = err_from_is_err_and c.from_residual.result c.from_residual.ensures.1 in
-    rw (p.1, p.2) (first_refuses (block_rules c.args.block.now.bytes c.args.place c.args.device) (field_rules (super_in c.args.block.now.bytes) c.args.place c.args.device) tt (super_in c.args.block.now.bytes) c.in_err-check_block.field-0.0 c.in_err-check_block.ensures)
+    rw (p.1, p.2) (first_refuses (block_rules c.args.block.now.bytes c.args.place c.args.device) (field_rules (super_in c.args.block.now.bytes) c.args.place c.args.device) tt (super_in c.args.block.now.bytes) c.in_err-check_block.field-0.0 c.in_err-check_block.ensures.value)
 
 pub returns-clause-value : goal.returns-clause-value
 unfolding super_of
 returns-clause-value c =
     let block = c.args.block.now.bytes in
     let rules = field_rules (super_in block) c.args.place c.args.device in
-    let others = others_decide (block_rules block c.args.place c.args.device) rules tt c.in_ok-check_block.ensures in
-    let fields : Ok tt ≡ unless_refused (failing rules) tt = c.in_ok-check_fields.ensures ∙ ap (λ (s : Super). unless_refused (failing (field_rules s c.args.place c.args.device)) tt) c.first-found.ensures in
+    let others = others_decide (block_rules block c.args.place c.args.device) rules tt c.in_ok-check_block.ensures.value in
+    let fields : Ok tt ≡ unless_refused (failing rules) tt = c.in_ok-check_fields.ensures.value ∙ ap (λ (s : Super). unless_refused (failing (field_rules s c.args.place c.args.device)) tt) c.first-found.ensures in
     ap Ok c.first-found.ensures ∙ none_refused (failing rules) tt (super_in block) fields ∙ ap (λ (rs : List BtrRefusal). unless_refused rs (super_in block)) (sym others)
 
 pub returns-in_err-check_fields-clause-value : goal.returns-in_err-check_fields-clause-value
@@ -27,10 +27,10 @@ unfolding super_of
 returns-in_err-check_fields-clause-value c =
     let block = c.args.block.now.bytes in
     let rules = field_rules (super_in block) c.args.place c.args.device in
-    let others = others_decide (block_rules block c.args.place c.args.device) rules tt c.in_ok-check_block.ensures in
+    let others = others_decide (block_rules block c.args.place c.args.device) rules tt c.in_ok-check_block.ensures.value in
     let p = err_from_is_err_and c.from_residual-in_err-check_fields.result c.from_residual-in_err-check_fields.ensures.1 in
     let fields : Err c.in_err-check_fields.field-0.0 ≡ unless_refused (failing rules) tt =
-    c.in_err-check_fields.ensures ∙ ap (λ (s : Super). unless_refused (failing (field_rules s c.args.place c.args.device)) tt) c.first-found.ensures in
+    c.in_err-check_fields.ensures.value ∙ ap (λ (s : Super). unless_refused (failing (field_rules s c.args.place c.args.device)) tt) c.first-found.ensures in
     rw (p.1, p.2) (same_refusal (failing rules) tt (super_in block) c.in_err-check_fields.field-0.0 fields ∙ ap (λ (rs : List BtrRefusal). unless_refused rs (super_in block)) (sym others))
 
 pub returns-in_err-check_block-clause-rules : goal.returns-in_err-check_block-clause-rules
