@@ -1,4 +1,4 @@
-use Rattle.std.proofs.Common.{IsTrue, ◌≤◌, take}
+use Rattle.std.proofs.Common.{◌≡◌, IsTrue, take}
 use Rattle.sink_text.specs.Digits.{hex_text}
 use Rattle.sink_text.specs.Pushes.{Pushed}
 use Rattle.sink_text.proofs.buffered.Buffered.push_hex.Given as goal
@@ -6,5 +6,5 @@ use Rattle.sink_text.proofs.buffered.Buffered.push_hex.Given as goal
 abbrev pub invariant-loop-byte : goal.invariant-loop-byte
 invariant-loop-byte g l = record {
   taken : IsTrue g.S.Sink.tells → Pushed (g.S.Sink.taken l.initial.out) l.initial.self (hex_text (take l.byte-index l.bytes)) (g.S.Sink.taken l.out) l.self;
-  faults : g.S.Sink.faults l.initial.out ≤ g.S.Sink.faults l.out;
+  same : g.S.Sink.faults l.out ≡ g.S.Sink.faults l.initial.out;
 }

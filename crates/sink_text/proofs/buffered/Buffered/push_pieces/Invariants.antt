@@ -1,4 +1,4 @@
-use Rattle.std.proofs.Common.{IsTrue, ◌≤◌, take}
+use Rattle.std.proofs.Common.{◌≡◌, IsTrue, take}
 use Rattle.sink_text.specs.Text.{text_of}
 use Rattle.sink_text.specs.Pushes.{Pushed}
 use Rattle.sink_text.proofs.buffered.Buffered.push_pieces.Given as goal
@@ -6,5 +6,5 @@ use Rattle.sink_text.proofs.buffered.Buffered.push_pieces.Given as goal
 abbrev pub invariant-loop-piece : goal.invariant-loop-piece
 invariant-loop-piece g l = record {
   taken : IsTrue g.S.Sink.tells → Pushed (g.S.Sink.taken l.initial.out) l.initial.self (text_of (take l.piece-index l.pieces)) (g.S.Sink.taken l.out) l.self;
-  faults : g.S.Sink.faults l.initial.out ≤ g.S.Sink.faults l.out;
+  same : g.S.Sink.faults l.out ≡ g.S.Sink.faults l.initial.out;
 }
