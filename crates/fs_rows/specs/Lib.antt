@@ -1,3 +1,5 @@
+pub mod Content
+pub mod Kinds
 pub mod Mark
 pub mod Marker
 pub mod Rows

@@ -1,20 +1,26 @@
 //! The rows of a tree, one for each path, with their text and the marks of files.
 //!
 //! A caller makes [`Row`]s with their [`Name`]s and [`Path`]s, collects them in [`Rows`], and prints these by
-//! [`write_rows`]. A [`Marker`] takes the blocks of a file and gives its mark.
+//! [`write_rows`]. A reader of a volume finds of each object a [`Spot`] and a [`Content`], and what goes by its [`Kind`] is
+//! asked of that. A [`Marker`] takes the blocks of a file and gives its mark.
 #![tactic(auto)]
 
+mod content;
+mod kind;
 mod line;
 mod mark;
 mod name;
+mod place;
 mod row;
 mod rows;
 #[cfg(test)]
 mod tests;
 mod write;
 
+pub use content::{Content, no_content};
 pub use mark::Marker;
 pub use name::{Name, Path};
+pub use place::{Spot, copy_path};
 pub use row::{Kind, Row, Time};
 pub use rows::Rows;
 pub use write::write_rows;

@@ -13,5 +13,5 @@ loop-i-preserved g c = record {
   taken = λ tells.
       let below : c.loop-i.i < length c.args.path.now = omega arith in
       pushed_at slashed c.args.path.now c.loop-i.i _ _ _ _ _ _ _ below c.get.ensures (c.loop-i.invariant.taken tells) (c.in_ok-push_name.ensures.taken tells);
-  faults = omega (arith, c.in_ok-push_name.ensures.cause.later);
+  same = omega (arith, c.in_ok-push_name.ensures.cause.kept);
 }

@@ -14,7 +14,7 @@ loop-i-preserved g c = record {
   taken = λ tells.
       let below : c.loop-i.i < length c.args.rows.now = omega arith in
       pushed_at row_text c.args.rows.now c.loop-i.i _ _ _ _ _ _ _ below c.get.ensures (c.loop-i.invariant.taken tells) (c.in_ok-push_row.ensures.taken tells);
-  faults = omega (arith, c.in_ok-push_row.ensures.cause.later);
+  same = omega (arith, c.in_ok-push_row.ensures.cause.kept);
 }
 
 pub returns-clause-taken : goal.returns-clause-taken

@@ -1,4 +1,4 @@
-use Rattle.std.proofs.Common.{IsTrue, ◌≤◌, take}
+use Rattle.std.proofs.Common.{◌≡◌, IsTrue, take}
 use Rattle.std.specs.List.{flat_map}
 use Rattle.sink_text.specs.Pushes.{Pushed}
 use Rattle.fs_rows.specs.Text.{row_text}
@@ -7,5 +7,5 @@ use Rattle.fs_rows.proofs.write.push_rows.Given as goal
 abbrev pub invariant-loop-i : goal.invariant-loop-i
 invariant-loop-i g l = record {
   taken : IsTrue g.S.Sink.tells → Pushed (g.S.Sink.taken l.initial.out) l.initial.text (flat_map row_text (take l.i l.rows)) (g.S.Sink.taken l.out) l.text;
-  faults : g.S.Sink.faults l.initial.out ≤ g.S.Sink.faults l.out;
+  same : g.S.Sink.faults l.out ≡ g.S.Sink.faults l.initial.out;
 }
