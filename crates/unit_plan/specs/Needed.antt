@@ -3,15 +3,16 @@
 use Rattle.std.specs.Prelude.{ℕ, ◌+◌, ◌*◌, ◌/◌, ◌^◌, ◌<◌}
 use Rattle.std.specs.Int.{div_ceil}
 use Rattle.csum_kinds.specs.declared.kind.SumKind.{SumKind}
-use Rattle.csum_kinds.specs.declared.kind.SumKind.TheVariants.{Crc32c}
+use Rattle.csum_kinds.specs.Kind.{kind_width}
 use Rattle.btr_tree.specs.Counting.{node_bound}
+use Rattle.unit_plan.specs.Sums.{sums_in_item}
 use Rattle.unit_plan.specs.declared.counts.Counts.{Counts}
 use Rattle.unit_plan.specs.declared.need.Need.{Need}
 use Rattle.unit_plan.specs.declared.options.Options.{Options}
 
--- a bound of the nodes of a tree whose items take so many bytes, at nodes of 16 KiB, of which 64 fill a unit
-abbrev pub nodes_for : ℕ → ℕ
-nodes_for bytes = node_bound bytes 16384
+-- how many nodes fill a unit
+abbrev pub nodes_in_unit : ℕ → ℕ
+nodes_in_unit nodesize = 2 ^ 20 / nodesize
 
 -- No plan has more chunks: each run of free units may begin a chunk, and one may begin behind it; a few more begin where
 -- roles change without that; and every 1024 units a chunk is cut.
@@ -26,9 +27,9 @@ file_tree_bytes c = 400 + 185 * c.objects + 153 * c.names + 3 * c.letters + 78 *
 abbrev pub image_tree_bytes : Counts → ℕ
 image_tree_bytes c = 1000 + 78 * c.pieces
 
--- a checksum for each block of data, and items of 900 blocks at most
+-- a checksum for each block of data; an item for each piece, and one more where an item is full
 abbrev pub checksum_tree_bytes : SumKind → Counts → ℕ
-checksum_tree_bytes Crc32c c = 4 * c.piece_blocks + 25 * (c.pieces + c.piece_blocks / 900)
+checksum_tree_bytes sums c = kind_width sums * c.piece_blocks + 25 * (c.pieces + c.piece_blocks / sums_in_item sums)
 
 -- trees whose size goes by the number of chunks
 abbrev pub device_tree_bytes : ℕ → ℕ
@@ -37,29 +38,29 @@ device_tree_bytes chunks = 73 * chunks
 abbrev pub chunk_tree_bytes : ℕ → ℕ
 chunk_tree_bytes chunks = 105 * chunks + 123
 
-abbrev pub chunk_nodes : Counts → ℕ
-chunk_nodes c = nodes_for (chunk_tree_bytes (chunk_bound c.runs c.blocks))
+abbrev pub chunk_nodes : Options → Counts → ℕ
+chunk_nodes o c = node_bound (chunk_tree_bytes (chunk_bound c.runs c.blocks)) o.nodesize
 
 -- the nodes of all trees but the chunk tree and the extent tree; the root tree has 8192 bytes at most, and the tree for
 -- relocation 1000
-abbrev pub other_nodes : SumKind → Counts → ℕ
-other_nodes sums c =
-    nodes_for (file_tree_bytes c) + nodes_for (image_tree_bytes c) + nodes_for (checksum_tree_bytes sums c)
-    + nodes_for (device_tree_bytes (chunk_bound c.runs c.blocks)) + nodes_for 8192 + nodes_for 1000
+abbrev pub other_nodes : Options → Counts → ℕ
+other_nodes o c =
+    node_bound (file_tree_bytes c) o.nodesize + node_bound (image_tree_bytes c) o.nodesize + node_bound (checksum_tree_bytes o.sums c) o.nodesize
+    + node_bound (device_tree_bytes (chunk_bound c.runs c.blocks)) o.nodesize + node_bound 8192 o.nodesize + node_bound 1000 o.nodesize
 
 -- an extent for each piece and each node of the other trees, and a block group for each chunk
-abbrev pub extent_tree_bytes : SumKind → Counts → ℕ
-extent_tree_bytes sums c = 107 * c.pieces + 49 * chunk_bound c.runs c.blocks + 58 * (other_nodes sums c + chunk_nodes c)
+abbrev pub extent_tree_bytes : Options → Counts → ℕ
+extent_tree_bytes o c = 107 * c.pieces + 49 * chunk_bound c.runs c.blocks + 58 * (other_nodes o c + chunk_nodes o c)
 
 -- the extent tree has extents of its own nodes too
-abbrev pub extent_nodes : SumKind → Counts → ℕ
-extent_nodes sums c = 2 * nodes_for (extent_tree_bytes sums c) + 16
+abbrev pub extent_nodes : Options → Counts → ℕ
+extent_nodes o c = 2 * node_bound (extent_tree_bytes o c) o.nodesize + 16
 
 abbrev pub need : Counts → Options → Need
-need c options =
+need c o =
     record {
-      system = div_ceil (chunk_nodes c) 64;
-      metadata = div_ceil (other_nodes options.sums c + extent_nodes options.sums c) 64;
+      system = div_ceil (chunk_nodes o c) (nodes_in_unit o.nodesize);
+      metadata = div_ceil (other_nodes o c + extent_nodes o c) (nodes_in_unit o.nodesize);
       data_ = div_ceil (c.copies + c.tails) 256;
     }
 

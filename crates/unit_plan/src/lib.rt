@@ -6,21 +6,25 @@
 
 mod choice;
 mod counts;
+mod label;
 mod laws;
 mod need;
 mod options;
 mod piece;
 mod plan;
+mod sums;
 mod units;
 mod unused;
 
 pub use choice::choose;
 pub use counts::Counts;
+pub use label::Label;
 pub use laws::{chunks_are_few, plans_are_sound};
 pub use need::{Need, needed};
-pub use options::Options;
+pub use options::{LabelChoice, Options, UuidChoice};
 pub use piece::{Piece, PieceList};
 pub use plan::{Plan, PlanAnswer};
+pub use sums::sums_in_item;
 pub use units::Units;
 
 #[cfg(test)]

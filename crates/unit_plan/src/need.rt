@@ -1,8 +1,12 @@
-ghost use Rattle.std.specs.Prelude.{◌≡◌, ◌+◌, ◌<◌, ◌^◌};
+ghost use Rattle.std.specs.Prelude.{◌≡◌, ◌+◌, ◌*◌, ◌≤◌, ◌<◌, ◌^◌};
+ghost use Rattle.btr_node.specs.NodeSize.{IsNodeSize};
+ghost use Rattle.btr_tree.specs.Counting.{node_bound};
+ghost use Rattle.csum_kinds.specs.Kind.{kind_width};
+ghost use Rattle.unit_plan.specs.Choice.{IsSmall};
 ghost use Rattle.unit_plan.specs.Needed.{
   AreSmall,
   need,
-  nodes_for,
+  nodes_in_unit,
   chunk_bound,
   file_tree_bytes,
   image_tree_bytes,
@@ -12,15 +16,13 @@ ghost use Rattle.unit_plan.specs.Needed.{
   extent_nodes,
 };
 
+use crate::sums::{sum_width, sums_in_item};
 use crate::{Counts, Options};
 use btr_tree::node_bound;
 use csum_kinds::SumKind;
 
-/// The bytes of a node.
-const NODE_SIZE: u32 = 16384;
-
-/// The nodes that a unit of 1 MiB has room for.
-const NODES_IN_UNIT: u64 = 64;
+/// The bytes of a unit.
+const UNIT_SIZE: u64 = 1 << 20;
 
 /// The blocks of a unit.
 const BLOCKS_IN_UNIT: u64 = 256;
@@ -46,18 +48,32 @@ impl Need {
     }
 }
 
-/// The units that the conversion of a volume with these counts takes, each count below 2^50.
+/// The units that the conversion of a volume with these counts takes, each count below 2^50. Each number of units is
+/// below 2^60.
 pub fn needed(counts: &Counts, options: &Options) -> Need
-    requires { AreSmall counts.now }
-    ensures { result ≡ need counts.now options.now }
+    requires counts { AreSmall counts.now }
+    requires size { IsNodeSize options.now.nodesize }
+    ensures exact { result ≡ need counts.now options.now }
+    ensures small { IsSmall result }
 {
-    let others = other_nodes(counts, options.sums);
-    let extents = extent_nodes(counts, options.sums);
+    let others = other_nodes(counts, options);
+    let extents = extent_nodes(counts, options);
+    let in_unit = nodes_in_unit(options.nodesize);
     Need {
-        system: chunk_nodes(counts).div_ceil(NODES_IN_UNIT),
-        metadata: (others + extents).div_ceil(NODES_IN_UNIT),
+        system: chunk_nodes(counts, options).div_ceil(in_unit),
+        metadata: (others + extents).div_ceil(in_unit),
         data_: (counts.copies + counts.tails).div_ceil(BLOCKS_IN_UNIT),
     }
+}
+
+/// How many nodes fill a unit.
+pub(crate) fn nodes_in_unit(nodesize: u32) -> u64
+    requires { IsNodeSize nodesize }
+    ensures exact { result ≡ nodes_in_unit nodesize }
+    ensures some { 1 ≤ result }
+    ensures whole { result * nodesize ≡ 2 ^ 20 }
+{
+    UNIT_SIZE / nodesize as u64
 }
 
 /// A bound of the chunks.
@@ -70,35 +86,38 @@ fn chunk_bound(counts: &Counts) -> u64
 }
 
 /// A bound of the nodes of a tree whose items take so many bytes.
-fn nodes_for(bytes: u64) -> u64
-    requires { bytes < 2 ^ 60 }
-    ensures exact { result ≡ nodes_for bytes }
-    ensures small { result < 2 ^ 48 }
+fn nodes_for(bytes: u64, options: &Options) -> u64
+    requires bytes { bytes < 2 ^ 60 }
+    requires size { IsNodeSize options.now.nodesize }
+    ensures exact { result ≡ node_bound bytes options.now.nodesize }
+    ensures small { result < 2 ^ 50 }
 {
-    node_bound(bytes, NODE_SIZE)
+    node_bound(bytes, options.nodesize)
 }
 
 /// A bound of the nodes of the chunk tree.
-fn chunk_nodes(counts: &Counts) -> u64
-    requires { AreSmall counts.now }
-    ensures exact { result ≡ chunk_nodes counts.now }
-    ensures small { result < 2 ^ 48 }
+fn chunk_nodes(counts: &Counts, options: &Options) -> u64
+    requires counts { AreSmall counts.now }
+    requires size { IsNodeSize options.now.nodesize }
+    ensures exact { result ≡ chunk_nodes options.now counts.now }
+    ensures small { result < 2 ^ 50 }
 {
-    nodes_for(105 * chunk_bound(counts) + 123)
+    nodes_for(105 * chunk_bound(counts) + 123, options)
 }
 
 /// A bound of the nodes of all trees but the chunk tree and the extent tree.
-fn other_nodes(counts: &Counts, sums: SumKind) -> u64
-    requires { AreSmall counts.now }
-    ensures exact { result ≡ other_nodes sums counts.now }
-    ensures small { result < 2 ^ 51 }
+fn other_nodes(counts: &Counts, options: &Options) -> u64
+    requires counts { AreSmall counts.now }
+    requires size { IsNodeSize options.now.nodesize }
+    ensures exact { result ≡ other_nodes options.now counts.now }
+    ensures small { result < 2 ^ 53 }
 {
-    nodes_for(file_tree_bytes(counts))
-        + nodes_for(image_tree_bytes(counts))
-        + nodes_for(checksum_tree_bytes(counts, sums))
-        + nodes_for(73 * chunk_bound(counts))
-        + nodes_for(8192)
-        + nodes_for(1000)
+    nodes_for(file_tree_bytes(counts), options)
+        + nodes_for(image_tree_bytes(counts), options)
+        + nodes_for(checksum_tree_bytes(counts, options.sums), options)
+        + nodes_for(73 * chunk_bound(counts), options)
+        + nodes_for(8192, options)
+        + nodes_for(1000, options)
 }
 
 fn file_tree_bytes(counts: &Counts) -> u64
@@ -127,20 +146,28 @@ fn checksum_tree_bytes(counts: &Counts, sums: SumKind) -> u64
     ensures exact { result ≡ checksum_tree_bytes sums counts.now }
     ensures small { result < 2 ^ 60 }
 {
-    match sums {
-        SumKind::Crc32c => {
-            4 * counts.piece_blocks + 25 * (counts.pieces + counts.piece_blocks / 900)
-        }
-    }
+    sums_bytes(counts.piece_blocks, sum_width(sums))
+        + 25 * (counts.pieces + counts.piece_blocks / sums_in_item(sums))
+}
+
+/// The bytes of so many checksums of this width.
+fn sums_bytes(blocks: u64, width: u64) -> u64
+    requires blocks { blocks < 2 ^ 50 }
+    requires width { width ≤ 32 }
+    ensures exact { result ≡ width * blocks }
+    ensures small { result < 2 ^ 56 }
+{
+    width * blocks
 }
 
 /// A bound of the nodes of the extent tree.
-fn extent_nodes(counts: &Counts, sums: SumKind) -> u64
-    requires { AreSmall counts.now }
-    ensures exact { result ≡ extent_nodes sums counts.now }
-    ensures small { result < 2 ^ 50 }
+fn extent_nodes(counts: &Counts, options: &Options) -> u64
+    requires counts { AreSmall counts.now }
+    requires size { IsNodeSize options.now.nodesize }
+    ensures exact { result ≡ extent_nodes options.now counts.now }
+    ensures small { result < 2 ^ 52 }
 {
-    let nodes = other_nodes(counts, sums) + chunk_nodes(counts);
+    let nodes = other_nodes(counts, options) + chunk_nodes(counts, options);
     let bytes = 107 * counts.pieces + 49 * chunk_bound(counts) + 58 * nodes;
-    2 * nodes_for(bytes) + 16
+    2 * nodes_for(bytes, options) + 16
 }

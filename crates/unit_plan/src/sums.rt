@@ -1,0 +1,23 @@
+ghost use Rattle.std.specs.Prelude.{◌≡◌, ◌≤◌};
+ghost use Rattle.csum_kinds.specs.Kind.{kind_width};
+ghost use Rattle.unit_plan.specs.Sums.{sums_in_item};
+
+use csum_kinds::SumKind;
+
+/// How many checksums of data an item of the checksum tree has at most.
+pub fn sums_in_item(kind: SumKind) -> u64
+    ensures exact { result ≡ sums_in_item kind }
+    ensures some { 1 ≤ result }
+{
+    match kind {
+        SumKind::Crc32c => 900,
+    }
+}
+
+/// How many bytes a checksum of data has.
+pub(crate) fn sum_width(kind: SumKind) -> u64
+    ensures exact { result ≡ kind_width kind }
+    ensures small { result ≤ 32 }
+{
+    csum_kinds::kind_width(kind) as u64
+}
