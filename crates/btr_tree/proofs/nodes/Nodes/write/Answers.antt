@@ -32,7 +32,7 @@ loop-k-preserved g c =
     record {
       open_ = c.write_node.ensures.open ∙ before.open_;
       size = c.write_node.ensures.size ∙ before.size;
-      faults = omega (arith, before.faults, c.write_node.ensures.cause.later);
+      same = c.in_ok-write_node.ensures.cause.kept ∙ before.same;
       only = λ tells.
           let one : WritesOnly (λ b _. IsInSlots n c.self.inside.slots b) (g.D.Disk.history c.loop-k.disk) (g.D.Disk.history c.write_node.new.disk) =
           writes_weaker (λ b _. IsInNode (length part) c.get.result b) (λ b _. IsInSlots n c.self.inside.slots b)
