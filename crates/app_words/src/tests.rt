@@ -1,40 +1,8 @@
-// What words are, and the lines that no command of a program prints yet.
-use crate::{answer_status, is_path, number_of, write_answer};
+// The lines of answers, also of those that no command of a program gives yet.
+use crate::{answer_status, write_answer};
 use outside::{Answer, BtrRefusal, BtrRule, Rule, VolumeRefusal};
 use outside_mem::MemSink;
 use std::test::Fail;
-
-#[test]
-fn words_are_paths_or_numbers(rt: HostRuntime) -> Result<(), Fail> {
-    for (word, path) in [
-        ("", false),
-        ("-", false),
-        ("-x", false),
-        ("x", true),
-        ("/dev/sda", true),
-        ("+x", true),
-    ] {
-        assert_eq!(rt; is_path(word), path);
-    }
-    for (word, most, number) in [
-        ("0", 0, Some(0)),
-        ("1", 0, None),
-        ("007", 7, Some(7)),
-        ("4000", 4000, Some(4000)),
-        ("4001", 4000, None),
-        ("18446744073709551615", u64::MAX, Some(u64::MAX)),
-        ("18446744073709551616", u64::MAX, None),
-        ("", 9, None),
-        ("+1", 9, None),
-        ("-1", 9, None),
-        ("1 ", 9, None),
-        ("0x1", 9, None),
-        ("a", 99, None),
-    ] {
-        assert_eq!(rt; number_of(word, most), number);
-    }
-    Ok(())
-}
 
 #[test]
 fn answers_have_lines_and_statuses(rt: HostRuntime) -> Result<(), Fail> {

@@ -1,10 +1,10 @@
-// Marks and targets of files whose extents are made by hand. The marks are those that Python's hashlib gives.
+// Marks of files whose extents are made by hand. The marks are those that Python's hashlib gives.
 ghost use Rattle.std.specs.Prelude.{◌≤◌, ◌≡◌, IfOk, None};
 
 use crate::ExtentMarker;
 use btr_keys::DiskRange;
 use btr_walk::MapRange;
-use outside::{Access, BlockSource, BtrAnswer, BtrRefusal, BtrRule, Disk, Feature, Memory};
+use outside::{Access, BlockSource, BtrAnswer, Disk, Memory};
 use outside_mem::MemDisk;
 use std::alloc::Global;
 use std::test::Fail;
@@ -41,10 +41,6 @@ enum Part {
     Inline(u64, u8, usize),
     Regular(u64, DiskRange),
     Prealloc(u64, DiskRange),
-    /// An inline one of ten bytes with these kinds of compression and encryption.
-    Coded(u8, u8),
-    /// One that is off its grammar.
-    Short,
 }
 
 /// Some blocks of the disk extent.
@@ -98,12 +94,6 @@ fn body_of(part: Part) -> (Block, usize)
             put_range(&mut block, 2, &range);
             (block, 53)
         }
-        Part::Coded(compression, encryption) => {
-            block.bytes[16] = compression;
-            block.bytes[17] = encryption;
-            (block, 31)
-        }
-        Part::Short => (block, 20),
     }
 }
 
@@ -113,8 +103,6 @@ fn offset_of(part: Part) -> u64 {
         Part::Inline(at, _, _) => at,
         Part::Regular(at, _) => at,
         Part::Prealloc(at, _) => at,
-        Part::Coded(_, _) => 0,
-        Part::Short => 0,
     }
 }
 
@@ -280,85 +268,6 @@ fn marks(rt: HostRuntime) -> Result<(), Fail> {
     Ok(())
 }
 
-fn bad(address: u64, rule: BtrRule) -> BtrAnswer {
-    BtrAnswer::Refused(BtrRefusal::BadBtrfs { address, rule })
-}
-
-fn unsupported(feature: Feature, value: u64) -> BtrAnswer {
-    BtrAnswer::Refused(BtrRefusal::Unsupported { feature, value })
-}
-
-#[test]
-fn refusals(rt: HostRuntime) -> Result<(), Fail> {
-    let mut disk = volume(rt.alloc())?;
-    disk.open("x", Access::Read)?;
-    let unaligned = DiskRange {
-        offset: 512,
-        ..blocks(0, 1)
-    };
-    let outside = DiskRange {
-        disk_num_bytes: 0x9000,
-        ..blocks(4, 2)
-    };
-    for (first, second, wanted) in [
-        (
-            Part::Coded(1, 0),
-            Part::Nothing,
-            unsupported(Feature::Compression, 1),
-        ),
-        (
-            Part::Coded(0, 2),
-            Part::Nothing,
-            unsupported(Feature::Encryption, 2),
-        ),
-        (Part::Short, Part::Nothing, bad(LEAF, BtrRule::Body)),
-        (
-            Part::Regular(100, blocks(0, 1)),
-            Part::Nothing,
-            bad(LEAF, BtrRule::ExtentForm),
-        ),
-        (
-            Part::Regular(0, unaligned),
-            Part::Nothing,
-            bad(LEAF, BtrRule::ExtentForm),
-        ),
-        // the disk extent has no block behind its fifth
-        (
-            Part::Regular(0, blocks(4, 2)),
-            Part::Nothing,
-            bad(LEAF, BtrRule::ExtentForm),
-        ),
-        // nor the map, and the block lies past the size
-        (
-            Part::Regular(0, outside),
-            Part::Nothing,
-            bad(0x105000, BtrRule::Unmapped),
-        ),
-        // two extents with a byte in common
-        (
-            Part::Inline(0, b'a', 10),
-            Part::Inline(9, b'b', 10),
-            bad(LEAF, BtrRule::ExtentForm),
-        ),
-        (
-            Part::Regular(0, blocks(0, 2)),
-            Part::Prealloc(4096, blocks(0, 1)),
-            bad(LEAF, BtrRule::ExtentForm),
-        ),
-        (
-            Part::Prealloc(0, hole(4096)),
-            Part::Regular(4096, hole(100)),
-            bad(LEAF, BtrRule::ExtentForm),
-        ),
-    ] {
-        assert_eq!(rt;
-            mark(&mut disk, 10, [first, second, Part::Nothing]),
-            Err(wanted)
-        );
-    }
-    Ok(())
-}
-
 #[test]
 fn reads(rt: HostRuntime) -> Result<(), Fail> {
     let parts = [
@@ -375,40 +284,5 @@ fn reads(rt: HostRuntime) -> Result<(), Fail> {
     disk.open("x", Access::Read)?;
     disk.fail_call(1)?;
     assert_eq!(rt; mark(&mut disk, 20481, parts), Err(BtrAnswer::Fault));
-    Ok(())
-}
-
-#[test]
-fn targets(rt: HostRuntime) -> Result<(), Fail> {
-    let mut disk = volume(rt.alloc())?;
-    disk.open("x", Access::Read)?;
-    let short = gather(
-        &mut disk,
-        5,
-        [Part::Inline(0, b'p', 9), Part::Nothing, Part::Nothing],
-    )?;
-    assert!(rt; short.target() == b"ppppp".as_slice());
-    let parts = gather(
-        &mut disk,
-        8,
-        [
-            Part::Inline(0, b'p', 3),
-            Part::Inline(5, b'/', 1),
-            Part::Inline(6, b'q', 1),
-        ],
-    )?;
-    assert!(rt; parts.target() == b"ppp\0\0/q\0".as_slice());
-    let whole = gather(
-        &mut disk,
-        4096,
-        [Part::Regular(0, blocks(0, 2)), Part::Nothing, Part::Nothing],
-    )?;
-    assert!(rt; whole.target() == [b'A'; 4096].as_slice());
-    let none = gather(
-        &mut disk,
-        0,
-        [Part::Inline(0, b'p', 3), Part::Nothing, Part::Nothing],
-    )?;
-    assert!(rt; none.target().is_empty());
     Ok(())
 }

@@ -2,10 +2,9 @@ ghost use Rattle.std.specs.Prelude.{◌≡◌};
 
 mod mkfs;
 
-use crate::{Child, Expect, Full, InnerView, LeafView, NodeWriter};
+use crate::{Child, Expect, InnerView, LeafView, NodeWriter};
 use btr_keys::Key;
 use csum_kinds::SumKind;
-use outside::BtrRule;
 use std::test::Fail;
 
 const CHUNK_TREE: [u8; 16] = [
@@ -65,21 +64,6 @@ fn inner_node_of_mkfs(rt: HostRuntime) {
     assert_eq!(rt; node.child(3).key, key(10972021, 12, 256));
 }
 
-#[test]
-fn rules(rt: HostRuntime) {
-    let mut bytes = mkfs::leaf();
-    let other = Expect { owner: 5, ..LEAF };
-    assert!(rt; matches!(LeafView::read(&bytes, &other), Err(BtrRule::NodeHead)));
-    let later = Expect {
-        generation: 6,
-        ..LEAF
-    };
-    assert!(rt; matches!(LeafView::read(&bytes, &later), Err(BtrRule::NodeHead)));
-    assert!(rt; matches!(InnerView::read(&bytes, &LEAF), Err(BtrRule::NodeHead)));
-    bytes[4095] ^= 1;
-    assert!(rt; matches!(LeafView::read(&bytes, &LEAF), Err(BtrRule::NodeCsum)));
-}
-
 // The writer makes the bytes that mkfs.btrfs made.
 #[test]
 fn writes_the_leaf_of_mkfs(rt: HostRuntime) -> Result<(), Fail> {
@@ -116,34 +100,4 @@ fn child(key: Key, address: u64) -> Child
         address,
         generation: 7,
     }
-}
-
-// A leaf of 16384 bytes has 16283 for items; an item takes 25 and its data.
-#[test]
-fn room_of_a_leaf(rt: HostRuntime) -> Result<(), Fail> {
-    let body = [0; 16259];
-    let mut writer = NodeWriter::new(rt.alloc(), 16384)?;
-    writer.start(&LEAF, CHUNK_TREE);
-    assert_eq!(rt; writer.room(), 16283);
-    assert_eq!(rt; writer.push(key(1, 1, 0), &body), Err(Full));
-    writer.push(key(1, 1, 0), &body[..16258])?;
-    assert_eq!(rt; writer.room(), 0);
-    writer.start(&LEAF, CHUNK_TREE);
-    writer.push(key(1, 1, 0), &body[..160])?;
-    assert_eq!(rt; writer.room(), 16098);
-    Ok(())
-}
-
-// One writer makes leaves one after the other, and an empty leaf is a leaf.
-#[test]
-fn empty_leaf_after_a_leaf(rt: HostRuntime) -> Result<(), Fail> {
-    let mut writer = NodeWriter::new(rt.alloc(), 4096)?;
-    writer.start(&LEAF, CHUNK_TREE);
-    writer.push(key(1, 1, 0), b"body")?;
-    writer.start(&LEAF, CHUNK_TREE);
-    let bytes = writer.finish();
-    assert_eq!(rt; bytes.len(), 4096);
-    let leaf = LeafView::read(bytes, &LEAF).expect(&rt, "a leaf");
-    assert_eq!(rt; leaf.count(), 0);
-    Ok(())
 }

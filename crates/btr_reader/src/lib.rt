@@ -29,6 +29,4 @@ pub use roots::{RootFound, find_root};
 pub use volume::Btrfs;
 
 #[cfg(test)]
-mod rows_tests;
-#[cfg(test)]
 mod tests;

@@ -2,7 +2,7 @@
 // whose addresses are those of the device, and two data chunks that follow one another but lie apart.
 use crate::{Btrfs, ImageMap};
 use csum_kinds::{SumKind, kind_sum};
-use outside::{Access, BtrAnswer, BtrRefusal, BtrRule, Disk, Feature};
+use outside::{Access, BtrAnswer, Disk};
 use outside_mem::MemDisk;
 use std::alloc::Global;
 use std::test::Fail;
@@ -249,15 +249,6 @@ fn map_of(alloc: Global, case: &Case) -> Result<Result<Option<ImageMap>, BtrAnsw
     }
 }
 
-/// The length of the image.
-fn length_of(alloc: Global, case: &Case) -> Result<Result<Option<u64>, BtrAnswer>, Fail> {
-    Ok(match map_of(alloc, case)? {
-        Ok(Some(map)) => Ok(Some(map.len())),
-        Ok(None) => Ok(None),
-        Err(e) => Err(e),
-    })
-}
-
 #[test]
 fn places_of_an_image(rt: HostRuntime) -> Result<(), Fail> {
     let Ok(Some(map)) = map_of(rt.alloc(), &WHOLE)? else {
@@ -295,50 +286,5 @@ fn places_of_an_image(rt: HostRuntime) -> Result<(), Fail> {
         ]
     );
     assert_eq!(rt; map.len(), 10);
-    Ok(())
-}
-
-#[test]
-fn missing_and_refused_images(rt: HostRuntime) -> Result<(), Fail> {
-    let alloc = rt.alloc();
-    let logged = Case {
-        log_root: 81920,
-        ..WHOLE
-    };
-    assert_eq!(rt; length_of(alloc, &logged)?, Ok(Some(10)));
-    let elsewhere = Case { dir: 257, ..WHOLE };
-    assert_eq!(rt; length_of(alloc, &elsewhere)?, Ok(None));
-    let odd = Case {
-        size: 40961,
-        ..WHOLE
-    };
-    assert_eq!(rt; length_of(alloc, &odd)?, Ok(None));
-    let directory = Case {
-        mode: 0x41ED,
-        ..WHOLE
-    };
-    assert_eq!(rt; length_of(alloc, &directory)?, Ok(None));
-    let compressed = Case {
-        compression: 1,
-        ..WHOLE
-    };
-    assert_eq!(rt;
-        length_of(alloc, &compressed)?,
-        Err(BtrAnswer::Refused(BtrRefusal::Unsupported {
-            feature: Feature::Compression,
-            value: 1,
-        }))
-    );
-    let unmapped = Case {
-        disk: 0x200000,
-        ..WHOLE
-    };
-    assert_eq!(rt;
-        length_of(alloc, &unmapped)?,
-        Err(BtrAnswer::Refused(BtrRefusal::BadBtrfs {
-            address: 0x202000,
-            rule: BtrRule::Unmapped,
-        }))
-    );
     Ok(())
 }

@@ -1,5 +1,4 @@
-use crate::{FILE_LEAF, Sample};
-use btr_super::Super;
+use crate::Sample;
 use std::test::Fail;
 use vol_block::Block;
 
@@ -21,21 +20,5 @@ fn checksums(rt: HostRuntime) -> Result<(), Fail> {
         disk.block(n, &mut block);
         assert_eq!(rt; &block.bytes[..4], sum.as_slice(), "of block {n}");
     }
-    Ok(())
-}
-
-#[test]
-fn what_differs(rt: HostRuntime) -> Result<(), Fail> {
-    let sample = Sample {
-        label: [b'x'; 256],
-        log_root: FILE_LEAF,
-        ..Sample::PLAIN
-    };
-    let disk = sample.disk(rt.alloc())?;
-    let mut block = Block::zero();
-    disk.block(16, &mut block);
-    let found = Super::read(&block, 16, 12288).ok().ok_or("a superblock")?;
-    assert_eq!(rt; found.label, [b'x'; 256]);
-    assert_eq!(rt; found.log_root, 35667968);
     Ok(())
 }

@@ -1,7 +1,7 @@
 // What is told of a sample volume, of which each line is known from how the sample is made.
 use crate::Summary;
-use btr_samples::{FILE_LEAF, Sample};
-use outside::{Access, BtrAnswer, BtrRefusal, BtrRule, Disk, Fault};
+use btr_samples::Sample;
+use outside::{Access, BtrAnswer, Disk};
 use outside_mem::{MemDisk, MemSink};
 use std::alloc::Global;
 use std::test::Fail;
@@ -22,21 +22,6 @@ fn text_of(alloc: Global, summary: &Summary) -> Result<MemSink, Fail> {
 
 const PLAIN: &str =
     "format btrfs\nfsid 22222222-2222-2222-2222-222222222222\nblocks 12288\ngeneration 1\nnodesize 16384\nlabel -\nimage -\n";
-
-#[test]
-fn what_is_told(rt: HostRuntime) -> Result<(), Fail> {
-    let logged = Sample {
-        log_root: 35651584,
-        ..Sample::PLAIN
-    };
-    for sample in [Sample::PLAIN, logged] {
-        let mut disk = opened(rt.alloc(), &sample)?;
-        let summary = Summary::read(rt.alloc(), &mut disk).ok().ok_or("a volume")?;
-        let out = text_of(rt.alloc(), &summary)?;
-        assert!(rt; out.bytes() == PLAIN.as_bytes());
-    }
-    Ok(())
-}
 
 /// A label of these bytes and zeros behind them.
 fn label(bytes: &[u8]) -> [u8; 256] {
@@ -82,32 +67,6 @@ fn labels_and_images(rt: HostRuntime) -> Result<(), Fail> {
     Ok(())
 }
 
-fn bad(address: u64, rule: BtrRule) -> Option<BtrAnswer> {
-    Some(BtrAnswer::Refused(BtrRefusal::BadBtrfs { address, rule }))
-}
-
-#[test]
-fn refusals(rt: HostRuntime) -> Result<(), Fail> {
-    let other = Sample {
-        owner: 7,
-        ..Sample::PLAIN
-    };
-    let mut disk = opened(rt.alloc(), &other)?;
-    assert_eq!(rt;
-        Summary::read(rt.alloc(), &mut disk).err(),
-        bad(FILE_LEAF, BtrRule::NodeHead)
-    );
-    for blocks in [0, 16, 17] {
-        let mut disk = MemDisk::new(rt.alloc(), blocks)?;
-        disk.open("volume", Access::Read)?;
-        assert_eq!(rt;
-            Summary::read(rt.alloc(), &mut disk).err(),
-            bad(65536, BtrRule::SuperField)
-        );
-    }
-    Ok(())
-}
-
 /// The superblock is one block, and four walks go over a leaf of four blocks each: of the chunk tree, twice of the root
 /// tree, and of the file tree. Each of these reads fails in turn.
 #[test]
@@ -125,16 +84,5 @@ fn failed_calls(rt: HostRuntime) -> Result<(), Fail> {
         }
     }
     assert_eq!(rt; calls, 17);
-    Ok(())
-}
-
-#[test]
-fn a_failed_print(rt: HostRuntime) -> Result<(), Fail> {
-    let mut disk = opened(rt.alloc(), &Sample::PLAIN)?;
-    let summary = Summary::read(rt.alloc(), &mut disk).ok().ok_or("a volume")?;
-    let mut out = MemSink::new(rt.alloc());
-    out.fail_call(0)?;
-    assert_eq!(rt; summary.print(&mut out), Err(Fault));
-    assert!(rt; PLAIN.as_bytes().starts_with(out.bytes()));
     Ok(())
 }

@@ -1,9 +1,6 @@
 // The superblock of a volume that `mkfs.btrfs -m single -d single --rootdir DIR -L label-of-it` made, beside the values that
 // `btrfs inspect-internal dump-super -f` prints of it.
-ghost use Rattle.std.specs.Prelude.{◌<◌};
-
 use super::*;
-use outside::{BtrRefusal, BtrRule, Feature};
 use std::test::*;
 use vol_block::Block;
 
@@ -184,61 +181,4 @@ fn copies(rt: HostRuntime) {
     wanted.bytes[48..56].copy_from_slice(&[0, 0, 0, 4, 0, 0, 0, 0]);
     assert!(rt; copy == wanted);
     assert!(rt; Super::read(&copy, 16384, BLOCKS).is_ok());
-}
-
-/// What a superblock with this byte at this place, and a right checksum, is refused for.
-fn refusal(at: usize, byte: u8) -> Option<BtrRefusal>
-    requires { at < 4096 }
-{
-    let mut edited = superblock();
-    edited.bytes[at] = byte;
-    let mut block = Block::zero();
-    mirror(&edited, 16, &mut block);
-    Super::read(&block, 16, BLOCKS).err()
-}
-
-#[test]
-fn refuses(rt: HostRuntime) {
-    let field = BtrRefusal::BadBtrfs {
-        address: 65536,
-        rule: BtrRule::SuperField,
-    };
-    let feature = |feature, value| BtrRefusal::Unsupported { feature, value };
-    let rows = [
-        (64, 0, field),
-        (113, 0x10, field),
-        (112, 1, field),
-        (161, 8, field),
-        (198, 8, field),
-        (199, 8, field),
-        (200, 8, field),
-        (188, 0xc1, feature(Feature::Incompat, 0x80)),
-        (196, 2, feature(Feature::ChecksumType, 2)),
-        (145, 0x20, feature(Feature::SectorSize, 8192)),
-        (149, 0x41, feature(Feature::NodeSize, 16640)),
-        (136, 2, feature(Feature::DeviceCount, 2)),
-    ];
-    for (at, byte, wanted) in rows {
-        assert!(rt; at < 4096);
-        assert_eq!(rt; refusal(at, byte), Some(wanted), "at {at}");
-    }
-    assert_eq!(rt; refusal(600, 1), None);
-}
-
-#[test]
-fn refuses_blocks(rt: HostRuntime) {
-    let field = BtrRefusal::BadBtrfs {
-        address: 65536,
-        rule: BtrRule::SuperField,
-    };
-    let block = superblock();
-    assert_eq!(rt; Super::read(&block, 16, 16).err(), Some(field));
-    assert_eq!(rt; Super::read(&block, 16384, BLOCKS).err(), Some(field));
-    let mut changed = superblock();
-    changed.bytes[4095] = 1;
-    let sum = BtrRefusal::BadBtrfs {
-        address: 65536,
-        rule: BtrRule::SuperCsum,
-    };
-    assert_eq!(rt; Super::read(&changed, 16, BLOCKS).err(), Some(sum));
 }

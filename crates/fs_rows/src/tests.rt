@@ -58,97 +58,11 @@ fn prints_one(rt: &(impl Abort + AllocGlobal), row: Row, text: &str) -> Result<(
     prints(rt, rows, text)
 }
 
-/// The SHA-256 of no bytes.
-const NOTHING: [u8; 32] = [
-    0xe3, 0xb0, 0xc4, 0x42, 0x98, 0xfc, 0x1c, 0x14, 0x9a, 0xfb, 0xf4, 0xc8, 0x99, 0x6f, 0xb9, 0x24,
-    0x27, 0xae, 0x41, 0xe4, 0x64, 0x9b, 0x93, 0x4c, 0xa4, 0x95, 0x99, 0x1b, 0x78, 0x52, 0xb8, 0x55,
-];
-
 /// By Python's hashlib: SHA-256 of 0 in eight bytes, 4096 letters x, 258 in eight bytes, a y and 4095 zeros.
 const MARK: [u8; 32] = [
     0x82, 0x76, 0x16, 0x62, 0x11, 0xd2, 0x85, 0xd7, 0x49, 0xab, 0x68, 0xb1, 0xc4, 0x81, 0x31, 0xe7,
     0x95, 0x2c, 0x78, 0x77, 0xa5, 0x1c, 0x94, 0x84, 0x98, 0xe8, 0xbd, 0x9f, 0x9c, 0x0a, 0x13, 0x5a,
 ];
-
-#[test]
-fn the_root(rt: HostRuntime) -> Result<(), Fail> {
-    let mut root = row(rt.alloc(), Kind::Directory, &[], &[])?;
-    let time = Time {
-        sec: 1_000_000_000,
-        nsec: 0,
-    };
-    root.mode = 0o755;
-    root.atime = time;
-    root.mtime = time;
-    root.ctime = time;
-    prints_one(
-        &rt,
-        root,
-        "d 0755 0 0 1000000000 1000000000 1000000000 - - - - - /\n",
-    )
-}
-
-#[test]
-fn an_empty_file(rt: HostRuntime) -> Result<(), Fail> {
-    let mut file = row(rt.alloc(), Kind::File, &["a"], &["a"])?;
-    let time = Time {
-        sec: 1_000_000_001,
-        nsec: 0,
-    };
-    file.mode = 0o644;
-    file.uid = 1000;
-    file.gid = 100;
-    file.atime = time;
-    file.mtime = time;
-    file.ctime = time;
-    file.names = 1;
-    file.mark = Marker::new().finish();
-    prints_one(
-        &rt,
-        file,
-        "f 0644 1000 100 1000000001 1000000001 1000000001 - - 1 0 \
-         e3b0c44298fc1c149afbf4c8996fb92427ae41e4649b934ca495991b7852b855 /a\n",
-    )
-}
-
-#[test]
-fn three_names_of_an_object(rt: HostRuntime) -> Result<(), Fail> {
-    let mut rows = Rows::new(rt.alloc());
-    for names in [["a", "x"], ["a", "y"], ["b", "z"]] {
-        let mut file = row(rt.alloc(), Kind::File, &names, &["a", "x"])?;
-        file.names = 3;
-        file.mark = NOTHING;
-        rows.add(file)?;
-    }
-    prints(
-        &rt,
-        rows,
-        "f 0000 0 0 0 0 0 - - 3 0 \
-         e3b0c44298fc1c149afbf4c8996fb92427ae41e4649b934ca495991b7852b855 /a/x\n\
-         f 0000 0 0 0 0 0 - - 3 0 \
-         e3b0c44298fc1c149afbf4c8996fb92427ae41e4649b934ca495991b7852b855 /a/y = /a/x\n\
-         f 0000 0 0 0 0 0 - - 3 0 \
-         e3b0c44298fc1c149afbf4c8996fb92427ae41e4649b934ca495991b7852b855 /b/z = /a/x\n",
-    )
-}
-
-#[test]
-fn a_symlink_and_an_escaped_name(rt: HostRuntime) -> Result<(), Fail> {
-    let mut link = row(rt.alloc(), Kind::Symlink, &["ln"], &["ln"])?;
-    link.mode = 0o777;
-    link.names = 1;
-    link.length = 13;
-    link.target = Name::new(rt.alloc(), b"../some/place")?;
-    let mut rows = Rows::new(rt.alloc());
-    rows.add(row(rt.alloc(), Kind::Directory, &["a b"], &["a b"])?)?;
-    rows.add(link)?;
-    prints(
-        &rt,
-        rows,
-        "d 0000 0 0 0 0 0 - - - - - /a\\x20b\n\
-         l 0777 0 0 0 0 0 - - 1 13 - /ln -> ../some/place\n",
-    )
-}
 
 #[test]
 fn a_device_with_flags_and_times(rt: HostRuntime) -> Result<(), Fail> {

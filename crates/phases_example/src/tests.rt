@@ -1,4 +1,4 @@
-use crate::{Placed, count_zeros, switch};
+use crate::{Placed, switch};
 use outside::{Access, BlockSource, Disk};
 use outside_mem::MemDisk;
 use std::alloc::Global;
@@ -65,26 +65,5 @@ fn a_crash_of_a_switch_leaves_the_old_volume_or_the_new_one(rt: HostRuntime) -> 
             assert!(rt; !done || new && has(&mut left, 16384, 5)?);
         }
     }
-    Ok(())
-}
-
-#[test]
-fn the_superblock_alone_decides_between_the_volumes(rt: HostRuntime) -> Result<(), Fail> {
-    let (mut left, _) = crashed(rt.alloc(), 3, &[0])?;
-    assert!(rt; is_old(&mut left)?);
-    let (mut left, _) = crashed(rt.alloc(), 3, &[1])?;
-    assert!(rt; is_new(&mut left)?);
-    Ok(())
-}
-
-#[test]
-fn zeros_are_counted_until_a_read_fails(rt: HostRuntime) -> Result<(), Fail> {
-    let mut disk = MemDisk::new(rt.alloc(), 5)?;
-    disk.set_block(1, &filled(1))?;
-    disk.set_block(4, &filled(2))?;
-    disk.open("", Access::Read)?;
-    assert_eq!(rt; count_zeros(&mut disk)?, 3);
-    disk.fail_call(2)?;
-    assert!(rt; count_zeros(&mut disk).is_err());
     Ok(())
 }

@@ -1,7 +1,5 @@
 // Bodies of volumes that mkfs.reiserfs and Linux 6.1 made, beside the values that `debugreiserfs` prints of them.
 use super::*;
-use reiser_node::{ItemHead, ItemKind};
-use std::cmp::Ordering;
 use std::test::*;
 
 /// The stat data of a file of version 1.
@@ -128,28 +126,4 @@ fn entries(rt: HostRuntime) -> Result<(), Fail> {
     assert!(rt; Entries::read(&DIRECTORY, 0).is_none());
     assert!(rt; Entries::read(&DIRECTORY, 5).is_none());
     Ok(())
-}
-
-#[test]
-fn order(rt: HostRuntime) {
-    let stat = ItemHead {
-        dir: 1,
-        object: 2,
-        offset: 0,
-        kind: ItemKind::Stat,
-        old: false,
-        count: 0,
-        length: 44,
-    };
-    let entries = ItemHead {
-        offset: 1,
-        kind: ItemKind::Directory,
-        old: true,
-        count: 4,
-        length: 104,
-        ..stat
-    };
-    assert_eq!(rt; key_order(&stat, &entries), Ordering::Less);
-    assert_eq!(rt; key_order(&entries, &stat), Ordering::Greater);
-    assert_eq!(rt; key_order(&entries, &entries), Ordering::Equal);
 }

@@ -1,8 +1,8 @@
 // Volumes beside the checksums of those that another program made from the same description; reiserfsck finds nothing to
 // complain of in these.
-ghost use Rattle.std.specs.Prelude.{◌≡◌, ◌≤◌, ◌<◌, ◌^◌};
+ghost use Rattle.std.specs.Prelude.{◌≤◌, ◌<◌, ◌^◌};
 
-use crate::{MakeAnswer, make, make_old};
+use crate::{make, make_old};
 use outside::{Access, BlockSource, Disk};
 use outside_mem::MemDisk;
 use std::alloc::Global;
@@ -54,22 +54,5 @@ fn volumes_are_those_of_another_program(rt: HostRuntime) -> Result<(), Fail> {
         let mut disk = made(rt.alloc(), number, old)?;
         assert_eq!(rt; checksum(&mut disk)?, sum);
     }
-    Ok(())
-}
-
-#[test]
-fn full_comes_before_the_first_write(rt: HostRuntime) -> Result<(), Fail> {
-    let mut disk = MemDisk::new(rt.alloc(), 8212)?;
-    disk.open("", Access::Write)?;
-    assert!(rt; disk.len() == 8212);
-    let full = Err(MakeAnswer::Full {
-        needed: 8212,
-        blocks: 8211,
-    });
-    assert_eq!(rt; make(rt.alloc(), 0, 8211, &mut disk), full);
-    assert_eq!(rt; make_old(rt.alloc(), 0, 8211, &mut disk), full);
-    assert_eq!(rt; disk.writes(), 0);
-    assert_eq!(rt; make(rt.alloc(), 0, 8212, &mut disk), Ok(()));
-    assert_eq!(rt; disk.writes(), 8212);
     Ok(())
 }

@@ -70,13 +70,6 @@ fn leaf(rt: HostRuntime) -> Result<(), Fail> {
 }
 
 #[test]
-fn leaf_with_an_item_of_version_2(rt: HostRuntime) {
-    let mut block = leaf_block();
-    block.bytes[46] = 2;
-    assert!(rt; LeafView::read(&block).is_none());
-}
-
-#[test]
 fn inner(rt: HostRuntime) -> Result<(), Fail> {
     let mut block = Block::zero();
     block.bytes[..56].copy_from_slice(&INNER);

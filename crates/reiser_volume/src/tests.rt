@@ -5,13 +5,10 @@ mod rows;
 mod sample;
 
 use crate::Volume;
-use crate::gather::sorted;
-use outside::{Access, BlockSource, Disk, Memory, Rule, VolAnswer, VolumeRefusal};
+use outside::{Access, Disk, Memory, Rule, VolAnswer, VolumeRefusal};
 use outside_mem::MemDisk;
-use reiser_bitmap::Bitmap;
-use reiser_names::check_all_names;
-use reiser_objects::{ObjectKey, Objects, ROOT};
-use sample::{Entry, Thing, change, volume};
+use reiser_objects::ObjectKey;
+use sample::{Entry, Thing, volume};
 use std::alloc::Global;
 use std::test::*;
 
@@ -198,36 +195,6 @@ const UP: &[Entry] = &[(1, 2, "up")];
 
 const KEPT: &[Entry] = &[(2, 4, "reiserfs_saved")];
 
-/// A name of 256 bytes.
-const LONG: &[Entry] = &[(
-    2,
-    4,
-    "xxxxxxxxxxxxxxxxxxxxxxxxxxxxxxxxxxxxxxxxxxxxxxxxxxxxxxxxxxxxxxxxxxxxxxxxxxxxxxxxxxxxxxxxxxxxxxxxxxxxxxxxxxxxxxxxxxxxxxxxxxxxxxxxxxxxxxxxxxxxxxxxxxxxxxxxxxxxxxxxxxxxxxxxxxxxxxxxxxxxxxxxxxxxxxxxxxxxxxxxxxxxxxxxxxxxxxxxxxxxxxxxxxxxxxxxxxxxxxxxxxxxxxxxxxxxxxxx",
-)];
-
-const LINK: &[Entry] = &[(2, 8, "s")];
-
-#[test]
-fn names_and_targets_are_short(rt: HostRuntime) -> Result<(), Fail> {
-    for (root, target, answer) in [
-        (LONG, 1, long(4, 256)),
-        (LINK, 3900, Ok(2)),
-        (LINK, 3901, long(8, 3901)),
-    ] {
-        let mut disk = with_root(rt.alloc(), root, NONE, NONE, target)?;
-        assert_eq!(rt; open(rt.alloc(), &mut disk), answer);
-    }
-    Ok(())
-}
-
-fn long(object: u32, length: u64) -> Result<usize, VolAnswer> {
-    refused(VolumeRefusal::NameTooLong {
-        dir: 2,
-        object,
-        length,
-    })
-}
-
 fn attributes(object: u32) -> Result<usize, VolAnswer> {
     refused(VolumeRefusal::HasAttributes { dir: 2, object })
 }
@@ -258,66 +225,5 @@ fn attributes_are_refused(rt: HostRuntime) -> Result<(), Fail> {
         let mut disk = with_root(rt.alloc(), PRIVATE, fifth, sixth, 1)?;
         assert_eq!(rt; open(rt.alloc(), &mut disk), answer);
     }
-    Ok(())
-}
-
-fn at(block: u64, rule: Rule) -> VolumeRefusal {
-    VolumeRefusal::Damaged { block, rule }
-}
-
-#[test]
-fn each_group_refuses(rt: HostRuntime) -> Result<(), Fail> {
-    let alloc = rt.alloc();
-    for (n, at, bytes, refusal) in [
-        (
-            16,
-            50,
-            b"\x02".as_slice(),
-            VolumeRefusal::Unclean { state: 2 },
-        ),
-        // a descriptor without a last flushed transaction
-        (
-            18,
-            4084,
-            b"ReIsErLB",
-            VolumeRefusal::JournalPending { trans: 0 },
-        ),
-        (17, 2, b"\xfe", at(16, Rule::SystemFree)),
-        (51, 2, b"\0", at(51, Rule::NodeHead)),
-        // the file has no kind
-        (51, 3937, b"\0", at(51, Rule::ObjectForm)),
-    ] {
-        let mut disk = with_root(alloc, FOUR, NONE, NONE, 1)?;
-        change(&mut disk, n, at, bytes)?;
-        assert_eq!(rt; open(alloc, &mut disk), refused(refusal));
-    }
-    Ok(())
-}
-
-#[test]
-fn failed_reads_and_short_devices(rt: HostRuntime) -> Result<(), Fail> {
-    let alloc = rt.alloc();
-    // superblock, the journal's header, the last block of its log, the bitmap, the leaf
-    for call in [1, 2, 34, 35, 36] {
-        let mut disk = with_root(alloc, FOUR, NONE, NONE, 1)?;
-        disk.fail_call(call)?;
-        assert_eq!(rt; open(alloc, &mut disk), Err(VolAnswer::Fault));
-    }
-    let mut disk = MemDisk::new(alloc, 16)?;
-    assert_eq!(rt; open(alloc, &mut disk), refused(VolumeRefusal::NotVolume));
-    Ok(())
-}
-
-#[test]
-fn all_names_of_good_objects(rt: HostRuntime) -> Result<(), Fail> {
-    let alloc = rt.alloc();
-    let mut disk = with_root(alloc, FOUR, NONE, NONE, 1)?;
-    disk.open("x", Access::Read)?;
-    assert!(rt; disk.len() >= 2048);
-    let map = Bitmap::load(alloc, &mut disk, 2048)?;
-    let objects = Objects::read(alloc, &mut disk, &map, 51, 2, 18, 32)?;
-    let named = sorted(objects.check(alloc, 51)?)?;
-    assert!(rt; named.contains(&ROOT));
-    assert_eq!(rt; check_all_names(alloc, &objects, &named), Ok(()));
     Ok(())
 }
