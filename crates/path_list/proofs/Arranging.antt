@@ -98,7 +98,7 @@ name_equal x y is = grind (arith, nat_tests)
 pub path_total : IsTotalOrder path_cmp
 path_total = lists_total nat_list_cmp_total
 
-path_equal : (a b : NameList) → path_cmp a b ≡ Equal → is_same_path a b ≡ true
+pub path_equal : (a b : NameList) → path_cmp a b ≡ Equal → is_same_path a b ≡ true
 path_equal = cmp_equal (slice_cmp nat_cmp) (pointwise nat_eq) (cmp_equal nat_cmp nat_eq name_equal)
 
 -- not above, and not the same

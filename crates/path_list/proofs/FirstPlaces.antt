@@ -1,7 +1,7 @@
 -- The places in the list of the paths of a tree.
-use Rattle.std.proofs.Common.{◌≡◌, ℕ, ◌+◌, ◌<◌, ◌≤◌, Bool, true, false, cond, List, [], ◌∷◌, map, length, get_or, count_by, Contains, Less, Equal, ⊎_elim, refl, sym, ap, subst, ◌∙◌, true≢false, nat_eq, eq-eqb, arith}
+use Rattle.std.proofs.Common.{◌≡◌, ℕ, ◌+◌, ◌<◌, ◌≤◌, Bool, true, false, cond, List, [], ◌∷◌, map, length, get_or, count_by, Contains, Ordering, Less, Equal, Greater, ⊎_elim, refl, sym, ap, subst, ◌∙◌, true≢false, nat_eq, eq-eqb, arith}
 use Rattle.std.specs.List.{position_or_len}
-use Rattle.std.specs.Ordering.{is_le}
+use Rattle.std.specs.Ordering.{is_le, ordering_reverse}
 use Rattle.std.specs.Cmp.Lexicographic.{pointwise}
 use Rattle.std.proofs.lemmas.Bool.{and_from, cases_lt}
 use Rattle.std.proofs.lemmas.Cmp.{tied_itself}
@@ -14,7 +14,7 @@ use Rattle.path_list.specs.declared.link.PathTo.{PathTo}
 use Rattle.path_list.specs.declared.node.NodeId.{NodeId}
 use Rattle.path_list.specs.Links.{same_node}
 use Rattle.path_list.specs.Paths.{ArePaths, first_path, leads_to}
-use Rattle.path_list.proofs.Arranging.{path_total}
+use Rattle.path_list.proofs.Arranging.{path_total, path_equal}
 use Rattle.path_list.proofs.Counts.{count_cons}
 use Rattle.path_list.proofs.Lists.{in_tail}
 use Rattle.path_list.proofs.Nodes.{same_node-true, same_node-self, pointwise-true, same_name-true}
@@ -48,6 +48,17 @@ itself E same (x ∷ xs) = and_from (E x x) (pointwise E xs xs) (same x) (itself
 
 pub path_itself : (path : NameList) → is_same_path path path ≡ true
 path_itself = itself (pointwise nat_eq) (itself nat_eq (λ n. eq-eqb n n refl))
+
+-- two paths neither of which is above the other are one
+pub neither_above : (p q : NameList) → is_le (path_cmp p q) ≡ true → is_le (path_cmp q p) ≡ true → p ≡ q
+neither_above p q one other = by (path_cmp p q) (path_cmp q p) refl refl (path_total.antisymm p q) one other
+  where
+    by : (o r : Ordering) → path_cmp p q ≡ o → path_cmp q p ≡ r → o ≡ ordering_reverse r → is_le o ≡ true → is_le r ≡ true → p ≡ q
+    by Equal r is also turned low high = same_names p q (path_equal p q is)
+    by Less Less is also turned low high = cc
+    by Less Equal is also turned low high = cc
+    by Less Greater is also turned low high = absurd (true≢false (sym high))
+    by Greater r is also turned low high = absurd (true≢false (sym low))
 
 module _ (links : List Link) (root : NodeId) (list : List PathTo) (are : ArePaths links root list) where
   -- the place of the first path to an object is in the list, and the path there leads to the object

@@ -20,7 +20,7 @@ use Rattle.reiser_objects.specs.Reach.{Keys, IsReach}
 use Rattle.reiser_objects.specs.Rules.{IsDirectory}
 use Rattle.reiser_objects.specs.Summary.{has_entries}
 use Rattle.reiser_objects.proofs.Checking.{directory_tested, directory_passes}
-use Rattle.reiser_objects.proofs.Reaching.{Contains-filter, from_filter}
+use Rattle.path_list.proofs.Lists.{in_filter, from_filter}
 use Rattle.reiser_objects.proofs.Tables.{same_key-true, same_key-self}
 use Rattle.reiser_names.specs.Again.{NamesAnother, BlamesAgain}
 use Rattle.reiser_names.specs.Counts.{names_of, is_counted, BlamesCount}
@@ -105,17 +105,17 @@ module _ {S : Type 0} (items : List Item) (ns : List Naming) (named : IndexSet O
   link_in n among = let f = from_filter (is_link has) ns n among in let b = and_both (is_followed n) (has n.dir) f.1 in (f.0, b.0, b.1)
 
   in_link : (n : Naming) → Contains ns n → is_followed n ≡ true → has n.dir ≡ true → Contains links n
-  in_link n among counts dir = Contains-filter (is_link has) ns n among (ap (λ (b : Bool). b && has n.dir) counts ∙ dir)
+  in_link n among counts dir = in_filter (is_link has) ns n among (ap (λ (b : Bool). b && has n.dir) counts ∙ dir)
 
   in_visible : (n : Naming) → Contains ns n → has n.dir ≡ true → Contains visible n
-  in_visible n among dir = Contains-filter (λ m. has m.dir) ns n among dir
+  in_visible n among dir = in_filter (λ m. has m.dir) ns n among dir
 
   -- what a link names is named
   link_named : (n : Naming) → Contains links n → IsNamed items n.target
   link_named n among =
       let l = link_in n among in
       let d = (reach.seen n.dir l.2).named in
-      (suc d.0, (n, Contains-filter is_followed (namings items) n (subst (λ (m : List Naming). Contains m n) ns_is l.0) l.1, refl, d.1))
+      (suc d.0, (n, in_filter is_followed (namings items) n (subst (λ (m : List Naming). Contains m n) ns_is l.0) l.1, refl, d.1))
 
   item_named : (key : ObjectKey) (i : Item) → Contains (items_of key items) i → Contains items i × (key_of i.head ≡ key)
   item_named key i among = let f = from_filter (λ x. same_key (key_of x.head) key) items i among in (f.0, same_key-true (key_of i.head) key f.1)
@@ -183,7 +183,7 @@ module _ {S : Type 0} (items : List Item) (ns : List Naming) (named : IndexSet O
     are_keys = keyed;
     keeps = record {
       forms = λ i among entries is.
-          formed (has_entries i.head.kind) (are_entries i.head.count i.body) ((forms (key_of i.head) (reach.whole (key_of i.head) is)).forms i (Contains-filter (λ x. same_key (key_of x.head) (key_of i.head)) items i among (same_key-self (key_of i.head)))) entries;
+          formed (has_entries i.head.kind) (are_entries i.head.count i.body) ((forms (key_of i.head) (reach.whole (key_of i.head) is)).forms i (in_filter (λ x. same_key (key_of x.head) (key_of i.head)) items i among (same_key-self (key_of i.head)))) entries;
       names = λ n among. let f = from_filter (λ m. has m.dir) ns n among in (good n f.0).name f.1;
       private = λ n among other. private n (subst (λ (m : List Naming). Contains m n) (sym ns_is) among) other;
       short = λ n among. let l = link_in n among in ((good n l.0).link l.2 l.1).short;

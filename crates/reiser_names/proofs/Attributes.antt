@@ -11,7 +11,7 @@ use Rattle.reiser_objects.specs.Keys.{same_key}
 use Rattle.reiser_objects.specs.Names.{namings, is_followed}
 use Rattle.reiser_objects.specs.Reach.{Keys}
 use Rattle.reiser_objects.proofs.Tables.{same_key-true, same_key-self}
-use Rattle.reiser_objects.proofs.Reaching.{Contains-filter, from_filter}
+use Rattle.path_list.proofs.Lists.{in_filter, from_filter}
 use Rattle.reiser_names.specs.Private.{listing, IsReadable, HoldsNoAttribute, HasNoAttributes, IsBelow, IsOnly, IsExtra, AreTargets, BlamesTargets, BlamesBelow, BlamesPrivate}
 
 -- nothing is kept where nothing passes
@@ -22,7 +22,7 @@ none_kept p (x ∷ xs) none =
 
 -- an entry of a directory is in its listing
 listed : (items : List Item) (m : Naming) → Contains (namings items) m → Contains (listing items m.dir) m
-listed items m among = Contains-filter (λ (n : Naming). same_key n.dir m.dir) (namings items) m among (same_key-self m.dir)
+listed items m among = in_filter (λ (n : Naming). same_key n.dir m.dir) (namings items) m among (same_key-self m.dir)
 
 in_listing : (items : List Item) (dir : ObjectKey) (n : Naming) → Contains (listing items dir) n → Contains (namings items) n × (n.dir ≡ dir)
 in_listing items dir n among = let f = from_filter (λ (n : Naming). same_key n.dir dir) (namings items) n among in (f.0, same_key-true n.dir dir f.1)

@@ -4,7 +4,7 @@ use Rattle.path_list.specs.declared.link.Link.{Link}
 use Rattle.path_list.specs.declared.node.NodeId.{NodeId}
 use Rattle.path_list.specs.Reached as over
 use Rattle.path_list.specs.Reached.{AreReached}
-use Rattle.path_list.proofs.Lists.{in_map, in_tail, head_or_tail}
+use Rattle.path_list.proofs.Lists.{in_map, from_map}
 use Rattle.reiser_walk.specs.Items.{Item}
 use Rattle.reiser_objects.specs.declared.key.ObjectKey.{ObjectKey}
 use Rattle.reiser_objects.specs.declared.naming.Naming.{Naming}
@@ -12,12 +12,6 @@ use Rattle.reiser_objects.specs.Keys.{root}
 use Rattle.reiser_objects.specs.Names.{is_followed, namings, followed, IsReachedBy}
 use Rattle.reiser_objects.specs.Nodes.{node_of, step_of, steps}
 use Rattle.reiser_objects.specs.Reach.{TellsNamed}
-
--- an element of a list that was made of another
-pub from_map : {X Y : Type 0} (f : X → Y) (xs : List X) (y : Y) → Contains (map f xs) y → (x : X) × Contains xs x × (f x ≡ y)
-from_map f [] y among = absurd (omega (arith, among.1))
-from_map f (x ∷ xs) y among =
-    ⊎_elim (λ first. (x, (0, omega arith, refl), first)) (λ later. let r = from_map f xs y later in (r.0, in_tail x xs r.0 r.1, r.2)) (head_or_tail (f x) (map f xs) y among)
 
 -- objects of one node are the same
 pub node_same : (a b : ObjectKey) → node_of a ≡ node_of b → a ≡ b

@@ -11,7 +11,7 @@ use Rattle.reiser_walk.proofs.Rules.{ascending_from}
 use Rattle.reiser_objects.specs.declared.key.ObjectKey.{ObjectKey}
 use Rattle.reiser_objects.specs.Keys.{same_key, key_of}
 use Rattle.reiser_objects.specs.Table.{IsBehind}
-use Rattle.reiser_objects.proofs.Reaching.{from_filter}
+use Rattle.path_list.proofs.Lists.{from_filter}
 use Rattle.reiser_objects.proofs.Tables.{same_key-true}
 
 offsets : (d o f k e p g l : ℕ) → is_lt (ordering_then (ordering_then (ordering_then (nat_cmp d e) (nat_cmp o p)) (nat_cmp f g)) (nat_cmp k l)) ≡ true → d ≡ e → o ≡ p → f ≤ g

@@ -9,6 +9,7 @@ use Rattle.outside.specs.declared.refusal.VolumeRefusal.TheVariants.{Damaged}
 use Rattle.outside.specs.declared.rule.Rule.TheVariants.{ObjectForm}
 use Rattle.fs_rows.specs.declared.row.Kind.TheVariants.{Directory, File, Symlink, Character, Block, Fifo, Socket}
 use Rattle.path_list.specs.declared.node.NodeId.{NodeId}
+use Rattle.path_list.proofs.Lists.{in_filter, from_filter}
 use Rattle.reiser_walk.specs.Items.{Item}
 use Rattle.reiser_objects.specs.declared.key.ObjectKey.{ObjectKey}
 use Rattle.reiser_objects.specs.declared.naming.Naming.{Naming}
@@ -27,35 +28,10 @@ use Rattle.reiser_objects.proofs.Tables.{same_key-true}
 pub head_is : {X : Type 0} (y : X) (ys : List X) (x : X) → y ≡ x → Contains (y ∷ ys) x
 head_is y ys x e = (0, omega arith, e)
 
-only : {X : Type 0} (y x : X) → Contains (y ∷ []) x → y ≡ x
-only y x c = ⊎_elim (λ none. absurd (omega (arith, none.1))) (λ e. e) (Contains-push_cases [] y x c)
-
-module _ {X : Type 0} (p : X → Bool) where
-  -- an element that passes is among those that do
-  pub Contains-filter : (xs : List X) (x : X) → Contains xs x → p x ≡ true → Contains (filter p xs) x
-  Contains-filter [] x h pass = absurd (omega (arith, h.1))
-  Contains-filter (y ∷ xs) x h pass = by (p y) refl (λ other. Contains-filter xs x other pass)
-    where
-      by : (b : Bool) → p y ≡ b → (Contains xs x → Contains (filter p xs) x) → Contains (if b then y ∷ filter p xs else filter p xs) x
-      by true e more = ⊎_elim (λ own. head_is y (filter p xs) x (only y x own)) (λ other. Contains-append_right (y ∷ []) (filter p xs) x (more other)) (Contains-append_cases (y ∷ []) xs x h)
-      by false e more = ⊎_elim (λ own. absurd (true≢false (sym pass ∙ (ap p (sym (only y x own)) ∙ e)))) (λ other. more other) (Contains-append_cases (y ∷ []) xs x h)
-
-  -- and the other way round
-  pub from_filter : (xs : List X) (x : X) → Contains (filter p xs) x → Contains xs x × (p x ≡ true)
-  from_filter [] x h = absurd (omega (arith, h.1))
-  from_filter (y ∷ xs) x h = by (p y) refl (λ other. from_filter xs x other) h
-    where
-      onto : Contains xs x × (p x ≡ true) → Contains (y ∷ xs) x × (p x ≡ true)
-      onto r = (Contains-append_right (y ∷ []) xs x r.0, r.1)
-
-      by : (b : Bool) → p y ≡ b → (Contains (filter p xs) x → Contains xs x × (p x ≡ true)) → Contains (if b then y ∷ filter p xs else filter p xs) x → Contains (y ∷ xs) x × (p x ≡ true)
-      by true e more h = ⊎_elim (λ own. (head_is y xs x (only y x own), sym (ap p (only y x own)) ∙ e)) (λ other. onto (more other)) (Contains-append_cases (y ∷ []) (filter p xs) x h)
-      by false e more h = onto (more h)
-
 -- an entry that counts names an object without stat data
 pub unstated : (items : List Item) (n : Naming) (e : VolAnswer) → Contains (namings items) n → is_followed n ≡ true → IsNamed items n.dir → is_some (stat_of_object items n.target) ≡ false → e ≡ Refused (Damaged n.leaf ObjectForm) → (root_block : ℕ) → Refuses root_block items e
 unstated items n e among counts named none is root_block =
-    subst (Refuses root_block items) (sym is) (no_stat n (Contains-filter is_followed (namings items) n among counts) named (nothing (stat_of_object items n.target) none) refl)
+    subst (Refuses root_block items) (sym is) (no_stat n (in_filter is_followed (namings items) n among counts) named (nothing (stat_of_object items n.target) none) refl)
   where
     nothing : (s : Option ObjectStat) → is_some s ≡ false → s ≡ None
     nothing None h = refl
@@ -72,7 +48,7 @@ seen_more items n old new among counts dir stated seen grows key has =
     ⊎_elim (λ own. subst (IsSeen items) (same_key-true n.target key own) here) (λ before. seen key before) (or_cases (same_key n.target key) (old key) (sym (grows key) ∙ has))
   where
     here : IsSeen items n.target
-    here = record { named = (suc dir.0, (n, Contains-filter is_followed (namings items) n among counts, refl, dir.1)); has_stat = stated }
+    here = record { named = (suc dir.0, (n, in_filter is_followed (namings items) n among counts, refl, dir.1)); has_stat = stated }
 
 -- no other code is that of a directory
 not_directory : (a b c d e f : Bool) → (if a then Some File else (if b then Some Symlink else (if c then Some Character else (if d then Some Block else (if e then Some Fifo else (if f then Some Socket else None)))))) ≡ Some Directory → ⊥

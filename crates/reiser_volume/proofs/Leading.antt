@@ -1,9 +1,9 @@
 -- The links of a volume make a tree of paths.
-use Rattle.std.proofs.Common.{◌≡◌, suc, ◌<◌, Bool, true, false, List, [], ◌∷◌, map, length, get_or, filter, flat_map, Contains, AllPairs, ⊎_elim, if◌then◌else◌, refl, sym, ap, subst, ◌∙◌, true≢false, arith}
+use Rattle.std.proofs.Common.{◌≡◌, suc, ◌<◌, Bool, true, false, List, [], ◌∷◌, map, length, get_or, filter, Contains, AllPairs, if◌then◌else◌, refl, sym, ap, subst, ◌∙◌, true≢false, arith}
 use Rattle.std.specs.Prelude.{◌≢◌, Some}
 use Rattle.std.specs.List.{All, list_all}
 use Rattle.std.proofs.lemmas.List.{get_or-map, length-map}
-use Rattle.std.proofs.lemmas.List.Elements.{All-contains, All-contains_itself, Contains-append_cases}
+use Rattle.std.proofs.lemmas.List.Elements.{All-contains, All-contains_itself}
 use Rattle.std.proofs.lemmas.List.Kept.{AllPairs-filter}
 use Rattle.std.proofs.lemmas.List.Sums.{AllPass-from_list_all}
 use Rattle.outside.specs.History.{Image}
@@ -16,7 +16,6 @@ use Rattle.path_list.specs.declared.node.NodeId.{NodeId}
 use Rattle.path_list.specs.Links as tree
 use Rattle.path_list.specs.Links.{AreNamedOnce}
 use Rattle.path_list.specs.Paths.{ArePaths}
-use Rattle.path_list.proofs.Lists.{in_map, in_tail}
 use Rattle.reiser_node.specs.declared.head.ItemKind.{ItemKind}
 use Rattle.reiser_node.specs.declared.head.ItemKind.TheVariants.{Stat, Indirect, Direct, Directory as Entries}
 use Rattle.reiser_items.specs.Entries.{are_entries, entries}
@@ -28,8 +27,8 @@ use Rattle.reiser_objects.specs.Kinds.{may_have, is_directory}
 use Rattle.reiser_objects.specs.Names.{namings, namings_in, namings_by_kind, naming_by, is_listed, is_followed, IsNamed}
 use Rattle.reiser_objects.specs.Nodes.{node_of, Fits}
 use Rattle.reiser_objects.specs.Rules.{AreObjects, IsDirectory}
-use Rattle.reiser_objects.proofs.Nodes.{from_map, node_same}
-use Rattle.reiser_objects.proofs.Reaching.{Contains-filter, from_filter}
+use Rattle.reiser_objects.proofs.Nodes.{node_same}
+use Rattle.path_list.proofs.Lists.{in_map, in_filter, from_map, from_filter, from_flat_map}
 use Rattle.reiser_objects.proofs.Tables.{same_key-self}
 use Rattle.reiser_volume.specs.declared.volume.Volume.{Volume}
 use Rattle.reiser_names.specs.Links.{AreLinks}
@@ -39,11 +38,6 @@ use Rattle.reiser_volume.specs.Rows.{Leads}
 use Rattle.reiser_volume.specs.Volume.{IsAccepted, volume_items}
 use Rattle.reiser_volume.specs.Ways.{link_of, HasPaths}
 use Rattle.reiser_names.proofs.Uniqueness.{links_one}
-
-from_flat_map : {X Y : Type 0} (f : X → List Y) (xs : List X) (y : Y) → Contains (flat_map f xs) y → (x : X) × Contains xs x × Contains (f x) y
-from_flat_map f [] y among = absurd (omega (arith, among.1))
-from_flat_map f (x ∷ xs) y among =
-    ⊎_elim (λ first. (x, (0, omega arith, refl), first)) (λ later. let r = from_flat_map f xs y later in (r.0, in_tail x xs r.0 r.1, r.2)) (Contains-append_cases (f x) (flat_map f xs) y among)
 
 -- what holds of any two elements holds of those that are made of them
 pairs_map : {X Y : Type 0} (any : X) (f : X → Y) (R : Y → Y → Type 0) (xs : List X) → AllPairs (λ a b. R (f a) (f b)) xs → AllPairs R (map f xs)
@@ -107,7 +101,7 @@ entries_directory items n objects among named =
     let i : Item = at.0 in
     let e = item_entry i i.head.kind n at.2 in
     let o = objects.each n.dir named in
-    let own : Contains (items_of n.dir items) i = Contains-filter (λ x. same_key (key_of x.head) n.dir) items i at.1 (ap (same_key (key_of i.head)) e.1 ∙ same_key-self (key_of i.head)) in
+    let own : Contains (items_of n.dir items) i = in_filter (λ x. same_key (key_of x.head) n.dir) items i at.1 (ap (same_key (key_of i.head)) e.1 ∙ same_key-self (key_of i.head)) in
     let fits : may_have o.kind i.head.kind ≡ true = fits_each (λ x. may_have o.kind x.head.kind) (items_of n.dir items) i o.fits own in
     let kind : o.kind ≡ Directory = only_directory o.kind (sym (ap (may_have o.kind) e.0) ∙ fits) in
     record { stat = o.stat; has_stat = o.has_stat; known = o.known ∙ ap (λ (k : Kind). Some k) kind }
@@ -129,13 +123,13 @@ module _ (items : List Item) (visible links : List Naming) (a : AreLinks items v
   leads_named from key (name ∷ names) named leads =
       let n : Naming = leads.0 in
       let e = link_entry n leads.1 in
-      leads_named n.target key names (suc e.2.0, (n, Contains-filter is_followed (namings items) n e.0 e.1, refl, e.2.1)) leads.4
+      leads_named n.target key names (suc e.2.0, (n, in_filter is_followed (namings items) n e.0 e.1, refl, e.2.1)) leads.4
 
   module _ (objects : AreObjects items) (keys : List ObjectKey) (keeps : KeepsNames items visible links keys) where
     any : Naming
     any = record { leaf = 0; dir = root; target = root; name = [] }
 
-    names_apart : AllPairs (λ m n. m.dir ≡ n.dir → m.name ≢ n.name) links
+    pub names_apart : AllPairs (λ m n. m.dir ≡ n.dir → m.name ≢ n.name) links
     names_apart = subst (AllPairs (λ (m n : Naming). m.dir ≡ n.dir → m.name ≢ n.name)) (sym a.are_links) (AllPairs-filter (λ (m n : Naming). m.dir ≡ n.dir → m.name ≢ n.name) is_followed visible keeps.once)
 
     pub named_once : AreNamedOnce (map link_of links) (node_of root)

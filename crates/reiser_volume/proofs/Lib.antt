@@ -1,9 +1,11 @@
 pub mod Filing
 pub mod Holding
 pub mod Leading
-pub mod Placed
+pub mod OneRows
 pub mod Placing
 pub mod Refusals
 pub mod Rowed
+pub mod SameItems
 pub mod SameRows
 pub mod Unchanged
+pub mod Unplaced

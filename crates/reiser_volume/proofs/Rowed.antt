@@ -19,7 +19,8 @@ use Rattle.fs_rows.specs.declared.row.Kind.{Kind}
 use Rattle.fs_rows.specs.declared.row.Kind.TheVariants.{File}
 use Rattle.path_list.specs.declared.link.PathTo.{PathTo}
 use Rattle.path_list.specs.declared.node.NodeId.{NodeId}
-use Rattle.path_list.specs.Paths.{ArePaths}
+use Rattle.path_list.specs.Paths.{ArePaths, first_path}
+use Rattle.path_list.proofs.FirstPlaces.{first_in, first_leads, first_before, is_least, names_counted}
 use Rattle.path_list.proofs.Counts.{count_map, count_same}
 use Rattle.path_list.proofs.Lists.{in_map}
 use Rattle.reiser_walk.specs.Items.{Item}
@@ -33,15 +34,14 @@ use Rattle.reiser_objects.specs.Names.{IsNamed}
 use Rattle.reiser_objects.specs.Rules.{IsObject}
 use Rattle.reiser_volume.specs.declared.row.Known.{Known}
 use Rattle.reiser_volume.specs.declared.volume.Volume.{Volume}
-use Rattle.reiser_volume.specs.Made.{IsContent, IsKnownAt, IsOf, row_by, bytes_at, no_stat, stat_at, kind_by, first_path, whole_row}
+use Rattle.reiser_volume.specs.Made.{IsContent, IsKnownAt, IsOf, row_by, bytes_at, no_stat, stat_at, kind_by, whole_row}
 use Rattle.reiser_volume.specs.Opened.{IsOpened, links_in}
 use Rattle.reiser_volume.specs.Rows.{Leads, IsLeastPath, IsRow}
 use Rattle.reiser_volume.specs.Volume.{IsAccepted, AreRowsOf, superblock, volume_items}
 use Rattle.reiser_volume.specs.Ways.{link_of, HasPaths}
-use Rattle.reiser_objects.proofs.Nodes.{from_map}
+use Rattle.path_list.proofs.Lists.{from_map}
 use Rattle.reiser_objects.specs.Nodes.{node_of, key_at, Fits}
 use Rattle.reiser_volume.proofs.Leading.{up, down, leads_named}
-use Rattle.reiser_volume.proofs.Placed.{first_in, first_leads, first_before, is_least, names_counted}
 
 -- a node whose numbers have 32 bits stands for the object that it was made of
 pub key_back : (node : NodeId) (key : ObjectKey) → Fits node → node ≡ node_of key → key_at node ≡ key

@@ -1,9 +1,20 @@
 -- Laws of the definitions.
-use Rattle.std.specs.Prelude.{◌≡◌, ◌≤◌, ◌↔◌, List, length}
-use Rattle.outside.specs.History.{Image}
+use Rattle.std.specs.Prelude.{◌≡◌, ◌≢◌, ◌≤◌, ◌<◌, ◌↔◌, ℕ, ◌*◌, Bool, true, ◌||◌, List, length, map, Some}
+use Rattle.std.specs.Int.{bit_at}
+use Rattle.outside.specs.History.{Image, block_at}
 use Rattle.outside.specs.declared.refusal.VolumeRefusal.{VolumeRefusal}
 use Rattle.fs_rows.specs.Rows.{WholeRow}
+use Rattle.fs_rows.specs.declared.row.Kind.{Kind}
 use Rattle.object_files.specs.Laws.{SameUsed}
+use Rattle.reiser_walk.specs.Items.{Item}
+use Rattle.reiser_files.specs.Bytes.{named_block}
+use Rattle.reiser_objects.specs.declared.key.ObjectKey.{ObjectKey}
+use Rattle.reiser_objects.specs.declared.stat.ObjectStat.{ObjectStat}
+use Rattle.reiser_objects.specs.Items.{stat_of_object}
+use Rattle.reiser_objects.specs.Keys.{items_of}
+use Rattle.reiser_objects.specs.Kinds.{kind_of_mode, is_file, is_symlink}
+use Rattle.reiser_objects.specs.Names.{IsNamed}
+use Rattle.reiser_volume.specs.Rows.{AreReiserRows}
 use Rattle.reiser_volume.specs.Volume.{superblock, used_of, volume_items, AreRowsOf, IsAccepted, IsRefusal}
 
 -- where something is refused of a volume, it is not accepted
@@ -21,3 +32,33 @@ pub record IsSameVolume (image other : Image) : Type 0 where
 -- The used blocks decide an accepted volume, where the other image has room for it.
 abbrev pub UsedBlocksDecide : Type 0
 UsedBlocksDecide = (image other : Image) → IsAccepted image → SameUsed (used_of image) image other → (superblock image).blocks ≤ length other → IsSameVolume image other
+
+-- the rows of an accepted volume are one list
+abbrev pub RowsAreOne : Type 0
+RowsAreOne = (image : Image) → IsAccepted image → (rows others : List WholeRow) → AreRowsOf image rows → AreRowsOf image others → rows ≡ others
+
+-- the items without the leaves that they lie in: their keys, what else their heads say, and their bodies
+abbrev pub unplaced : List Item → List Item
+unplaced items = map (λ i. record { leaf = 0; head = i.head; body = i.body }) items
+
+-- a kind whose rows have bytes
+abbrev pub has_bytes : Kind → Bool
+has_bytes kind = is_file kind || is_symlink kind
+
+-- The other image has the same in each block that the items of a named file or symlink name for a file block below its size.
+abbrev pub SameFileBlocks : Image → Image → List Item → Type 0
+SameFileBlocks image other items =
+    (key : ObjectKey) (stat : ObjectStat) (kind : Kind) (k : ℕ) → IsNamed items key → stat_of_object items key ≡ Some stat → kind_of_mode stat.fields.mode ≡ Some kind → has_bytes kind ≡ true
+    → 4096 * k < stat.fields.size → named_block (items_of key items) k ≢ 0 → block_at other (named_block (items_of key items) k) ≡ block_at image (named_block (items_of key items) k)
+
+-- All that rows read is the same of both: the superblock's flag 1, the items up to where they lie, and the files' blocks.
+pub record ReadsSame (image other : Image) (flags others : ℕ) (items moved : List Item) : Type 0 where
+  pub flagged : bit_at others 0 ≡ bit_at flags 0
+  pub same : unplaced moved ≡ unplaced items
+  pub blocks : SameFileBlocks image other items
+
+-- The rows depend on nothing else: not on where the leaves of the items lie.
+abbrev pub ItemsDecideRows : Type 0
+ItemsDecideRows =
+    (image other : Image) (flags others : ℕ) (items moved : List Item) → ReadsSame image other flags others items moved
+    → (rows : List WholeRow) → AreReiserRows image flags items rows ↔ AreReiserRows other others moved rows

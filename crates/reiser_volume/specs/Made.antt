@@ -1,10 +1,11 @@
 -- The row that is made for each path of a volume.
-use Rattle.std.specs.Prelude.{◌≡◌, ℕ, ◌%◌, false, ◌&&◌, ◌||◌, not, List, [], slice_index_or, Some, unwrap_or, if◌then◌else◌}
+use Rattle.std.specs.Prelude.{◌≡◌, ℕ, ◌%◌, false, ◌&&◌, ◌||◌, not, List, [], Some, unwrap_or, if◌then◌else◌}
 use Rattle.outside.specs.History.{Image}
 use Rattle.fs_rows.specs.Rows.{NameList, WholeRow, length_by, mark_by, target_by}
 use Rattle.fs_rows.specs.declared.row.Kind.{Kind}
 use Rattle.fs_rows.specs.declared.row.Kind.TheVariants.{File}
 use Rattle.path_list.specs.declared.link.PathTo.{PathTo}
+use Rattle.path_list.specs.Paths.{first_path}
 use Rattle.reiser_walk.specs.Items.{Item}
 use Rattle.reiser_files.specs.Bytes.{file_bytes}
 use Rattle.reiser_objects.specs.declared.key.ObjectKey.{ObjectKey}
@@ -79,10 +80,6 @@ stat_at items key = unwrap_or (stat_of_object items key) no_stat
 -- its kind, which is known of each named object
 abbrev pub kind_by : ObjectStat → Kind
 kind_by stat = unwrap_or (kind_of_mode stat.fields.mode) File
-
--- the first path of the list to the same object
-abbrev pub first_path : List PathTo → PathTo → NameList
-first_path list p = (slice_index_or list p.least p).path
 
 -- the row of a path of the list
 unfoldable pub whole_row : Image → List PathTo → PathTo → WholeRow

@@ -1,5 +1,5 @@
 // Laws of the definitions, each the contract of a function that does nothing.
-ghost use Rattle.reiser_volume.specs.Laws.{RefusalsBreakRules, UsedBlocksDecide};
+ghost use Rattle.reiser_volume.specs.Laws.{RefusalsBreakRules, UsedBlocksDecide, RowsAreOne, ItemsDecideRows};
 
 /// Where something is refused of a volume, it is not accepted: so an accepted volume is not refused.
 pub fn refusals_break_rules()
@@ -10,4 +10,15 @@ pub fn refusals_break_rules()
 /// the same volume.
 pub fn used_blocks_decide()
     ensures { UsedBlocksDecide }
+{}
+
+/// The rows of an accepted volume are one list.
+pub fn rows_are_one()
+    ensures { RowsAreOne }
+{}
+
+/// The rows are decided by the superblock's flag 1, by the heads and bodies of the items, and by the blocks of named files
+/// below their sizes: not by where the leaves lie.
+pub fn items_decide_rows()
+    ensures { ItemsDecideRows }
 {}

@@ -15,7 +15,7 @@ mod rows;
 mod volume;
 mod ways;
 
-pub use laws::{refusals_break_rules, used_blocks_decide};
+pub use laws::{items_decide_rows, refusals_break_rules, rows_are_one, used_blocks_decide};
 pub use links::Link;
 pub use volume::Volume;
 

@@ -14,10 +14,10 @@ use Rattle.reiser_objects.specs.declared.naming.Naming.{Naming}
 use Rattle.reiser_objects.specs.Keys.{same_key, root}
 use Rattle.reiser_objects.specs.Names.{namings, is_private_name, is_followed, followed, IsReachedBy, IsNamed}
 use Rattle.reiser_objects.specs.Reach.{Keys}
-use Rattle.reiser_objects.proofs.Reaching.{Contains-filter, from_filter}
+use Rattle.path_list.proofs.Lists.{in_filter, from_filter}
 use Rattle.reiser_objects.proofs.Tables.{same_key-true, same_key-self}
 use Rattle.reiser_names.specs.Links.{TellsNamed, AreLinks, AreNamedKeys}
-use Rattle.reiser_objects.proofs.Nodes.{from_map}
+use Rattle.path_list.proofs.Lists.{from_map}
 use Rattle.sample_laws.proofs.Ascending.{each_to, each_join}
 use Rattle.sample_laws.proofs.Held.{in_row}
 use Rattle.sample_laws.proofs.Lists.{each_in, each_from_map, each_row, each_rows, pairs_row, pairs_filter, filter_all}
@@ -198,6 +198,6 @@ module _ (s : Shape) (few : length s.names ≤ 4000) (found : List Item) (are : 
         (pairs_row (λ a b. a ≢ b) (key_at s) 0 (object_count number) (λ j k low lt high same. omega (arith, lt, ap (λ (key : ObjectKey). key.object) same))));
     exact = λ key. (
       λ among. named_from_has key (from_filter has (map (key_at s) (range_with_len 0 (object_count number))) key among).1,
-      λ is. Contains-filter has (map (key_at s) (range_with_len 0 (object_count number))) key (at_object key (kept key is)) (has_by is.0 key is.1),
+      λ is. in_filter has (map (key_at s) (range_with_len 0 (object_count number))) key (at_object key (kept key is)) (has_by is.0 key is.1),
     );
   }

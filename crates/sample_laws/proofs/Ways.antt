@@ -15,7 +15,7 @@ use Rattle.reiser_objects.specs.declared.key.ObjectKey.{ObjectKey}
 use Rattle.reiser_objects.specs.declared.naming.Naming.{Naming}
 use Rattle.reiser_objects.specs.Keys.{root}
 use Rattle.reiser_objects.specs.Names.{namings}
-use Rattle.reiser_objects.proofs.Nodes.{from_map}
+use Rattle.path_list.proofs.Lists.{from_map}
 use Rattle.reiser_volume.specs.Rows.{Leads, IsLeastPath}
 use Rattle.sample_laws.proofs.Held.{in_row, in_rows}
 use Rattle.sample_laws.proofs.Keeping.{dir_number, object_number}
