@@ -10,9 +10,10 @@ use Rattle.btr_walk.specs.Events.{TreeItem}
 use Rattle.path_list.specs.declared.node.NodeId.{NodeId}
 use Rattle.path_list.specs.Links.{same_node}
 use Rattle.path_list.proofs.Nodes.{same_node-true, same_node-self}
+use Rattle.btr_names.specs.declared.naming.Naming.{Naming}
 use Rattle.btr_names.specs.declared.table.Names.{Names}
 use Rattle.btr_names.specs.Passes.{AreGood, BlamesOne, by_root, by_inode, by_form, by_entry, DifferInName, BlamesTwice, LeadApart, BlamesAgain}
-use Rattle.btr_names.specs.Refuses.{RefusesNames}
+use Rattle.btr_names.specs.Refuses.{RefusesNames, IsNoFault}
 use Rattle.btr_names.specs.Rules.{BreaksNames, KeepsNames}
 use Rattle.btr_names.specs.Steps.{AreNamed, is_open}
 use Rattle.btr_names.specs.Table.{HasNoted}
@@ -49,3 +50,14 @@ module _ (t : Names) (items : List TreeItem) (noted : HasNoted t items) (roots :
   pub all_kept : AreGood t has roots keys → AllPairs (DifferInName (is_open t has)) t.namings.items → AllPairs (LeadApart t has) t.namings.items → KeepsNames roots items root_at
   all_kept good once apart =
       keeps t items noted roots root_at has named good.root_directory (λ node is. good.inodes node (key_of keys node is)) good.forms good.entries once apart
+
+-- what is found twice is no fault
+pub twice_no_fault : (opened : ℕ → Bool) (ns : List Naming) (e : BtrAnswer) → BlamesTwice opened ns e → IsNoFault e
+twice_no_fault opened ns (Refused r) h = tt
+twice_no_fault opened ns Fault h = h
+twice_no_fault opened ns Memory h = tt
+
+pub again_no_fault : (t : Names) (named : NodeId → Bool) (ns : List Naming) (e : BtrAnswer) → BlamesAgain t named ns e → IsNoFault e
+again_no_fault t named ns (Refused r) h = tt
+again_no_fault t named ns Fault h = h
+again_no_fault t named ns Memory h = tt

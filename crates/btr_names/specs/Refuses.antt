@@ -10,3 +10,9 @@ abbrev pub RefusesNames : (ℕ → Bool) → List TreeItem → ℕ → BtrAnswer
 RefusesNames has_root items root (Refused r) = BreaksNames has_root items root r
 RefusesNames has_root items root Fault = ⊥
 RefusesNames has_root items root Memory = Unit {0}
+
+-- no call of a device failed
+abbrev pub IsNoFault : BtrAnswer → Type 0
+IsNoFault (Refused r) = Unit {0}
+IsNoFault Fault = ⊥
+IsNoFault Memory = Unit {0}

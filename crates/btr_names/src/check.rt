@@ -4,7 +4,7 @@ ghost use Rattle.indexmap.specs.IndexSet.{contains};
 ghost use Rattle.btr_walk.specs.Events.{TreeItem};
 ghost use Rattle.path_list.specs.Links.{same_node};
 ghost use Rattle.btr_names.specs.Passes.{AreGood, BlamesOne};
-ghost use Rattle.btr_names.specs.Refuses.{RefusesNames};
+ghost use Rattle.btr_names.specs.Refuses.{RefusesNames, IsNoFault};
 ghost use Rattle.btr_names.specs.Rules.{KeepsNames};
 ghost use Rattle.btr_names.specs.Steps.{AreNamed, links_of};
 ghost use Rattle.btr_names.specs.Table.{HasNoted};
@@ -38,6 +38,7 @@ impl Names {
         ensures kept { (items : List TreeItem) → HasNoted self.now items → OnOk result (KeepsNames (contains nat_eq roots.now) items root) }
         ensures links { (items : List TreeItem) → HasNoted self.now items → IfOk result (λ named. AreTreeLinks items (links_of self.now (contains same_node named))) }
         ensures refused { (items : List TreeItem) → HasNoted self.now items → IfErr result (RefusesNames (contains nat_eq roots.now) items root) }
+        ensures cause { IfErr result IsNoFault }
     {
         let named = reach(self, alloc)?;
         check_all(alloc, self, root, roots, &named)?;
@@ -62,7 +63,8 @@ fn check_all(
     roots: &IndexSet<u64>,
     named: &IndexSet<NodeId>,
 ) -> Result<(), BtrAnswer>
-    ensures { (items : List TreeItem) → HasNoted names.now items → AreNamed items (contains same_node named.now)
+    ensures cause { IfErr result IsNoFault }
+    ensures all { (items : List TreeItem) → HasNoted names.now items → AreNamed items (contains same_node named.now)
         → MatchResult result (λ _. KeepsNames (contains nat_eq roots.now) items root × AreTreeLinks items (links_of names.now (contains same_node named.now))) (RefusesNames (contains nat_eq roots.now) items root) }
 {
     check_each(names, root, roots, named)?;

@@ -1,6 +1,6 @@
 ghost use Rattle.std.specs.Prelude.{◌≡◌, ◌≤◌, [], IsTrue, IfOk, IfErr, OnOk};
 ghost use Rattle.outside.specs.Fault.{HasCauseOf};
-ghost use Rattle.outside.specs.History.{Image};
+ghost use Rattle.outside.specs.History.{Image, OverTold};
 ghost use Rattle.btr_node.specs.NodeSize.{IsNodeSize};
 ghost use Rattle.btr_walk.specs.Walks.{LieOn, found, wrong};
 ghost use Rattle.btr_names.specs.Read.{BlamesTree};
@@ -24,9 +24,9 @@ impl Names {
         requires inside { LieOn (S.size src.old) ranges.now }
         ensures kept { S.kept src.old src.new }
         ensures cause { HasCauseOf BtrAnswer.Fault (S.faults src.old) (S.faults src.new) result }
-        ensures noted { IsTrue S.tells → (image : Image) → S.blocks src.old ≡ image → IfOk result (λ names. HasNoted names (found image ranges.now tree)) }
-        ensures ok { IsTrue S.tells → (image : Image) → S.blocks src.old ≡ image → OnOk result (wrong image ranges.now tree ≡ []) }
-        ensures err { IsTrue S.tells → (image : Image) → S.blocks src.old ≡ image → IfErr result (BlamesTree image ranges.now tree) }
+        ensures noted { OverTold S.tells (S.blocks src.old) (λ image. IfOk result (λ names. HasNoted names (found image ranges.now tree))) }
+        ensures ok { OverTold S.tells (S.blocks src.old) (λ image. OnOk result (wrong image ranges.now tree ≡ [])) }
+        ensures err { OverTold S.tells (S.blocks src.old) (λ image. IfErr result (BlamesTree image ranges.now tree)) }
     {
         let mut names = Names::new(alloc);
         let mut walker = TreeWalker::new(alloc, tree)?;

@@ -1,7 +1,7 @@
 ghost use Rattle.std.specs.Prelude.{◌≡◌, ◌≤◌, ◌||◌, [], ℕ, not, nat_eq, IsTrue, IfOk, IfErr, OnOk};
 ghost use Rattle.indexmap.specs.IndexSet.{contains};
 ghost use Rattle.outside.specs.Fault.{HasCauseOf};
-ghost use Rattle.outside.specs.History.{Image};
+ghost use Rattle.outside.specs.History.{Image, OverTold};
 ghost use Rattle.btr_node.specs.NodeSize.{IsNodeSize};
 ghost use Rattle.btr_walk.specs.Events.{TreeItem};
 ghost use Rattle.btr_walk.specs.Walks.{LieOn, found, wrong};
@@ -49,9 +49,9 @@ pub fn root_numbers<S: BlockSource>(
     requires inside { LieOn (S.size src.old) ranges.now }
     ensures kept { S.kept src.old src.new }
     ensures cause { HasCauseOf BtrAnswer.Fault (S.faults src.old) (S.faults src.new) result }
-    ensures numbers { IsTrue S.tells → (image : Image) → S.blocks src.old ≡ image → IfOk result (λ numbers. (number : ℕ) → contains nat_eq numbers number ≡ has_root (found image ranges.now tree) number) }
-    ensures ok { IsTrue S.tells → (image : Image) → S.blocks src.old ≡ image → OnOk result (wrong image ranges.now tree ≡ []) }
-    ensures err { IsTrue S.tells → (image : Image) → S.blocks src.old ≡ image → IfErr result (BlamesTree image ranges.now tree) }
+    ensures numbers { OverTold S.tells (S.blocks src.old) (λ image. IfOk result (λ numbers. (number : ℕ) → contains nat_eq numbers number ≡ has_root (found image ranges.now tree) number)) }
+    ensures ok { OverTold S.tells (S.blocks src.old) (λ image. OnOk result (wrong image ranges.now tree ≡ [])) }
+    ensures err { OverTold S.tells (S.blocks src.old) (λ image. IfErr result (BlamesTree image ranges.now tree)) }
 {
     let mut numbers = IndexSet::new(alloc);
     let mut walker = TreeWalker::new(alloc, tree)?;
