@@ -1,7 +1,9 @@
 #!/usr/bin/env bash
-# Measures `list` on volumes of 70,000 files and about 1 GB, of ReiserFS and, where mkfs.btrfs is at hand, of Btrfs, beside
-# `sha256sum` over the same files' bytes: the least milliseconds of three runs each, with all in the page cache, and the
-# most memory that `list` held. It needs python3 and 4 GB of disk.
+# list.sh [DIRECTORIES]: measures `list` on volumes of 200 files in each of 350 directories, so 70,000 files and about 1 GB,
+# of ReiserFS and, where mkfs.btrfs is at hand, of Btrfs, beside `sha256sum` over the same files' bytes. Each figure is the
+# least processor time, of the program and the kernel for it, of three runs with all in the page cache, so that other work
+# on the machine tells little. It prints how many times that of sha256sum each list takes, and the most memory that it held.
+# It needs python3, 4 GB of disk, and 2 GB of memory for the page cache.
 set -euo pipefail
 
 top=$(cd "$(dirname "$(readlink -f "${BASH_SOURCE[0]}")")/.." && pwd)
@@ -10,16 +12,19 @@ trap 'rm -rf "$work"' EXIT
 "$top/reiserconv" --version >/dev/null
 python3 "$top/bench/files_volume.py" "${1:-350}" "$work/files" "$work/reiserfs"
 
+# measure.py OUTPUT WORDS..: milliseconds and KiB
 cat >"$work/measure.py" <<'PY'
-import resource, subprocess, sys, time
+import os, subprocess, sys
 
-best = 1e9
+best, held = 1e9, 0
 for _ in range(3):
-    start = time.monotonic()
     with open(sys.argv[1], "wb") as out:
-        subprocess.run(sys.argv[2:], stdout=out, check=True)
-    best = min(best, time.monotonic() - start)
-print(round(best * 1000), resource.getrusage(resource.RUSAGE_CHILDREN).ru_maxrss)
+        child = subprocess.Popen(sys.argv[2:], stdin=open(os.environ.get("FROM", os.devnull)), stdout=out)
+        _, status, used = os.wait4(child.pid, 0)
+    if status:
+        sys.exit(f"{sys.argv[2]} failed")
+    best, held = min(best, used.ru_utime + used.ru_stime), max(held, used.ru_maxrss)
+print(round(best * 1000), held)
 PY
 
 # listed FORMAT: the times and the memory of `list` on the volume of a format
@@ -31,8 +36,8 @@ listed() {
         $((list / sums)) $((list * 100 / sums % 100)) "$rows" "$held" $(((held - 65536) * 1024 / rows))
 }
 
-read -r sums _ < <(python3 "$work/measure.py" "$work/sums" bash -c \
-    "cd '$work/files' && find . -type f -print0 | sort -z | xargs -0 sha256sum")
+(cd "$work/files" && find "$PWD" -type f -print0 | sort -z) >"$work/names"
+read -r sums _ < <(FROM=$work/names python3 "$work/measure.py" "$work/sums" xargs -0 sha256sum)
 printf 'sha256sum %6s ms\n' "$sums"
 listed reiserfs
 if command -v mkfs.btrfs >/dev/null; then
@@ -40,4 +45,6 @@ if command -v mkfs.btrfs >/dev/null; then
     truncate -s 3G "$work/btrfs"
     mkfs.btrfs -q -m single -d single --rootdir "$work/files" "$work/btrfs" >/dev/null 2>&1
     listed btrfs
+else
+    echo 'skipped: Btrfs, since mkfs.btrfs is not to be had'
 fi
