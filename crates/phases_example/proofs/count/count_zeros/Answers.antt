@@ -11,7 +11,7 @@ loop-n-preserved g c =
     let blocks = g.S.BlockSource.blocks c.args.source.now in
     record {
       kept = g.met.S.BlockSource.kept_trans _ _ _ before.kept c.read.ensures.kept;
-      faults = omega (arith, before.faults, c.read.ensures.cause.later);
+      same = omega (arith, before.same, c.in_ok-read.ensures.cause.kept);
       few = elim c.if-is_zero.branch [ then-is_zero w ↦ omega (arith, before.few, w.count-is) | else-is_zero w ↦ omega (arith, before.few, w.count-is) ];
       count = λ tells.
           let below : c.loop-n.n < length blocks = omega (arith, c.loop-n-test.true, c.len-n-end.ensures, g.met.S.BlockSource.size_is c.args.source.now tells) in

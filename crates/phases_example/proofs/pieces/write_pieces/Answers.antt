@@ -24,7 +24,7 @@ loop-piece-preserved g c =
     record {
       open_ = c.write.ensures.open ∙ before.open_;
       size = c.write.ensures.size ∙ before.size;
-      faults = omega (arith, before.faults, c.write.ensures.cause.later);
+      same = omega (arith, before.same, c.in_ok-write.ensures.cause.kept);
       only = λ tells.
           writes_then (λ b _. IsPlace c.args.pieces.now b) _ _ _ (before.only tells)
           (write_only (λ b _. IsPlace c.args.pieces.now b) _ _ _ _ _ (is_place c.args.pieces.now c.loop-piece.piece-index _ in_range) (c.write.ensures.effect tells));
