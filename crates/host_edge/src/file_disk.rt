@@ -104,11 +104,15 @@ impl<R: Files<File = File> + AllocGlobal + Drop> Disk for FileDisk<R> {
 
     ghost opened = { λ d. opened_for d };
 
+    ghost borrows = { λ _. [] };
+
     ghost wants = { λ path access. Unit {0} };
 
     ghost kept_history = { λ a b tells kept. refl };
 
     ghost kept_opened = { λ a b kept. kept.access };
+
+    ghost kept_borrows = { λ a b kept. refl };
 
     ghost open_blocks = { λ a access tells is. absurd (tells_nothing tells) };
 

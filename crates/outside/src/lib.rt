@@ -8,6 +8,7 @@
 #![tactic(auto)]
 
 mod answer;
+mod cached;
 mod disk;
 mod fault;
 mod laws;
@@ -17,6 +18,7 @@ mod sink;
 mod source;
 
 pub use answer::{Answer, BtrAnswer, VolAnswer};
+pub use cached::{Cached, Room};
 pub use disk::{Access, Disk};
 pub use fault::{Fault, Memory};
 pub use laws::{crash_leaves_old_or_written, crash_leaves_settled, crash_splits_at_a_moment};

@@ -4,8 +4,8 @@ use Rattle.outside.specs.declared.disk.Access.{Access}
 use Rattle.outside.specs.History.{Image, History, wrote, synced, after}
 use Rattle.outside_mem.specs.Failures.{Failures, no_failures, fails_next, counted, passed_write, one_more}
 
--- What was done to it, what it is open for, which calls fail, and three counts: of calls that failed, of those among
--- them that found no memory, and of writes that landed.
+-- What was done to it, what it is open for, which calls fail, and four counts: of calls that failed, of those among
+-- them that found no memory, of writes that landed, and of reads that succeeded.
 pub record State : Type 0 where
   pub history : History
   pub opened : Option Access
@@ -13,6 +13,7 @@ pub record State : Type 0 where
   pub faults : ℕ
   pub refused : ℕ
   pub writes : ℕ
+  pub reads_made : ℕ
 
 -- a settled disk that is not open and fails nowhere
 abbrev pub fresh : Image → State
@@ -23,11 +24,16 @@ fresh image = record {
   faults = 0;
   refused = 0;
   writes = 0;
+  reads_made = 0;
 }
 
 -- a call was made that changed nothing
 abbrev pub after_call : State → State
 after_call d = record d { failures = counted d.failures }
+
+-- a read was made that succeeded
+abbrev pub after_read : State → State
+after_read d = record d { failures = counted d.failures; reads_made = one_more d.reads_made }
 
 -- a call was made that failed as it was listed or stopped
 abbrev pub after_failure : State → State

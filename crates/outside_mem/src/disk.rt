@@ -3,7 +3,7 @@ ghost use Rattle.outside.specs.Fault.{HasCause};
 ghost use Rattle.outside.specs.History.{block_at, reads, WritesBlock, Syncs, MayLeave};
 ghost use Rattle.vol_block.specs.Volume.{zeros};
 ghost use Rattle.outside_mem.specs.Choice.{crash_image};
-ghost use Rattle.outside_mem.specs.Disk.{State, Kept, Fails, fresh, after_call, after_failure, after_write, after_sync};
+ghost use Rattle.outside_mem.specs.Disk.{State, Kept, Fails, fresh, after_call, after_read, after_failure, after_write, after_sync};
 ghost use Rattle.outside_mem.specs.Done.{calls_of, with_block};
 ghost use Rattle.outside_mem.specs.Failures.{fails_next, with_failing, stopping_at};
 ghost use Rattle.outside_mem.specs.Laws.{readable, readable_len, kept_refl, kept_trans, kept_readable, open_readable, closed_readable};
@@ -21,9 +21,9 @@ use vol_block::{Block, BlockNo};
 
 /// A disk in memory, kept sparsely, with the record of what was done to it.
 ///
-/// Its contracts see what was done to it and what it is open for; which calls are to fail; and three counts: of calls
-/// that failed, of those among them that found no memory, and of writes that landed. Each count stays at the last
-/// value of a `u64` once it is there. It may be asked to open any path, and ignores it.
+/// Its contracts see what was done to it and what it is open for; which calls are to fail; and four counts: of calls
+/// that failed, of those among them that found no memory, of writes that landed, and of reads that succeeded. Each count
+/// stays at the last value of a `u64` once it is there. It may be asked to open any path, and ignores it.
 #[derive(Drop)]
 pub struct MemDisk {
     alloc: Global,
@@ -37,6 +37,7 @@ pub struct MemDisk {
     faults: u64,
     refused: u64,
     writes: u64,
+    reads_made: u64,
 }
 
 impl Model for MemDisk {
@@ -49,6 +50,7 @@ impl Model for MemDisk {
       faults = d.faults;
       refused = d.refused;
       writes = d.writes;
+      reads_made = d.reads_made;
     } };
 
     ghost invariant = { λ d. IsConsistent d.count (bytes_at d.present) (undone_at d.first d.present) (undone_at d.unsynced d.present) (has_key d.unsynced) (calls_of d.calls.items) };
@@ -72,6 +74,7 @@ impl MemDisk {
             faults: 0,
             refused: 0,
             writes: 0,
+            reads_made: 0,
         })
     }
 
@@ -121,6 +124,13 @@ impl MemDisk {
         self.writes
     }
 
+    /// How many reads succeeded since it was made or settled.
+    pub fn reads(&self) -> u64
+        ensures { result ≡ self.now.reads_made }
+    {
+        self.reads_made
+    }
+
     /// How many calls found no memory.
     pub fn refused(&self) -> u64
         ensures { result ≡ self.now.refused }
@@ -141,6 +151,7 @@ impl MemDisk {
         self.opened = None;
         self.schedule.clear();
         self.writes = 0;
+        self.reads_made = 0;
     }
 
     /// The disk that a crash now leaves: settled, not open, and failing nowhere.
@@ -167,6 +178,7 @@ impl MemDisk {
             faults: 0,
             refused: 0,
             writes: 0,
+            reads_made: 0,
         })
     }
 
@@ -212,7 +224,7 @@ impl BlockSource for MemDisk {
         ensures cause { HasCause self.old.faults self.new.faults result }
         ensures start { length self.new.history.start ≡ length self.old.history.start }
         ensures fails { is_err result ≡ fails_next self.old.failures }
-        ensures ok { OnOk result (self.new ≡ after_call self.old) }
+        ensures ok { OnOk result (self.new ≡ after_read self.old) }
         ensures err { OnErr result (self.new ≡ after_failure self.old) }
     {
         if self.schedule.next_fails() {
@@ -220,6 +232,7 @@ impl BlockSource for MemDisk {
             return Err(Fault);
         }
         *into = block_of(&self.present, n);
+        self.reads_made = self.reads_made.saturating_add(1);
         Ok(())
     }
 }
@@ -229,11 +242,15 @@ impl Disk for MemDisk {
 
     ghost opened = { λ d. d.opened };
 
+    ghost borrows = { λ _. [] };
+
     ghost wants = { λ path access. Unit {0} };
 
     ghost kept_history = { λ a b tells kept. kept.history };
 
     ghost kept_opened = { λ a b kept. kept.opened };
+
+    ghost kept_borrows = { λ a b kept. refl };
 
     ghost open_blocks = { λ a access tells is. open_readable a access is };
 

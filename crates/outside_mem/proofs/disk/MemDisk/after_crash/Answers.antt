@@ -45,6 +45,7 @@ returns-clause-chosen c =
       faults = 0;
       refused = 0;
       writes = 0;
+      reads_made = 0;
     }
 
 pub returns-clause-left : goal.returns-clause-left

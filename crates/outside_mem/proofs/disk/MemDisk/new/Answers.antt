@@ -22,6 +22,7 @@ returns-clause-new c =
       faults = 0;
       refused = 0;
       writes = 0;
+      reads_made = 0;
     }
 
 pub returns-clause-size : goal.returns-clause-size
