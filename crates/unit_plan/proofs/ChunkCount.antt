@@ -10,34 +10,33 @@ use Rattle.reiser_bitmap.specs.Runs.{begins_run, run_from, maximal_runs, free_ru
 use Rattle.reiser_bitmap.proofs.FreeUnits.{past_units}
 use Rattle.reiser_bitmap.proofs.Ranges.{range_contains, contains_range}
 use Rattle.unit_plan.specs.Choice.{holds_data, is_among, is_in, is_other, others, lowest_long, volume_units}
-use Rattle.unit_plan.specs.Chunks.{begins_chunk, chunk_starts, ChunksAreFew}
 use Rattle.unit_plan.proofs.Enough.{IsLowest, lowest_is, part_of, IsOther, other_is}
 use Rattle.unit_plan.proofs.Sound.{others_ascend}
 use Rattle.unit_plan.proofs.Starts.{among_contains, contains_among, rank, ranked, rank_next, in_part, part_rank, free_no_data, data_there, odd_unit}
-use Rattle.unit_plan.proofs.Tallies.{tally, tally-is, tally_implied, tally_either, tally_one, tally_multiples, tally_from_one, tally_within, ends_run, tally_ends}
+use Rattle.unit_plan.proofs.Tallies.{tally, tally-is, tally_implied, tally_either, tally_one, tally_multiples, tally_from_one, tally_within, tally-zero, ends_run, tally_ends}
 
 -- the tests of a plan's lists
-abbrev role : List Bool → List ℕ → List ℕ → List ℕ → ℕ → Bool
+abbrev pub role : List Bool → List ℕ → List ℕ → List ℕ → ℕ → Bool
 role used sys meta dat u = is_among sys u || (is_among meta u || (is_among dat u || holds_data used u))
 
-abbrev one_role : List Bool → List ℕ → List ℕ → List ℕ → ℕ → ℕ → Bool
+abbrev pub one_role : List Bool → List ℕ → List ℕ → List ℕ → ℕ → ℕ → Bool
 one_role used sys meta dat u v =
     (is_among sys u && is_among sys v) || ((is_among meta u && is_among meta v) || ((is_among dat u || holds_data used u) && (is_among dat v || holds_data used v)))
 
-abbrev begins : List Bool → List ℕ → List ℕ → List ℕ → ℕ → Bool
+abbrev pub begins : List Bool → List ℕ → List ℕ → List ℕ → ℕ → Bool
 begins used sys meta dat u = role used sys meta dat u && (eqb (u % 1024) 0 || not (one_role used sys meta dat (u - 1) u))
 
 -- why a chunk may begin: a multiple of 1024, a run of free units or the end of one, and some single units
-abbrev others_of : (first n next u : ℕ) → Bool
+abbrev pub others_of : (first n next u : ℕ) → Bool
 others_of first n next u = eqb u 1 || (eqb u 65 || (eqb u 262145 || (eqb u first || (eqb u (first + n) || eqb u next))))
 
-abbrev reason : List Bool → ℕ → ℕ → ℕ → ℕ → Bool
+abbrev pub reason : List Bool → ℕ → ℕ → ℕ → ℕ → Bool
 reason used first n next u = eqb (u % 1024) 0 || (begins_run (is_free_unit used) u || (ends_run (is_free_unit used) u || others_of first n next u))
 
-single : (used : List Bool) (first n next u : ℕ) → others_of first n next u ≡ true → reason used first n next u ≡ true
+pub single : (used : List Bool) (first n next u : ℕ) → others_of first n next u ≡ true → reason used first n next u ≡ true
 single used first n next u t = or_right (eqb (u % 1024) 0) _ (or_right (begins_run (is_free_unit used) u) _ (or_right (ends_run (is_free_unit used) u) _ t))
 
-is_1 : (first n next u : ℕ) → u ≡ 1 → others_of first n next u ≡ true
+pub is_1 : (first n next u : ℕ) → u ≡ 1 → others_of first n next u ≡ true
 is_1 first n next u e = or_left (eqb u 1) _ (eq-eqb u 1 e)
 
 is_65 : (first n next u : ℕ) → u ≡ 65 → others_of first n next u ≡ true
@@ -92,7 +91,7 @@ module _ (used : List Bool) (first n : ℕ) where
 
 module _ (used : List Bool) (first n m r : ℕ) (lowest : IsLowest used n first) (sys meta dat : List ℕ) (sys_is : sys ≡ range_with_len first n) (meta_is : meta ≡ take m (others used first n))
     (dat_is : dat ≡ take r (drop m (others used first n))) where
-  abbrev next : ℕ
+  abbrev pub next : ℕ
   next = get_or (others used first n) m 0
 
   in_sys : (u : ℕ) → is_among sys u ≡ true → (first ≤ u) × (u < first + n)
@@ -180,7 +179,7 @@ module _ (used : List Bool) (first n m r : ℕ) (lowest : IsLowest used n first)
       (or_cases (is_among meta u) (is_among dat u || holds_data used u) rest))
       (or_cases (is_among sys u) (is_among meta u || (is_among dat u || holds_data used u)) t)
 
-  why : (v : ℕ) → begins used sys meta dat (v + 1) ≡ true → reason used first n next (v + 1) ≡ true
+  pub why : (v : ℕ) → begins used sys meta dat (v + 1) ≡ true → reason used first n next (v + 1) ≡ true
   why v t =
       let parts = and_parts (role used sys meta dat (v + 1)) (eqb ((v + 1) % 1024) 0 || not (one_role used sys meta dat (v + 1 - 1) (v + 1))) t in
       let back : v + 1 - 1 ≡ v = omega arith in
@@ -266,24 +265,12 @@ few_reasons used first n next some =
       tally_one next 1 m,
     )
 
-pub chunks_few : ChunksAreFew
-unfolding chunk_starts
-chunks_few = λ used need plan enough is.
-    let n : ℕ = need.system in
-    let first : ℕ = lowest_long n (free_runs used) in
-    let next : ℕ = get_or (others used first n) need.metadata 0 in
-    let lowest : IsLowest used n first = lowest_is used n enough.run in
+-- every start of a chunk of a plan has a reason
+pub reasons_few : (used : List Bool) (first n next : ℕ) → tally (reason used first n next) 1 (volume_units used - 1) ≤ 2 * length (free_runs used) + 8 + div_ceil (length used) (2 ^ 18)
+reasons_few used first n next =
     ⊎_elim
-    (λ (some : 0 < volume_units used).
-    let turn : tally (begins_chunk used plan) 1 (volume_units used - 1) ≤ tally (reason used first n next) 1 (volume_units used - 1) =
-    tally_implied (begins_chunk used plan) (reason used first n next) 1 (volume_units used - 1)
-    (λ u low high t.
-    let at : u ≡ u - 1 + 1 = omega arith in
-    subst (λ (w : ℕ). reason used first n next w ≡ true) (sym at)
-    (why used first n need.metadata need.data_ lowest plan.system plan.metadata plan.data_ is.system is.metadata is.data_ (u - 1) (sym (ap (begins_chunk used plan) at) ∙ t))) in
-    omega (arith, turn, few_reasons used first n next some, tally-is (begins_chunk used plan) 1 (volume_units used - 1)))
+    (λ (some : 0 < volume_units used). omega (arith, few_reasons used first n next some))
     (λ (none : volume_units used ≤ 0).
     let no_units : volume_units used - 1 ≡ 0 = omega arith in
-    let empty : length (filter (begins_chunk used plan) (range_with_len 1 (volume_units used - 1))) ≡ 0 = ap (λ (k : ℕ). length (filter (begins_chunk used plan) (range_with_len 1 k))) no_units in
-    omega (arith, empty))
+    omega (arith, ap (tally (reason used first n next) 1) no_units, tally-zero (reason used first n next) 1))
     (cases_lt 0 (volume_units used))

@@ -1,7 +1,12 @@
 pub mod ChunkCount
+pub mod Counted
+pub mod Dividing
 pub mod Enough
 pub mod Lists
+pub mod Placing
 pub mod Sets
 pub mod Sound
 pub mod Starts
 pub mod Tallies
+pub mod Told
+pub mod Uses

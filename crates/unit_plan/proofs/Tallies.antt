@@ -14,11 +14,11 @@ pub tally-is : (p : ℕ → Bool) (a n : ℕ) → tally p a n ≡ length (filter
 unfolding tally
 tally-is p a n = refl
 
-tally-zero : (p : ℕ → Bool) (a : ℕ) → tally p a 0 ≡ 0
+pub tally-zero : (p : ℕ → Bool) (a : ℕ) → tally p a 0 ≡ 0
 unfolding tally
 tally-zero p a = refl
 
-tally-suc : (p : ℕ → Bool) (a n : ℕ) → tally p a (suc n) ≡ cond (p a) 1 0 + tally p (a + 1) n
+pub tally-suc : (p : ℕ → Bool) (a n : ℕ) → tally p a (suc n) ≡ cond (p a) 1 0 + tally p (a + 1) n
 unfolding tally
 tally-suc p a n = ⊎_elim (λ (t : p a ≡ true). rw t (omega arith)) (λ (t : p a ≡ false). rw t (omega arith)) (cases_Bool (p a))
 
@@ -31,10 +31,10 @@ tally-more p n =
     let one : length (filter p (n ∷ [])) ≡ cond (p n) 1 0 = ⊎_elim (λ (t : p n ≡ true). rw t refl) (λ (t : p n ≡ false). rw t refl) (cases_Bool (p n)) in
     ap length cut ∙ (length-append (filter p (range_with_len 0 n)) (filter p (n ∷ [])) ∙ ap (λ (k : ℕ). tally p 0 n + k) one)
 
-if_true : (b : Bool) → b ≡ true → cond {A = ℕ} b 1 0 ≡ 1
+pub if_true : (b : Bool) → b ≡ true → cond {A = ℕ} b 1 0 ≡ 1
 if_true b t = ap (λ (b : Bool). cond {A = ℕ} b 1 0) t
 
-if_false : (b : Bool) → b ≡ false → cond {A = ℕ} b 1 0 ≡ 0
+pub if_false : (b : Bool) → b ≡ false → cond {A = ℕ} b 1 0 ≡ 0
 if_false b f = ap (λ (b : Bool). cond {A = ℕ} b 1 0) f
 
 -- what implies another test passes less often

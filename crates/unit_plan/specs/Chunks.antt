@@ -1,37 +1,86 @@
--- The chunks that a plan makes of a volume.
-use Rattle.std.specs.Prelude.{ℕ, ◌-◌, ◌%◌, ◌≤◌, ◌==◌, Bool, not, ◌&&◌, ◌||◌, List, length}
-use Rattle.std.specs.List.{filter, range_with_len}
+-- The chunks that a plan makes of a volume, by the plan and the number of blocks alone.
+use Rattle.std.specs.Prelude.{◌≡◌, ◌≢◌, ◌⊎◌, ℕ, ◌+◌, ◌-◌, ◌*◌, ◌/◌, ◌%◌, ◌≤◌, ◌<◌, ◌==◌, nat_lt, nat_le, min, Bool, not, ◌&&◌, ◌||◌, if◌then◌else◌, List, length, Option, Some, None, All, AllPairs, Any}
+use Rattle.std.specs.List.{list_any}
 use Rattle.reiser_bitmap.specs.Runs.{free_runs}
+use Rattle.reiser_bitmap.specs.declared.runs.Run.{Run}
+use Rattle.unit_plan.specs.declared.chunk.Chunk.{Chunk}
+use Rattle.unit_plan.specs.declared.chunk.Role.{Role}
+use Rattle.unit_plan.specs.declared.chunk.Role.TheVariants.{System, Metadata, Data}
 use Rattle.unit_plan.specs.declared.need.Need.{Need}
 use Rattle.unit_plan.specs.declared.plan.Plan.{Plan}
-use Rattle.unit_plan.specs.Choice.{HasEnoughSpace, IsPlan, is_among, holds_data, volume_units}
+use Rattle.unit_plan.specs.Choice.{HasEnoughSpace, IsPlan, is_in, is_among, holds_data, volume_units}
 use Rattle.unit_plan.specs.Needed.{chunk_bound}
+
+-- Where the blocks end that a chunk may hold: those behind the last multiple of 64 KiB are reserved.
+abbrev pub usable_end : ℕ → ℕ
+usable_end blocks = 16 * (blocks / 16)
+
+-- a unit of one of the runs
+abbrev pub is_in_runs : List Run → ℕ → Bool
+is_in_runs runs u = list_any (λ r. is_in r.first r.count u) runs
+
+-- what a unit is used for, where it is used at all
+abbrev pub role_by : Bool → Bool → Bool → Option Role
+role_by used system metadata = if used then Some (if system then System else if metadata then Metadata else Data) else None
+
+-- Unit 0 is reserved. Any other unit that has usable blocks has a role, unless it lies in a run of units without use.
+unfoldable pub has_role : Plan → ℕ → ℕ → Bool
+has_role plan blocks u = nat_lt 0 u && (nat_lt (256 * u) (usable_end blocks) && not (is_in_runs plan.unallocated u))
+
+unfoldable pub role_of : Plan → ℕ → ℕ → Option Role
+role_of plan blocks u = role_by (has_role plan blocks u) (is_among plan.system u) (is_among plan.metadata u)
+
+-- A chunk: units from a first one to before an end, all of one role. It begins at a multiple of 1024 units or behind a unit
+-- of another role, and ends before one; where the usable blocks end within its last unit, it ends with them.
+pub record IsChunk (role : ℕ → Option Role) (usable : ℕ) (c : Chunk) : Type 0 where
+  pub first : ℕ
+  pub end : ℕ
+  pub some : first < end
+  pub starts : c.start ≡ 256 * first
+  pub ends : c.start + c.length ≡ min usable (256 * end)
+  pub not_empty : 1 ≤ c.length
+  pub one_role : (u : ℕ) → first ≤ u → u < end → role u ≡ Some c.role
+  pub uncut : (u : ℕ) → first < u → u < end → u % 1024 ≢ 0
+  pub before : (first % 1024 ≡ 0) ⊎ ((u : ℕ) → u + 1 ≡ first → role u ≢ Some c.role)
+  pub behind : (end % 1024 ≡ 0) ⊎ (role end ≢ Some c.role)
+
+-- the unit's first block lies in the chunk
+pub record HoldsUnit (c : Chunk) (u : ℕ) : Type 0 where
+  pub low : c.start ≤ 256 * u
+  pub high : 256 * u < c.start + c.length
+
+-- Chunks ascend and do not overlap, and each unit that has a role lies in one.
+pub record AreChunksBy (role : ℕ → Option Role) (usable : ℕ) (chunks : List Chunk) : Type 0 where
+  pub each : All (IsChunk role usable) chunks
+  pub ascending : AllPairs (λ c d. c.start + c.length ≤ d.start) chunks
+  pub whole : (u : ℕ) (r : Role) → role u ≡ Some r → Any (λ c. HoldsUnit c u) chunks
+
+abbrev pub AreChunks : Plan → ℕ → List Chunk → Type 0
+AreChunks plan blocks = AreChunksBy (role_of plan blocks) (usable_end blocks)
+
+-- the units of a plan begin on a volume of so many blocks
+pub record FitsVolume (plan : Plan) (blocks : ℕ) : Type 0 where
+  pub system : All (λ u. 256 * u < blocks) plan.system
+  pub metadata : All (λ u. 256 * u < blocks) plan.metadata
+  pub unallocated : All (λ r. 256 * (r.first + r.count) < blocks + 256) plan.unallocated
 
 -- the unit is chosen for data, or holds some
 abbrev pub is_data_unit : List Bool → Plan → ℕ → Bool
 is_data_unit used plan u = is_among plan.data_ u || holds_data used u
 
--- the unit is used for system, metadata or data
-abbrev pub has_role : List Bool → Plan → ℕ → Bool
-has_role used plan u = is_among plan.system u || (is_among plan.metadata u || is_data_unit used plan u)
+-- what a unit from unit 1 on is used for, by the lists that name it
+abbrev pub use_of : List Bool → Plan → ℕ → Option Role
+use_of used plan u =
+    if is_among plan.system u then Some System else if is_among plan.metadata u then Some Metadata else if is_data_unit used plan u then Some Data else None
 
--- both units are used for the same
-abbrev pub have_one_role : List Bool → Plan → ℕ → ℕ → Bool
-have_one_role used plan u v =
-    (is_among plan.system u && is_among plan.system v)
-    || ((is_among plan.metadata u && is_among plan.metadata v) || (is_data_unit used plan u && is_data_unit used plan v))
+-- a plan's runs without use leave exactly the units that a list names or that hold data
+abbrev pub RolesAreUses : Type 0
+RolesAreUses =
+    (used : List Bool) (need : Need) (plan : Plan) → HasEnoughSpace used need → IsPlan used need plan
+    → (u : ℕ) → 1 ≤ u → role_of plan (length used) u ≡ use_of used plan u
 
--- A chunk is a maximal run of units that are used for the same, cut at multiples of 1024 units. It begins at a unit that
--- has a use, at such a multiple or where the unit before has not the same use.
-abbrev pub begins_chunk : List Bool → Plan → ℕ → Bool
-begins_chunk used plan u = has_role used plan u && ((u % 1024 == 0) || not (have_one_role used plan (u - 1) u))
-
--- where the chunks begin, in units from unit 1 on
-unfoldable pub chunk_starts : List Bool → Plan → List ℕ
-chunk_starts used plan = filter (begins_chunk used plan) (range_with_len 1 (volume_units used - 1))
-
--- there are no more than the bound has that the needed space was counted with
+-- there are no more chunks than the bound has that the needed space was counted with
 abbrev pub ChunksAreFew : Type 0
 ChunksAreFew =
-    (used : List Bool) (need : Need) (plan : Plan) → HasEnoughSpace used need → IsPlan used need plan
-    → length (chunk_starts used plan) ≤ chunk_bound (length (free_runs used)) (length used)
+    (used : List Bool) (need : Need) (plan : Plan) (chunks : List Chunk) → HasEnoughSpace used need → IsPlan used need plan
+    → AreChunks plan (length used) chunks → length chunks ≤ chunk_bound (length (free_runs used)) (length used)

@@ -1,6 +1,10 @@
 pub mod Choice
 pub mod Chunks
+pub mod Dividing
 pub mod Label
 pub mod Laws
 pub mod Needed
+pub mod Pieces
+pub mod Places
+pub mod Roles
 pub mod Sums

@@ -1,28 +1,36 @@
 //! How much space a conversion of a volume needs, and which units of 1 MiB it takes.
 //!
 //! A caller makes [`Counts`] of a volume, asks [`needed`] for the units, and [`choose`] for a [`Plan`] of units that are
-//! free. The pieces that the volume's blocks are divided into are seen through [`PieceList`].
+//! free. [`chunks_of`] divides the volume into chunks by the plan, and [`slots_of`] tells where nodes lie in its units. The
+//! pieces that the volume's blocks are divided into are seen through [`PieceList`].
 #![tactic(auto)]
 
 mod choice;
+mod chunk;
 mod counts;
+mod division;
 mod label;
 mod laws;
 mod need;
 mod options;
 mod piece;
+mod places;
 mod plan;
+mod roles;
 mod sums;
 mod units;
 mod unused;
 
 pub use choice::choose;
+pub use chunk::{Chunk, Chunks, Role};
 pub use counts::Counts;
+pub use division::chunks_of;
 pub use label::Label;
-pub use laws::{chunks_are_few, plans_are_sound};
+pub use laws::{chunks_are_few, places_serve, plans_are_sound, roles_are_uses};
 pub use need::{Need, needed};
 pub use options::{LabelChoice, Options, UuidChoice};
 pub use piece::{Piece, PieceList};
+pub use places::slots_of;
 pub use plan::{Plan, PlanAnswer};
 pub use sums::sums_in_item;
 pub use units::Units;

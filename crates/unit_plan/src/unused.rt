@@ -43,7 +43,7 @@ pub fn unallocated(
 }
 
 /// Puts units into a set.
-fn mark(set: &mut Bitmap, units: &Units)
+pub(crate) fn mark(set: &mut Bitmap, units: &Units)
     requires { All (λ u. u < length set.old) units.now }
     ensures size { length set.new ≡ length set.old }
     ensures units { (u : ℕ) → has set.new u ≡ (has set.old u || is_among units.now u) }

@@ -1,4 +1,4 @@
-use Rattle.unit_plan.proofs.ChunkCount.{chunks_few}
+use Rattle.unit_plan.proofs.Counted.{chunks_few}
 use Rattle.unit_plan.proofs.laws.chunks_are_few.Goals as goal
 
 pub returns : goal.returns

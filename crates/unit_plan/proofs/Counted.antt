@@ -1,0 +1,177 @@
+-- The chunks of a plan are few.
+use Rattle.std.proofs.Common.{◌≡◌, ◌≢◌, ◌⊎◌, ℕ, zero, suc, ◌+◌, ◌-◌, ◌*◌, ◌/◌, ◌%◌, ◌^◌, ◌<◌, ◌≤◌, ◌&&◌, ◌||◌, eqb, ltb, not, Bool, true, false, List, [], ◌∷◌, length, get_or, cond, Option, Some, None, refl, sym, ◌∙◌, ap, subst, arith, ⊎_elim}
+use Rattle.std.specs.Prelude.{AllPairs, MatchOption}
+use Rattle.std.specs.Int.{div_ceil}
+use Rattle.std.proofs.lemmas.Bool.{cases_Bool, cases_lt, cases_eq, and_parts, and_from, and_left, or_cases, or_left, or_right, not_from_false, both_ways, eq-eqb, ltb-true}
+use Rattle.reiser_bitmap.specs.Runs.{free_runs}
+use Rattle.reiser_bitmap.specs.Units.{is_free_unit}
+use Rattle.reiser_bitmap.proofs.FreeUnits.{decides_free_unit}
+use Rattle.unit_plan.specs.declared.chunk.Chunk.{Chunk}
+use Rattle.unit_plan.specs.declared.chunk.Role.{Role}
+use Rattle.unit_plan.specs.declared.chunk.Role.TheVariants.{System, Metadata, Data}
+use Rattle.unit_plan.specs.declared.plan.Plan.{Plan}
+use Rattle.unit_plan.specs.declared.need.Need.{Need}
+use Rattle.unit_plan.specs.Choice.{is_among, holds_data, lowest_long, others, volume_units}
+use Rattle.unit_plan.specs.Chunks.{role_of, has_role, role_by, use_of, usable_end, IsChunk, ChunksAreFew}
+use Rattle.unit_plan.specs.Laws.{AreApart, AreFreeUnits, IsSoundPlan}
+use Rattle.unit_plan.proofs.Enough.{IsLowest, lowest_is}
+use Rattle.unit_plan.proofs.Sound.{plans_sound}
+use Rattle.unit_plan.proofs.Starts.{among_contains, free_no_data}
+use Rattle.unit_plan.proofs.Tallies.{tally, tally-suc, tally-zero, if_true}
+use Rattle.unit_plan.proofs.Uses.{free_of, role_is, bools_agree}
+use Rattle.unit_plan.proofs.ChunkCount.{role, one_role, begins, reason, single, is_1, why, reasons_few}
+
+-- a chunk begins at a unit of a range that passes
+record Starts (p : ℕ → Bool) (low high : ℕ) (c : Chunk) : Type 0 where
+  first : ℕ
+  is : c.start ≡ 256 * first
+  some : 1 ≤ c.length
+  above : low ≤ first
+  below : first < high
+  passes : p first ≡ true
+
+start_low : (c : Chunk) (cs : List Chunk) → AllPairs (λ c d. c.start + c.length ≤ d.start) (c ∷ cs) → (k : ℕ) (d : Chunk) → k < length (c ∷ cs) → c.start ≤ (get_or (c ∷ cs) k d).start
+start_low c cs ascend zero d h = omega arith
+start_low c cs ascend (suc k) d h = let apart : c.start + c.length ≤ (get_or (c ∷ cs) (suc k) d).start = ascend 0 (suc k) d (omega arith) h in omega (arith, apart)
+
+-- there are no more such chunks than units that pass, where they ascend
+few : (p : ℕ → Bool) (a m : ℕ) (cs : List Chunk) → ((k : ℕ) (d : Chunk) → k < length cs → Starts p a (a + m) (get_or cs k d)) → AllPairs (λ c d. c.start + c.length ≤ d.start) cs → length cs ≤ tally p a m
+few p a m [] all ascend = omega arith
+few p a zero (c ∷ cs) all ascend = let s = all 0 c (omega arith) in absurd (omega (arith, s.above, s.below))
+few p a (suc m) (c ∷ cs) all ascend =
+    let s : Starts p a (a + suc m) c = all 0 c (omega arith) in
+    ⊎_elim
+    (λ (here : s.first ≡ a).
+    let rest : length cs ≤ tally p (a + 1) m =
+    few p (a + 1) m cs
+    (λ k d h.
+    let t : Starts p a (a + suc m) (get_or cs k d) = all (suc k) d (omega (arith, h)) in
+    let apart : c.start + c.length ≤ (get_or cs k d).start = ascend 0 (suc k) d (omega arith) (omega (arith, h)) in
+    record { first = t.first; is = t.is; some = t.some; above = omega (arith, apart, t.is, s.is, s.some, here); below = omega (arith, t.below); passes = t.passes })
+    (λ i j d l h. ascend (suc i) (suc j) d (omega (arith, l)) (omega (arith, h))) in
+    omega (arith, rest, tally-suc p a m, if_true (p a) (sym (ap p here) ∙ s.passes)))
+    (λ (later : s.first ≡ a → ⊥).
+    let all_later : length (c ∷ cs) ≤ tally p (a + 1) m =
+    few p (a + 1) m (c ∷ cs)
+    (λ k d h.
+    let t : Starts p a (a + suc m) (get_or (c ∷ cs) k d) = all k d h in
+    let low : c.start ≤ (get_or (c ∷ cs) k d).start = start_low c cs ascend k d h in
+    record { first = t.first; is = t.is; some = t.some; above = omega (arith, low, t.is, s.is, s.above, later); below = omega (arith, t.below); passes = t.passes })
+    ascend in
+    omega (arith, all_later, tally-suc p a m))
+    (cases_eq s.first a)
+
+module _ (used : List Bool) (need : Need) (plan : Plan) (sound : IsSoundPlan used need plan) where
+  abbrev n : ℕ
+  n = length used
+
+  abbrev sys : List ℕ
+  sys = plan.system
+
+  abbrev meta : List ℕ
+  meta = plan.metadata
+
+  abbrev dat : List ℕ
+  dat = plan.data_
+
+  no_data : (k : ℕ) (units : List ℕ) (u : ℕ) → AreFreeUnits used k units → is_among units u ≡ true → holds_data used u ≡ false
+  no_data k units u are t = free_no_data used u ((decides_free_unit used u).1 (free_of used k units u are t))
+
+  off : (xs ys : List ℕ) (u : ℕ) → AreApart xs ys → is_among xs u ≡ true → is_among ys u ≡ false
+  off xs ys u apart t =
+      ⊎_elim (λ (on : is_among ys u ≡ true). absurd (apart u (among_contains xs u t) (among_contains ys u on))) (λ (none : is_among ys u ≡ false). none) (cases_Bool (is_among ys u))
+
+  swap : (xs ys : List ℕ) → AreApart xs ys → AreApart ys xs
+  swap xs ys apart = λ u a b. apart u b a
+
+  as_system : (u : ℕ) → is_among sys u ≡ true → use_of used plan u ≡ Some System
+  as_system u t = rw t refl
+
+  as_metadata : (u : ℕ) → is_among meta u ≡ true → use_of used plan u ≡ Some Metadata
+  as_metadata u t = rw (off meta sys u (swap sys meta sound.system_metadata) t, t) refl
+
+  as_data : (u : ℕ) → (is_among dat u || holds_data used u) ≡ true → use_of used plan u ≡ Some Data
+  as_data u t =
+      ⊎_elim
+      (λ (chosen : is_among dat u ≡ true). rw (off dat sys u (swap sys dat sound.system_data) chosen, off dat meta u (swap meta dat sound.metadata_data) chosen, chosen) refl)
+      (λ (holds : holds_data used u ≡ true). rw (none need.system sys u sound.system holds, none need.metadata meta u sound.metadata holds, t) refl)
+      (or_cases (is_among dat u) (holds_data used u) t)
+    where
+      none : (k : ℕ) (units : List ℕ) (u : ℕ) → AreFreeUnits used k units → holds_data used u ≡ true → is_among units u ≡ false
+      none k units u are holds =
+          ⊎_elim (λ (on : is_among units u ≡ true). absurd (both_ways (holds_data used u) (no_data k units u are on) holds)) (λ (f : is_among units u ≡ false). f) (cases_Bool (is_among units u))
+
+  -- units that are used for the same have the same role
+  one_use : (u v : ℕ) → one_role used sys meta dat u v ≡ true → use_of used plan u ≡ use_of used plan v
+  one_use u v t =
+      ⊎_elim (λ s. let parts = and_parts (is_among sys u) (is_among sys v) s in as_system u parts.0 ∙ sym (as_system v parts.1))
+      (λ rest. ⊎_elim (λ m. let parts = and_parts (is_among meta u) (is_among meta v) m in as_metadata u parts.0 ∙ sym (as_metadata v parts.1))
+      (λ d. let parts = and_parts (is_among dat u || holds_data used u) (is_among dat v || holds_data used v) d in as_data u parts.0 ∙ sym (as_data v parts.1))
+      (or_cases (is_among meta u && is_among meta v) _ rest))
+      (or_cases (is_among sys u && is_among sys v) _ t)
+
+  used_role : (u : ℕ) (r : Role) → use_of used plan u ≡ Some r → role used sys meta dat u ≡ true
+  used_role u r is = by_use (is_among sys u) (is_among meta u) (is_among dat u || holds_data used u) is
+    where
+      by_use : (s m d : Bool) → cond s (Some System) (cond m (Some Metadata) (cond d (Some Data) None)) ≡ Some r → (s || (m || d)) ≡ true
+      by_use true m d e = refl
+      by_use false true d e = refl
+      by_use false false true e = refl
+      by_use false false false e = absurd (subst (λ (o : Option Role). MatchOption o (Unit {0}) (λ _. ⊥)) e tt)
+
+role_low : (plan : Plan) (n u : ℕ) (r : Role) → role_of plan n u ≡ Some r → has_role plan n u ≡ true
+unfolding role_of
+role_low plan n u r is = by_role (has_role plan n u) (is_among plan.system u) (is_among plan.metadata u) is
+  where
+    by_role : (b s m : Bool) → role_by b s m ≡ Some r → b ≡ true
+    by_role true s m e = refl
+    by_role false s m e = absurd (subst (λ (o : Option Role). MatchOption o (Unit {0}) (λ _. ⊥)) e tt)
+
+inside_of : (plan : Plan) (n u : ℕ) → has_role plan n u ≡ true → (0 < u) × (256 * u < usable_end n)
+unfolding has_role
+inside_of plan n u t =
+    let parts = and_parts (ltb 0 u) _ t in
+    (ltb-true 0 u parts.0, ltb-true (256 * u) (usable_end n) (and_parts (ltb (256 * u) (usable_end n)) _ parts.1).0)
+
+pub chunks_few : ChunksAreFew
+chunks_few = λ used need plan chunks enough is are.
+    let n : ℕ = need.system in
+    let first : ℕ = lowest_long n (free_runs used) in
+    let lowest : IsLowest used n first = lowest_is used n enough.run in
+    let sound : IsSoundPlan used need plan = plans_sound used need plan enough is in
+    let at : ℕ = get_or (others used first n) need.metadata 0 in
+    let p : ℕ → Bool = reason used first n at in
+    let why_at : (c : Chunk) → IsChunk (role_of plan (length used)) (usable_end (length used)) c → Starts p 1 (1 + (volume_units used - 1)) c = λ c chunk.
+    let role_at : role_of plan (length used) chunk.first ≡ Some c.role = chunk.one_role chunk.first (omega arith) chunk.some in
+    let low = inside_of plan (length used) chunk.first (role_low plan (length used) chunk.first c.role role_at) in
+    record {
+      first = chunk.first;
+      is = chunk.starts;
+      some = chunk.not_empty;
+      above = omega (arith, low.0);
+      below = omega (arith, low.1);
+      passes =
+          ⊎_elim
+          (λ (cut : chunk.first % 1024 ≡ 0). or_left (eqb (chunk.first % 1024) 0) _ (eq-eqb (chunk.first % 1024) 0 cut))
+          (λ changes.
+          ⊎_elim
+          (λ (zeroth : chunk.first ≡ 1). single used first n at chunk.first (is_1 first n at chunk.first zeroth))
+          (λ (later : chunk.first ≡ 1 → ⊥).
+          let v : ℕ = chunk.first - 1 in
+          let back : v + 1 ≡ chunk.first = omega (arith, low.0) in
+          let used_for : use_of used plan chunk.first ≡ Some c.role = sym (role_is used need plan sound chunk.first (omega (arith, low.0))) ∙ role_at in
+          let apart : one_role used plan.system plan.metadata plan.data_ v chunk.first ≡ false =
+          ⊎_elim
+          (λ (same : one_role used plan.system plan.metadata plan.data_ v chunk.first ≡ true).
+          absurd (changes v back (role_is used need plan sound v (omega (arith, low.0, later)) ∙ (one_use used need plan sound v chunk.first same ∙ used_for))))
+          (λ (other : one_role used plan.system plan.metadata plan.data_ v chunk.first ≡ false). other)
+          (cases_Bool (one_role used plan.system plan.metadata plan.data_ v chunk.first)) in
+          subst (λ (u : ℕ). p u ≡ true) back
+          (why used first n need.metadata need.data_ lowest plan.system plan.metadata plan.data_ is.system is.metadata is.data_ v
+          (subst (λ (u : ℕ). begins used plan.system plan.metadata plan.data_ u ≡ true) (sym back)
+          (and_from (role used plan.system plan.metadata plan.data_ chunk.first) _ (used_role used need plan sound chunk.first c.role used_for)
+          (or_right (eqb (chunk.first % 1024) 0) _ (not_from_false _ apart))))))
+          (cases_eq chunk.first 1))
+          chunk.before;
+    } in
+    omega (arith, few p 1 (volume_units used - 1) chunks (λ k d h. why_at (get_or chunks k d) (are.each k d h)) are.ascending, reasons_few used first n at)

@@ -1,0 +1,9 @@
+use Rattle.std.proofs.Common.{◌≡◌, ℕ, ◌&&◌, ◌||◌, leb, ltb, length}
+use Rattle.reiser_bitmap.specs.Bits.{has}
+use Rattle.unit_plan.proofs.roles.mark_run.Given as goal
+
+abbrev pub invariant-loop-u : goal.invariant-loop-u
+invariant-loop-u l = record {
+  size : length l.set ≡ length l.initial.set;
+  marked : (v : ℕ) → has l.set v ≡ (has l.initial.set v || (leb l.fn.run.first v && ltb v l.u));
+}

@@ -1,0 +1,14 @@
+use Rattle.std.proofs.Common.{◌≡◌, ℕ, ◌+◌, ◌<◌, length, get_or, ◌∙◌, ap, subst, arith}
+use Rattle.std.proofs.lemmas.Option.{get_or_from_slice_get}
+use Rattle.reiser_bitmap.specs.declared.runs.Run.{Run}
+use Rattle.unit_plan.proofs.Sets.{marks_runs}
+use Rattle.unit_plan.proofs.roles.mark_runs.Goals as goal
+
+pub loop-i-preserved : goal.loop-i-preserved
+loop-i-preserved c =
+    let r : Run = c.get.result in
+    let inside : c.loop-i.i < length c.args.runs.now = omega (arith, c.loop-i-test.true, c.len-i-end.ensures) in
+    record {
+      size = c.mark_run.ensures.size ∙ c.loop-i.invariant.size;
+      marked = λ u. marks_runs c.args.set.now c.loop-i.set c.mark_run.new.set c.args.runs.now c.loop-i.i u r inside (get_or_from_slice_get c.args.runs.now c.loop-i.i r r c.get.ensures) (c.loop-i.invariant.marked u) (c.mark_run.ensures.units u);
+    }
