@@ -104,7 +104,7 @@ impl<R: Files<File = File> + AllocGlobal + Drop> Disk for FileDisk<R> {
 
     ghost opened = { λ d. opened_for d };
 
-    ghost borrows = { λ _. [] };
+    ghost borrow = { λ _. 0 };
 
     ghost wants = { λ path access. Unit {0} };
 
@@ -112,7 +112,7 @@ impl<R: Files<File = File> + AllocGlobal + Drop> Disk for FileDisk<R> {
 
     ghost kept_opened = { λ a b kept. kept.access };
 
-    ghost kept_borrows = { λ a b kept. refl };
+    ghost kept_borrow = { λ a b kept. refl };
 
     ghost open_blocks = { λ a access tells is. absurd (tells_nothing tells) };
 

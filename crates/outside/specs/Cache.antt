@@ -1,5 +1,5 @@
 -- Blocks of a disk that are kept.
-use Rattle.std.specs.Prelude.{◌≡◌, ℕ, nat_eq, List, ◌∷◌, Some}
+use Rattle.std.specs.Prelude.{◌≡◌, ℕ, nat_eq, List, Some}
 use Rattle.std.specs.Map.{lookup}
 use Rattle.vol_block.specs.declared.block.Block.{Block}
 use Rattle.outside.specs.History.{Image, block_at}
@@ -7,7 +7,3 @@ use Rattle.outside.specs.History.{Image, block_at}
 -- each block that is kept is the disk's block of its number
 abbrev pub AreOf : Image → List (ℕ × Block) → Type 0
 AreOf image kept = (n : ℕ) (block : Block) → lookup (nat_eq n) kept ≡ Some block → block.bytes ≡ block_at image n
-
--- borrows one after the other, each the same
-pub same_borrows : {x y : ℕ} {xs ys : List ℕ} → y ≡ x → ys ≡ xs → (y ∷ ys) ≡ (x ∷ xs)
-same_borrows here others = λ i. here i ∷ others i

@@ -1,7 +1,7 @@
-ghost use Rattle.std.specs.Prelude.{◌≡◌, ◌<◌, ◌∷◌, [], Some, nat_eq, refl, IsTrue, IsSome, IfOk, OnOk};
+ghost use Rattle.std.specs.Prelude.{◌≡◌, ◌<◌, [], Some, nat_eq, refl, IsTrue, IsSome, IfOk, OnOk};
 ghost use Rattle.std.proofs.Common.{◌∙◌};
 ghost use Rattle.std.specs.Map.{lookup};
-ghost use Rattle.outside.specs.Cache.{AreOf, same_borrows};
+ghost use Rattle.outside.specs.Cache.{AreOf};
 ghost use Rattle.outside.specs.Fault.{HasCause};
 ghost use Rattle.outside.specs.History.{block_at};
 
@@ -102,7 +102,7 @@ impl<D: Disk> Disk for Cached<'_, D> {
 
     ghost opened = { λ c. D.opened c.disk.now };
 
-    ghost borrows = { λ c. c.disk.ghost_name ∷ D.borrows c.disk.now };
+    ghost borrow = { λ c. c.disk.ghost_name };
 
     ghost wants = { D.wants };
 
@@ -110,7 +110,7 @@ impl<D: Disk> Disk for Cached<'_, D> {
 
     ghost kept_opened = { λ a b kept. D.kept_opened a.disk.now b.disk.now kept.0 };
 
-    ghost kept_borrows = { λ a b kept. same_borrows kept.1 (D.kept_borrows a.disk.now b.disk.now kept.0) };
+    ghost kept_borrow = { λ a b kept. kept.1 };
 
     ghost open_blocks = { λ a access tells is. D.open_blocks a.disk.now access tells is };
 

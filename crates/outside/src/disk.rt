@@ -28,9 +28,9 @@ pub trait Disk: BlockSource {
     /// What it is open for; before `open` nothing.
     ghost opened: { Self → Option Access };
 
-    /// The borrows that it holds, by their names in contracts: a cache has that of its disk, and a device none. A call that
-    /// keeps them lets the owner of what was borrowed know it again.
-    ghost borrows: { Self → List ℕ };
+    /// The borrow that it holds, by its name in contracts: a cache has that of its disk, and a device none. A call that
+    /// keeps it lets the owner of what was borrowed know it again.
+    ghost borrow: { Self → ℕ };
 
     /// The paths that it may be asked to open, and for what.
     ghost wants: { List ℕ → Access → Type 0 };
@@ -41,7 +41,7 @@ pub trait Disk: BlockSource {
         requires wanted { wants path.now access }
         ensures opened { OnOk result (opened self.new ≡ Some access) }
         ensures failed { OnErr result (opened self.new ≡ None) }
-        ensures borrows { borrows self.new ≡ borrows self.old }
+        ensures borrow { borrow self.new ≡ borrow self.old }
         ensures unchanged { IsTrue Self.tells → history self.new ≡ history self.old }
         ensures cause { HasCause (Self.faults self.old) (Self.faults self.new) result };
 
@@ -51,7 +51,7 @@ pub trait Disk: BlockSource {
         requires in_range { n < Self.size self.old }
         ensures open { opened self.new ≡ opened self.old }
         ensures size { Self.size self.new ≡ Self.size self.old }
-        ensures borrows { borrows self.new ≡ borrows self.old }
+        ensures borrow { borrow self.new ≡ borrow self.old }
         ensures effect { IsTrue Self.tells → WritesBlock (history self.old) n from.now.bytes result (history self.new) }
         ensures cause { HasCause (Self.faults self.old) (Self.faults self.new) result };
 
@@ -60,7 +60,7 @@ pub trait Disk: BlockSource {
         requires { opened self.old ≡ Some Write }
         ensures open { opened self.new ≡ opened self.old }
         ensures size { Self.size self.new ≡ Self.size self.old }
-        ensures borrows { borrows self.new ≡ borrows self.old }
+        ensures borrow { borrow self.new ≡ borrow self.old }
         ensures effect { IsTrue Self.tells → Syncs (history self.old) result (history self.new) }
         ensures cause { HasCause (Self.faults self.old) (Self.faults self.new) result };
 
@@ -68,7 +68,7 @@ pub trait Disk: BlockSource {
 
     ghost kept_opened: { (a b : Self) → Self.kept a b → opened b ≡ opened a };
 
-    ghost kept_borrows: { (a b : Self) → Self.kept a b → borrows b ≡ borrows a };
+    ghost kept_borrow: { (a b : Self) → Self.kept a b → borrow b ≡ borrow a };
 
     ghost open_blocks: { (a : Self) (access : Access) → IsTrue Self.tells → opened a ≡ Some access → Self.blocks a ≡ reads (history a) };
 

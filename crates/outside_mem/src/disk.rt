@@ -242,7 +242,7 @@ impl Disk for MemDisk {
 
     ghost opened = { λ d. d.opened };
 
-    ghost borrows = { λ _. [] };
+    ghost borrow = { λ _. 0 };
 
     ghost wants = { λ path access. Unit {0} };
 
@@ -250,7 +250,7 @@ impl Disk for MemDisk {
 
     ghost kept_opened = { λ a b kept. kept.opened };
 
-    ghost kept_borrows = { λ a b kept. refl };
+    ghost kept_borrow = { λ a b kept. refl };
 
     ghost open_blocks = { λ a access tells is. open_readable a access is };
 

@@ -1,7 +1,7 @@
 // The switch.
 ghost use Rattle.std.specs.Prelude.{◌≡◌, ◌<◌, ◌⊎◌, All, Some, IsTrue, OnOk};
 ghost use Rattle.outside.specs.Fault.{HasCause};
-ghost use Rattle.outside.specs.History.{Image, block_at, reads, clock, IsSettled, LeftSince, WritesOnly};
+ghost use Rattle.outside.specs.History.{block_at, reads, IsSettled, EachCrash, WritesOnly};
 ghost use Rattle.phases_example.specs.Pieces.{IsPlace, AreApart};
 ghost use Rattle.phases_example.specs.Switch.{IsPart, IsBefore, IsAfter};
 
@@ -32,13 +32,13 @@ pub fn switch<D: Disk>(
     requires mirror_apart { ¬ IsPlace pieces.now 16384 }
 
     // A crash at any moment leaves the old volume, or the new one.
-    ensures crash { IsTrue D.tells → IsSettled (D.history disk.old) → (image : Image)
-        → LeftSince (clock (D.history disk.old)) (D.history disk.new) image
-        → IsBefore pieces.now (reads (D.history disk.old)) image
-        ⊎ IsAfter pieces.now superblock.now.bytes (reads (D.history disk.old)) image }
+    ensures crash { EachCrash D.tells (D.history disk.old) (D.history disk.new) (λ image.
+        IsBefore pieces.now (reads (D.history disk.old)) image
+        ⊎ IsAfter pieces.now superblock.now.bytes (reads (D.history disk.old)) image) }
 
     ensures open { D.opened disk.new ≡ D.opened disk.old }
     ensures size { D.size disk.new ≡ D.size disk.old }
+    ensures borrow { D.borrow disk.new ≡ D.borrow disk.old }
     ensures only { IsTrue D.tells → WritesOnly (IsPart pieces.now superblock.now.bytes mirror.now.bytes) (D.history disk.old) (D.history disk.new) }
     ensures written { IsTrue D.tells → OnOk result (IsAfter pieces.now superblock.now.bytes (reads (D.history disk.old)) (reads (D.history disk.new))) }
     ensures mirror { IsTrue D.tells → OnOk result (block_at (reads (D.history disk.new)) 16384 ≡ mirror.now.bytes) }

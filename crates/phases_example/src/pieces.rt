@@ -23,6 +23,7 @@ pub fn write_pieces<D: Disk>(disk: &mut D, pieces: &[Placed]) -> Result<(), Faul
     requires apart { AreApart pieces.now }
     ensures open { D.opened disk.new ≡ D.opened disk.old }
     ensures size { D.size disk.new ≡ D.size disk.old }
+    ensures borrow { D.borrow disk.new ≡ D.borrow disk.old }
     ensures only { IsTrue D.tells → WritesOnly (λ b _. IsPlace pieces.now b) (D.history disk.old) (D.history disk.new) }
     ensures written { IsTrue D.tells → OnOk result (HasPieces pieces.now (reads (D.history disk.new))) }
     ensures settled { IsTrue D.tells → OnOk result (IsSettled (D.history disk.new)) }

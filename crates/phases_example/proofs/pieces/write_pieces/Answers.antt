@@ -24,6 +24,7 @@ loop-piece-preserved g c =
     record {
       open_ = c.write.ensures.open ∙ before.open_;
       size = c.write.ensures.size ∙ before.size;
+      borrow = c.write.ensures.borrow ∙ before.borrow;
       same = omega (arith, before.same, c.in_ok-write.ensures.cause.kept);
       only = λ tells.
           writes_then (λ b _. IsPlace c.args.pieces.now b) _ _ _ (before.only tells)
