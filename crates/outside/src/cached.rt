@@ -11,11 +11,13 @@ use std::alloc::Global;
 use std::num::NonZeroUsize;
 use vol_block::{Block, BlockNo};
 
-/// Memory for some blocks of a disk. It is taken before the disk is borrowed, so that want of memory leaves the disk alone.
+/// Memory for some blocks of a disk.
+///
+/// It is taken before a disk is borrowed, so that want of memory leaves the disk alone, and may serve one disk after the
+/// other.
 #[derive(Drop)]
 pub struct Room {
     blocks: LruCache<u64, Block>,
-    ghost empty: { blocks.entries ≡ [] },
 }
 
 impl Room {
@@ -37,19 +39,19 @@ impl Room {
 #[derive(Drop)]
 pub struct Cached<'a, D: Disk> {
     disk: &'a mut D,
-    kept: LruCache<u64, Block>,
-    ghost are_of: { IsTrue D.tells → AreOf (D.blocks disk.now) kept.entries },
+    room: &'a mut Room,
+    ghost are_of: { IsTrue D.tells → AreOf (D.blocks disk.now) room.now.blocks.entries },
 }
 
 impl<'a, D: Disk> Cached<'a, D> {
     /// Borrows a disk, to keep as many of its blocks as there is room for. None is kept yet.
-    pub fn new(disk: &'a mut D, room: Room) -> Cached<'a, D>
+    pub fn new(disk: &'a mut D, room: &'a mut Room) -> Cached<'a, D>
         ensures same { result.disk.now ≡ disk.old }
         ensures borrowed { result.disk.ghost_name ≡ disk.entry.ghost_name }
-        ensures kept { result.kept ≡ room.blocks }
+        ensures empty { result.room.now.blocks.entries ≡ [] }
     {
-        let Room { blocks } = room;
-        Cached { disk, kept: blocks }
+        room.blocks.clear();
+        Cached { disk, room }
     }
 }
 
@@ -84,15 +86,15 @@ impl<D: Disk> BlockSource for Cached<'_, D> {
         ensures kept { D.kept self.old.disk.now self.new.disk.now × (self.new.disk.ghost_name ≡ self.old.disk.ghost_name) }
         ensures block { IsTrue D.tells → OnOk result (into.new.bytes ≡ block_at (D.blocks self.old.disk.now) n) }
         ensures cause { HasCause (D.faults self.old.disk.now) (D.faults self.new.disk.now) result }
-        ensures hit { IsSome (lookup (nat_eq n) self.old.kept.entries) → self.new.disk.now ≡ self.old.disk.now }
+        ensures hit { IsSome (lookup (nat_eq n) self.old.room.now.blocks.entries) → self.new.disk.now ≡ self.old.disk.now }
     {
-        if let Some(block) = self.kept.get(&n).copied() {
+        if let Some(block) = self.room.blocks.get(&n).copied() {
             *into = block;
             return Ok(());
         }
         self.disk.read(n, into)?;
         // Without memory the block is not kept.
-        let _ = self.kept.put(n, *into);
+        let _ = self.room.blocks.put(n, *into);
         Ok(())
     }
 }
@@ -119,21 +121,21 @@ impl<D: Disk> Disk for Cached<'_, D> {
     ghost closed_size = { λ a is. D.closed_size a.disk.now is };
 
     fn open(&mut self, path: &str, access: Access) -> Result<(), Fault> {
-        self.kept.clear();
+        self.room.blocks.clear();
         self.disk.open(path, access)
     }
 
     fn write(&mut self, n: BlockNo, from: &Block) -> Result<(), Fault> {
         match self.disk.write(n, from) {
             Ok(()) => {
-                if self.kept.contains(&n) {
-                    let _ = self.kept.put(n, *from);
+                if self.room.blocks.contains(&n) {
+                    let _ = self.room.blocks.put(n, *from);
                 }
                 Ok(())
             }
             Err(fault) => {
-                if self.kept.len() > 0 {
-                    let _ = self.kept.pop(&n);
+                if self.room.blocks.len() > 0 {
+                    let _ = self.room.blocks.pop(&n);
                 }
                 Err(fault)
             }

@@ -1,5 +1,5 @@
-use crate::{Placed, switch};
-use outside::{Access, BlockSource, Disk};
+use crate::{Placed, switch, write_cached};
+use outside::{Access, BlockSource, Cached, Disk, Room};
 use outside_mem::MemDisk;
 use std::alloc::Global;
 use std::test::Fail;
@@ -65,5 +65,24 @@ fn a_crash_of_a_switch_leaves_the_old_volume_or_the_new_one(rt: HostRuntime) -> 
             assert!(rt; !done || new && has(&mut left, 16384, 5)?);
         }
     }
+    Ok(())
+}
+
+#[test]
+fn a_kept_block_is_not_read_again(rt: HostRuntime) -> Result<(), Fail> {
+    let mut room = Room::new(rt.alloc(), 2)?;
+    let mut disk = MemDisk::new(rt.alloc(), 8)?;
+    disk.set_block(3, &filled(1))?;
+    disk.open("", Access::Write)?;
+    write_cached(&mut disk, &mut room, 5, &filled(7))?;
+    let mut block = Block::zero();
+    let mut cached = Cached::new(&mut disk, &mut room);
+    cached.read(3, &mut block)?;
+    cached.read(3, &mut block)?;
+    assert!(rt; block == filled(1));
+    cached.write(3, &filled(2))?;
+    cached.read(3, &mut block)?;
+    assert!(rt; block == filled(2));
+    assert_eq!(rt; disk.reads(), 1);
     Ok(())
 }
