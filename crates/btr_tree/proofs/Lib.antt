@@ -1,9 +1,11 @@
 pub mod Climbing
 pub mod Completing
+pub mod Falling
 pub mod FullGroups
 pub mod Groups
 pub mod KeyOrder
 pub mod Leaves
+pub mod Maps
 pub mod OnDisk
 pub mod PiecesOf
 pub mod Raising

@@ -17,7 +17,7 @@ pub sizes-more : (d fan n : ℕ) → 1 < n → level_sizes (suc d) fan n ≡ n �
 unfolding level_sizes
 sizes-more d fan n h = rw (lt-leb n 1 h) refl
 
-sizes-none : (fan n : ℕ) → level_sizes 0 fan n ≡ []
+pub sizes-none : (fan n : ℕ) → level_sizes 0 fan n ≡ []
 unfolding level_sizes
 sizes-none fan n = refl
 

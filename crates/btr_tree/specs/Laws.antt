@@ -1,7 +1,15 @@
--- What packing is.
-use Rattle.std.specs.Prelude.{◌≡◌, ℕ, ◌+◌, ◌≤◌, ◌<◌, List, [], length, slice_index, slice_index_or}
+-- What packing is, and what keeps a tree that is written.
+use Rattle.std.specs.Prelude.{◌≡◌, ℕ, ◌+◌, ◌*◌, ◌/◌, ◌^◌, ◌≤◌, ◌<◌, List, [], ◌∷◌, ◌++◌, Some, length, slice_index, slice_index_or}
 use Rattle.std.specs.List.{All, concat}
-use Rattle.btr_tree.specs.Counting.{bytes_of}
+use Rattle.outside.specs.History.{Image}
+use Rattle.btr_node.specs.NodeSize.{IsNodeSize}
+use Rattle.btr_walk.specs.declared.map.MapRange.{MapRange}
+use Rattle.btr_walk.specs.declared.tree.Form.{Form}
+use Rattle.btr_walk.specs.declared.tree.Pointer.{Pointer}
+use Rattle.btr_walk.specs.Events.{tree_events, nodes_in}
+use Rattle.btr_walk.specs.Map.{place, identity}
+use Rattle.btr_walk.specs.Tree.{tree_items}
+use Rattle.btr_tree.specs.Counting.{bytes_of, tree_nodes}
 use Rattle.btr_tree.specs.Packing.{weight, packed}
 
 -- The groups are the lengths in their order. Each fits, no group but the first is empty, and the first of each later group
@@ -16,3 +24,25 @@ pub record IsPacking (room : ℕ) (lengths : List ℕ) (groups : List (List ℕ)
 -- items that fit at all are packed so
 abbrev pub PackingIsFull : Type 0
 PackingIsFull = (room : ℕ) (lengths : List ℕ) → All (λ n. weight n ≤ room) lengths → IsPacking room lengths (packed weight room lengths)
+
+-- an item more, wherever it is put in, never makes fewer nodes
+abbrev pub NodesNeverFall : Type 0
+NodesNeverFall =
+    (nodesize : ℕ) (before after : List ℕ) (n : ℕ) → IsNodeSize nodesize → tree_nodes nodesize (before ++ after) ≤ tree_nodes nodesize (before ++ n ∷ after)
+
+-- the map gives the address of each block of a node itself
+abbrev pub GivesItself : List MapRange → ℕ → ℕ → Type 0
+GivesItself ranges nodesize a = (j : ℕ) → j < nodesize / 4096 → (a + 4096 * j < 2 ^ 64) × (place ranges (a + 4096 * j) ≡ Some (a + 4096 * j))
+
+-- the tree is the same by both maps
+pub record IsSameBy (image : Image) (ranges others : List MapRange) (form : Form) (root : Pointer) (owner : ℕ) : Type 0 where
+  pub events : tree_events image ranges form root owner ≡ tree_events image others form root owner
+  pub items : tree_items image ranges form root owner ≡ tree_items image others form root owner
+
+-- A tree that is read by the map that gives each address itself is the same by each map that gives the addresses of its
+-- nodes themselves.
+abbrev pub MapsAgree : Type 0
+MapsAgree =
+    (image : Image) (ranges : List MapRange) (form : Form) (root : Pointer) (owner : ℕ)
+    → All (λ p. GivesItself ranges form.nodesize p.address) (nodes_in (tree_events image identity form root owner))
+    → IsSameBy image ranges identity form root owner
