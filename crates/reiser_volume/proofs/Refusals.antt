@@ -34,7 +34,9 @@ use Rattle.reiser_objects.proofs.Broken as objects
 use Rattle.reiser_volume.specs.Answers.{IsVolumeRule, NamesVolumeRule, IsVolumeAnswer, IsVerdict, RefusesVolume, IsSuperOf, IsBitmapOf}
 use Rattle.reiser_volume.specs.Opened.{IsFound}
 use Rattle.reiser_names.specs.Refuses.{RefusesNames, IsNamesRule, IsNamesAnswer}
-use Rattle.reiser_volume.specs.Volume.{IsAccepted, IsRefusal, superblock, used_of, tree_of, volume_items, superblock_rule, journal_rule, bitmap_rule, tree_rule, objects_rule, names_rule}
+use Rattle.reiser_volume.specs.declared.front.Front.{Front}
+use Rattle.reiser_volume.specs.Front.{IsFrontOf, IsFrontRule, NamesFrontRule, IsFrontAnswer, RefusesFront}
+use Rattle.reiser_volume.specs.Volume.{IsAccepted, IsRefusal, IsFrontAccepted, IsFrontRefusal, superblock, used_of, tree_of, volume_items, superblock_rule, journal_rule, bitmap_rule, front_rule, tree_rule, objects_rule, names_rule}
 use Rattle.reiser_names.proofs.Broken.{names_broken}
 
 in_none : {X : Type 0} (xs : List X) (x : X) → xs ≡ [] → Contains xs x → ⊥
@@ -43,17 +45,24 @@ in_none xs x none is = omega (arith, is.1, ap length none)
 used_length : (image : Image) → length (used_of image) ≡ (superblock image).blocks
 used_length image = length-map-range_with_len (is_marked image) 0 (superblock image).blocks
 
-free_named : (image : Image) (r : VolumeRefusal) → IsAccepted image → NamesFreeBlock (used_of image) (superblock image).journal_first (superblock image).journal_size r → ⊥
+free_named : (image : Image) (r : VolumeRefusal) → IsFrontAccepted image → NamesFreeBlock (used_of image) (superblock image).journal_first (superblock image).journal_size r → ⊥
 free_named image r a names =
     true≢false (sym (a.system names.0 (subst (λ (n : ℕ). Contains (system_blocks n (superblock image).journal_first (superblock image).journal_size) names.0) (used_length image) names.2)) ∙ names.3)
 
--- an accepted volume is not refused
-pub not_refused : (image : Image) (r : VolumeRefusal) → IsRefusal image r → IsAccepted image → ⊥
-not_refused image r (superblock_rule is) a =
+-- superblock, journal and bitmap that are accepted are not refused
+pub front_not_refused : (image : Image) (r : VolumeRefusal) → IsFrontRefusal image r → IsFrontAccepted image → ⊥
+front_not_refused image r (superblock_rule is) a =
     let both : None ≡ Some r = sym (none_from_clean _ _ a.clean.superblock) ∙ is in
     cc
-not_refused image r (journal_rule trans clean waits is) a = in_none _ trans a.clean.journal waits
-not_refused image r (bitmap_rule clean names) a = free_named image r a names
+front_not_refused image r (journal_rule trans clean waits is) a = in_none _ trans a.clean.journal waits
+front_not_refused image r (bitmap_rule clean names) a = free_named image r a names
+
+pub accepted_front : (image : Image) → IsAccepted image → IsFrontAccepted image
+accepted_front image a = record { clean = a.clean; system = a.system }
+
+-- an accepted volume is not refused
+pub not_refused : (image : Image) (r : VolumeRefusal) → IsRefusal image r → IsAccepted image → ⊥
+not_refused image r (front_rule is) a = front_not_refused image r is (accepted_front image a)
 not_refused image r (tree_rule clean marks among) a = in_none _ r a.tree among
 not_refused image r (objects_rule clean marks sound is) a = objects.broken (superblock image).root (volume_items image) r is a.objects
 not_refused image r (names_rule clean marks sound are is) a = names_broken (volume_items image) r is a.names
@@ -63,7 +72,7 @@ no_block : (b magic : Bool) (o : Option VolumeRefusal) → b ≡ false → cond 
 no_block false magic o is = refl
 no_block true magic o is = absurd (true≢false is)
 
-pub short_refused : (image : Image) → length image ≤ 16 → IsRefusal image NotVolume
+pub short_refused : (image : Image) → length image ≤ 16 → IsFrontRefusal image NotVolume
 short_refused image short =
     let no : nat_lt 16 (length image) ≡ false = grind (arith, nat_tests) in
     superblock_rule (no_block (nat_lt 16 (length image)) (has_reiser_magic (block_at image 16)) _ no)
@@ -74,12 +83,12 @@ super_found image bytes device s fields clean same size = record {
   clean = subst (λ (b : List ℕ). IsCleanSuper b (length image)) same (subst (λ (n : ℕ). IsCleanSuper bytes n) size clean);
 }
 
-pub super_refused : (image : Image) (bytes : List ℕ) (device : ℕ) (r : VolumeRefusal) → Some r ≡ superblock_refusal bytes device → bytes ≡ block_at image 16 → device ≡ length image → IsRefusal image r
+pub super_refused : (image : Image) (bytes : List ℕ) (device : ℕ) (r : VolumeRefusal) → Some r ≡ superblock_refusal bytes device → bytes ≡ block_at image 16 → device ≡ length image → IsFrontRefusal image r
 super_refused image bytes device r is same size =
     superblock_rule (subst (λ (b : List ℕ). superblock_refusal b (length image) ≡ Some r) same (subst (λ (n : ℕ). superblock_refusal bytes n ≡ Some r) size (sym is)))
 
 module _ (image : Image) (s : Super) (found : IsSuperOf image s) where
-  pub journal_refused : (e : VolAnswer) → IsPendingIn (pending_transactions s image) e → RefusesVolume image e
+  pub journal_refused : (e : VolAnswer) → IsPendingIn (pending_transactions s image) e → RefusesFront image e
   journal_refused (Refused (JournalPending trans)) pending = journal_rule trans found.clean (subst (λ (t : Super). Contains (pending_transactions t image) trans) found.fields pending) refl
   journal_refused (Refused NotVolume) pending = absurd pending
   journal_refused (Refused (Unclean state)) pending = absurd pending
@@ -103,7 +112,7 @@ module _ (image : Image) (s : Super) (found : IsSuperOf image s) where
   bits_found : (used : List Bool) → used ≡ bitmap_of s.blocks image → used ≡ used_of image
   bits_found used is = is ∙ ap (λ (t : Super). bitmap_of t.blocks image) found.fields
 
-  pub bitmap_refused : (used : List Bool) (r : VolumeRefusal) → pending_transactions s image ≡ [] → used ≡ bitmap_of s.blocks image → NamesFreeBlock used s.journal_first s.journal_size r → IsRefusal image r
+  pub bitmap_refused : (used : List Bool) (r : VolumeRefusal) → pending_transactions s image ≡ [] → used ≡ bitmap_of s.blocks image → NamesFreeBlock used s.journal_first s.journal_size r → IsFrontRefusal image r
   bitmap_refused used r none is names = bitmap_rule (clean_found none) (loaded used (bits_found used is) (λ u t. NamesFreeBlock u t.journal_first t.journal_size r) names)
 
   pub bitmap_found : (used : List Bool) → pending_transactions s image ≡ [] → used ≡ bitmap_of s.blocks image → All (λ b. has used b ≡ true) (system_blocks (length used) s.journal_first s.journal_size) → IsBitmapOf image used
@@ -149,22 +158,22 @@ module _ (image : Image) (s : Super) (used : List Bool) (found : IsSuperOf image
 -- what each group answers, whatever the source gives
 abbrev all_known : List (Bool × VolumeRefusal) → Type 0
 all_known [] = Unit {0}
-all_known (rule ∷ rules) = NamesVolumeRule rule.1 × all_known rules
+all_known (rule ∷ rules) = NamesFrontRule rule.1 × all_known rules
 
-one_of : (b : Bool) (o : Option VolumeRefusal) (e r : VolumeRefusal) → NamesVolumeRule e → (o ≡ Some r → NamesVolumeRule r) → cond b o (Some e) ≡ Some r → NamesVolumeRule r
+one_of : (b : Bool) (o : Option VolumeRefusal) (e r : VolumeRefusal) → NamesFrontRule e → (o ≡ Some r → NamesFrontRule r) → cond b o (Some e) ≡ Some r → NamesFrontRule r
 one_of true o e r known behind is = behind is
-one_of false o e r known behind is = let same : e ≡ r = cc in subst NamesVolumeRule same known
+one_of false o e r known behind is = let same : e ≡ r = cc in subst NamesFrontRule same known
 
-first_known : (rules : List (Bool × VolumeRefusal)) (r : VolumeRefusal) → all_known rules → first_refusal rules ≡ Some r → NamesVolumeRule r
+first_known : (rules : List (Bool × VolumeRefusal)) (r : VolumeRefusal) → all_known rules → first_refusal rules ≡ Some r → NamesFrontRule r
 first_known [] r known is = let never : None ≡ Some r = is in absurd cc
 first_known (rule ∷ rules) r known is = one_of rule.0 (first_refusal rules) rule.1 r known.0 (first_known rules r known.1) is
 
-pub super_known : (bytes : List ℕ) (device : ℕ) (r : VolumeRefusal) → Some r ≡ superblock_refusal bytes device → NamesVolumeRule r
+pub super_known : (bytes : List ℕ) (device : ℕ) (r : VolumeRefusal) → Some r ≡ superblock_refusal bytes device → NamesFrontRule r
 super_known bytes device r is =
     let known : all_known (superblock_rules bytes device) = (tt, (tt, (tt, (tt, (tt, (tt, (tt, (tt, (tt, tt))))))))) in
     first_known (superblock_rules bytes device) r known (sym is)
 
-pub journal_known : (e : VolAnswer) → IsJournalAnswer e → IsVolumeAnswer e
+pub journal_known : (e : VolAnswer) → IsJournalAnswer e → IsFrontAnswer e
 journal_known (Refused (JournalPending trans)) is = tt
 journal_known (Refused NotVolume) is = absurd is
 journal_known (Refused (Unclean state)) is = absurd is
@@ -179,13 +188,61 @@ journal_known (Refused (HashCrowd dir object hash)) is = absurd is
 journal_known Fault is = tt
 journal_known Memory is = tt
 
-pub load_known : (e : VolAnswer) → IsNoRefusal e → IsVolumeAnswer e
+pub load_known : (e : VolAnswer) → IsNoRefusal e → IsFrontAnswer e
 load_known (Refused r) is = absurd is
 load_known Fault is = tt
 load_known Memory is = tt
 
-pub system_known : (used : List Bool) (first size : ℕ) (r : VolumeRefusal) → NamesFreeBlock used first size r → NamesVolumeRule r
-system_known used first size r is = subst NamesVolumeRule (sym is.1) tt
+pub system_known : (used : List Bool) (first size : ℕ) (r : VolumeRefusal) → NamesFreeBlock used first size r → NamesFrontRule r
+system_known used first size r is = subst NamesFrontRule (sym is.1) tt
+
+front_rule_known : (rule : Rule) → IsFrontRule rule → IsVolumeRule rule
+front_rule_known SuperField is = tt
+front_rule_known SystemFree is = tt
+front_rule_known NodeHead is = tt
+front_rule_known Layout is = tt
+front_rule_known KeyOrder is = tt
+front_rule_known BlockFree is = tt
+front_rule_known BlockRange is = tt
+front_rule_known BlockTwice is = tt
+front_rule_known Body is = tt
+front_rule_known EntryForm is = tt
+front_rule_known ObjectForm is = tt
+front_rule_known Overlap is = tt
+front_rule_known NameTwice is = tt
+front_rule_known DirTwice is = tt
+front_rule_known SizeRange is = tt
+front_rule_known Reread is = is
+
+pub front_known : (e : VolAnswer) → IsFrontAnswer e → IsVolumeAnswer e
+front_known (Refused (Damaged block rule)) is = front_rule_known rule is
+front_known (Refused NotVolume) is = tt
+front_known (Refused (Unclean state)) is = tt
+front_known (Refused (Unsupported feature value)) is = tt
+front_known (Refused (Short volume device)) is = tt
+front_known (Refused (JournalPending trans)) is = tt
+front_known (Refused (HasAttributes dir object)) is = tt
+front_known (Refused (PendingLinks object)) is = tt
+front_known (Refused (NameTaken dir object)) is = tt
+front_known (Refused (NameTooLong dir object length)) is = tt
+front_known (Refused (HashCrowd dir object hash)) is = tt
+front_known Fault is = tt
+front_known Memory is = tt
+
+pub front_refused : (image : Image) (e : VolAnswer) → RefusesFront image e → RefusesVolume image e
+front_refused image (Refused r) is = front_rule is
+front_refused image Fault is = tt
+front_refused image Memory is = tt
+
+module _ (image : Image) (front : Front) (of : IsFrontOf image front) where
+  pub front_super : IsSuperOf image front.sup
+  front_super = record { fields = of.sup; clean = of.accepted.clean.superblock }
+
+  pub front_bitmap : IsBitmapOf image front.bitmap
+  front_bitmap = record { clean = of.accepted.clean; system = of.accepted.system; bits = of.bitmap }
+
+pub front_of : (image : Image) (s : Super) (used : List Bool) → IsSuperOf image s → IsBitmapOf image used → IsFrontOf image (record { sup = s; bitmap = used })
+front_of image s used found marked = record { accepted = record { clean = marked.clean; system = marked.system }; sup = found.fields; bitmap = marked.bits }
 
 tree_rule_known : (rule : Rule) → IsTreeRule rule → IsVolumeRule rule
 tree_rule_known SuperField is = tt

@@ -15,11 +15,16 @@ use Rattle.reiser_objects.specs.Keys.{items_of}
 use Rattle.reiser_objects.specs.Kinds.{kind_of_mode, is_file, is_symlink}
 use Rattle.reiser_objects.specs.Names.{IsNamed}
 use Rattle.reiser_volume.specs.Rows.{AreReiserRows}
-use Rattle.reiser_volume.specs.Volume.{superblock, used_of, volume_items, AreRowsOf, IsAccepted, IsRefusal}
+use Rattle.reiser_volume.specs.Volume.{superblock, used_of, volume_items, AreRowsOf, IsAccepted, IsRefusal, IsFrontAccepted, IsFrontRefusal}
 
 -- where something is refused of a volume, it is not accepted
 abbrev pub RefusalsBreakRules : Type 0
 RefusalsBreakRules = (image : Image) (r : VolumeRefusal) → IsRefusal image r → ¬ IsAccepted image
+
+-- The same of superblock, journal and bitmap alone: an accepted volume's are accepted.
+pub record FrontsAreJudged : Type 0 where
+  pub broken : (image : Image) (r : VolumeRefusal) → IsFrontRefusal image r → ¬ IsFrontAccepted image
+  pub accepted : (image : Image) → IsAccepted image → IsFrontAccepted image
 
 -- the other image holds the same volume, and is accepted too
 pub record IsSameVolume (image other : Image) : Type 0 where

@@ -43,6 +43,11 @@ MarksSystem image =
 abbrev pub IsSoundTree : Image → Type 0
 IsSoundTree image = tree_damages (tree_of (superblock image)) image (used_of image) ≡ []
 
+-- what comes before the tree keeps its rules: superblock, journal and bitmap
+pub record IsFrontAccepted (image : Image) : Type 0 where
+  pub clean : IsClean image
+  pub system : MarksSystem image
+
 -- An accepted volume: each rule holds.
 pub record IsAccepted (image : Image) : Type 0 where
   pub clean : IsClean image
@@ -51,11 +56,15 @@ pub record IsAccepted (image : Image) : Type 0 where
   pub objects : AreObjects (volume_items image)
   pub names : AreNames (volume_items image)
 
+-- A refusal of superblock, journal or bitmap is that of the first of the three of which a rule fails.
+pub data IsFrontRefusal (image : Image) (r : VolumeRefusal) : Type 0 where
+  superblock_rule : superblock_refusal (block_at image 16) (length image) ≡ Some r → IsFrontRefusal image r
+  journal_rule : (trans : ℕ) → IsCleanSuper (block_at image 16) (length image) → Contains (pending_transactions (superblock image) image) trans → r ≡ JournalPending trans → IsFrontRefusal image r
+  bitmap_rule : IsClean image → NamesFreeBlock (used_of image) (superblock image).journal_first (superblock image).journal_size r → IsFrontRefusal image r
+
 -- A refusal is that of the first group of which a rule fails.
 pub data IsRefusal (image : Image) (r : VolumeRefusal) : Type 0 where
-  superblock_rule : superblock_refusal (block_at image 16) (length image) ≡ Some r → IsRefusal image r
-  journal_rule : (trans : ℕ) → IsCleanSuper (block_at image 16) (length image) → Contains (pending_transactions (superblock image) image) trans → r ≡ JournalPending trans → IsRefusal image r
-  bitmap_rule : IsClean image → NamesFreeBlock (used_of image) (superblock image).journal_first (superblock image).journal_size r → IsRefusal image r
+  front_rule : IsFrontRefusal image r → IsRefusal image r
   tree_rule : IsClean image → MarksSystem image → Contains (tree_damages (tree_of (superblock image)) image (used_of image)) r → IsRefusal image r
   objects_rule : IsClean image → MarksSystem image → IsSoundTree image → IsObjectsRefusal (superblock image).root (volume_items image) r → IsRefusal image r
   names_rule : IsClean image → MarksSystem image → IsSoundTree image → AreObjects (volume_items image) → IsNamesRefusal (volume_items image) r → IsRefusal image r

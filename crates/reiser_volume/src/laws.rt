@@ -1,9 +1,14 @@
 // Laws of the definitions, each the contract of a function that does nothing.
-ghost use Rattle.reiser_volume.specs.Laws.{RefusalsBreakRules, UsedBlocksDecide, RowsAreOne, ItemsDecideRows};
+ghost use Rattle.reiser_volume.specs.Laws.{RefusalsBreakRules, FrontsAreJudged, UsedBlocksDecide, RowsAreOne, ItemsDecideRows};
 
 /// Where something is refused of a volume, it is not accepted: so an accepted volume is not refused.
 pub fn refusals_break_rules()
     ensures { RefusalsBreakRules }
+{}
+
+/// Where something is refused of superblock, journal and bitmap, they are not accepted; those of an accepted volume are.
+pub fn fronts_are_judged()
+    ensures { FrontsAreJudged }
 {}
 
 /// An image that has the same in each used block of an accepted volume, and that has room for it, is accepted too: it holds

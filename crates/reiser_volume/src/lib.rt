@@ -6,6 +6,7 @@
 
 mod content;
 mod files;
+mod front;
 mod gather;
 mod laws;
 mod links;
@@ -15,7 +16,8 @@ mod rows;
 mod volume;
 mod ways;
 
-pub use laws::{items_decide_rows, refusals_break_rules, rows_are_one, used_blocks_decide};
+pub use front::Front;
+pub use laws::{fronts_are_judged, items_decide_rows, refusals_break_rules, rows_are_one, used_blocks_decide};
 pub use links::Link;
 pub use volume::Volume;
 
