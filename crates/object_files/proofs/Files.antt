@@ -96,7 +96,7 @@ inside_by n Indirect save body own h =
 inside_by n Direct save body own h = refl
 inside_by n Directory save body own h = refl
 
-aligned_by : (kind : ItemKind) (head : ItemHead) (body : List ℕ) → FitsKind kind head body → AlignedByKind kind head.offset
+pub aligned_by : (kind : ItemKind) (head : ItemHead) (body : List ℕ) → FitsKind kind head body → AlignedByKind kind head.offset
 aligned_by Stat head body h = tt
 aligned_by Indirect head body h = h.0
 aligned_by Direct head body h = tt

@@ -19,10 +19,10 @@ EndsAtRun n r = r.at + r.count ≤ n
 abbrev pub HasBlocks : FileRun → Type 0
 HasBlocks r = 1 ≤ r.count
 
-in_run : (r : FileRun) (k : ℕ) → r.at ≤ k → k < r.at + r.count → is_in_run r k ≡ true
+pub in_run : (r : FileRun) (k : ℕ) → r.at ≤ k → k < r.at + r.count → is_in_run r k ≡ true
 in_run r k low high = and_from (leb r.at k) (ltb k (r.at + r.count)) (le-leb _ _ low) (lt-ltb _ _ high)
 
-past_run : (r : FileRun) (k : ℕ) → r.at + r.count ≤ k → is_in_run r k ≡ false
+pub past_run : (r : FileRun) (k : ℕ) → r.at + r.count ≤ k → is_in_run r k ≡ false
 past_run r k h = and_right (leb r.at k) (ltb k (r.at + r.count)) (le-ltb _ _ h)
 
 before_run : (r : FileRun) (k : ℕ) → k < r.at → is_in_run r k ≡ false
@@ -41,10 +41,10 @@ next_none Tail = refl
 abbrev lies_by : Bool → FileRun → List FileRun → ℕ → Option RunFrom
 lies_by t r runs k = cond t (Some (next_from r.from (k - r.at))) (lies_at runs k)
 
-lies_in : (r : FileRun) (runs : List FileRun) (k : ℕ) → is_in_run r k ≡ true → lies_at (r ∷ runs) k ≡ Some (next_from r.from (k - r.at))
+pub lies_in : (r : FileRun) (runs : List FileRun) (k : ℕ) → is_in_run r k ≡ true → lies_at (r ∷ runs) k ≡ Some (next_from r.from (k - r.at))
 lies_in r runs k h = cond-true (is_in_run r k) (Some (next_from r.from (k - r.at))) (lies_at runs k) h
 
-lies_on : (r : FileRun) (runs : List FileRun) (k : ℕ) → is_in_run r k ≡ false → lies_at (r ∷ runs) k ≡ lies_at runs k
+pub lies_on : (r : FileRun) (runs : List FileRun) (k : ℕ) → is_in_run r k ≡ false → lies_at (r ∷ runs) k ≡ lies_at runs k
 lies_on r runs k h = cond-false (is_in_run r k) (Some (next_from r.from (k - r.at))) (lies_at runs k) h
 
 joins : (r : FileRun) (n : ℕ) (from : RunFrom) → goes_on r n from ≡ true → (r.at + r.count ≡ n) × (next_from r.from r.count ≡ from)

@@ -34,11 +34,11 @@ holds_by Direct i size k h = (refl, ltb-true _ _ h)
 holds_by Directory i size k h = absurd (false≢true h)
 
 -- an indirect item that names a block for this one
-record NamesOf (k : ℕ) (i : Item) : Type 0 where
-  kind : i.head.kind ≡ Indirect
-  from : first_byte i / 4096 ≤ k
-  to : k < first_byte i / 4096 + length i.body / 4
-  is : pointer_by_kind i.head.kind i k ≡ get_or (pointers i.body) (k - first_byte i / 4096) 0
+pub record NamesOf (k : ℕ) (i : Item) : Type 0 where
+  pub kind : i.head.kind ≡ Indirect
+  pub from : first_byte i / 4096 ≤ k
+  pub to : k < first_byte i / 4096 + length i.body / 4
+  pub is : pointer_by_kind i.head.kind i k ≡ get_or (pointers i.body) (k - first_byte i / 4096) 0
 
 names_direct : (i : Item) (k : ℕ) → pointer_by_kind Indirect i k ≢ 0 → (first_byte i / 4096 ≤ k) × (k < first_byte i / 4096 + length i.body / 4) × (pointer_by_kind Indirect i k ≡ get_or (pointers i.body) (k - first_byte i / 4096) 0)
 names_direct i k some =
@@ -68,12 +68,12 @@ holds_of : (i : Item) (size k : ℕ) → holds_by_kind i.head.kind i size k ≡ 
 holds_of i size k h = let both = holds_by i.head.kind i size k h in record { kind = both.0; some = both.1 }
 
 -- some item of the list, at its place
-record AtPlace (P : Item → Type 0) (items : List Item) : Type 0 where
-  place : ℕ
-  item : Item
-  within : place < length items
-  is : get_or items place item ≡ item
-  fact : P item
+pub record AtPlace (P : Item → Type 0) (items : List Item) : Type 0 where
+  pub place : ℕ
+  pub item : Item
+  pub within : place < length items
+  pub is : get_or items place item ≡ item
+  pub fact : P item
 
 at_head : (P : Item → Type 0) (i : Item) (items : List Item) → P i → AtPlace P (i ∷ items)
 at_head P i items fact = record { place = 0; item = i; within = omega arith; is = refl; fact = fact }
@@ -90,11 +90,11 @@ held_place (i ∷ items) size k h =
     ]
 
 -- an item names that block
-record NamesBlock (k block : ℕ) (i : Item) : Type 0 where
-  names : NamesOf k i
-  block_is : pointer_by_kind i.head.kind i k ≡ block
+pub record NamesBlock (k block : ℕ) (i : Item) : Type 0 where
+  pub names : NamesOf k i
+  pub block_is : pointer_by_kind i.head.kind i k ≡ block
 
-named_place : (items : List Item) (k : ℕ) → named_block items k ≢ 0 → AtPlace (NamesBlock k (named_block items k)) items
+pub named_place : (items : List Item) (k : ℕ) → named_block items k ≢ 0 → AtPlace (NamesBlock k (named_block items k)) items
 named_place [] k some = absurd (some refl)
 named_place (i ∷ items) k some =
     elim (cases_eq (pointer_by_kind i.head.kind i k) 0) as (λ _. AtPlace (NamesBlock k (named_block (i ∷ items) k)) (i ∷ items)) [

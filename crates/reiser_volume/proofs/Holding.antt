@@ -42,7 +42,7 @@ none_some o x none is = no_some (none ∙ is)
     no_some : None ≡ Some x → ⊥
     no_some e = cc
 
-used_length : (image : Image) → length (used_of image) ≡ (superblock image).blocks
+pub used_length : (image : Image) → length (used_of image) ≡ (superblock image).blocks
 used_length image = length-map (range_with_len 0 (superblock image).blocks) (is_marked image) ∙ length-range_with_len 0 (superblock image).blocks
 
 -- the items of an object, as both have them

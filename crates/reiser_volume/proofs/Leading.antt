@@ -91,7 +91,7 @@ only_directory Fifo is = absurd (true≢false (sym is))
 only_directory Socket is = absurd (true≢false (sym is))
 only_directory Subvolume is = absurd (true≢false (sym is))
 
-fits_each : {X : Type 0} (p : X → Bool) (xs : List X) (x : X) → list_all p xs ≡ true → Contains xs x → p x ≡ true
+pub fits_each : {X : Type 0} (p : X → Bool) (xs : List X) (x : X) → list_all p xs ≡ true → Contains xs x → p x ≡ true
 fits_each p xs x all among = All-contains (λ y. p y ≡ true) xs x (AllPass-from_list_all p xs all) among
 
 -- an object that has entries is a directory

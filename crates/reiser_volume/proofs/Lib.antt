@@ -1,8 +1,11 @@
 pub mod Filing
 pub mod Holding
 pub mod Leading
+pub mod Mapping
 pub mod OneRows
+pub mod Owners
 pub mod Placing
+pub mod Reaching
 pub mod Refusals
 pub mod Rowed
 pub mod SameItems

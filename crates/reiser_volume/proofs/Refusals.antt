@@ -3,7 +3,6 @@ use Rattle.std.proofs.Common.{◌≡◌, ℕ, ◌≤◌, ◌&&◌, Bool, true, f
 use Rattle.std.specs.Prelude.{nat_lt, Result, Err, IfErr}
 use Rattle.std.proofs.lemmas.Bool.Decides.{nat_tests}
 use Rattle.std.proofs.lemmas.List.Elements.{All-cons, All-contains}
-use Rattle.std.proofs.lemmas.List.FromFn.{length-map-range_with_len}
 use Rattle.outside.specs.History.{Image, block_at}
 use Rattle.outside.specs.declared.answer.VolAnswer.{VolAnswer}
 use Rattle.outside.specs.declared.answer.VolAnswer.TheVariants.{Refused, Fault, Memory}
@@ -13,7 +12,7 @@ use Rattle.outside.specs.declared.rule.Rule.{Rule}
 use Rattle.outside.specs.declared.rule.Rule.TheVariants.{SuperField, SystemFree, NodeHead, Layout, KeyOrder, BlockFree, BlockRange, BlockTwice, Body, EntryForm, ObjectForm, Overlap, NameTwice, DirTwice, SizeRange, Reread}
 use Rattle.vol_block.specs.Format.{has_reiser_magic}
 use Rattle.reiser_bitmap.specs.Bits.{has}
-use Rattle.reiser_bitmap.specs.Layout.{is_marked, bitmap_of}
+use Rattle.reiser_bitmap.specs.Layout.{bitmap_of}
 use Rattle.reiser_bitmap.specs.System.{system_blocks, NamesFreeBlock}
 use Rattle.reiser_super.specs.declared.superblock.Super.{Super}
 use Rattle.reiser_super.specs.Superblock.{super_of}
@@ -31,19 +30,17 @@ use Rattle.reiser_objects.specs.Read.{IsReadAnswer, BlamesTree}
 use Rattle.reiser_objects.specs.Reach.{Refuses, IsObjectsAnswer, object_rules}
 use Rattle.reiser_objects.specs.Rules.{AreObjects, IsObjectsRefusal}
 use Rattle.reiser_objects.proofs.Broken as objects
-use Rattle.reiser_volume.specs.Answers.{IsVolumeRule, NamesVolumeRule, IsVolumeAnswer, IsVerdict, RefusesVolume, IsSuperOf, IsBitmapOf}
+use Rattle.reiser_volume.specs.Answers.{IsVolumeRule, IsVolumeAnswer, IsVerdict, RefusesVolume, IsSuperOf, IsBitmapOf}
 use Rattle.reiser_volume.specs.Opened.{IsFound}
 use Rattle.reiser_names.specs.Refuses.{RefusesNames, IsNamesRule, IsNamesAnswer}
 use Rattle.reiser_volume.specs.declared.front.Front.{Front}
 use Rattle.reiser_volume.specs.Front.{IsFrontOf, IsFrontRule, NamesFrontRule, IsFrontAnswer, RefusesFront}
 use Rattle.reiser_volume.specs.Volume.{IsAccepted, IsRefusal, IsFrontAccepted, IsFrontRefusal, superblock, used_of, tree_of, volume_items, superblock_rule, journal_rule, bitmap_rule, front_rule, tree_rule, objects_rule, names_rule}
 use Rattle.reiser_names.proofs.Broken.{names_broken}
+use Rattle.reiser_volume.proofs.Holding.{used_length}
 
 in_none : {X : Type 0} (xs : List X) (x : X) → xs ≡ [] → Contains xs x → ⊥
 in_none xs x none is = omega (arith, is.1, ap length none)
-
-used_length : (image : Image) → length (used_of image) ≡ (superblock image).blocks
-used_length image = length-map-range_with_len (is_marked image) 0 (superblock image).blocks
 
 free_named : (image : Image) (r : VolumeRefusal) → IsFrontAccepted image → NamesFreeBlock (used_of image) (superblock image).journal_first (superblock image).journal_size r → ⊥
 free_named image r a names =

@@ -30,7 +30,7 @@ use Rattle.object_files.specs.Laws.{SameUsed}
 use Rattle.object_files.proofs.Inside.{Names, named_inside}
 use Rattle.reiser_volume.specs.Rows.{IsRow, AreReiserRows}
 
-none_saves : (items : List Item) (i : Item) → list_any (λ x. is_save_link x.head) items ≡ false → Contains items i → is_save_link i.head ≡ false
+pub none_saves : (items : List Item) (i : Item) → list_any (λ x. is_save_link x.head) items ≡ false → Contains items i → is_save_link i.head ≡ false
 none_saves items i none among =
     false_from_ne_true (is_save_link i.head) (λ is. true≢false (sym (list_any-from_Any (λ x. is_save_link x.head) items (among.0, i, among.1, among.2, is)) ∙ none))
 

@@ -30,6 +30,7 @@ use Rattle.reiser_names.specs.Names.{AreNames}
 use Rattle.reiser_volume.specs.Rows.{AreReiserRows}
 use Rattle.reiser_volume.specs.Laws.{UsedBlocksDecide}
 use Rattle.reiser_volume.specs.Volume.{superblock, used_of, tree_of, volume_items, AreRowsOf, IsAccepted, IsSoundTree, MarksSystem}
+use Rattle.reiser_volume.proofs.Holding.{used_length}
 use Rattle.reiser_volume.proofs.SameRows.{bytes_same, rows_same}
 
 -- the bitmap marks the blocks that a volume of this superblock keeps for itself
@@ -87,13 +88,10 @@ module _ (image other : Image) (a : IsAccepted image) (same : SameUsed (used_of 
       subst (λ (t : Super). tree_damages (tree_of t) other (used_of other) ≡ []) (sym fields_same)
       (subst (λ (used : List Bool). tree_damages (tree_of (superblock image)) other used ≡ []) (sym used_same) sound)
 
-  all_blocks : length (used_of image) ≡ (superblock image).blocks
-  all_blocks = length-map-range_with_len (is_marked image) 0 (superblock image).blocks
-
   items_same : volume_items other ≡ volume_items image
   items_same =
       let s = superblock image in
-      let size : length (used_of image) ≡ s.blocks = all_blocks in
+      let size : length (used_of image) ≡ s.blocks = used_length image in
       let events = (same_tree (tree_of s) image other (used_of image) a.tree same).events in
       ap (λ (t : Super). items_of_tree (tree_of t) other t.blocks) fields_same
       ∙ subst (λ (n : ℕ). items_of_tree (tree_of s) other n ≡ items_of_tree (tree_of s) image n) size (ap items_in events)
@@ -102,8 +100,8 @@ module _ (image other : Image) (a : IsAccepted image) (same : SameUsed (used_of 
   files_same =
       let t : Tree = tree_of (superblock image) in
       let same_in : ℕ → Type 0 = λ n. (key : ObjectKey) (size : ℕ) → file_bytes other (items_of key (items_of_tree t image n)) size ≡ file_bytes image (items_of key (items_of_tree t image n)) size in
-      let none = subst (λ (n : ℕ). list_any (λ i. is_save_link i.head) (items_of_tree t image n) ≡ false) (sym all_blocks) a.objects.no_save_link in
-      subst same_in all_blocks (bytes_same t image other (used_of image) a.tree same none)
+      let none = subst (λ (n : ℕ). list_any (λ i. is_save_link i.head) (items_of_tree t image n) ≡ false) (sym (used_length image)) a.objects.no_save_link in
+      subst same_in (used_length image) (bytes_same t image other (used_of image) a.tree same none)
 
 -- the rows of both, where the files have the same bytes
 rows_both : (image other : Image) → superblock other ≡ superblock image → volume_items other ≡ volume_items image

@@ -3,6 +3,7 @@ pub mod Front
 pub mod Laws
 pub mod Made
 pub mod Opened
+pub mod Owners
 pub mod Rows
 pub mod Volume
 pub mod Ways

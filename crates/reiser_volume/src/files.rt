@@ -1,4 +1,4 @@
-ghost use Rattle.std.specs.Prelude.{◌≡◌, ◌<◌, ◌*◌, ◌^◌, length, slice_get, Some, IsTrue, IfErr};
+ghost use Rattle.std.specs.Prelude.{◌≡◌, ◌<◌, ◌*◌, ◌^◌, length, slice_get, Some, IsTrue, IfOk, IfErr};
 ghost use Rattle.std.specs.Result.{MatchResult};
 ghost use Rattle.indexmap.specs.IndexMap.{keys};
 ghost use Rattle.outside.specs.Fault.{HasCauseOf};
@@ -10,6 +10,7 @@ ghost use Rattle.reiser_objects.specs.declared.key.ObjectKey.{ObjectKey as KeyOf
 ghost use Rattle.reiser_objects.specs.Keys.{items_of};
 ghost use Rattle.reiser_volume.specs.Made.{stat_at};
 ghost use Rattle.reiser_volume.specs.Opened.{IsOpened};
+ghost use Rattle.reiser_volume.specs.Owners.{TellsOwned};
 ghost use Rattle.reiser_volume.specs.Volume.{IsAccepted, volume_items};
 
 use crate::Volume;
@@ -20,7 +21,8 @@ use std::alloc::Global;
 use vol_block::Block;
 
 impl Volume {
-    /// Where the blocks of the file or symlink at this place lie, in runs. It reads the leaves of its items.
+    /// Where the blocks of the file or symlink at this place lie, in runs: those that lie on the disk are exactly the blocks
+    /// that it owns. It reads the leaves of its items.
     ///
     /// A refusal names a block that the device has no more, or that reads otherwise than when the volume was opened.
     pub fn file_map<S: BlockSource>(
@@ -35,6 +37,8 @@ impl Volume {
         ensures answers { IfErr result IsFileAnswer }
         ensures map { IsTrue S.tells → (image : Image) → S.blocks src.old ≡ image → IsAccepted image → IsOpened self.now image → (key : KeyOf) → slice_get (keys self.now.named) i ≡ Some key →
             MatchResult result (λ map. map ≡ file_runs (items_of key (volume_items image)) (stat_at (volume_items image) key).fields.size) IsFaultOrMemory }
+        ensures owned { IsTrue S.tells → (image : Image) → S.blocks src.old ≡ image → IsAccepted image → IsOpened self.now image → (key : KeyOf) → slice_get (keys self.now.named) i ≡ Some key →
+            IfOk result (TellsOwned image key) }
     {
         let size = self.stat(i).fields.size;
         file_map(alloc, src, &self.objects, self.object(i), size)

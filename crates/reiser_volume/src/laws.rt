@@ -1,5 +1,6 @@
 // Laws of the definitions, each the contract of a function that does nothing.
 ghost use Rattle.reiser_volume.specs.Laws.{RefusalsBreakRules, FrontsAreJudged, UsedBlocksDecide, RowsAreOne, ItemsDecideRows};
+ghost use Rattle.reiser_volume.specs.Owners.{OwnersAreOne, MapsTellOwned};
 
 /// Where something is refused of a volume, it is not accepted: so an accepted volume is not refused.
 pub fn refusals_break_rules()
@@ -26,4 +27,15 @@ pub fn rows_are_one()
 /// below their sizes: not by where the leaves lie.
 pub fn items_decide_rows()
     ensures { ItemsDecideRows }
+{}
+
+/// A block that the items of a named file name below its size is used, is no node of the tree and none of the volume's own
+/// blocks, and belongs to one file block of one file.
+pub fn owners_are_one()
+    ensures { OwnersAreOne }
+{}
+
+/// The map of a named object, as [`crate::Volume::file_map`] gives it, tells exactly the blocks that the object owns.
+pub fn maps_tell_owned()
+    ensures { MapsTellOwned }
 {}

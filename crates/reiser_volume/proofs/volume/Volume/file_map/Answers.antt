@@ -1,14 +1,20 @@
-use Rattle.std.proofs.Common.{◌≡◌, ℕ, List, sym, ap, subst, ◌∙◌}
+use Rattle.std.proofs.Common.{◌≡◌, List, sym, ap, subst, ◌∙◌}
 use Rattle.std.proofs.lemmas.Result.{MatchResult-weaker}
 use Rattle.object_files.specs.Holds.{HoldsObject, object_items}
 use Rattle.reiser_walk.specs.Items.{Item}
+use Rattle.object_files.specs.Answers.{IsFaultOrMemory}
+use Rattle.reiser_files.specs.declared.map.FileRun.{FileRun}
 use Rattle.reiser_files.specs.Runs.{file_runs}
 use Rattle.reiser_objects.specs.declared.key.ObjectKey.{ObjectKey}
 use Rattle.reiser_objects.specs.Keys.{items_of}
 use Rattle.reiser_objects.proofs.Broken.{some_same}
+use Rattle.reiser_names.proofs.Eaches.{match_ok}
+use Rattle.reiser_volume.specs.Made.{stat_at}
+use Rattle.reiser_volume.specs.Owners.{TellsOwned}
 use Rattle.reiser_volume.specs.Volume.{superblock, used_of, tree_of, volume_items}
 use Rattle.reiser_volume.proofs.Filing.{placed, size_there}
 use Rattle.reiser_volume.proofs.Holding.{holds, same_items}
+use Rattle.reiser_volume.proofs.Mapping.{maps_tell_owned}
 use Rattle.reiser_volume.proofs.volume.Volume.file_map.Goals as goal
 
 pub returns-clause-map : goal.returns-clause-map
@@ -24,3 +30,9 @@ returns-clause-map g c = λ tells image is accepted opened key at.
     ∙ (ap (λ (l : List Item). file_runs l c.stat.result.now.fields.size) (same_items image key)
     ∙ ap (file_runs (items_of key (volume_items image))) size)))
     (λ e failed. failed)
+
+pub returns-clause-owned : goal.returns-clause-owned
+returns-clause-owned g c = λ tells image is accepted opened key at.
+    let runs = file_runs (items_of key (volume_items image)) (stat_at (volume_items image) key).fields.size in
+    let tells_owned : TellsOwned image key runs = maps_tell_owned image accepted key (placed image c.args.self.now accepted opened c.args.i key at).named in
+    match_ok (λ (map : List FileRun). map ≡ runs) (TellsOwned image key) IsFaultOrMemory c.file_map.result (returns-clause-map g c tells image is accepted opened key at) (λ map same. subst (TellsOwned image key) (sym same) tells_owned)
