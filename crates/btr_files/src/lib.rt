@@ -11,8 +11,6 @@ mod gathering;
 mod marker;
 mod marking;
 mod pieces;
-#[cfg(test)]
-mod tests;
 
 pub use extents::{Reach, check_extent, covered_by, extent_length, is_hole};
 pub use marker::ExtentMarker;

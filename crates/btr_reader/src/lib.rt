@@ -27,6 +27,3 @@ pub use inodes::find_inode;
 pub use laws::opened_maps_are_in_blocks;
 pub use roots::{RootFound, find_root};
 pub use volume::Btrfs;
-
-#[cfg(test)]
-mod tests;

@@ -11,6 +11,3 @@ mod summary;
 
 pub use laws::readable_has_no_refusal;
 pub use summary::Summary;
-
-#[cfg(test)]
-mod tests;

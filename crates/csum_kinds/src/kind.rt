@@ -42,18 +42,3 @@ fn padded(sum: u32) -> [u8; 32]
     field[3] = d;
     field
 }
-
-#[cfg(test)]
-mod tests {
-    use super::{SumKind, kind_sum, kind_width};
-
-    // The check value that catalogues of CRCs give for CRC-32/ISCSI, 0xE3069283.
-    #[test]
-    fn check_value(rt: HostRuntime) {
-        let field = kind_sum(SumKind::Crc32c, b"123456789");
-        let mut wanted = [0; 32];
-        wanted[..4].copy_from_slice(&[0x83, 0x92, 0x06, 0xE3]);
-        assert_eq!(rt; field, wanted);
-        assert_eq!(rt; kind_width(SumKind::Crc32c), 4);
-    }
-}

@@ -13,8 +13,6 @@ mod name;
 mod place;
 mod row;
 mod rows;
-#[cfg(test)]
-mod tests;
 mod write;
 
 pub use content::{Content, no_content};

@@ -7,7 +7,6 @@ mod sample;
 use crate::Volume;
 use outside::{Access, Disk, Memory, Rule, VolAnswer, VolumeRefusal};
 use outside_mem::MemDisk;
-use reiser_objects::ObjectKey;
 use sample::{Entry, Thing, volume};
 use std::alloc::Global;
 use std::test::*;
@@ -94,60 +93,6 @@ fn damaged(rule: Rule) -> Result<usize, VolAnswer> {
 const NONE: &[Entry] = &[];
 
 const FOUR: &[Entry] = &[(2, 4, "a"), (2, 5, "d"), (2, 4, "b")];
-
-/// The volume with the root's entries of `FOUR`, one name in (2, 5), and one in a directory without a name.
-fn opened(alloc: Global) -> Result<Volume, VolAnswer> {
-    let mut disk = with_root(alloc, FOUR, &[(2, 8, "s")], &[(2, 4, "lost")], 5)?;
-    disk.open("x", Access::Read)?;
-    Volume::open(alloc, &mut disk)
-}
-
-#[test]
-fn a_volume_is_opened(rt: HostRuntime) -> Result<(), Fail> {
-    let volume = opened(rt.alloc())?;
-    assert_eq!(rt; volume.sup().root, 51);
-    assert_eq!(rt; volume.bitmap().used(), 52);
-    assert_eq!(rt; volume.count(), 4);
-    assert_eq!(rt; volume.index_of(ObjectKey { dir: 2, object: 6 }), None);
-    for (i, dir, object, mode) in [
-        (0, 1, 2, DIRECTORY),
-        (1, 2, 4, FILE),
-        (2, 2, 5, DIRECTORY),
-        (3, 2, 8, SYMLINK),
-    ] {
-        let key = ObjectKey { dir, object };
-        assert_eq!(rt; volume.index_of(key), Some(i));
-        assert!(rt; i < volume.count());
-        assert_eq!(rt; volume.object(i), key);
-        assert_eq!(rt; volume.stat(i).fields.mode, mode);
-    }
-    Ok(())
-}
-
-#[test]
-fn links_are_told(rt: HostRuntime) -> Result<(), Fail> {
-    let volume = opened(rt.alloc())?;
-    let namings = &volume.objects().namings;
-    assert_eq!(rt; namings.len(), 5);
-    for (i, link) in [(0, true), (2, true), (3, true), (4, false)] {
-        assert!(rt; i < namings.len());
-        assert_eq!(rt; volume.is_link(&namings[i]), link);
-    }
-    assert_eq!(rt; volume.link_count(), 4);
-    for (i, dir, object, name) in [
-        (0, 0, 1, b"a"),
-        (1, 0, 2, b"d"),
-        (2, 0, 1, b"b"),
-        (3, 2, 3, b"s"),
-    ] {
-        assert!(rt; i < volume.link_count());
-        let link = volume.link(i);
-        assert_eq!(rt; link.dir, dir);
-        assert_eq!(rt; link.object, object);
-        assert_eq!(rt; link.name, name.as_slice());
-    }
-    Ok(())
-}
 
 #[test]
 fn names_are_checked(rt: HostRuntime) -> Result<(), Fail> {

@@ -4,7 +4,7 @@ ghost use Rattle.std.specs.Prelude.{◌≡◌, None, IfOk, length};
 use super::sample::{Entry, Head, Leaf, add, change, disk_with, entries_body};
 use crate::Volume;
 use fs_rows::write_rows;
-use outside::{Access, Disk, Memory, Rule, VolAnswer, VolumeRefusal};
+use outside::{Access, Disk, Memory, VolAnswer};
 use outside_mem::{MemDisk, MemSink};
 use reiser_files::{FileRun, RunFrom};
 use std::alloc::Global;
@@ -237,25 +237,6 @@ fn each_object_is_read_once(rt: HostRuntime) -> Result<(), Fail> {
         disk.fail_call(call)?;
         assert_eq!(rt; text(rt.alloc(), &mut disk).map(|_| ()), answer);
     }
-    Ok(())
-}
-
-#[test]
-fn a_shorter_device_is_refused(rt: HostRuntime) -> Result<(), Fail> {
-    let alloc = rt.alloc();
-    let mut disk = sample(alloc, b"\x01\0\0\0")?;
-    disk.open("x", Access::Read)?;
-    let volume = Volume::open(alloc, &mut disk)?;
-    let mut short = MemDisk::new(alloc, 51)?;
-    short.open("x", Access::Read)?;
-    let refusal = VolumeRefusal::Damaged {
-        block: 51,
-        rule: Rule::Reread,
-    };
-    assert_eq!(rt;
-        volume.rows(alloc, &mut short).map(|_| ()),
-        Err(VolAnswer::Refused(refusal))
-    );
     Ok(())
 }
 
