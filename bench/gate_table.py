@@ -7,7 +7,8 @@
 `rt ci` prints no times, so every half second this looks up how much of the processors each prover below it has taken so far:
 the name of its crate is in its words, those of tests have `--test`, and wrong bodies are checked in folders rt-edit-*. What a
 process takes between the last look and its end is lost, a quarter of a second each. At the end it writes a table in
-Markdown, the dearest crate first, to FILE, or to standard error. The status is that of the command."""
+Markdown, the dearest crate first, to FILE, or to standard error; where FILE has the lines of `MARKS`, as docs/GATE.md, the
+table stands between them then, and the rest stays. The status is that of the command."""
 
 import argparse
 import os
@@ -17,10 +18,12 @@ import time
 
 TICKS = os.sysconf("SC_CLK_TCK")
 KINDS = ("proof", "tests", "wrong bodies")
+MARKS = ("<!-- costs -->\n", "<!-- end of costs -->\n")
 
 
 def processes():
-    """A map from each process to its parent, and to its processor seconds so far without those of its children."""
+    """A map from each process to its parent, the moment that it began at, and its processor seconds so far without those of its
+    children."""
     found = {}
     for name in os.listdir("/proc"):
         if name.isdigit():
@@ -29,14 +32,14 @@ def processes():
                     fields = stat.read().rpartition(")")[2].split()
             except OSError:
                 continue
-            found[int(name)] = int(fields[1]), (int(fields[11]) + int(fields[12])) / TICKS
+            found[int(name)] = int(fields[1]), fields[19], (int(fields[11]) + int(fields[12])) / TICKS
     return found
 
 
 def below(root, found):
     """The processes that the root began, and those that they began."""
     children = {}
-    for pid, (parent, _) in found.items():
+    for pid, (parent, _, _) in found.items():
         children.setdefault(parent, []).append(pid)
     todo, all_below = [root], []
     while todo:
@@ -71,18 +74,21 @@ class Watch:
     def look(self, root):
         found = processes()
         for pid in below(root, found):
-            if self.tasks.get(pid) is None:
+            _, began, seconds = found[pid]
+            # (numbers of processes come again in a long run)
+            one = pid, began
+            if self.tasks.get(one) is None:
                 # (between fork and exec a process has the words of its parent)
-                self.tasks[pid] = task_of(pid)
-            self.seconds[pid] = max(self.seconds.get(pid, 0), found[pid][1])
+                self.tasks[one] = task_of(pid)
+            self.seconds[one] = max(self.seconds.get(one, 0), seconds)
 
     def table(self, whole):
         sums, others = {}, 0
-        for pid, seconds in self.seconds.items():
-            if self.tasks[pid] is None:
+        for one, seconds in self.seconds.items():
+            if self.tasks[one] is None:
                 others += seconds
             else:
-                crate, kind = self.tasks[pid]
+                crate, kind = self.tasks[one]
                 row = sums.setdefault(crate, dict.fromkeys(KINDS, 0))
                 row[kind] += seconds
         lines = ["| Crate | Proof | Tests | Wrong bodies | All |", "|---|---|---|---|---|"]
@@ -90,8 +96,21 @@ class Watch:
             lines.append(f"| `{crate}` | " + " | ".join(f"{row[kind]:.0f}" for kind in KINDS) + f" | {sum(row.values()):.0f} |")
         all_of = [sum(row[kind] for row in sums.values()) for kind in KINDS]
         lines.append("| all crates | " + " | ".join(f"{it:.0f}" for it in all_of) + f" | {sum(all_of):.0f} |")
-        lines += ["", f"All else that the run began took {others:.0f} s, and the run {whole / 60:.0f} minutes by the clock."]
+        day = time.strftime("%Y-%m-%d")
+        lines += ["", f"That is {sum(all_of) / 60:.0f} processor minutes. All else that the run began took {others:.0f} s. By the clock the run took "]
+        lines[-1] += f"{whole / 60:.0f} minutes on {os.cpu_count()} processors ({day})."
         return "\n".join(lines) + "\n"
+
+
+def write(file, text):
+    old = ""
+    if os.path.isfile(file):
+        with open(file, encoding="utf-8") as it:
+            old = it.read()
+    if all(mark in old for mark in MARKS):
+        text = old.partition(MARKS[0])[0] + MARKS[0] + "\n" + text + "\n" + MARKS[1] + old.partition(MARKS[1])[2]
+    with open(file, "w", encoding="utf-8") as out:
+        out.write(text)
 
 
 def main():
@@ -110,8 +129,7 @@ def main():
     finally:
         text = watch.table(time.monotonic() - start)
         if words.file:
-            with open(words.file, "w", encoding="utf-8") as out:
-                out.write(text)
+            write(words.file, text)
         else:
             sys.stderr.write(text)
     return status
