@@ -1,10 +1,14 @@
 -- Shifts of the register are linear, so the eight of a byte are an entry of a table.
 use Rattle.std.proofs.Math.Nat.{mod-eq_of_lt}
 use Rattle.std.proofs.lemmas.List.Sums.{fold-append}
-use Rattle.std.proofs.Common.{◌++◌, ◌≡◌, ℕ, zero, suc, ◌+◌, ◌*◌, ◌/◌, ◌%◌, ◌^◌, ◌<◌, List, get_or, nat_eq, Bool, true, cond, bit_xor, refl, sym, ap, ◌∙◌, arith}
+use Rattle.std.proofs.Common.{◌++◌, ◌≡◌, ℕ, zero, suc, ◌+◌, ◌*◌, ◌/◌, ◌%◌, ◌^◌, ◌<◌, ◌≤◌, List, length, take, drop, fold, slice_index, get_or, nat_eq, length-drop, drop-cons, subst, Bool, true, cond, bit_xor, refl, sym, ap, ◌∙◌, arith}
 use Rattle.std.specs.Int.Bits.{xor_assoc, xor_zero_l, xor_zero_r}
 use Rattle.std.proofs.lemmas.Bool.{eqb-true, agree_below, agree_below_at}
 use Rattle.std.proofs.lemmas.Nat.{xor_comm, xor_lt, xor_shr, xor_mod, xor_block}
+use Rattle.std.proofs.Math.Seq.{take-add}
+use Rattle.std.proofs.lemmas.List.{get_or-drop}
+use Rattle.byteorder.specs.Endian.{little_from}
+use Rattle.vol_block.specs.Volume.{field}
 use Rattle.castagnoli.specs.Castagnoli.{polynomial, shifted, shifted_by, after_byte, raw_crc}
 
 -- what a shift takes off for the bit that leaves the register
@@ -88,12 +92,79 @@ shifted_by_eight x =
     ∙ shifted_by-xor 8 (256 * (x / 256)) (x % 256)
     ∙ ap (λ z. bit_xor z (shifted_by 8 (x % 256))) (eight_down (x / 256))
 
--- whether each entry of a table is the register after eight shifts from its index
-abbrev pub agrees : List ℕ → Bool
-agrees table = agree_below (λ low. nat_eq (get_or table low 0) (shifted_by 8 low)) (λ _. true) 256
+-- whether each entry of a table is the register after n shifts from its index
+abbrev pub agrees : ℕ → List ℕ → Bool
+agrees n table = agree_below (λ low. nat_eq (get_or table low 0) (shifted_by n low)) (λ _. true) 256
 
-pub entry_of : (table : List ℕ) → agrees table ≡ true → (low : ℕ) → low < 256 → get_or table low 0 ≡ shifted_by 8 low
-entry_of table right low below = eqb-true _ _ (agree_below_at (λ low. nat_eq (get_or table low 0) (shifted_by 8 low)) (λ _. true) 256 low right below)
+pub entry_of : (n : ℕ) (table : List ℕ) → agrees n table ≡ true → (low : ℕ) → low < 256 → get_or table low 0 ≡ shifted_by n low
+entry_of n table right low below = eqb-true _ _ (agree_below_at (λ low. nat_eq (get_or table low 0) (shifted_by n low)) (λ _. true) 256 low right below)
+
+-- ---- eight bytes at once
+-- one byte of a word is looked up, and the others stand lower
+part : (n x : ℕ) → shifted_by n (shifted_by 8 x) ≡ bit_xor (shifted_by n (shifted_by 8 (x % 256))) (shifted_by n (x / 256))
+part n x =
+    ap (shifted_by n) (shifted_by_eight x)
+    ∙ shifted_by-xor n (x / 256) (shifted_by 8 (x % 256))
+    ∙ xor_comm (shifted_by n (x / 256)) (shifted_by n (shifted_by 8 (x % 256)))
+
+-- the eight bytes of a word, each from a table of its own
+pub word_is : (x0 x1 x2 x3 x4 x5 x6 x7 : ℕ) → x1 ≡ x0 / 256 → x2 ≡ x1 / 256 → x3 ≡ x2 / 256 → x4 ≡ x3 / 256 → x5 ≡ x4 / 256 → x6 ≡ x5 / 256 → x7 ≡ x6 / 256
+    → shifted_by 64 x0
+    ≡ bit_xor (shifted_by 64 (x0 % 256)) (bit_xor (shifted_by 56 (x1 % 256)) (bit_xor (shifted_by 48 (x2 % 256)) (bit_xor (shifted_by 40 (x3 % 256))
+    (bit_xor (shifted_by 32 (x4 % 256)) (bit_xor (shifted_by 24 (x5 % 256)) (bit_xor (shifted_by 16 (x6 % 256)) (shifted_by 8 x7)))))))
+word_is x0 x1 x2 x3 x4 x5 x6 x7 e1 e2 e3 e4 e5 e6 e7 =
+    part 56 x0 ∙ ap (λ z. bit_xor (shifted_by 64 (x0 % 256)) z) (ap (shifted_by 56) (sym e1)
+    ∙ part 48 x1 ∙ ap (λ z. bit_xor (shifted_by 56 (x1 % 256)) z) (ap (shifted_by 48) (sym e2)
+    ∙ part 40 x2 ∙ ap (λ z. bit_xor (shifted_by 48 (x2 % 256)) z) (ap (shifted_by 40) (sym e3)
+    ∙ part 32 x3 ∙ ap (λ z. bit_xor (shifted_by 40 (x3 % 256)) z) (ap (shifted_by 32) (sym e4)
+    ∙ part 24 x4 ∙ ap (λ z. bit_xor (shifted_by 32 (x4 % 256)) z) (ap (shifted_by 24) (sym e5)
+    ∙ part 16 x5 ∙ ap (λ z. bit_xor (shifted_by 24 (x5 % 256)) z) (ap (shifted_by 16) (sym e6)
+    ∙ part 8 x6 ∙ ap (λ z. bit_xor (shifted_by 16 (x6 % 256)) z) (ap (shifted_by 8) (sym e7))))))))
+
+-- n bytes are shifted out
+abbrev past : ℕ → ℕ → ℕ
+past zero x = x
+past (suc n) x = past n (shifted_by 8 x)
+
+-- a byte below the bits of a number
+byte_below : (b high : ℕ) → b < 256 → b + 256 * high ≡ bit_xor b (256 * high)
+byte_below b high small =
+    let whole : b + 256 * high ≡ 256 * high + b = omega arith in
+    let x : (b + 256 * high) / 256 ≡ high = omega (arith, small) in
+    let y : (b + 256 * high) % 256 ≡ b = omega (arith, small) in
+    halves (b + 256 * high) ∙ ap (λ z. bit_xor (256 * z) ((b + 256 * high) % 256)) x ∙ ap (λ z. bit_xor (256 * high) z) y ∙ xor_comm (256 * high) b
+
+after-more : (register b high : ℕ) → b < 256 → shifted_by 8 (bit_xor register (b + 256 * high)) ≡ bit_xor (after_byte register b) high
+unfolding after_byte
+after-more register b high small =
+    ap (λ z. shifted_by 8 (bit_xor register z)) (byte_below b high small)
+    ∙ ap (shifted_by 8) (sym (xor_assoc register b (256 * high)))
+    ∙ shifted_by-xor 8 (bit_xor register b) (256 * high)
+    ∙ ap (bit_xor (shifted_by 8 (bit_xor register b))) (eight_down high)
+
+-- bytes that come in one after the other come in together
+past-is : (n i register : ℕ) (xs : List ℕ) → i + n ≤ length xs → ((k : ℕ) → k < length xs → slice_index xs k < 256) → fold after_byte register (take n (drop i xs)) ≡ past n (bit_xor register (little_from i n xs))
+past-is zero i register xs fits small = sym (xor_zero_r register)
+past-is (suc n) i register xs fits small =
+    let below : i < length xs = omega (arith, fits) in
+    let b : ℕ = slice_index xs i in
+    ap (λ (l : List ℕ). fold after_byte register (take (suc n) l)) (drop-cons xs i 0 below)
+    ∙ past-is n (suc i) (after_byte register b) xs (omega (arith, fits)) small
+    ∙ ap (past n) (sym (after-more register b (little_from (suc i) n xs) (small i below)))
+
+-- eight bytes are a word
+pub word_comes : (start at register word : ℕ) (bytes : List ℕ) → at + 8 ≤ length bytes → ((k : ℕ) → k < length bytes → slice_index bytes k < 256) → word ≡ field 8 bytes at → register ≡ raw_crc start (take at bytes)
+    → shifted_by 64 (bit_xor register word) ≡ raw_crc start (take (at + 8) bytes)
+unfolding raw_crc
+word_comes start at register word bytes fits small is before =
+    let room : 0 + 8 ≤ length (drop at bytes) = omega (arith, fits, length-drop at bytes) in
+    let each : (k : ℕ) → k < length (drop at bytes) → slice_index (drop at bytes) k < 256 = λ k below.
+    subst (λ (x : ℕ). x < 256) (sym (get_or-drop at bytes k 0)) (small (at + k) (omega (arith, below, length-drop at bytes))) in
+    ap (λ z. shifted_by 64 (bit_xor register z)) is
+    ∙ sym (past-is 8 0 register (drop at bytes) room each)
+    ∙ ap (λ z. fold after_byte z (take 8 (drop at bytes))) before
+    ∙ sym (fold-append after_byte start (take at bytes) (take 8 (drop at bytes)))
+    ∙ ap (fold after_byte start) (sym (take-add at 8 bytes))
 
 -- bytes after bytes
 pub raw_crc-append : (start : ℕ) (first second : List ℕ) → raw_crc start (first ++ second) ≡ raw_crc (raw_crc start first) second

@@ -8,6 +8,7 @@
 mod hashes;
 mod register;
 mod table;
+mod wide;
 
 pub use hashes::{crc32c, data_ref_hash, extref_hash, name_hash};
 pub use register::raw_crc;

@@ -6,4 +6,4 @@ use Rattle.castagnoli.proofs.table.after_eight.Goals as goal
 
 pub returns : goal.returns
 unfolding shifted
-returns c = entry_of TABLE refl c.args.low (omega arith)
+returns c = entry_of 8 TABLE refl c.args.low (omega arith)
