@@ -1,62 +1,44 @@
 #!/usr/bin/env bash
-# Measures the proved checksum: megabytes (10^6 bytes) a second that `raw_crc`, the loop of `crc32c`, sums of a buffer of
-# 64 MiB. A program of a few lines is put beside a copy of the crate `castagnoli` in a temporary folder, and proved and
-# compiled there as the repository's programs are, within two minutes. It sums the buffer once for each word of its command
-# line, so that the time of no word is taken from that of sixteen; each is the least processor time of three runs, on which
-# other work on the machine tells little.
+# Measures `crc32c` over 64 MiB: the least nanoseconds of ten runs, and bytes for each second. It makes a program of its own
+# in a folder of its own, over copies of `castagnoli` and `vol_block`, since the repository has no use for it, and builds it as
+# the gate builds programs.
 set -euo pipefail
 
 top=$(cd "$(dirname "$(readlink -f "${BASH_SOURCE[0]}")")/.." && pwd)
 work=$(mktemp -d)
 trap 'rm -rf "$work"' EXIT
-
-mkdir -p "$work/crates/crc_bench/src" "$work/.git"
-cp -r "$top/crates/castagnoli" "$work/crates/castagnoli"
-rm -rf "$work/crates/castagnoli/out"
-{
-    grep '^castagnoli:' "$top/crates.txt"
-    echo 'crc_bench: castagnoli'
-} >"$work/crates.txt"
+mkdir -p "$work/crates/crc_bench/src"
+for name in vol_block castagnoli; do
+    mkdir "$work/crates/$name"
+    cp -r "$top/crates/$name/src" "$top/crates/$name/specs" "$top/crates/$name/proofs" "$work/crates/$name"
+done
+cat >"$work/crates.txt" <<'TXT'
+vol_block: byteorder
+castagnoli: byteorder vol_block
+crc_bench: castagnoli
+TXT
 cat >"$work/crates/crc_bench/src/main.rt" <<'RT'
-//! Sums 64 MiB once for each word.
 #![tactic(auto)]
 
-use castagnoli::raw_crc;
-use std::env::Env;
-use std::process::ExitCode;
-use std::{env, io};
+use castagnoli::crc32c;
+use std::io;
+use std::time::Instant;
 
-fn main(rt: HostRuntime) -> ExitCode {
-    let Ok(sum) = summed(&rt) else {
-        return ExitCode::from(1);
-    };
-    let _ = println!(rt; "{sum}");
-    ExitCode::from(0)
-}
-
-fn summed<R: Env + AllocGlobal>(rt: &R) -> io::Result<u32> {
+fn main(rt: HostRuntime) -> io::Result<()> {
     let mut bytes = Vec::new(rt.alloc());
-    bytes.resize(67_108_864, 7)?;
-    let mut sum = 0;
-    for _ in env::args(rt)?.skip(1) {
-        sum = raw_crc(sum, bytes.as_slice());
+    bytes.resize(1 << 26, 7u8)?;
+    for _ in 0..10 {
+        let start = Instant::now(&rt)?;
+        let sum = crc32c(&bytes);
+        let spent = Instant::now(&rt)?.duration_since(start);
+        println!(rt; "{} {}", spent.as_nanos(), sum)?;
     }
-    Ok(sum)
+    Ok(())
 }
 RT
-(cd "$work/crates/crc_bench" && rt run) >"$work/log" 2>&1 </dev/null || :
-program=$work/crates/crc_bench/out/crc_bench
-[ -x "$program" ] || { cat "$work/log" >&2; exit 1; }
-
-# least WORDS..: the least milliseconds of user time of three runs
-least() {
-    local best=999999 took TIMEFORMAT=%3U
-    for _ in 1 2 3; do
-        took=$({ time "$program" "$@" >/dev/null; } 2>&1)
-        took=$((10#${took/./}))
-        ((took < best)) && best=$took
-    done
-    echo "$best"
+cd "$work/crates/crc_bench"
+rt run >"$work/times" 2>"$work/errors" || { cat "$work/errors" >&2; exit 1; }
+grep -E '^[0-9]+ [0-9]+$' "$work/times" | sort -n | head -1 | {
+    read -r least sum
+    printf 'crc32c of 64 MiB: %s ns, %s MB a second (%08x)\n' "$least" $((67108864 * 1000 / least)) "$sum"
 }
-took=$(($(least {1..16}) - $(least)))
-printf 'raw_crc: %s MB/s, %s ms for 1 GiB\n' $((16 * 67108864 / 1000 / took)) "$took"
