@@ -28,3 +28,13 @@ number_of most word = if is_numeral word then at_most most (digits_value 10 word
 abbrev pub begins_with_plus : List ℕ → Bool
 begins_with_plus [] = false
 begins_with_plus (c ∷ cs) = nat_eq c 43
+
+-- more digits behind a zero
+abbrev pub has_leading_zero : List ℕ → Bool
+has_leading_zero [] = false
+has_leading_zero (c ∷ []) = false
+has_leading_zero (c ∷ d ∷ ds) = nat_eq c 48
+
+-- the number that a word writes in decimal without leading zeros, where it is at most `most`
+abbrev pub plain_number : ℕ → List ℕ → Option ℕ
+plain_number most word = if has_leading_zero word then None else number_of most word

@@ -1,5 +1,5 @@
 ghost use Rattle.std.specs.Prelude.{◌≡◌};
-ghost use Rattle.app_words.specs.Words.{is_path, number_of, at_most, begins_with_plus};
+ghost use Rattle.app_words.specs.Words.{is_path, number_of, plain_number, at_most, begins_with_plus, has_leading_zero};
 
 /// Whether a word may be a path: it is not empty and does not begin with `-`.
 pub fn is_path(word: &str) -> bool
@@ -24,6 +24,16 @@ pub fn number_of(word: &str, most: u64) -> Option<u64>
     }
 }
 
+/// The number that a word writes in decimal digits alone and without leading zeros, where it is at most `most`.
+pub fn plain_number(word: &str, most: u64) -> Option<u64>
+    ensures { result ≡ plain_number most word.now }
+{
+    if has_leading_zero(word) {
+        return None;
+    }
+    number_of(word, most)
+}
+
 fn at_most(number: u64, most: u64) -> Option<u64>
     ensures { result ≡ at_most most number }
 {
@@ -37,5 +47,15 @@ fn begins_with_plus(word: &str) -> bool
     match word.as_bytes() {
         [first, ..] => *first == b'+',
         [] => false,
+    }
+}
+
+/// Whether a zero stands before more digits.
+fn has_leading_zero(word: &str) -> bool
+    ensures { result ≡ has_leading_zero word.now }
+{
+    match word.as_bytes() {
+        [first, _, ..] => *first == b'0',
+        _ => false,
     }
 }

@@ -8,8 +8,10 @@
 mod buffered;
 mod digits;
 mod escapes;
+mod label;
 mod piece;
 
 pub use buffered::Buffered;
 pub use escapes::{Spelling, escape};
+pub use label::label_piece;
 pub use piece::{Piece, write_pieces};
