@@ -1,7 +1,7 @@
 ghost use Rattle.std.specs.Prelude.{◌≡◌, ◌≤◌, ◌++◌, ◌∷◌, [], true, ℕ, Option, Some, List, IsTrue, IfOk};
 ghost use Rattle.std.specs.Result.{MatchResult};
 ghost use Rattle.outside.specs.Fault.{HasCauseOf};
-ghost use Rattle.outside.specs.History.{Image};
+ghost use Rattle.outside.specs.History.{Image, OverTold};
 ghost use Rattle.btr_walk.specs.declared.map.MapRange.{MapRange as RangeOf};
 ghost use Rattle.btr_walk.specs.Events.{TreeItem};
 ghost use Rattle.btr_walk.specs.Walks.{LieOn};
@@ -48,9 +48,9 @@ impl Hand {
         ensures kept { S.kept src.old src.new }
         ensures cause { HasCauseOf BtrAnswer.Fault (S.faults src.old) (S.faults src.new) result }
         ensures ino { self.new.ino ≡ self.old.ino }
-        ensures adds { IsTrue S.tells → (image : Image) → S.blocks src.old ≡ image → AreInBlocks ranges.now → (plan : ℕ → Option WantedOf) (given : List TreeItem) (i : TreeItem) →
+        ensures adds { OverTold S.tells (S.blocks src.old) (λ image. AreInBlocks ranges.now → (plan : ℕ → Option WantedOf) (given : List TreeItem) (i : TreeItem) →
             i.key ≡ key.now → i.body ≡ body.now → i.leaf ≡ leaf → is_extent_of self.old.ino i ≡ true → HoldsHand plan image ranges.now given self.old →
-            MatchResult result (λ _. HoldsHand plan image ranges.now (given ++ i ∷ []) self.new) (RefusesExtents plan ranges.now (given ++ i ∷ [])) }
+            MatchResult result (λ _. HoldsHand plan image ranges.now (given ++ i ∷ []) self.new) (RefusesExtents plan ranges.now (given ++ i ∷ []))) }
     {
         self.marker.add_extent(src, ranges, leaf, key.offset, body)?;
         Ok(())

@@ -2,7 +2,7 @@ ghost use Rattle.std.specs.Prelude.{◌≡◌, ◌≤◌, ◌++◌, ◌∷◌, [
 ghost use Rattle.std.specs.Result.{MatchResult};
 ghost use Rattle.indexmap.specs.IndexMap.{get};
 ghost use Rattle.outside.specs.Fault.{HasCauseOf};
-ghost use Rattle.outside.specs.History.{Image};
+ghost use Rattle.outside.specs.History.{Image, OverTold};
 ghost use Rattle.btr_walk.specs.declared.map.MapRange.{MapRange as RangeOf};
 ghost use Rattle.btr_walk.specs.Events.{TreeItem};
 ghost use Rattle.btr_walk.specs.Walks.{LieOn};
@@ -53,10 +53,10 @@ impl Gathering {
         requires short { IfSome wanted (λ w. w.link ≡ true → w.size ≤ 4095) }
         ensures kept { S.kept src.old src.new }
         ensures cause { HasCauseOf BtrAnswer.Fault (S.faults src.old) (S.faults src.new) result }
-        ensures adds { IsTrue S.tells → (image : Image) → S.blocks src.old ≡ image → AreInBlocks ranges.now → (plan : ℕ → Option WantedOf) (given : List TreeItem) (i : TreeItem) (top : ℕ) →
+        ensures adds { OverTold S.tells (S.blocks src.old) (λ image. AreInBlocks ranges.now → (plan : ℕ → Option WantedOf) (given : List TreeItem) (i : TreeItem) (top : ℕ) →
             i.key ≡ key.now → i.body ≡ body.now → i.leaf ≡ leaf → wanted ≡ item_wanted plan i.key → top ≤ i.key.objectid →
             HasGathered plan image ranges.now given top (λ ino. get nat_eq self.old.done ino) self.old.hand →
-            MatchResult result (λ _. HasGathered plan image ranges.now (given ++ i ∷ []) i.key.objectid (λ ino. get nat_eq self.new.done ino) self.new.hand) (RefusesExtents plan ranges.now (given ++ i ∷ [])) }
+            MatchResult result (λ _. HasGathered plan image ranges.now (given ++ i ∷ []) i.key.objectid (λ ino. get nat_eq self.new.done ino) self.new.hand) (RefusesExtents plan ranges.now (given ++ i ∷ []))) }
     {
         match wanted {
             Some(wanted) => self.add_extent(alloc, src, ranges, wanted, key, body, leaf),
@@ -79,10 +79,10 @@ impl Gathering {
         requires short { wanted.link ≡ true → wanted.size ≤ 4095 }
         ensures kept { S.kept src.old src.new }
         ensures cause { HasCauseOf BtrAnswer.Fault (S.faults src.old) (S.faults src.new) result }
-        ensures adds { IsTrue S.tells → (image : Image) → S.blocks src.old ≡ image → AreInBlocks ranges.now → (plan : ℕ → Option WantedOf) (given : List TreeItem) (i : TreeItem) (top : ℕ) →
+        ensures adds { OverTold S.tells (S.blocks src.old) (λ image. AreInBlocks ranges.now → (plan : ℕ → Option WantedOf) (given : List TreeItem) (i : TreeItem) (top : ℕ) →
             i.key ≡ key.now → i.body ≡ body.now → i.leaf ≡ leaf → Some wanted ≡ item_wanted plan i.key → top ≤ i.key.objectid →
             HasGathered plan image ranges.now given top (λ ino. get nat_eq self.old.done ino) self.old.hand →
-            MatchResult result (λ _. HasGathered plan image ranges.now (given ++ i ∷ []) i.key.objectid (λ ino. get nat_eq self.new.done ino) self.new.hand) (RefusesExtents plan ranges.now (given ++ i ∷ [])) }
+            MatchResult result (λ _. HasGathered plan image ranges.now (given ++ i ∷ []) i.key.objectid (λ ino. get nat_eq self.new.done ino) self.new.hand) (RefusesExtents plan ranges.now (given ++ i ∷ []))) }
     {
         let mut hand = take_up(
             &mut self.done,

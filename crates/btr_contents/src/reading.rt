@@ -2,7 +2,7 @@ ghost use Rattle.std.specs.Prelude.{◌≡◌, ◌≤◌, nat_eq, IsTrue, IfErr,
 ghost use Rattle.indexmap.specs.IndexMap.{get};
 ghost use Rattle.indexmap.specs.IndexSet.{contains};
 ghost use Rattle.outside.specs.Fault.{HasCauseOf};
-ghost use Rattle.outside.specs.History.{Image};
+ghost use Rattle.outside.specs.History.{Image, OverTold};
 ghost use Rattle.btr_node.specs.NodeSize.{IsNodeSize};
 ghost use Rattle.btr_walk.specs.Walks.{LieOn, found, wrong};
 ghost use Rattle.btr_files.specs.Blocks.{AreInBlocks};
@@ -37,10 +37,10 @@ impl Contents {
         requires inside { LieOn (S.size src.old) ranges.now }
         ensures kept { S.kept src.old src.new }
         ensures cause { HasCauseOf BtrAnswer.Fault (S.faults src.old) (S.faults src.new) result }
-        ensures contents { IsTrue S.tells → (image : Image) → S.blocks src.old ≡ image → AreInBlocks ranges.now → HasNoted names.now (found image ranges.now tree) →
-            IfOk result (λ contents. HasContents (wanted_at (contains same_node named.now) (found image ranges.now tree)) image ranges.now (found image ranges.now tree) (λ ino. get nat_eq contents.known ino)) }
-        ensures refused { IsTrue S.tells → (image : Image) → S.blocks src.old ≡ image → AreInBlocks ranges.now → HasNoted names.now (found image ranges.now tree) →
-            IfErr result (RefusesContents (wanted_at (contains same_node named.now) (found image ranges.now tree)) image ranges.now tree) }
+        ensures contents { OverTold S.tells (S.blocks src.old) (λ image. AreInBlocks ranges.now → HasNoted names.now (found image ranges.now tree) →
+            IfOk result (λ contents. HasContents (wanted_at (contains same_node named.now) (found image ranges.now tree)) image ranges.now (found image ranges.now tree) (λ ino. get nat_eq contents.known ino))) }
+        ensures refused { OverTold S.tells (S.blocks src.old) (λ image. AreInBlocks ranges.now → HasNoted names.now (found image ranges.now tree) →
+            IfErr result (RefusesContents (wanted_at (contains same_node named.now) (found image ranges.now tree)) image ranges.now tree)) }
     {
         let mut gathering = Gathering::new(alloc);
         let mut walker = TreeWalker::new(alloc, tree)?;

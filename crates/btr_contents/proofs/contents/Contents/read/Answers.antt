@@ -43,7 +43,7 @@ loop-walker-preserved g c =
     let before = c.loop-walker.invariant in
     record {
       kept = g.met.S.BlockSource.kept_trans _ _ _ (g.met.S.BlockSource.kept_trans _ _ _ before.kept c.advance.ensures.kept) c.add_item.ensures.kept;
-      same = c.in_ok-add_item.ensures.cause.kept (λ e. absurd cc) ∙ (c.in_ok-advance.ensures.cause.kept (λ e. absurd cc) ∙ before.same);
+      same = c.in-Ok.ensures.cause.kept (λ e. absurd cc) ∙ (c.in_ok-advance.ensures.cause.kept (λ e. absurd cc) ∙ before.same);
       tree = c.advance.ensures.tree ∙ before.tree;
       fresh = c.in_ok-advance.ensures.spent;
       walks = λ tells blocks noted.
