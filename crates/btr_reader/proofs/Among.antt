@@ -1,6 +1,7 @@
 -- Refusals as members of lists, and what a walk has given.
-use Rattle.std.proofs.Common.{◌≡◌, List, [], ◌∷◌, ◌++◌, sym, ◌∙◌, ap, subst, arith}
+use Rattle.std.proofs.Common.{◌≡◌, ◌≤◌, ℕ, Result, Err, List, [], ◌∷◌, ◌++◌, sym, ◌∙◌, ap, subst, arith}
 use Rattle.std.proofs.lemmas.List.Elements.{Contains-append_left, Contains-append_right}
+use Rattle.outside.specs.Fault.{HasCauseOf, Rose}
 use Rattle.outside.specs.History.{Image}
 use Rattle.outside.specs.declared.answer.BtrAnswer.{BtrAnswer}
 use Rattle.outside.specs.declared.answer.BtrAnswer.TheVariants.{Refused, Fault, Memory}
@@ -48,3 +49,21 @@ given_first w image ranges given k = (
   items_in_events (rest image ranges w),
   ap items_in_events (sym k.whole) ∙ (items_in-append k.done (rest image ranges w) ∙ ap (λ (z : List TreeItem). z ++ items_in_events (rest image ranges w)) k.items),
 )
+
+abbrev err_of : {T : Type 0} → BtrAnswer → Result T BtrAnswer
+err_of e = Err e
+
+as_err : {T : Type 0} (e : BtrAnswer) → e ≡ Fault → err_of {T = T} e ≡ err_of Fault
+as_err e is = ap (λ (x : BtrAnswer). err_of x) is
+
+from_err : {T : Type 0} (e : BtrAnswer) → err_of {T = T} e ≡ err_of Fault → e ≡ Fault
+from_err e is = cc is
+
+-- an answer that is handed on, after calls that left the count
+pub handed_on : {T U : Type 0} (e : BtrAnswer) (first before now : ℕ) → before ≡ first → HasCauseOf {T = T} {E = BtrAnswer} Fault before now (Err e) → HasCauseOf {T = U} {E = BtrAnswer} Fault first now (Err e)
+handed_on e first before now same h =
+    record {
+      later = subst (λ (n : ℕ). n ≤ now) same h.later;
+      failed = λ is. subst (λ (n : ℕ). Rose n now) same (h.failed (as_err e (from_err e is)));
+      kept = λ other. h.kept (λ is. other (as_err e (from_err e is))) ∙ same;
+    }

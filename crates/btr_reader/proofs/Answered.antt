@@ -1,6 +1,6 @@
 -- What is answered where the rows of a volume are read.
 use Rattle.std.proofs.Common.{◌≡◌, inl, inr, ℕ, Bool, List, [], map, Contains, Option, Some, None, ◌∙◌, ap, subst}
-use Rattle.std.specs.Prelude.{Result, Ok, Err}
+use Rattle.std.specs.Prelude.{Result, Ok, Err, IfOk, OnOk, IfErr}
 use Rattle.std.specs.Result.{MatchResult}
 use Rattle.outside.specs.History.{Image}
 use Rattle.outside.specs.declared.answer.BtrAnswer.{BtrAnswer}
@@ -18,10 +18,13 @@ use Rattle.path_list.specs.declared.node.NodeId.{NodeId}
 use Rattle.btr_names.specs.Read.{BlamesTree}
 use Rattle.btr_names.specs.Roots.{has_root}
 use Rattle.btr_names.specs.Rules.{BreaksNames, KeepsNames}
-use Rattle.btr_names.specs.Steps.{AreNamed}
+use Rattle.btr_names.specs.declared.table.Names.{Names}
+use Rattle.btr_names.specs.Refuses.{RefusesNames}
+use Rattle.btr_names.specs.Steps.{AreNamed, links_of}
+use Rattle.btr_names.specs.TreeLinks.{AreTreeLinks}
 use Rattle.btr_contents.specs.Contents.{wanted_at, RefusesContents}
-use Rattle.btr_reader.specs.Made.{IsMemory, RefusesChecked, RefusesRows, RefusesTree}
-use Rattle.btr_reader.specs.Opening.{root_tree, tree_of}
+use Rattle.btr_reader.specs.Made.{IsChecked, IsMemory, RefusesChecked, RefusesRows, RefusesTree}
+use Rattle.btr_reader.specs.Opening.{tree_of}
 use Rattle.btr_reader.specs.Reading.{FindsTree}
 use Rattle.btr_reader.specs.Roots.{root_item, pointer_of}
 use Rattle.btr_reader.specs.Rows.{AreRows, AreBtrfsRows, BreaksExtents, roots_on, IsTreeRefusal, no_root_item, bad_root_item, bad_tree, bad_names, bad_extents}
@@ -33,11 +36,19 @@ some_none x o some none = cc
 same_some : {X : Type 0} (x y : X) (o : Option X) → o ≡ Some x → o ≡ Some y → x ≡ y
 same_some x y o first second = cc
 
--- the numbers of the trees of the root tree
-pub numbers_are : (image : Image) (s : Super) (slice ranges : List MapRange) (t : Tree) (told : ℕ → Bool) → slice ≡ ranges → t ≡ root_tree s → ((number : ℕ) → told number ≡ has_root (found image slice t) number)
-    → told ≡ has_root (roots_on image s ranges)
-numbers_are image s slice ranges t told same here numbers =
-    λ j number. (numbers number ∙ (ap (λ (r : List MapRange). has_root (found image r t) number) same ∙ ap (λ (x : Tree). has_root (found image ranges x) number) here)) j
+refused_checked : (items : List TreeItem) (root : ℕ) (roots : ℕ → Bool) (e : BtrAnswer) → RefusesNames roots items root e → RefusesChecked roots items root e
+refused_checked items root roots (Refused r) h = h
+refused_checked items root roots Fault h = tt
+refused_checked items root roots Memory h = tt
+
+-- what a check of names answers, by numbers that are those of the trees of the root tree
+pub checked_by : {X : Type 0} (has : X → NodeId → Bool) (names : Names) (result : Result X BtrAnswer) (items : List TreeItem) (root : ℕ) (told roots : ℕ → Bool) → told ≡ roots
+    → IfOk result (λ x. AreNamed items (has x)) → OnOk result (KeepsNames told items root) → IfOk result (λ x. AreTreeLinks items (links_of names (has x))) → IfErr result (RefusesNames told items root)
+    → MatchResult result (λ x. IsChecked names (has x) items root roots) (RefusesChecked roots items root)
+checked_by has names (Ok x) items root told roots same named keeps links refused =
+    record { are_named = named; keeps = subst (λ (t : ℕ → Bool). KeepsNames t items root) same keeps; links = links }
+checked_by has names (Err e) items root told roots same named keeps links refused =
+    refused_checked items root roots e (subst (λ (t : ℕ → Bool). RefusesNames t items root e) same refused)
 
 pub of_memory : (image : Image) (s : Super) (ranges : List MapRange) (e : BtrAnswer) → IsMemory e → RefusesTree image s ranges e
 of_memory image s ranges (Refused r) h = absurd h

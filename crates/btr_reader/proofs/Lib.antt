@@ -8,9 +8,12 @@ pub mod FirstPlaces
 pub mod Gathering
 pub mod Known
 pub mod MapBlocks
+pub mod NoLogs
+pub mod NotedRoots
 pub mod OneExtent
+pub mod OneRows
 pub mod Opens
-pub mod RootItems
+pub mod PartsRead
 pub mod RowContents
 pub mod RowMade
 pub mod Rowed

@@ -1,5 +1,5 @@
 -- The ranges of a map begin and end with blocks.
-use Rattle.std.proofs.Common.{◌≡◌, ℕ, ◌%◌, eqb, nat_lt, true, List, [], ◌∷◌, ◌++◌, length, map, Option, Some, None, refl, sym, ◌∙◌, subst, arith}
+use Rattle.std.proofs.Common.{◌≡◌, ℕ, ◌+◌, ◌*◌, ◌%◌, ◌≤◌, eqb, nat_le, true, List, [], ◌∷◌, ◌++◌, length, map, Option, Some, None, refl, sym, ◌∙◌, subst, arith}
 use Rattle.std.proofs.lemmas.Bool.Decides.{nat_tests}
 use Rattle.std.proofs.lemmas.List.Elements.{All-nil, All-cons, All-append}
 use Rattle.outside.specs.History.{Image}
@@ -10,18 +10,18 @@ use Rattle.outside.specs.declared.rule.Feature.TheVariants.{ChunkType}
 use Rattle.btr_super.specs.declared.superblock.Super.{Super}
 use Rattle.btr_walk.specs.declared.map.MapRange.{MapRange}
 use Rattle.btr_walk.specs.Events.{TreeItem}
-use Rattle.btr_walk.specs.Walks.{wrong, found}
+use Rattle.btr_walk.specs.Walks.{LieOn, wrong, found}
 use Rattle.btr_files.specs.Blocks.{IsInBlocks, AreInBlocks}
 use Rattle.btr_files.specs.Extents.{unless}
 use Rattle.btr_files.proofs.ExtentLists.{none_left, none_right, holds_unless, first, second}
 use Rattle.btr_reader.specs.declared.chunk.ChunkAt.{ChunkAt}
-use Rattle.btr_reader.specs.Chunks.{range_of, lies_on, chunk_refusals, beside_refusals, chunks_refusals, chunk_in, with_chunk, chunk_item_refusals, with_items, items_refusals}
+use Rattle.btr_reader.specs.Chunks.{range_of, is_read_kind, lies_on, chunk_refusals, beside_refusals, chunks_refusals, chunk_in, with_chunk, chunk_item_refusals, with_items, items_refusals}
 use Rattle.btr_reader.specs.Opening.{chunk_tree, root_tree, boot_chunks, boot_ranges, boot_refusals, map_from, or_later, trees_refusals, IsOpened}
 use Rattle.btr_reader.proofs.Opens.{opening_is}
 
 on_device : (device : ℕ) (c : ChunkAt) → chunk_refusals device c ≡ [] → lies_on device c ≡ true
 on_device device c none =
-    let plain : List BtrRefusal = unless (nat_lt c.chunk.kind 8) (Unsupported ChunkType c.chunk.kind) in
+    let plain : List BtrRefusal = unless (is_read_kind c.chunk.kind) (Unsupported ChunkType c.chunk.kind) in
     let single : List BtrRefusal = unless (eqb c.chunk.num_stripes 1) (Unsupported ChunkType c.chunk.num_stripes) in
     let placed : List BtrRefusal = unless (lies_on device c) (BadBtrfs c.logical ChunkForm) in
     holds_unless (lies_on device c) (BadBtrfs c.logical ChunkForm) (none_right single placed (none_right plain (single ++ placed) none))
@@ -33,6 +33,14 @@ is_in_blocks device c h =
     let long : eqb (c.chunk.length % 4096) 0 ≡ true = first (eqb (c.chunk.length % 4096) 0) _ rest in
     let place : eqb (c.chunk.stripe.offset % 4096) 0 ≡ true = first (eqb (c.chunk.stripe.offset % 4096) 0) _ (second (eqb (c.chunk.length % 4096) 0) _ rest) in
     record { logical = grind (arith, nat_tests, logical); length = grind (arith, nat_tests, long); physical = grind (arith, nat_tests, place) }
+
+-- a map with one more chunk that lies on the device
+pub added_inside : (device : ℕ) (ranges made : List MapRange) (c : ChunkAt) → LieOn device ranges → lies_on device c ≡ true → made ≡ ranges ++ range_of c ∷ [] → LieOn device made
+added_inside device ranges made c all h is =
+    let rest = second (eqb (c.logical % 4096) 0) _ h in
+    let last : nat_le (c.chunk.stripe.offset + c.chunk.length) (4096 * device) ≡ true = second (eqb (c.chunk.stripe.offset % 4096) 0) _ (second (eqb (c.chunk.length % 4096) 0) _ rest) in
+    let P : MapRange → Type 0 = λ r. r.physical + r.length ≤ 4096 * device in
+    subst (LieOn device) (sym is) (All-append P ranges (range_of c ∷ []) all (All-cons P (range_of c) [] (grind (arith, nat_tests, last)) (All-nil P)))
 
 -- a chunk with which nothing is wrong
 chunk_in_blocks : (device : ℕ) (others : List MapRange) (c : ChunkAt) → beside_refusals device others c ≡ [] → IsInBlocks (range_of c)

@@ -8,8 +8,11 @@ use Rattle.btr_super.specs.declared.superblock.Super.{Super}
 use Rattle.btr_walk.specs.declared.map.MapRange.{MapRange}
 use Rattle.btr_walk.specs.declared.tree.Tree.{Tree}
 use Rattle.btr_walk.specs.Walks.{wrong, found}
+use Rattle.btr_reader.specs.declared.roots.RootItems.{RootItems}
 use Rattle.btr_reader.specs.Chunks.{items_refusals, with_items}
 use Rattle.btr_reader.specs.Opening.{super_on, chunk_tree, root_tree, boot_chunks, boot_ranges, boot_refusals, map_from, or_later, trees_refusals, refusals_after, opening_refusals, IsOpened, IsAmong, IsSuperAnswer}
+use Rattle.btr_reader.specs.Roots.{HasRoots}
+use Rattle.btr_reader.specs.Rows.{roots_on}
 use Rattle.btr_reader.proofs.Among.{among_first, among_later, none_later}
 
 pub opening_is : (image : Image) (s : Super) → super_on image ≡ Ok s
@@ -86,3 +89,9 @@ opened image s device boot slice ranges other tree root read size none is same n
       super = read;
       map_is = map_is;
     }
+
+-- what was noted of the root tree that was walked was noted of the volume's root tree
+pub root_items : (image : Image) (s : Super) (ranges other : List MapRange) (root : Tree) (t : RootItems) → other ≡ ranges → root ≡ root_tree s → HasRoots t (found image other root)
+    → HasRoots t (roots_on image s ranges)
+root_items image s ranges other root t copied root_is k =
+    subst (λ (r : Tree). HasRoots t (found image ranges r)) root_is (subst (λ (r : List MapRange). HasRoots t (found image r root)) copied k)

@@ -1,5 +1,5 @@
 -- The chunks of a volume, and the map of addresses that they make.
-use Rattle.std.specs.Prelude.{ℕ, zero, suc, ◌+◌, ◌*◌, ◌%◌, ◌==◌, nat_lt, nat_le, max, min, Bool, ◌&&◌, if◌then◌else◌, List, [], ◌∷◌, ◌++◌, length, drop, slice_range, Option, Some, None}
+use Rattle.std.specs.Prelude.{ℕ, zero, suc, ◌+◌, ◌*◌, ◌%◌, ◌==◌, nat_lt, nat_le, max, min, Bool, ◌&&◌, ◌||◌, if◌then◌else◌, List, [], ◌∷◌, ◌++◌, length, drop, slice_range, Option, Some, None}
 use Rattle.std.specs.List.{list_any}
 use Rattle.std.specs.Option.{option_map, option_and_then}
 use Rattle.outside.specs.declared.refusal.BtrRefusal.{BtrRefusal}
@@ -51,11 +51,24 @@ lies_on device c =
     (c.logical % 4096 == 0)
     && ((c.chunk.length % 4096 == 0) && ((c.chunk.stripe.offset % 4096 == 0) && nat_le (c.chunk.stripe.offset + c.chunk.length) (4096 * device)))
 
--- What is wrong with a chunk by itself. Its kind says what it holds in the three low bits, and in the others how it is
--- spread over devices: in one piece where they are 0.
+-- The kinds of chunks that are read: data, system or metadata alone, in one piece. Other bits say that a chunk is mixed, or how
+-- it is spread over devices.
+abbrev pub data_kind : ℕ
+data_kind = 1
+
+abbrev pub system_kind : ℕ
+system_kind = 2
+
+abbrev pub metadata_kind : ℕ
+metadata_kind = 4
+
+abbrev pub is_read_kind : ℕ → Bool
+is_read_kind kind = (kind == data_kind) || ((kind == system_kind) || (kind == metadata_kind))
+
+-- What is wrong with a chunk by itself.
 abbrev pub chunk_refusals : ℕ → ChunkAt → List BtrRefusal
 chunk_refusals device c =
-    unless (nat_lt c.chunk.kind 8) (Unsupported ChunkType c.chunk.kind)
+    unless (is_read_kind c.chunk.kind) (Unsupported ChunkType c.chunk.kind)
     ++ (unless (c.chunk.num_stripes == 1) (Unsupported ChunkType c.chunk.num_stripes) ++ unless (lies_on device c) (BadBtrfs c.logical ChunkForm))
 
 -- there is an address in both

@@ -6,4 +6,6 @@ pub mod Made
 pub mod Image
 pub mod Pieces
 pub mod Reading
+pub mod Volume
+pub mod Parts
 pub mod Laws

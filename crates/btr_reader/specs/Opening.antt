@@ -9,7 +9,7 @@ use Rattle.outside.specs.declared.rule.BtrRule.TheVariants.{ChunkForm}
 use Rattle.csum_kinds.specs.declared.kind.SumKind.TheVariants.{Crc32c}
 use Rattle.btr_node.specs.NodeSize.{IsNodeSize}
 use Rattle.btr_super.specs.declared.superblock.Super.{Super}
-use Rattle.btr_super.specs.Rules.{super_of}
+use Rattle.btr_super.specs.Rules.{super_of, NamesNoLog}
 use Rattle.btr_super.specs.Sums.{known_kind}
 use Rattle.btr_walk.specs.declared.map.MapRange.{MapRange}
 use Rattle.btr_walk.specs.declared.tree.Form.{Form}
@@ -90,11 +90,11 @@ IsAmong refusals (Refused r) = Contains refusals r
 IsAmong refusals Fault = Unit {0}
 IsAmong refusals Memory = Unit {0}
 
--- no call failed
-abbrev pub IsNoFault : BtrAnswer → Type 0
-IsNoFault (Refused r) = Unit {0}
-IsNoFault Fault = ⊥
-IsNoFault Memory = Unit {0}
+-- the answer names no log tree
+abbrev pub NamesNoLogTree : BtrAnswer → Type 0
+NamesNoLogTree (Refused r) = NamesNoLog r
+NamesNoLogTree Fault = Unit {0}
+NamesNoLogTree Memory = Unit {0}
 
 -- the array is no list of chunks, or there was no memory
 abbrev pub IsBadArray : Option (List ChunkAt) → BtrAnswer → Type 0

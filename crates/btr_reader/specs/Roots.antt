@@ -1,12 +1,15 @@
 -- The trees of a volume, as the root tree names them.
-use Rattle.std.specs.Prelude.{◌≡◌, ℕ, nat_lt, if◌then◌else◌, List, [], ◌∷◌, Option, Some, None}
+use Rattle.std.specs.Prelude.{◌≡◌, ℕ, nat_lt, nat_eq, if◌then◌else◌, List, [], ◌∷◌, Option, Some, None}
 use Rattle.std.specs.Option.{option_and_then}
+use Rattle.indexmap.specs.IndexMap.{get}
+use Rattle.indexmap.specs.IndexSet.{contains}
 use Rattle.btr_space_items.specs.RootItem.{root_item_of}
 use Rattle.btr_space_items.specs.declared.root_item.RootItem.{RootItem}
 use Rattle.btr_walk.specs.declared.tree.Pointer.{Pointer}
 use Rattle.btr_walk.specs.Events.{TreeItem}
-use Rattle.btr_names.specs.Roots.{is_root_of}
+use Rattle.btr_names.specs.Roots.{is_root_of, has_root}
 use Rattle.btr_reader.specs.declared.roots.RootFound.{RootFound}
+use Rattle.btr_reader.specs.declared.roots.RootItems.{RootItems}
 
 -- the last one of some, or another before them
 abbrev pub last_or : Option TreeItem → Option TreeItem → Option TreeItem
@@ -31,3 +34,11 @@ TellsRoot None None = Unit {0}
 TellsRoot None (Some i) = ⊥
 TellsRoot (Some f) None = ⊥
 TellsRoot (Some f) (Some i) = (f.leaf ≡ i.leaf) × (f.pointer ≡ pointer_of i.body)
+
+abbrev pub found_root : RootItems → ℕ → Option RootFound
+found_root t number = get nat_eq t.found number
+
+-- These items of the root tree were noted.
+pub record HasRoots (t : RootItems) (items : List TreeItem) : Type 0 where
+  pub each : (number : ℕ) → TellsRoot (found_root t number) (root_item number items)
+  pub numbers : (number : ℕ) → contains nat_eq t.numbers number ≡ has_root items number

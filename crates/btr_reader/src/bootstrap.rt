@@ -1,6 +1,6 @@
 ghost use Rattle.std.specs.Prelude.{◌≡◌, ◌≤◌, ◌++◌, ◌∷◌, [], length, drop, Some, OnOk, IfErr, IfOk, IfSome};
 ghost use Rattle.btr_reader.specs.Chunks.{front_chunk, entry_size, array_chunks};
-ghost use Rattle.btr_reader.specs.Opening.{IsBadArray};
+ghost use Rattle.btr_reader.specs.Opening.{IsBadArray, NamesNoLogTree};
 
 use crate::chunk::{ChunkAt, is_chunk_key};
 use btr_keys::Key;
@@ -58,6 +58,7 @@ fn front_chunk(bytes: &[u8]) -> Option<ChunkAt>
 pub fn array_chunks(alloc: Global, array: &[u8]) -> Result<Vec<ChunkAt>, BtrAnswer>
     ensures ok { IfOk result (λ chunks. array_chunks array.now ≡ Some chunks.items) }
     ensures err { IfErr result (IsBadArray (array_chunks array.now)) }
+    ensures known { IfErr result NamesNoLogTree }
 {
     let mut chunks = Vec::new(alloc);
     let mut rest = array;

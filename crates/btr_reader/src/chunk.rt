@@ -1,7 +1,9 @@
 ghost use Rattle.std.specs.Prelude.{◌≡◌, ◌++◌, ◌∷◌, [], map, true, OnOk, OnErr, IfErr, Contains};
 ghost use Rattle.std.specs.List.{list_any};
-ghost use Rattle.btr_reader.specs.Chunks.{range_of, lies_on, overlap, same_range, beside_refusals, chunks_refusals, is_chunk_key};
-ghost use Rattle.btr_reader.specs.Opening.{IsAmong, IsNoFault};
+ghost use Rattle.btr_reader.specs.Chunks.{range_of, is_read_kind, lies_on, overlap, same_range, beside_refusals, chunks_refusals, is_chunk_key};
+ghost use Rattle.btr_names.specs.Refuses.{IsNoFault};
+ghost use Rattle.btr_reader.specs.Opening.{IsAmong, NamesNoLogTree};
+ghost use Rattle.btr_super.specs.Rules.{NamesNoLog};
 ghost use Rattle.btr_walk.specs.Walks.{LieOn};
 
 use btr_keys::Key;
@@ -13,6 +15,13 @@ use outside::{BtrAnswer, BtrRefusal, BtrRule, Feature, Memory};
 const CHUNK_OBJECT: u64 = 256;
 
 const CHUNK_KIND: u8 = 228;
+
+/// The kinds of chunks that are read.
+const DATA: u64 = 1;
+
+const SYSTEM: u64 = 2;
+
+const METADATA: u64 = 4;
 
 /// A chunk, and its logical address in bytes.
 #[derive(Clone, Copy, Debug, PartialEq, Eq)]
@@ -91,13 +100,21 @@ pub fn is_among(range: &MapRange, others: &[MapRange]) -> bool
     false
 }
 
+/// Whether a chunk's kind is data, system or metadata alone, in one piece.
+fn is_read_kind(kind: u64) -> bool
+    ensures { result ≡ is_read_kind kind }
+{
+    kind == DATA || kind == SYSTEM || kind == METADATA
+}
+
 /// What is wrong with a chunk beside others, on a device of `device` blocks.
 fn check_chunk(device: u64, others: &[MapRange], c: &ChunkAt) -> Result<(), BtrRefusal>
     ensures ok { OnOk result (beside_refusals device others.now c.now ≡ []) }
     ensures lies { OnOk result (lies_on device c.now ≡ true) }
     ensures err { IfErr result (λ r. Contains (beside_refusals device others.now c.now) r) }
+    ensures known { IfErr result NamesNoLog }
 {
-    if c.chunk.kind >= 8 {
+    if !is_read_kind(c.chunk.kind) {
         return Err(BtrRefusal::Unsupported {
             feature: Feature::ChunkType,
             value: c.chunk.kind,
@@ -125,6 +142,7 @@ pub fn add_chunk(ranges: &mut Vec<MapRange>, device: u64, c: &ChunkAt) -> Result
     ensures added { OnOk result (ranges.new.items ≡ ranges.old.items ++ range_of c.now ∷ []) }
     ensures ok { OnOk result (beside_refusals device ranges.old.items c.now ≡ []) }
     ensures err { IfErr result (IsAmong (beside_refusals device ranges.old.items c.now)) }
+    ensures known { IfErr result NamesNoLogTree }
     ensures cause { IfErr result IsNoFault }
 {
     match check_chunk(device, ranges.as_slice(), c) {
@@ -154,6 +172,7 @@ pub fn add_chunks(
     ensures added { OnOk result (ranges.new.items ≡ map range_of chunks.now) }
     ensures ok { OnOk result (chunks_refusals device [] chunks.now ≡ []) }
     ensures err { IfErr result (IsAmong (chunks_refusals device [] chunks.now)) }
+    ensures known { IfErr result NamesNoLogTree }
     ensures cause { IfErr result IsNoFault }
 {
     for c in chunks {

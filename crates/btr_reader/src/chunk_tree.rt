@@ -4,7 +4,8 @@ ghost use Rattle.outside.specs.History.{Image};
 ghost use Rattle.btr_node.specs.NodeSize.{IsNodeSize};
 ghost use Rattle.btr_walk.specs.Walks.{LieOn, found, wrong};
 ghost use Rattle.btr_reader.specs.Chunks.{chunk_in, with_chunk, with_items, chunk_item_refusals, items_refusals};
-ghost use Rattle.btr_reader.specs.Opening.{IsAmong, IsNoFault};
+ghost use Rattle.btr_names.specs.Refuses.{IsNoFault};
+ghost use Rattle.btr_reader.specs.Opening.{IsAmong, NamesNoLogTree};
 
 use crate::chunk::{ChunkAt, add_chunk, is_among, is_chunk_key, range_of};
 use btr_keys::Key;
@@ -26,6 +27,7 @@ fn add_item(
     ensures added { OnOk result (ranges.new.items ≡ with_chunk ranges.old.items (chunk_in boot.now key.now body.now)) }
     ensures ok { OnOk result (chunk_item_refusals device ranges.old.items key.now.offset (chunk_in boot.now key.now body.now) ≡ []) }
     ensures err { IfErr result (IsAmong (chunk_item_refusals device ranges.old.items key.now.offset (chunk_in boot.now key.now body.now))) }
+    ensures known { IfErr result NamesNoLogTree }
     ensures cause { IfErr result IsNoFault }
 {
     if !is_chunk_key(key) {
@@ -65,6 +67,7 @@ pub fn read_chunks<S: BlockSource>(
     requires inside { LieOn device boot.now }
     ensures kept { S.kept src.old src.new }
     ensures cause { HasCauseOf BtrAnswer.Fault (S.faults src.old) (S.faults src.new) result }
+    ensures known { IfErr result NamesNoLogTree }
     ensures inside { IfOk result (λ ranges. LieOn device ranges.items) }
     ensures ok { IsTrue S.tells → (image : Image) → S.blocks src.old ≡ image →
         OnOk result (wrong image boot.now tree ++ items_refusals device boot.now boot.now (found image boot.now tree) ≡ []) }
@@ -82,26 +85,6 @@ pub fn read_chunks<S: BlockSource>(
         }
     }
     Ok(ranges)
-}
-
-/// Reads a whole tree, and looks at no item of it.
-pub fn check_tree<S: BlockSource>(
-    alloc: Global,
-    src: &mut S,
-    tree: Tree,
-    ranges: &[MapRange],
-) -> Result<(), BtrAnswer>
-    requires size { IsNodeSize tree.form.nodesize }
-    requires high { tree.root.level ≤ 7 }
-    requires inside { LieOn (S.size src.old) ranges.now }
-    ensures kept { S.kept src.old src.new }
-    ensures cause { HasCauseOf BtrAnswer.Fault (S.faults src.old) (S.faults src.new) result }
-    ensures ok { IsTrue S.tells → (image : Image) → S.blocks src.old ≡ image → OnOk result (wrong image ranges.now tree ≡ []) }
-    ensures err { IsTrue S.tells → (image : Image) → S.blocks src.old ≡ image → IfErr result (IsAmong (wrong image ranges.now tree)) }
-{
-    let mut walker = TreeWalker::new(alloc, tree)?;
-    while walker.advance(src, ranges)? {}
-    Ok(())
 }
 
 fn copy_of(alloc: Global, boot: &[MapRange]) -> Result<Vec<MapRange>, Memory>

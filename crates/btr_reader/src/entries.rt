@@ -6,7 +6,8 @@ ghost use Rattle.btr_walk.specs.Events.{TreeItem};
 ghost use Rattle.btr_walk.specs.Walks.{LieOn, found};
 ghost use Rattle.btr_reader.specs.Image.{first_key, entry_named, is_called, own_index_refusals, entry_refusals};
 ghost use Rattle.btr_names.specs.Links.{own_naming, namings};
-ghost use Rattle.btr_reader.specs.Opening.{IsAmong};
+ghost use Rattle.btr_super.specs.Rules.{NamesNoLog};
+ghost use Rattle.btr_reader.specs.Opening.{IsAmong, NamesNoLogTree};
 
 use btr_keys::{DirEntry, Key};
 use btr_names::index_entry;
@@ -47,6 +48,7 @@ fn seek_entry(
     ensures found { (i : TreeItem) → i.key ≡ key.now → i.body ≡ body.now → IfOk result (λ o. o ≡ first_key first (entry_named (is_called name.now) (own_naming i))) }
     ensures ok { (i : TreeItem) → i.key ≡ key.now → i.body ≡ body.now → OnOk result (own_index_refusals i ≡ []) }
     ensures err { (i : TreeItem) → i.key ≡ key.now → i.body ≡ body.now → i.leaf ≡ leaf → IfErr result (λ r. Contains (own_index_refusals i) r) }
+    ensures known { IfErr result NamesNoLog }
 {
     if key.kind != INDEX_KIND || key.objectid != ROOT_DIRECTORY {
         return Ok(first);
@@ -73,6 +75,7 @@ pub fn find_entry<S: BlockSource>(
     requires inside { LieOn (S.size src.old) ranges.now }
     ensures kept { S.kept src.old src.new }
     ensures cause { HasCauseOf BtrAnswer.Fault (S.faults src.old) (S.faults src.new) result }
+    ensures known { IfErr result NamesNoLogTree }
     ensures entry { IsTrue S.tells → (image : Image) → S.blocks src.old ≡ image → IfOk result (λ o. o ≡ entry_named (is_called name.now) (namings (found image ranges.now tree))) }
     ensures ok { IsTrue S.tells → (image : Image) → S.blocks src.old ≡ image → OnOk result (entry_refusals image ranges.now tree ≡ []) }
     ensures err { IsTrue S.tells → (image : Image) → S.blocks src.old ≡ image → IfErr result (IsAmong (entry_refusals image ranges.now tree)) }

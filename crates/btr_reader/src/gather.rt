@@ -8,7 +8,8 @@ ghost use Rattle.btr_walk.specs.Events.{TreeItem};
 ghost use Rattle.btr_walk.specs.Walks.{LieOn, found, wrong};
 ghost use Rattle.btr_files.specs.Extents.{extent_length, covered_by, is_extent_key, extents_of, extents_refusals};
 ghost use Rattle.btr_reader.specs.Image.{content_is_inline};
-ghost use Rattle.btr_reader.specs.Opening.{IsAmong, IsNoFault};
+ghost use Rattle.btr_names.specs.Refuses.{IsNoFault};
+ghost use Rattle.btr_reader.specs.Opening.{IsAmong, NamesNoLogTree};
 ghost use Rattle.btr_reader.specs.Pieces.{range_pieces, pieces_of, Gathers};
 
 use crate::gathered::Gathered;
@@ -101,6 +102,7 @@ fn gather_item(
         → OnOk result (Gathers ranges.now (extents_of (given ++ i ∷ []) inode) g.new) }
     ensures err { (i : TreeItem) (given : List TreeItem) → i.key ≡ key.now → i.body ≡ body.now → i.leaf ≡ leaf → Gathers ranges.now (extents_of given inode) g.old
         → IfErr result (IsAmong (extents_refusals ranges.now 0 0 (extents_of (given ++ i ∷ []) inode))) }
+    ensures known { IfErr result NamesNoLogTree }
     ensures cause { IfErr result IsNoFault }
 {
     if !is_extent_key(inode, key) {
@@ -147,6 +149,7 @@ pub fn gather_extents<S: BlockSource>(
     requires inside { LieOn (S.size src.old) ranges.now }
     ensures kept { S.kept src.old src.new }
     ensures cause { HasCauseOf BtrAnswer.Fault (S.faults src.old) (S.faults src.new) result }
+    ensures known { IfErr result NamesNoLogTree }
     ensures gathered { IsTrue S.tells → (image : Image) → S.blocks src.old ≡ image → IfOk result (Gathers ranges.now (extents_of (found image ranges.now tree) inode)) }
     ensures err { IsTrue S.tells → (image : Image) → S.blocks src.old ≡ image →
         IfErr result (IsAmong (wrong image ranges.now tree ++ extents_refusals ranges.now 0 0 (extents_of (found image ranges.now tree) inode))) }

@@ -1,15 +1,19 @@
-ghost use Rattle.std.specs.Prelude.{◌≡◌, ◌≤◌, ◌∷◌, [], Option, Some, None, true, IsTrue, IfOk, IfErr, IfSome, List, length};
+ghost use Rattle.std.specs.Prelude.{◌≡◌, ◌≢◌, ◌≤◌, ◌∷◌, [], Option, Some, None, Err, true, IsTrue, IfOk, IfErr, IfSome, List};
 ghost use Rattle.std.specs.Option.{option_and_then};
 ghost use Rattle.outside.specs.Fault.{HasCauseOf};
 ghost use Rattle.outside.specs.History.{Image};
+ghost use Rattle.outside.specs.declared.refusal.BtrRefusal.TheVariants.{BadBtrfs};
+ghost use Rattle.outside.specs.declared.rule.BtrRule.TheVariants.{SuperField};
 ghost use Rattle.btr_walk.specs.Events.{TreeItem};
 ghost use Rattle.btr_walk.specs.Walks.{LieOn, found, wrong};
 ghost use Rattle.btr_reader.specs.Image.{is_file, tree_number, inode_number, file_if_image, image_at, image_below, saved_image, file_refusals, refusals_below, image_refusals};
 ghost use Rattle.btr_names.specs.Inodes.{inode_item, TellsInode};
-ghost use Rattle.btr_reader.specs.Opening.{IsNoFault, IsOpened, root_tree as root_tree_of};
+ghost use Rattle.btr_names.specs.Refuses.{IsNoFault};
+ghost use Rattle.btr_reader.specs.Opening.{NamesNoLogTree};
 ghost use Rattle.btr_reader.specs.Pieces.{Gathers, MapsImage};
 ghost use Rattle.btr_reader.specs.Reading.{IsWalkable, FindsTree, FindsFile, ReadsImage};
-ghost use Rattle.btr_reader.specs.Roots.{root_item, TellsRoot};
+ghost use Rattle.btr_reader.specs.Roots.{root_item, TellsRoot, HasRoots};
+ghost use Rattle.btr_reader.specs.Volume.{IsVolumeOn};
 ghost use Rattle.btr_reader.specs.Rows.{roots_on};
 
 use crate::entries::find_entry;
@@ -17,14 +21,15 @@ use crate::gather::gather_extents;
 use crate::gathered::Gathered;
 use crate::image_map::ImageMap;
 use crate::inodes::find_inode;
-use crate::open::{form_of, root_tree};
-use crate::roots::{RootFound, find_root};
+use crate::open::form_of;
+use crate::refused::refused;
+use crate::roots::RootFound;
 use crate::volume::Btrfs;
 use btr_keys::{Inode, Key};
 use btr_names::InodeFound;
 use btr_super::Super;
 use btr_walk::{MapRange, Tree};
-use outside::{BlockSource, BtrAnswer, BtrRefusal, BtrRule, Memory};
+use outside::{BlockSource, BtrAnswer, BtrRule, Memory};
 use std::alloc::Global;
 
 /// The number of the file tree.
@@ -35,30 +40,13 @@ const ROOT_KIND: u8 = 132;
 
 const INODE_KIND: u8 = 1;
 
-fn bad_body(leaf: u64) -> BtrAnswer
-    ensures { result ≡ BtrAnswer.Refused (BtrRefusal.BadBtrfs leaf BtrRule.Body) }
-{
-    BtrAnswer::Refused(BtrRefusal::BadBtrfs {
-        address: leaf,
-        rule: BtrRule::Body,
-    })
-}
-
 impl Btrfs {
-    /// The root tree.
-    #[tactic(auto, using(btr_walk::proofs::Stacks::sized))]
-    pub(crate) fn roots(&self) -> Tree
-        ensures value { result ≡ root_tree_of self.now.sup }
-        ensures walkable { IsWalkable result }
-    {
-        root_tree(&self.sup)
-    }
-
     /// The tree of a root item that was looked for.
     #[tactic(auto, using(btr_walk::proofs::Stacks::sized))]
     fn tree_in(&self, number: u64, root: Option<RootFound>) -> Result<Option<Tree>, BtrAnswer>
         ensures finds { (item : Option TreeItem) → TellsRoot root item → FindsTree self.now.sup number item result }
         ensures walkable { IfOk result (λ o. IfSome o IsWalkable) }
+        ensures known { IfErr result NamesNoLogTree }
         ensures cause { IfErr result IsNoFault }
     {
         let root = match root {
@@ -67,10 +55,10 @@ impl Btrfs {
         };
         let pointer = match root.pointer {
             Some(pointer) => pointer,
-            None => return Err(bad_body(root.leaf)),
+            None => return Err(refused(root.leaf, BtrRule::Body)),
         };
         if pointer.level > 7 {
-            return Err(bad_body(root.leaf));
+            return Err(refused(root.leaf, BtrRule::Body));
         }
         Ok(Some(Tree {
             form: form_of(&self.sup),
@@ -83,6 +71,7 @@ impl Btrfs {
 /// The inode of an inode item that was looked for, if it is that of a regular file.
 fn file_in(item: Option<InodeFound>) -> Result<Option<Inode>, BtrAnswer>
     ensures finds { (i : Option TreeItem) → TellsInode item i → FindsFile i result }
+    ensures known { IfErr result NamesNoLogTree }
     ensures cause { IfErr result IsNoFault }
 {
     let item = match item {
@@ -91,7 +80,7 @@ fn file_in(item: Option<InodeFound>) -> Result<Option<Inode>, BtrAnswer>
     };
     let inode = match item.inode {
         Some(inode) => inode,
-        None => return Err(bad_body(item.leaf)),
+        None => return Err(refused(item.leaf, BtrRule::Body)),
     };
     if inode.mode / 4096 % 16 != 8 {
         return Ok(None);
@@ -165,24 +154,13 @@ fn map_of(
 
 impl Btrfs {
     /// The tree with this number, if it has a root item.
-    pub(crate) fn find_tree<S: BlockSource>(
-        &self,
-        alloc: Global,
-        src: &mut S,
-        number: u64,
-    ) -> Result<Option<Tree>, BtrAnswer>
-        requires inside { LieOn (S.size src.old) self.now.ranges.items }
-        ensures kept { S.kept src.old src.new }
-        ensures cause { HasCauseOf BtrAnswer.Fault (S.faults src.old) (S.faults src.new) result }
+    pub(crate) fn find_tree(&self, number: u64) -> Result<Option<Tree>, BtrAnswer>
         ensures walkable { IfOk result (λ o. IfSome o IsWalkable) }
-        ensures finds { IsTrue S.tells → (image : Image) → S.blocks src.old ≡ image → wrong image self.now.ranges.items (root_tree_of self.now.sup) ≡ [] →
-            FindsTree self.now.sup number (root_item number (roots_on image self.now.sup self.now.ranges.items)) result }
+        ensures known { IfErr result NamesNoLogTree }
+        ensures cause { IfErr result IsNoFault }
+        ensures finds { (items : List TreeItem) → HasRoots self.now.roots items → FindsTree self.now.sup number (root_item number items) result }
     {
-        let root = match find_root(alloc, src, self.roots(), self.ranges.as_slice(), number) {
-            Ok(root) => root,
-            Err(e) => return Err(e),
-        };
-        self.tree_in(number, root)
+        self.tree_in(number, self.roots.of(number))
     }
 
     /// The map of a file in a tree with which nothing is wrong.
@@ -197,6 +175,7 @@ impl Btrfs {
         requires walkable { IsWalkable tree }
         ensures kept { S.kept src.old src.new }
         ensures cause { HasCauseOf BtrAnswer.Fault (S.faults src.old) (S.faults src.new) result }
+        ensures known { IfErr result NamesNoLogTree }
         ensures device { IfOk result (λ o. IfSome o (λ m. m.device ≡ self.now.device)) }
         ensures reads { IsTrue S.tells → (image : Image) → S.blocks src.old ≡ image → (items : List TreeItem) → found image self.now.ranges.items tree ≡ items → wrong image self.now.ranges.items tree ≡ [] →
             ReadsImage self.now.ranges.items (image_at items inode (inode_item items inode)) (file_refusals self.now.ranges.items items inode (inode_item items inode)) result }
@@ -231,12 +210,13 @@ impl Btrfs {
         requires inside { LieOn (S.size src.old) self.now.ranges.items }
         ensures kept { S.kept src.old src.new }
         ensures cause { HasCauseOf BtrAnswer.Fault (S.faults src.old) (S.faults src.new) result }
+        ensures known { IfErr result NamesNoLogTree }
         ensures device { IfOk result (λ o. IfSome o (λ m. m.device ≡ self.now.device)) }
         ensures reads { IsTrue S.tells → (image : Image) → S.blocks src.old ≡ image → (root : Option TreeItem) → root_item number (roots_on image self.now.sup self.now.ranges.items) ≡ root →
-            wrong image self.now.ranges.items (root_tree_of self.now.sup) ≡ [] →
+            HasRoots self.now.roots (roots_on image self.now.sup self.now.ranges.items) →
             ReadsImage self.now.ranges.items (image_below image self.now.sup self.now.ranges.items number root) (refusals_below image self.now.sup self.now.ranges.items number root) result }
     {
-        let tree = match self.find_tree(alloc, src, number) {
+        let tree = match self.find_tree(number) {
             Ok(Some(tree)) => tree,
             Ok(None) => return Ok(None),
             Err(e) => return Err(e),
@@ -261,11 +241,12 @@ impl Btrfs {
         requires inside { LieOn (S.size src.old) self.now.ranges.items }
         ensures kept { S.kept src.old src.new }
         ensures cause { HasCauseOf BtrAnswer.Fault (S.faults src.old) (S.faults src.new) result }
+        ensures known { IfErr result NamesNoLogTree }
         ensures device { IfOk result (λ o. IfSome o (λ m. m.device ≡ self.now.device)) }
-        ensures reads { IsTrue S.tells → (image : Image) → S.blocks src.old ≡ image → wrong image self.now.ranges.items (root_tree_of self.now.sup) ≡ [] →
+        ensures reads { IsTrue S.tells → (image : Image) → S.blocks src.old ≡ image → HasRoots self.now.roots (roots_on image self.now.sup self.now.ranges.items) →
             ReadsImage self.now.ranges.items (saved_image image self.now.sup self.now.ranges.items) (image_refusals image self.now.sup self.now.ranges.items) result }
     {
-        let tree = match self.find_tree(alloc, src, FILE_TREE) {
+        let tree = match self.find_tree(FILE_TREE) {
             Ok(Some(tree)) => tree,
             Ok(None) => return Ok(None),
             Err(e) => return Err(e),
@@ -287,8 +268,8 @@ impl Btrfs {
     ///
     /// Over the source that was opened it is refused exactly where something is wrong on the way, by one of the things
     /// that are. All nodes of the file tree and of the image's tree are looked at; of the bodies in them the directory
-    /// indexes of inode 256, and the inode and the extents of the file. A log tree is not looked at. Over a source with
-    /// another number of blocks it is refused.
+    /// indexes of inode 256, and the inode and the extents of the file. A log tree is not looked at, over any source. Over
+    /// a source with another number of blocks it is refused, whatever the blocks are.
     pub fn image_map<S: BlockSource>(
         &self,
         alloc: Global,
@@ -296,15 +277,15 @@ impl Btrfs {
     ) -> Result<Option<ImageMap>, BtrAnswer>
         ensures kept { S.kept src.old src.new }
         ensures cause { HasCauseOf BtrAnswer.Fault (S.faults src.old) (S.faults src.new) result }
+        ensures known { IfErr result NamesNoLogTree }
         ensures device { IfOk result (λ o. IfSome o (λ m. m.device ≡ S.size src.old)) }
-        ensures reads { IsTrue S.tells → (image : Image) → S.blocks src.old ≡ image → length image ≡ self.now.device → IsOpened image self.now.sup self.now.ranges.items →
+        // A source with another number of blocks is no source of this volume.
+        ensures resized { S.size src.old ≢ self.now.device → result ≡ Err (BtrAnswer.Refused (BadBtrfs 65536 SuperField)) }
+        ensures reads { IsTrue S.tells → (image : Image) → S.blocks src.old ≡ image → IsVolumeOn image self.now →
             ReadsImage self.now.ranges.items (saved_image image self.now.sup self.now.ranges.items) (image_refusals image self.now.sup self.now.ranges.items) result }
     {
         if src.len() != self.device {
-            return Err(BtrAnswer::Refused(BtrRefusal::BadBtrfs {
-                address: 65536,
-                rule: BtrRule::SuperField,
-            }));
+            return Err(refused(65536, BtrRule::SuperField));
         }
         self.read_image(alloc, src)
     }

@@ -5,7 +5,7 @@ ghost use Rattle.btr_node.specs.NodeSize.{IsNodeSize};
 ghost use Rattle.btr_walk.specs.Events.{TreeItem};
 ghost use Rattle.btr_walk.specs.Walks.{LieOn, found, wrong};
 ghost use Rattle.btr_names.specs.Inodes.{is_inode_of, inode_item, first_item, TellsInode};
-ghost use Rattle.btr_reader.specs.Opening.{IsAmong};
+ghost use Rattle.btr_reader.specs.Opening.{IsAmong, NamesNoLogTree};
 
 use btr_keys::{Inode, Key};
 use btr_names::InodeFound;
@@ -52,6 +52,7 @@ pub fn find_inode<S: BlockSource>(
     requires inside { LieOn (S.size src.old) ranges.now }
     ensures kept { S.kept src.old src.new }
     ensures cause { HasCauseOf BtrAnswer.Fault (S.faults src.old) (S.faults src.new) result }
+    ensures known { IfErr result NamesNoLogTree }
     ensures inode { IsTrue S.tells → (image : Image) → S.blocks src.old ≡ image → IfOk result (λ o. TellsInode o (inode_item (found image ranges.now tree) number)) }
     ensures ok { IsTrue S.tells → (image : Image) → S.blocks src.old ≡ image → OnOk result (wrong image ranges.now tree ≡ []) }
     ensures err { IsTrue S.tells → (image : Image) → S.blocks src.old ≡ image → IfErr result (IsAmong (wrong image ranges.now tree)) }

@@ -1,8 +1,13 @@
 // Laws of the definitions, each the contract of a function that does nothing.
-ghost use Rattle.btr_reader.specs.Laws.{OpenedMapsAreInBlocks};
+ghost use Rattle.btr_reader.specs.Laws.{OpenedMapsAreInBlocks, BtrfsRowsAreOne};
 
 /// The ranges of the map of an opened volume begin and end with blocks, so that the bytes of a block of addresses lie in
 /// one block of the device.
 pub fn opened_maps_are_in_blocks()
     ensures { OpenedMapsAreInBlocks }
+{}
+
+/// Two lists of rows of one volume are equal.
+pub fn btrfs_rows_are_one()
+    ensures { BtrfsRowsAreOne }
 {}

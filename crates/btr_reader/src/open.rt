@@ -1,13 +1,16 @@
 ghost use Rattle.std.specs.Prelude.{◌≡◌, ◌≤◌, [], Ok, Some, length, take, map, IsTrue, IfOk, IfErr, OnOk};
 ghost use Rattle.outside.specs.Fault.{HasCauseOf};
-ghost use Rattle.outside.specs.History.{Image};
-ghost use Rattle.btr_super.specs.Rules.{super_of};
+ghost use Rattle.outside.specs.History.{Image, OverTold, block_at};
+ghost use Rattle.btr_super.specs.Rules.{super_of, NamesNoLog};
 ghost use Rattle.btr_walk.specs.Walks.{LieOn};
-ghost use Rattle.btr_reader.specs.Opening.{form_of, chunk_tree, root_tree, super_on, boot_chunks, opening_refusals, boot_refusals, boot_ranges, IsOpened, IsAmong, IsNoFault, IsInBounds, IsSuperAnswer};
+ghost use Rattle.btr_names.specs.Refuses.{IsNoFault};
+ghost use Rattle.btr_reader.specs.Opening.{form_of, chunk_tree, root_tree, super_on, boot_chunks, opening_refusals, boot_refusals, boot_ranges, IsOpened, IsAmong, IsInBounds, IsSuperAnswer, NamesNoLogTree};
+ghost use Rattle.btr_reader.specs.Volume.{IsVolumeOn};
 
 use crate::bootstrap::array_chunks;
 use crate::chunk::add_chunks;
-use crate::chunk_tree::{check_tree, read_chunks};
+use crate::chunk_tree::read_chunks;
+use crate::roots::read_roots;
 use crate::volume::Btrfs;
 use btr_super::{Super, sum_kind};
 use btr_walk::{Form, MapRange, Pointer, Tree};
@@ -67,6 +70,7 @@ pub fn root_tree(sup: &Super) -> Tree
 fn super_in(block: &Block, device: u64) -> Result<Super, BtrRefusal>
     ensures value { result ≡ super_of block.now.bytes 16 device }
     ensures bounds { IfOk result IsInBounds }
+    ensures known { IfErr result NamesNoLog }
 {
     Super::read(block, SUPER_PLACE, device)
 }
@@ -77,6 +81,7 @@ fn read_super<S: BlockSource>(src: &mut S, device: u64) -> Result<Super, BtrAnsw
     ensures kept { S.kept src.old src.new }
     ensures cause { HasCauseOf BtrAnswer.Fault (S.faults src.old) (S.faults src.new) result }
     ensures bounds { IfOk result IsInBounds }
+    ensures known { IfErr result NamesNoLogTree }
     ensures ok { IsTrue S.tells → (image : Image) → S.blocks src.old ≡ image → IfOk result (λ s. super_on image ≡ Ok s) }
     ensures err { IsTrue S.tells → (image : Image) → S.blocks src.old ≡ image → IfErr result (IsSuperAnswer (super_on image)) }
 {
@@ -94,6 +99,20 @@ fn read_super<S: BlockSource>(src: &mut S, device: u64) -> Result<Super, BtrAnsw
     }
 }
 
+/// The superblock of a device of `device` blocks whose block 16 was read.
+pub fn super_by(block: &Block, device: u64) -> Result<Super, BtrAnswer>
+    ensures bounds { IfOk result IsInBounds }
+    ensures ok { IfOk result (λ s. super_of block.now.bytes 16 device ≡ Ok s) }
+    ensures err { IfErr result (IsSuperAnswer (super_of block.now.bytes 16 device)) }
+    ensures known { IfErr result NamesNoLogTree }
+    ensures cause { IfErr result IsNoFault }
+{
+    match super_in(block, device) {
+        Ok(sup) => Ok(sup),
+        Err(refusal) => Err(BtrAnswer::Refused(refusal)),
+    }
+}
+
 /// The map of addresses that the bootstrap array makes on a device of `device` blocks.
 fn read_boot(alloc: Global, sup: &Super, device: u64) -> Result<Vec<MapRange>, BtrAnswer>
     requires { IsInBounds sup.now }
@@ -101,6 +120,7 @@ fn read_boot(alloc: Global, sup: &Super, device: u64) -> Result<Vec<MapRange>, B
     ensures ok { OnOk result (boot_refusals device (boot_chunks sup.now) ≡ []) }
     ensures ranges { IfOk result (λ ranges. ranges.items ≡ boot_ranges (boot_chunks sup.now)) }
     ensures err { IfErr result (IsAmong (boot_refusals device (boot_chunks sup.now))) }
+    ensures known { IfErr result NamesNoLogTree }
     ensures cause { IfErr result IsNoFault }
 {
     let chunks = match array_chunks(
@@ -125,31 +145,61 @@ impl Btrfs {
     pub fn open<S: BlockSource>(alloc: Global, src: &mut S) -> Result<Btrfs, BtrAnswer>
         ensures kept { S.kept src.old src.new }
         ensures cause { HasCauseOf BtrAnswer.Fault (S.faults src.old) (S.faults src.new) result }
+        ensures known { IfErr result NamesNoLogTree }
         ensures device { IfOk result (λ b. b.device ≡ S.size src.old) }
-        ensures opened { IsTrue S.tells → (image : Image) → S.blocks src.old ≡ image → IfOk result (λ b. IsOpened image b.sup b.ranges.items) }
-        ensures refused { IsTrue S.tells → (image : Image) → S.blocks src.old ≡ image → IfErr result (IsAmong (opening_refusals image)) }
+        ensures opened { OverTold S.tells (S.blocks src.old) (λ image. IfOk result (IsVolumeOn image)) }
+        ensures refused { OverTold S.tells (S.blocks src.old) (λ image. IfErr result (IsAmong (opening_refusals image))) }
     {
         let device = src.len();
-        let sup = match read_super(src, device) {
-            Ok(sup) => sup,
-            Err(e) => return Err(e),
-        };
-        let boot = match read_boot(alloc, &sup, device) {
-            Ok(boot) => boot,
-            Err(e) => return Err(e),
-        };
-        let ranges = match read_chunks(alloc, src, chunk_tree(&sup), device, boot.as_slice()) {
-            Ok(ranges) => ranges,
-            Err(e) => return Err(e),
-        };
-        match check_tree(alloc, src, root_tree(&sup), ranges.as_slice()) {
-            Ok(()) => {}
-            Err(e) => return Err(e),
+        match read_super(src, device) {
+            Ok(sup) => Btrfs::open_with(alloc, src, sup),
+            Err(e) => Err(e),
         }
+    }
+
+    /// The same where block 16 was read already: it is read no second time.
+    pub fn open_by<S: BlockSource>(
+        alloc: Global,
+        src: &mut S,
+        block: &Block,
+    ) -> Result<Btrfs, BtrAnswer>
+        ensures kept { S.kept src.old src.new }
+        ensures cause { HasCauseOf BtrAnswer.Fault (S.faults src.old) (S.faults src.new) result }
+        ensures known { IfErr result NamesNoLogTree }
+        ensures device { IfOk result (λ b. b.device ≡ S.size src.old) }
+        ensures opened { OverTold S.tells (S.blocks src.old) (λ image. block.now.bytes ≡ block_at image 16 → IfOk result (IsVolumeOn image)) }
+        ensures refused { OverTold S.tells (S.blocks src.old) (λ image. block.now.bytes ≡ block_at image 16 → IfErr result (IsAmong (opening_refusals image))) }
+    {
+        match super_by(block, src.len()) {
+            Ok(sup) => Btrfs::open_with(alloc, src, sup),
+            Err(e) => Err(e),
+        }
+    }
+
+    /// Opens the volume of a source with this superblock.
+    pub(crate) fn open_with<S: BlockSource>(
+        alloc: Global,
+        src: &mut S,
+        sup: Super,
+    ) -> Result<Btrfs, BtrAnswer>
+        requires bounds { IsInBounds sup }
+        ensures kept { S.kept src.old src.new }
+        ensures cause { HasCauseOf BtrAnswer.Fault (S.faults src.old) (S.faults src.new) result }
+        ensures known { IfErr result NamesNoLogTree }
+        ensures sup { IfOk result (λ b. b.sup ≡ sup) }
+        ensures device { IfOk result (λ b. b.device ≡ S.size src.old) }
+        ensures opened { OverTold S.tells (S.blocks src.old) (λ image. super_on image ≡ Ok sup → IfOk result (IsVolumeOn image)) }
+        ensures refused { OverTold S.tells (S.blocks src.old) (λ image. super_on image ≡ Ok sup → IfErr result (IsAmong (opening_refusals image))) }
+    {
+        let device = src.len();
+        let boot = read_boot(alloc, &sup, device)?;
+        let ranges = read_chunks(alloc, src, chunk_tree(&sup), device, boot.as_slice())?;
+        let roots = read_roots(alloc, src, root_tree(&sup), ranges.as_slice())?;
         Ok(Btrfs {
             sup,
             device,
             ranges,
+            roots,
         })
     }
 

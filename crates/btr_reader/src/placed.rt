@@ -16,7 +16,7 @@ ghost use Rattle.btr_names.specs.Steps.{inode_node, links_of};
 ghost use Rattle.btr_contents.specs.Contents.{wanted_inode, HasContents};
 ghost use Rattle.btr_contents.specs.declared.wanted.Wanted.{Wanted as WantedOf};
 ghost use Rattle.btr_reader.specs.Made.{IsContent, IsMemory, IsReadTree, bytes_at, made_row};
-ghost use Rattle.btr_reader.specs.Opening.{IsNoFault};
+ghost use Rattle.btr_names.specs.Refuses.{IsNoFault};
 
 use crate::refused::refused;
 use crate::row::{Spot, copy_path, inode_row, no_content, tree_row};

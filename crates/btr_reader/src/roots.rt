@@ -1,17 +1,19 @@
-ghost use Rattle.std.specs.Prelude.{◌≡◌, ◌≤◌, [], Option, if◌then◌else◌, Some, None, IsTrue, IfOk, IfErr, OnOk};
+ghost use Rattle.std.specs.Prelude.{◌≡◌, ◌≤◌, ◌++◌, ◌∷◌, ◌||◌, [], ℕ, List, Option, if◌then◌else◌, Some, None, nat_eq, IfOk, IfErr, OnOk, IsTrue};
+ghost use Rattle.indexmap.specs.IndexMap.{get};
+ghost use Rattle.indexmap.specs.IndexSet.{contains};
 ghost use Rattle.outside.specs.Fault.{HasCauseOf};
-ghost use Rattle.outside.specs.History.{Image};
+ghost use Rattle.outside.specs.History.{Image, OverTold};
 ghost use Rattle.btr_node.specs.NodeSize.{IsNodeSize};
 ghost use Rattle.btr_walk.specs.Events.{TreeItem};
 ghost use Rattle.btr_walk.specs.Walks.{LieOn, found, wrong};
-ghost use Rattle.btr_names.specs.Roots.{is_root_of};
-ghost use Rattle.btr_reader.specs.Opening.{IsAmong};
-ghost use Rattle.btr_reader.specs.Roots.{last_or, root_item, pointer_of, root_pointer, TellsRoot};
+ghost use Rattle.btr_reader.specs.Opening.{IsAmong, NamesNoLogTree};
+ghost use Rattle.btr_reader.specs.Roots.{pointer_of, root_pointer, HasRoots, found_root};
 
 use btr_keys::Key;
 use btr_space_items::RootItem;
 use btr_walk::{MapRange, Pointer, Tree, TreeWalker};
-use outside::{BlockSource, BtrAnswer};
+use indexmap::{IndexMap, IndexSet};
+use outside::{BlockSource, BtrAnswer, Memory};
 use std::alloc::Global;
 
 /// The kind in the key of a root item.
@@ -49,47 +51,91 @@ fn pointer_of(body: &[u8]) -> Option<Pointer>
     }
 }
 
-/// The last root item of a tree, after one more item of the root tree.
-fn later_root(
-    last: Option<RootFound>,
-    number: u64,
-    key: &Key,
-    body: &[u8],
-    leaf: u64,
-) -> Option<RootFound>
-    ensures { (i : TreeItem) (before : Option TreeItem) → i.key ≡ key.now → i.body ≡ body.now → i.leaf ≡ leaf → TellsRoot last before
-        → TellsRoot result (last_or (if is_root_of number i then Some i else None) before) }
-{
-    if key.objectid == number && key.kind == ROOT_KIND {
-        return Some(RootFound {
-            leaf,
-            pointer: pointer_of(body),
-        });
-    }
-    last
+/// The root items of the trees of a volume: of each tree the last one.
+#[derive(Drop)]
+pub struct RootItems {
+    found: IndexMap<u64, RootFound>,
+    /// The numbers of the trees that have one.
+    pub numbers: IndexSet<u64>,
 }
 
-/// The root item of a tree in the root tree; of several the last one.
-pub fn find_root<S: BlockSource>(
+impl RootItems {
+    /// No root items.
+    fn new(alloc: Global) -> RootItems
+        ensures { HasRoots result [] }
+    {
+        RootItems {
+            found: IndexMap::new(alloc),
+            numbers: IndexSet::new(alloc),
+        }
+    }
+
+    /// Notes one more item of the root tree, which stands in a leaf. Items of other kinds are passed over.
+    fn note(&mut self, key: &Key, body: &[u8], leaf: u64) -> Result<(), Memory>
+        ensures { (items : List TreeItem) (i : TreeItem) → i.key ≡ key.now → i.body ≡ body.now → i.leaf ≡ leaf → HasRoots self.old items
+            → OnOk result (HasRoots self.new (items ++ i ∷ [])) }
+    {
+        if key.kind != ROOT_KIND {
+            return Ok(());
+        }
+        let root = RootFound {
+            leaf,
+            pointer: pointer_of(body),
+        };
+        note_last(&mut self.found, key.objectid, root)?;
+        note_number(&mut self.numbers, key.objectid)?;
+        Ok(())
+    }
+
+    /// The root item of the tree with this number.
+    pub fn of(&self, number: u64) -> Option<RootFound>
+        ensures { result ≡ found_root self.now number }
+    {
+        self.found.get(&number).copied()
+    }
+}
+
+/// Keeps the last root item of a tree.
+fn note_last(
+    roots: &mut IndexMap<u64, RootFound>,
+    number: u64,
+    root: RootFound,
+) -> Result<(), Memory>
+    ensures { OnOk result ((other : ℕ) → get nat_eq roots.new other ≡ (if nat_eq number other then Some root else get nat_eq roots.old other)) }
+{
+    roots.insert(number, root)?;
+    Ok(())
+}
+
+/// Adds the number of a tree.
+fn note_number(numbers: &mut IndexSet<u64>, number: u64) -> Result<(), Memory>
+    ensures { OnOk result ((other : ℕ) → contains nat_eq numbers.new other ≡ (nat_eq number other || contains nat_eq numbers.old other)) }
+{
+    numbers.insert(number)?;
+    Ok(())
+}
+
+/// The root items of a root tree: one walk.
+pub fn read_roots<S: BlockSource>(
     alloc: Global,
     src: &mut S,
     tree: Tree,
     ranges: &[MapRange],
-    number: u64,
-) -> Result<Option<RootFound>, BtrAnswer>
+) -> Result<RootItems, BtrAnswer>
     requires size { IsNodeSize tree.form.nodesize }
     requires high { tree.root.level ≤ 7 }
     requires inside { LieOn (S.size src.old) ranges.now }
     ensures kept { S.kept src.old src.new }
     ensures cause { HasCauseOf BtrAnswer.Fault (S.faults src.old) (S.faults src.new) result }
-    ensures root { IsTrue S.tells → (image : Image) → S.blocks src.old ≡ image → IfOk result (λ o. TellsRoot o (root_item number (found image ranges.now tree))) }
-    ensures ok { IsTrue S.tells → (image : Image) → S.blocks src.old ≡ image → OnOk result (wrong image ranges.now tree ≡ []) }
-    ensures err { IsTrue S.tells → (image : Image) → S.blocks src.old ≡ image → IfErr result (IsAmong (wrong image ranges.now tree)) }
+    ensures known { IfErr result NamesNoLogTree }
+    ensures roots { OverTold S.tells (S.blocks src.old) (λ image. IfOk result (λ roots. HasRoots roots (found image ranges.now tree))) }
+    ensures ok { OverTold S.tells (S.blocks src.old) (λ image. OnOk result (wrong image ranges.now tree ≡ [])) }
+    ensures err { OverTold S.tells (S.blocks src.old) (λ image. IfErr result (IsAmong (wrong image ranges.now tree))) }
 {
-    let mut last = None;
+    let mut roots = RootItems::new(alloc);
     let mut walker = TreeWalker::new(alloc, tree)?;
     while walker.advance(src, ranges)? {
-        last = later_root(last, number, &walker.key(), walker.body(), walker.leaf());
+        roots.note(&walker.key(), walker.body(), walker.leaf())?;
     }
-    Ok(last)
+    Ok(roots)
 }

@@ -1,11 +1,13 @@
-ghost use Rattle.std.specs.Prelude.{◌≡◌, ◌≤◌, ℕ, Bool, List, [], map, length, Some, nat_eq, IsTrue, IfErr, IfOk};
+ghost use Rattle.std.specs.Prelude.{◌≡◌, ◌≢◌, ◌≤◌, ℕ, Bool, List, map, Some, Err, nat_eq, IsTrue, IfErr, IfOk};
 ghost use Rattle.std.specs.Result.{MatchResult};
 ghost use Rattle.outside.specs.Fault.{HasCauseOf};
 ghost use Rattle.outside.specs.History.{Image};
+ghost use Rattle.outside.specs.declared.refusal.BtrRefusal.TheVariants.{BadBtrfs, LogPending};
+ghost use Rattle.outside.specs.declared.rule.BtrRule.TheVariants.{SuperField};
 ghost use Rattle.btr_walk.specs.declared.map.MapRange.{MapRange as RangeOf};
 ghost use Rattle.btr_walk.specs.declared.tree.Pointer.{Pointer as PointerOf};
 ghost use Rattle.btr_walk.specs.Events.{TreeItem};
-ghost use Rattle.btr_walk.specs.Walks.{LieOn, wrong};
+ghost use Rattle.btr_walk.specs.Walks.{LieOn};
 ghost use Rattle.fs_rows.specs.Rows.{WholeRow, row_of};
 ghost use Rattle.indexmap.specs.IndexMap.{get};
 ghost use Rattle.indexmap.specs.IndexSet.{contains};
@@ -14,16 +16,18 @@ ghost use Rattle.btr_files.specs.Blocks.{AreInBlocks};
 ghost use Rattle.btr_names.specs.Roots.{has_root};
 ghost use Rattle.btr_names.specs.Table.{HasNoted};
 ghost use Rattle.btr_reader.specs.Made.{IsChecked, IsMemory, IsReadTree, RefusesChecked, RefusesRows, RefusesTree};
-ghost use Rattle.btr_reader.specs.Opening.{IsNoFault, IsOpened, root_tree as root_tree_of, tree_of};
+ghost use Rattle.btr_names.specs.Refuses.{IsNoFault};
+ghost use Rattle.btr_reader.specs.Opening.{tree_of};
 ghost use Rattle.btr_reader.specs.Reading.{IsWalkable};
-ghost use Rattle.btr_reader.specs.Roots.{root_item, pointer_of};
+ghost use Rattle.btr_reader.specs.Roots.{root_item, pointer_of, HasRoots};
+ghost use Rattle.btr_reader.specs.Volume.{IsVolumeOn};
 ghost use Rattle.btr_reader.specs.Rows.{AreBtrfsRows, AreRows, roots_on};
 
 use crate::placed::row_at;
 use crate::refused::refused;
 use crate::volume::Btrfs;
 use btr_contents::Contents;
-use btr_names::{Names, inode_node, root_numbers};
+use btr_names::{Names, inode_node};
 use btr_walk::Tree;
 use fs_rows::Rows;
 use indexmap::IndexSet;
@@ -42,11 +46,15 @@ impl Btrfs {
     ///
     /// Over the source that was opened it is refused exactly where there is a log tree, or else where something is wrong
     /// with the tree, its names or the extents of a named file or symlink, by one of the things that are. The blocks of
-    /// each file are read once, however many names it has. Over a source with another number of blocks it is refused.
+    /// each file are read once, however many names it has. Over a source with another number of blocks it is refused,
+    /// whatever the blocks are.
     pub fn rows<S: BlockSource>(&self, alloc: Global, src: &mut S) -> Result<Rows, BtrAnswer>
         ensures kept { S.kept src.old src.new }
         ensures cause { HasCauseOf BtrAnswer.Fault (S.faults src.old) (S.faults src.new) result }
-        ensures rows { IsTrue S.tells → (image : Image) → S.blocks src.old ≡ image → length image ≡ self.now.device → IsOpened image self.now.sup self.now.ranges.items →
+        // Over any source: a log tree first, and then another number of blocks.
+        ensures logged { self.now.sup.log_root ≢ 0 → result ≡ Err (BtrAnswer.Refused (LogPending self.now.sup.log_root)) }
+        ensures resized { self.now.sup.log_root ≡ 0 → S.size src.old ≢ self.now.device → result ≡ Err (BtrAnswer.Refused (BadBtrfs 65536 SuperField)) }
+        ensures rows { IsTrue S.tells → (image : Image) → S.blocks src.old ≡ image → IsVolumeOn image self.now →
             MatchResult result (λ rows. (self.now.sup.log_root ≡ 0) × ((whole : List WholeRow) × AreBtrfsRows image self.now.sup self.now.ranges.items whole × (rows ≡ map row_of whole)))
             (RefusesRows image self.now.sup self.now.ranges.items) }
     {
@@ -58,21 +66,19 @@ impl Btrfs {
         if src.len() != self.device {
             return Err(refused(65536, BtrRule::SuperField));
         }
-        let tree = self.file_tree(alloc, src)?;
+        let tree = self.file_tree()?;
         self.read_rows(alloc, src, tree)
     }
 
     /// The file tree.
-    fn file_tree<S: BlockSource>(&self, alloc: Global, src: &mut S) -> Result<Tree, BtrAnswer>
-        requires inside { LieOn (S.size src.old) self.now.ranges.items }
-        ensures kept { S.kept src.old src.new }
-        ensures cause { HasCauseOf BtrAnswer.Fault (S.faults src.old) (S.faults src.new) result }
+    fn file_tree(&self) -> Result<Tree, BtrAnswer>
         ensures walkable { IfOk result IsWalkable }
-        ensures finds { IsTrue S.tells → (image : Image) → S.blocks src.old ≡ image → wrong image self.now.ranges.items (root_tree_of self.now.sup) ≡ [] →
+        ensures cause { IfErr result IsNoFault }
+        ensures finds { (image : Image) → HasRoots self.now.roots (roots_on image self.now.sup self.now.ranges.items) →
             MatchResult result (λ t. (i : TreeItem) × (p : PointerOf) × (root_item 5 (roots_on image self.now.sup self.now.ranges.items) ≡ Some i) × (pointer_of i.body ≡ Some p) × (t ≡ tree_of self.now.sup 5 p))
             (RefusesTree image self.now.sup self.now.ranges.items) }
     {
-        match self.find_tree(alloc, src, FILE_TREE)? {
+        match self.find_tree(FILE_TREE)? {
             Some(tree) => Ok(tree),
             None => Err(refused(self.sup.root, BtrRule::NoInode)),
         }
@@ -80,27 +86,13 @@ impl Btrfs {
 
     /// The inodes that are named in a tree with these names, whose root node has this address, where all the rules of names
     /// are kept.
-    fn named<S: BlockSource>(
-        &self,
-        alloc: Global,
-        src: &mut S,
-        names: &Names,
-        root: u64,
-    ) -> Result<IndexSet<NodeId>, BtrAnswer>
-        requires inside { LieOn (S.size src.old) self.now.ranges.items }
-        ensures kept { S.kept src.old src.new }
-        ensures cause { HasCauseOf BtrAnswer.Fault (S.faults src.old) (S.faults src.new) result }
-        ensures named { IsTrue S.tells → (image : Image) → S.blocks src.old ≡ image → wrong image self.now.ranges.items (root_tree_of self.now.sup) ≡ [] →
+    fn named(&self, alloc: Global, names: &Names, root: u64) -> Result<IndexSet<NodeId>, BtrAnswer>
+        ensures cause { IfErr result IsNoFault }
+        ensures named { (image : Image) → HasRoots self.now.roots (roots_on image self.now.sup self.now.ranges.items) →
             (items : List TreeItem) → HasNoted names.now items →
             MatchResult result (λ named. IsChecked names.now (contains same_node named) items root (has_root (roots_on image self.now.sup self.now.ranges.items))) (RefusesChecked (has_root (roots_on image self.now.sup self.now.ranges.items)) items root) }
     {
-        let roots = root_numbers(alloc, src, self.roots(), self.ranges.as_slice())?;
-        match names.check(alloc, root, &roots) {
-            Ok(named) => Ok(named),
-            Err(BtrAnswer::Refused(refusal)) => Err(BtrAnswer::Refused(refusal)),
-            // No call of the device was made, so that there was no memory.
-            Err(_) => Err(BtrAnswer::Memory),
-        }
+        names.check(alloc, root, &self.roots.numbers)
     }
 
     /// The rows of the file tree.
@@ -114,13 +106,13 @@ impl Btrfs {
         requires walkable { IsWalkable tree }
         ensures kept { S.kept src.old src.new }
         ensures cause { HasCauseOf BtrAnswer.Fault (S.faults src.old) (S.faults src.new) result }
-        ensures rows { IsTrue S.tells → (image : Image) → S.blocks src.old ≡ image → AreInBlocks self.now.ranges.items → wrong image self.now.ranges.items (root_tree_of self.now.sup) ≡ [] →
+        ensures rows { IsTrue S.tells → (image : Image) → S.blocks src.old ≡ image → AreInBlocks self.now.ranges.items → HasRoots self.now.roots (roots_on image self.now.sup self.now.ranges.items) →
             (i : TreeItem) (p : PointerOf) → root_item 5 (roots_on image self.now.sup self.now.ranges.items) ≡ Some i → pointer_of i.body ≡ Some p → tree ≡ tree_of self.now.sup 5 p →
             MatchResult result (λ rows. (whole : List WholeRow) × AreBtrfsRows image self.now.sup self.now.ranges.items whole × (rows ≡ map row_of whole)) (RefusesTree image self.now.sup self.now.ranges.items) }
     {
         let ranges = self.ranges.as_slice();
         let names = Names::read(alloc, src, tree, ranges)?;
-        let named = self.named(alloc, src, &names, tree.root.address)?;
+        let named = self.named(alloc, &names, tree.root.address)?;
         let contents = Contents::read(alloc, src, tree, ranges, &names, &named)?;
         rows_of(alloc, &names, &named, &contents)
     }

@@ -2,16 +2,18 @@ ghost use Rattle.std.specs.Prelude.{◌≤◌, IsTrue};
 ghost use Rattle.btr_walk.specs.Stack.{is_node_size};
 ghost use Rattle.btr_walk.specs.Walks.{LieOn};
 
+use crate::roots::RootItems;
 use btr_super::Super;
 use btr_walk::MapRange;
 
-/// An opened Btrfs volume: its superblock, and the map of its addresses.
+/// An opened Btrfs volume: its superblock, the map of its addresses, and the root items of its trees.
 #[derive(Drop)]
 pub struct Btrfs {
     pub sup: Super,
     /// How many blocks the device had.
     pub device: u64,
     pub ranges: Vec<MapRange>,
+    pub roots: RootItems,
     ghost size: { IsTrue (is_node_size sup.nodesize) },
     ghost high: { sup.root_level ≤ 7 },
     ghost inside: { LieOn device ranges.items },

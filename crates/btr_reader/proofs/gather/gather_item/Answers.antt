@@ -5,6 +5,7 @@ use Rattle.outside.specs.declared.rule.BtrRule.TheVariants.{Body}
 use Rattle.btr_keys.specs.FileExtent.{file_extent_value, file_extent_of}
 use Rattle.btr_keys.specs.declared.key.Key.{Key}
 use Rattle.btr_files.specs.Extents.{is_extent_key, is_extent_of}
+use Rattle.btr_reader.proofs.NoLogs.{of_extent}
 use Rattle.btr_reader.proofs.OneExtent.{item_refused, gathers_one}
 use Rattle.btr_reader.proofs.gather.gather_item.Goals as goal
 
@@ -29,3 +30,7 @@ returns-clause-ok c = λ i given key body leaf k.
     gathers_one c.args.ranges.now c.args.inode given i c.args.g.now c.add_extent.new.g (file_extent_value c.in-Some.extent) own read k
     (rw (offset, leaf) c.in-Ok.ensures.ok)
     (rw offset c.in_ok-add_extent.ensures.end) c.in_ok-add_extent.ensures.covered c.in_ok-add_extent.ensures.inline (rw offset c.in_ok-add_extent.ensures.pieces)
+
+pub returns-in-Err-clause-known : goal.returns-in-Err-clause-known
+returns-in-Err-clause-known c =
+    of_extent c.args.ranges.now c.args.g.now.reach.end c.args.g.now.reach.covered c.args.key.now.offset c.args.leaf (file_extent_value c.in-Some.extent) c.in-Err.refusal c.in-Err.ensures.err

@@ -30,9 +30,8 @@ pub returns-in_err-named-clause-rows : goal.returns-in_err-named-clause-rows
 returns-in_err-named-clause-rows g c = λ tells image is blocks right i p there at tree_is.
     let sup = c.args.self.now.sup in
     let ranges = c.args.self.now.ranges.items in
-    let later = g.met.S.BlockSource.kept_blocks c.args.src.now c.read.new.src tells c.read.ensures.kept ∙ is in
     let noted = here image sup ranges i p there at c.as_slice-ranges.result.now c.args.tree c.as_slice-ranges.ensures.value tree_is (λ r t. HasNoted c.in_ok-names.names (found image r t)) (c.in_ok-names.ensures.noted tells image is) in
-    let refused = c.in_err-named.ensures.named tells image later right (found image ranges (tree_of sup 5 p)) noted in
+    let refused = c.in_err-named.ensures.named image right (found image ranges (tree_of sup 5 p)) noted in
     let err = err_from_is_err_and c.from_residual-in_err-named.result c.from_residual-in_err-named.ensures.1 in
     rw err.1 (subst (RefusesTree image sup ranges) (sym err.2)
     (names_refused image sup ranges i p there at c.in_err-named.field-0.0
@@ -40,7 +39,7 @@ returns-in_err-named-clause-rows g c = λ tells image is blocks right i p there 
 
 pub read-requires-2-clause-inside : goal.read-requires-2-clause-inside
 read-requires-2-clause-inside g c =
-    let size = g.met.S.BlockSource.kept_size c.read.new.src c.named.new.src c.named.ensures.kept ∙ g.met.S.BlockSource.kept_size c.args.src.now c.read.new.src c.read.ensures.kept in
+    let size = g.met.S.BlockSource.kept_size c.args.src.now c.read.new.src c.read.ensures.kept in
     subst (λ (n : ℕ). LieOn n c.as_slice-ranges.result.now) (sym size) (subst (λ (r : List MapRange). LieOn (g.S.BlockSource.size c.args.src.now) r) (sym c.as_slice-ranges.ensures.value) c.requires.inside)
 
 pub returns-in_err-contents-clause-rows : goal.returns-in_err-contents-clause-rows
@@ -50,10 +49,9 @@ returns-in_err-contents-clause-rows g c = λ tells image is blocks right i p the
     let slice = c.as_slice-ranges.result.now in
     let same = c.as_slice-ranges.ensures.value in
     let later = g.met.S.BlockSource.kept_blocks c.args.src.now c.read.new.src tells c.read.ensures.kept ∙ is in
-    let last = g.met.S.BlockSource.kept_blocks c.read.new.src c.named.new.src tells c.named.ensures.kept ∙ later in
     let noted = here image sup ranges i p there at slice c.args.tree same tree_is (λ r t. HasNoted c.in_ok-names.names (found image r t)) (c.in_ok-names.ensures.noted tells image is) in
-    let checked = c.in_ok-named.ensures.named tells image later right (found image ranges (tree_of sup 5 p)) noted in
-    let refused = c.in_err-contents.ensures.refused tells image last (subst AreInBlocks (sym same) blocks) (c.in_ok-names.ensures.noted tells image is) in
+    let checked = c.in_ok-named.ensures.named image right (found image ranges (tree_of sup 5 p)) noted in
+    let refused = c.in_err-contents.ensures.refused tells image later (subst AreInBlocks (sym same) blocks) (c.in_ok-names.ensures.noted tells image is) in
     let err = err_from_is_err_and c.from_residual-in_err-contents.result c.from_residual-in_err-contents.ensures.1 in
     rw err.1 (subst (RefusesTree image sup ranges) (sym err.2)
     (contents_refused image sup ranges i p there at slice c.args.tree same tree_is (contains same_node c.in_ok-named.named) _ checked.are_named refused))
@@ -69,12 +67,11 @@ returns-clause-rows g c = λ tells image is blocks right i p there at tree_is.
     let has = contains same_node c.in_ok-named.named in
     let told : ℕ → Option Content = λ ino. get nat_eq c.in_ok-contents.contents.known ino in
     let later = g.met.S.BlockSource.kept_blocks c.args.src.now c.read.new.src tells c.read.ensures.kept ∙ is in
-    let last = g.met.S.BlockSource.kept_blocks c.read.new.src c.named.new.src tells c.named.ensures.kept ∙ later in
     let noted = here image sup ranges i p there at slice c.args.tree same tree_is (λ r t. HasNoted c.in_ok-names.names (found image r t)) (c.in_ok-names.ensures.noted tells image is) in
     let sound = here image sup ranges i p there at slice c.args.tree same tree_is (λ r t. wrong image r t ≡ []) (c.in_ok-names.ensures.ok tells image is) in
-    let checked = subst (λ (root : ℕ). IsChecked c.in_ok-names.names has items root roots) (ap (λ (t : Tree). t.root.address) tree_is) (c.in_ok-named.ensures.named tells image later right items noted) in
+    let checked = subst (λ (root : ℕ). IsChecked c.in_ok-names.names has items root roots) (ap (λ (t : Tree). t.root.address) tree_is) (c.in_ok-named.ensures.named image right items noted) in
     let contents = here image sup ranges i p there at slice c.args.tree same tree_is (λ r t. HasContents (wanted_at has (found image r t)) image r (found image r t) told)
-    (c.in_ok-contents.ensures.contents tells image last (subst AreInBlocks (sym same) blocks) (c.in_ok-names.ensures.noted tells image is)) in
+    (c.in_ok-contents.ensures.contents tells image later (subst AreInBlocks (sym same) blocks) (c.in_ok-names.ensures.noted tells image is)) in
     let extents = extents_sound roots items p.address checked.keeps has checked.are_named image ranges told contents in
     rows_answered image sup ranges i p there at sound checked.keeps extents c.rows_of.result
     (c.rows_of.ensures.rows image ranges items p.address roots (record { noted = noted; are_named = checked.are_named; keeps = checked.keeps; links = checked.links; contents = contents }))

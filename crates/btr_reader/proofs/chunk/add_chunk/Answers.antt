@@ -1,0 +1,9 @@
+use Rattle.std.proofs.Common.{[], ◌∷◌, ◌++◌, ◌∙◌, ap}
+use Rattle.btr_walk.specs.declared.map.MapRange.{MapRange}
+use Rattle.btr_reader.proofs.MapBlocks.{added_inside}
+use Rattle.btr_reader.proofs.chunk.add_chunk.Goals as goal
+
+pub returns-clause-inside : goal.returns-clause-inside
+returns-clause-inside c =
+    added_inside c.args.device c.args.ranges.now.items _ c.args.c.now c.requires.inside c.in-Ok.ensures.lies
+    (c.in_ok-push_range.ensures.ok ∙ ap (λ (r : MapRange). c.args.ranges.now.items ++ r ∷ []) c.range_of.ensures)

@@ -1,0 +1,42 @@
+ghost use Rattle.std.specs.Prelude.{◌≡◌, IsTrue};
+ghost use Rattle.std.specs.Result.{MatchResult};
+ghost use Rattle.outside.specs.Fault.{HasCauseOf};
+ghost use Rattle.outside.specs.History.{OverTold, block_at};
+ghost use Rattle.btr_reader.specs.Parts.{ListsBtrfs, RefusesBtrfsRows};
+
+use crate::open::super_by;
+use crate::volume::Btrfs;
+use fs_rows::Rows;
+use outside::{BlockSource, BtrAnswer, BtrRefusal};
+use std::alloc::Global;
+use vol_block::Block;
+
+impl Btrfs {
+    /// The rows of the volume of a source whose block 16 was read; that is read no second time.
+    ///
+    /// A log tree is answered before all that is wrong but with the superblock, and what is wrong with the superblock, the
+    /// chunks or the root tree before what is wrong with the file tree.
+    pub fn list<S: BlockSource>(
+        alloc: Global,
+        src: &mut S,
+        block: &Block,
+    ) -> Result<Rows, BtrAnswer>
+        ensures kept { S.kept src.old src.new }
+        ensures cause { HasCauseOf BtrAnswer.Fault (S.faults src.old) (S.faults src.new) result }
+        ensures rows { OverTold S.tells (S.blocks src.old) (λ image. block.now.bytes ≡ block_at image 16 → MatchResult result (ListsBtrfs image) (RefusesBtrfsRows image)) }
+    {
+        let sup = match super_by(block, src.len()) {
+            Ok(sup) => sup,
+            Err(answer) => return Err(answer),
+        };
+        if sup.log_root != 0 {
+            return Err(BtrAnswer::Refused(BtrRefusal::LogPending {
+                address: sup.log_root,
+            }));
+        }
+        match Btrfs::open_with(alloc, src, sup) {
+            Ok(volume) => volume.rows(alloc, src),
+            Err(answer) => Err(answer),
+        }
+    }
+}
