@@ -1,3 +1,2 @@
-pub mod Readable
+pub mod Told
 pub mod Text
-pub mod Laws

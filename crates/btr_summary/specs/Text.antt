@@ -5,7 +5,7 @@ use Rattle.uuid.specs.Text.{hyphenated_text, lower}
 use Rattle.outside.specs.History.{Image}
 use Rattle.sink_text.specs.Escape.{escaped}
 use Rattle.btr_summary.specs.declared.summary.Summary.{Summary}
-use Rattle.btr_summary.specs.Readable.{summary_of}
+use Rattle.btr_summary.specs.Told.{summary_of}
 
 -- a label ends before its first zero byte
 abbrev pub label_of : List ℕ → List ℕ

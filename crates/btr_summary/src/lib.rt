@@ -4,10 +4,8 @@
 //! way, and prints it to a sink. Nothing is printed of a volume that is refused.
 #![tactic(auto)]
 
-mod laws;
 mod print;
 mod read;
 mod summary;
 
-pub use laws::readable_has_no_refusal;
 pub use summary::Summary;
