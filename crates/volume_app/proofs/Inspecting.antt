@@ -11,7 +11,9 @@ use Rattle.outside.specs.declared.answer.VolAnswer.TheVariants as of_reiser
 use Rattle.reiser_volume.specs.Answers.{IsVolumeAnswer, RefusesVolume}
 use Rattle.reiser_volume.specs.Volume.{IsAccepted}
 use Rattle.btr_summary.specs.declared.summary.Summary.{Summary}
-use Rattle.btr_summary.specs.Readable.{IsReadable, BtrfsRefuses, summary_of}
+use Rattle.btr_reader.specs.Opening.{NamesNoLogTree}
+use Rattle.btr_reader.specs.Parts.{SavedImage, IsReadable, RefusesPart}
+use Rattle.btr_summary.specs.Told.{summary_of}
 use Rattle.btr_summary.specs.Text.{summary_text as btrfs_summary_text}
 use Rattle.volume_app.specs.declared.inspect.Inspected.TheVariants.{Reiser, Btrfs}
 use Rattle.volume_app.specs.declared.reiser.ReiserSummary.{ReiserSummary}
@@ -29,7 +31,7 @@ reiser_inspected disk told other accepted is =
       text = ap (λ (s : ReiserSummary). summary_text s) is ∙ ap (λ (f : Format). inspect_text f disk) format;
     }
 
-pub btrfs_inspected : (disk : Image) (told : Summary) → format_in disk ≡ formats.Btrfs → IsReadable disk → told ≡ summary_of disk → Inspects disk (Btrfs told)
+pub btrfs_inspected : (disk : Image) (told : Summary) → format_in disk ≡ formats.Btrfs → IsReadable disk SavedImage → told ≡ summary_of disk → Inspects disk (Btrfs told)
 btrfs_inspected disk told format readable is =
     record {
       inspectable = subst (λ (f : Format). IsInspectable f disk) (sym format) readable;
@@ -42,7 +44,7 @@ reiser_refused disk (of_reiser.Refused refusal) other refuses = (other, refuses)
 reiser_refused disk of_reiser.Fault other refuses = tt
 reiser_refused disk of_reiser.Memory other refuses = tt
 
-pub btrfs_refused : (disk : Image) (answer : BtrAnswer) → format_in disk ≡ formats.Btrfs → BtrfsRefuses disk answer → InspectRefuses disk (of_btrfs answer)
+pub btrfs_refused : (disk : Image) (answer : BtrAnswer) → format_in disk ≡ formats.Btrfs → RefusesPart disk SavedImage answer → InspectRefuses disk (of_btrfs answer)
 btrfs_refused disk (of_btr.Refused refusal) format refuses = (format, refuses)
 btrfs_refused disk of_btr.Fault format refuses = tt
 btrfs_refused disk of_btr.Memory format refuses = tt
@@ -52,7 +54,7 @@ reiser_known (of_reiser.Refused refusal) known = known
 reiser_known of_reiser.Fault known = tt
 reiser_known of_reiser.Memory known = tt
 
-pub btrfs_known : (answer : BtrAnswer) → IsInspectAnswer (of_btrfs answer)
-btrfs_known (of_btr.Refused refusal) = tt
-btrfs_known of_btr.Fault = tt
-btrfs_known of_btr.Memory = tt
+pub btrfs_known : (answer : BtrAnswer) → NamesNoLogTree answer → IsInspectAnswer (of_btrfs answer)
+btrfs_known (of_btr.Refused refusal) known = known
+btrfs_known of_btr.Fault known = tt
+btrfs_known of_btr.Memory known = tt

@@ -1,5 +1,4 @@
 pub mod Formats
 pub mod Inspecting
 pub mod Listing
-pub mod Logs
 pub mod Outcomes

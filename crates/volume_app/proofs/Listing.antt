@@ -15,7 +15,7 @@ use Rattle.outside.specs.declared.answer.VolAnswer.TheVariants.{Refused, Fault, 
 use Rattle.reiser_volume.specs.Answers.{IsVolumeAnswer, RefusesVolume}
 use Rattle.reiser_volume.specs.Volume.{AreRowsOf, IsAccepted}
 use Rattle.volume_app.specs.Answers.{of_volume, of_btrfs}
-use Rattle.volume_app.specs.Btrfs.{IsListableBtrfs, AreRowsOfBtrfs, RefusesBtrfsRows}
+use Rattle.btr_reader.specs.Parts.{HasBtrfsRows, AreRowsOfBtrfs, RefusesBtrfsRows}
 use Rattle.outside.specs.Format.{format_in}
 use Rattle.volume_app.specs.Listing.{IsListable, AreRowsIn, IsListText, Lists, ListRefuses, IsListAnswer}
 use Rattle.volume_app.specs.Reiser.{IsRowsAnswer}
@@ -31,7 +31,7 @@ reiser_listed disk rows other accepted (whole, are, seen) =
       seen = seen;
     }
 
-pub btrfs_listed : (disk : Image) (rows : List Row) → format_in disk ≡ formats.Btrfs → IsListableBtrfs disk → (whole : List WholeRow) × AreRowsOfBtrfs disk whole × (rows ≡ map row_of whole) → Lists disk rows
+pub btrfs_listed : (disk : Image) (rows : List Row) → format_in disk ≡ formats.Btrfs → HasBtrfsRows disk → (whole : List WholeRow) × AreRowsOfBtrfs disk whole × (rows ≡ map row_of whole) → Lists disk rows
 btrfs_listed disk rows format listable (whole, are, seen) =
     record {
       listable = subst (λ (f : Format). IsListable f disk) (sym format) listable;

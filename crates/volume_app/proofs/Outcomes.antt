@@ -14,11 +14,10 @@ use Rattle.volume_app.specs.Command.{Asked, inspect, list, help, version}
 use Rattle.volume_app.specs.Ending.{status}
 use Rattle.reiser_volume.specs.Volume.{IsAccepted}
 use Rattle.reiser_volume.proofs.Refusals.{not_refused}
-use Rattle.btr_summary.proofs.Telling.{readable_exactly}
 use Rattle.outside.specs.Format.{format_in}
 use Rattle.volume_app.specs.Inspect.{IsInspectable, InspectRefuses}
 use Rattle.volume_app.specs.Listing.{IsListable, ListRefuses}
-use Rattle.volume_app.proofs.Logs.{not_refused as rows_not_refused}
+use Rattle.btr_reader.proofs.PartsRead.{rows_not_refused}
 use Rattle.volume_app.specs.Outcome.{IsDone, EndsRight, Prints, HasFaults, ending_of}
 
 -- a text that was written is that of the ending
@@ -39,7 +38,7 @@ inspect_done : (disk : Image) (answer : Answer) (disk_old disk_new : ℕ) → Is
     → (answer ≡ Fault → Rose disk_old disk_new) → disk_new ≡ disk_old → disk_old < 2 ^ 64 - 1 → (status (Failed answer) ≡ 0) ⊎ (status (Failed answer) ≡ 4)
 inspect_done disk (Volume refusal) disk_old disk_new done refuses device same low = absurd (not_refused disk refusal refuses.1 (accepted_if (format_in disk) disk refuses.0 done))
 inspect_done disk (Btr refusal) disk_old disk_new done refuses device same low =
-    absurd ((readable_exactly disk).0 (subst (λ (f : Format). IsInspectable f disk) refuses.0 done) refusal refuses.1)
+    absurd (subst (λ (f : Format). IsInspectable f disk) refuses.0 done refusal refuses.1)
 inspect_done disk Fault disk_old disk_new done refuses device same low = absurd (not_risen disk_old disk_new same low (device refl))
 inspect_done disk Memory disk_old disk_new done refuses device same low = inr refl
 inspect_done disk WrongFormat disk_old disk_new done refuses device same low = absurd refuses

@@ -7,7 +7,8 @@ use Rattle.outside.specs.declared.answer.Answer.{Answer}
 use Rattle.outside.specs.declared.answer.Answer.TheVariants.{Volume, Btr, NoSpace, WrongFormat, ImageMissing, ImageMoved, ImageDamaged, ReservedUsed, Fault, Memory}
 use Rattle.reiser_volume.specs.Answers.{NamesVolumeRule}
 use Rattle.reiser_volume.specs.Volume.{IsAccepted, IsRefusal}
-use Rattle.btr_summary.specs.Readable.{IsReadable, IsBtrfsRefusal}
+use Rattle.btr_reader.specs.Parts.{SavedImage, IsReadable, IsBtrfsRefusal}
+use Rattle.btr_super.specs.Rules.{NamesNoLog}
 use Rattle.btr_summary.specs.Text.{btrfs_text, summary_text as btrfs_summary_text}
 use Rattle.volume_app.specs.declared.inspect.Inspected.{Inspected}
 use Rattle.volume_app.specs.declared.inspect.Inspected.TheVariants.{Reiser, Btrfs}
@@ -17,7 +18,7 @@ use Rattle.volume_app.specs.Reiser.{reiser_text, summary_text}
 -- a volume of this format of which `inspect` tells
 abbrev pub IsInspectable : Format → Image → Type 0
 IsInspectable formats.Reiser disk = IsAccepted disk
-IsInspectable formats.Btrfs disk = IsReadable disk
+IsInspectable formats.Btrfs disk = IsReadable disk SavedImage
 IsInspectable formats.Neither disk = ⊥
 
 -- what it prints of a volume of this format
@@ -39,7 +40,7 @@ pub record Inspects (disk : Image) (found : Inspected) : Type 0 where
 -- `inspect` may refuse a disk so; that a device failed or memory was short is said elsewhere
 abbrev pub InspectRefuses : Image → Answer → Type 0
 InspectRefuses disk (Volume refusal) = (format_in disk ≢ formats.Btrfs) × IsRefusal disk refusal
-InspectRefuses disk (Btr refusal) = (format_in disk ≡ formats.Btrfs) × IsBtrfsRefusal disk refusal
+InspectRefuses disk (Btr refusal) = (format_in disk ≡ formats.Btrfs) × IsBtrfsRefusal disk SavedImage refusal
 InspectRefuses disk Fault = Unit {0}
 InspectRefuses disk Memory = Unit {0}
 InspectRefuses disk WrongFormat = ⊥
@@ -49,10 +50,10 @@ InspectRefuses disk (ImageMoved block) = ⊥
 InspectRefuses disk (ImageDamaged refusal) = ⊥
 InspectRefuses disk (ReservedUsed block) = ⊥
 
--- The answers that `inspect` knows, whatever the disk gives: its refusals are those of volumes.
+-- The answers that `inspect` knows, whatever the disk gives: its refusals are those of volumes, and name no log tree.
 abbrev pub IsInspectAnswer : Answer → Type 0
 IsInspectAnswer (Volume refusal) = NamesVolumeRule refusal
-IsInspectAnswer (Btr refusal) = Unit {0}
+IsInspectAnswer (Btr refusal) = NamesNoLog refusal
 IsInspectAnswer Fault = Unit {0}
 IsInspectAnswer Memory = Unit {0}
 IsInspectAnswer WrongFormat = ⊥

@@ -1,9 +1,8 @@
 pub mod Answers
-pub mod Btrfs
 pub mod Command
 pub mod Ending
+pub mod Found
 pub mod Inspect
-pub mod Laws
 pub mod Listing
 pub mod Outcome
 pub mod Reiser

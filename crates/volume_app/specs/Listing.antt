@@ -11,13 +11,13 @@ use Rattle.outside.specs.declared.answer.Answer.{Answer}
 use Rattle.outside.specs.declared.answer.Answer.TheVariants.{Volume, Btr, NoSpace, WrongFormat, ImageMissing, ImageMoved, ImageDamaged, ReservedUsed, Fault, Memory}
 use Rattle.reiser_volume.specs.Answers.{NamesVolumeRule}
 use Rattle.reiser_volume.specs.Volume.{AreRowsOf, IsAccepted, IsRefusal}
-use Rattle.volume_app.specs.Btrfs.{IsListableBtrfs, AreRowsOfBtrfs, IsRowsRefusal}
+use Rattle.btr_reader.specs.Parts.{HasBtrfsRows, AreRowsOfBtrfs, IsRowsRefusal}
 use Rattle.outside.specs.Format.{format_in}
 
 -- a volume of this format that `list` reads
 abbrev pub IsListable : Format → Image → Type 0
 IsListable Reiser disk = IsAccepted disk
-IsListable Btrfs disk = IsListableBtrfs disk
+IsListable Btrfs disk = HasBtrfsRows disk
 IsListable Neither disk = ⊥
 
 -- the rows of a volume of this format

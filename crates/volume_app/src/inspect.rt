@@ -1,18 +1,19 @@
 ghost use Rattle.std.specs.Prelude.{◌≡◌, ◌≢◌, None, IfErr, IsTrue};
 ghost use Rattle.std.specs.Result.{MatchResult};
 ghost use Rattle.outside.specs.Fault.{HasCause, HasCauseOf, Takes};
-ghost use Rattle.outside.specs.History.{Image, reads};
+ghost use Rattle.outside.specs.History.{Image, block_at, reads};
 ghost use Rattle.vol_block.specs.declared.format.Format.TheVariants as formats;
 ghost use Rattle.outside.specs.Format.{format_in};
+ghost use Rattle.volume_app.specs.Found.{IsFoundOn};
 ghost use Rattle.volume_app.specs.Inspect.{inspected_text, Inspects, InspectRefuses, IsInspectAnswer};
 
 use crate::answers::{of_btrfs, of_volume};
-use crate::format::open_format;
+use crate::format::{Found, open_format};
 use crate::reiser::ReiserSummary;
 use btr_summary::Summary;
 use outside::{Access, Answer, BlockSource, Disk, Fault, Sink};
 use std::alloc::Global;
-use vol_block::Format;
+use vol_block::{Block, Format};
 
 /// What `inspect` prints of a volume.
 #[derive(Clone, Copy, Debug)]
@@ -46,24 +47,24 @@ pub fn inspect<D: Disk>(alloc: Global, path: &str, disk: &mut D) -> Result<Inspe
     ensures known { IfErr result IsInspectAnswer }
 {
     match open_format(path, disk) {
-        Ok(format) => inspect_as(format, alloc, disk),
+        Ok(found) => inspect_as(&found, alloc, disk),
         Err(Fault) => Err(Answer::Fault),
     }
 }
 
-/// Checks a volume of this format.
+/// Checks a volume of the format that was found.
 fn inspect_as<S: BlockSource>(
-    format: Format,
+    found: &Found,
     alloc: Global,
     source: &mut S,
 ) -> Result<Inspected, Answer>
     ensures kept { S.kept source.old source.new }
     ensures cause { HasCauseOf Answer.Fault (S.faults source.old) (S.faults source.new) result }
-    ensures right { IsTrue S.tells → (image : Image) → S.blocks source.old ≡ image → format_in image ≡ format → MatchResult result (Inspects image) (InspectRefuses image) }
+    ensures right { IsTrue S.tells → (image : Image) → S.blocks source.old ≡ image → IsFoundOn image found.now → MatchResult result (Inspects image) (InspectRefuses image) }
     ensures known { IfErr result IsInspectAnswer }
 {
-    match format {
-        Format::Btrfs => inspect_btrfs(alloc, source),
+    match found.format {
+        Format::Btrfs => inspect_btrfs(alloc, source, &found.block),
         Format::Reiser | Format::Neither => inspect_reiser(alloc, source),
     }
 }
@@ -81,14 +82,18 @@ fn inspect_reiser<S: BlockSource>(alloc: Global, source: &mut S) -> Result<Inspe
     }
 }
 
-/// Checks a Btrfs volume.
-fn inspect_btrfs<S: BlockSource>(alloc: Global, source: &mut S) -> Result<Inspected, Answer>
+/// Checks a Btrfs volume, by its block 16.
+fn inspect_btrfs<S: BlockSource>(
+    alloc: Global,
+    source: &mut S,
+    block: &Block,
+) -> Result<Inspected, Answer>
     ensures kept { S.kept source.old source.new }
     ensures cause { HasCauseOf Answer.Fault (S.faults source.old) (S.faults source.new) result }
-    ensures right { IsTrue S.tells → (image : Image) → S.blocks source.old ≡ image → format_in image ≡ formats.Btrfs → MatchResult result (Inspects image) (InspectRefuses image) }
+    ensures right { IsTrue S.tells → (image : Image) → S.blocks source.old ≡ image → format_in image ≡ formats.Btrfs → block.now.bytes ≡ block_at image 16 → MatchResult result (Inspects image) (InspectRefuses image) }
     ensures known { IfErr result IsInspectAnswer }
 {
-    match Summary::read(alloc, source) {
+    match Summary::read(alloc, source, block) {
         Ok(summary) => Ok(Inspected::Btrfs(summary)),
         Err(answer) => Err(of_btrfs(answer)),
     }

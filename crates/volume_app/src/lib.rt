@@ -5,12 +5,10 @@
 #![tactic(auto)]
 
 mod answers;
-mod btrfs;
 mod command;
 mod ending;
 mod format;
 mod inspect;
-mod laws;
 mod list;
 mod reiser;
 #[cfg(test)]
@@ -20,5 +18,4 @@ mod top;
 
 pub use command::{Command, read_words};
 pub use ending::Ending;
-pub use laws::listable_has_no_refusal;
 pub use top::run;

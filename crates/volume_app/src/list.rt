@@ -1,19 +1,20 @@
 ghost use Rattle.std.specs.Prelude.{◌≡◌, ◌≢◌, None, IfErr, IsTrue};
 ghost use Rattle.std.specs.Result.{MatchResult};
 ghost use Rattle.outside.specs.Fault.{HasCauseOf};
-ghost use Rattle.outside.specs.History.{Image, reads};
+ghost use Rattle.outside.specs.History.{Image, block_at, reads};
 ghost use Rattle.vol_block.specs.declared.format.Format.TheVariants as formats;
 ghost use Rattle.outside.specs.Format.{format_in};
+ghost use Rattle.volume_app.specs.Found.{IsFoundOn};
 ghost use Rattle.volume_app.specs.Listing.{Lists, ListRefuses, IsListAnswer};
 
 use crate::answers::{of_btrfs, of_volume};
-use crate::btrfs::btrfs_rows;
-use crate::format::open_format;
+use crate::format::{Found, open_format};
 use crate::reiser::reiser_rows;
+use btr_reader::Btrfs;
 use fs_rows::Rows;
 use outside::{Access, Answer, BlockSource, Disk, Fault};
 use std::alloc::Global;
-use vol_block::Format;
+use vol_block::{Block, Format};
 
 /// Opens the disk for reading, checks the volume, and makes its rows.
 pub fn list<D: Disk>(alloc: Global, path: &str, disk: &mut D) -> Result<Rows, Answer>
@@ -25,20 +26,20 @@ pub fn list<D: Disk>(alloc: Global, path: &str, disk: &mut D) -> Result<Rows, An
     ensures known { IfErr result IsListAnswer }
 {
     match open_format(path, disk) {
-        Ok(format) => list_as(format, alloc, disk),
+        Ok(found) => list_as(&found, alloc, disk),
         Err(Fault) => Err(Answer::Fault),
     }
 }
 
-/// The rows of a volume of this format.
-fn list_as<S: BlockSource>(format: Format, alloc: Global, source: &mut S) -> Result<Rows, Answer>
+/// The rows of a volume of the format that was found.
+fn list_as<S: BlockSource>(found: &Found, alloc: Global, source: &mut S) -> Result<Rows, Answer>
     ensures kept { S.kept source.old source.new }
     ensures cause { HasCauseOf Answer.Fault (S.faults source.old) (S.faults source.new) result }
-    ensures right { IsTrue S.tells → (image : Image) → S.blocks source.old ≡ image → format_in image ≡ format → MatchResult result (Lists image) (ListRefuses image) }
+    ensures right { IsTrue S.tells → (image : Image) → S.blocks source.old ≡ image → IsFoundOn image found.now → MatchResult result (Lists image) (ListRefuses image) }
     ensures known { IfErr result IsListAnswer }
 {
-    match format {
-        Format::Btrfs => list_btrfs(alloc, source),
+    match found.format {
+        Format::Btrfs => list_btrfs(alloc, source, &found.block),
         Format::Reiser | Format::Neither => list_reiser(alloc, source),
     }
 }
@@ -56,14 +57,18 @@ fn list_reiser<S: BlockSource>(alloc: Global, source: &mut S) -> Result<Rows, An
     }
 }
 
-/// The rows of a Btrfs volume.
-fn list_btrfs<S: BlockSource>(alloc: Global, source: &mut S) -> Result<Rows, Answer>
+/// The rows of a Btrfs volume, by its block 16.
+fn list_btrfs<S: BlockSource>(
+    alloc: Global,
+    source: &mut S,
+    block: &Block,
+) -> Result<Rows, Answer>
     ensures kept { S.kept source.old source.new }
     ensures cause { HasCauseOf Answer.Fault (S.faults source.old) (S.faults source.new) result }
-    ensures right { IsTrue S.tells → (image : Image) → S.blocks source.old ≡ image → format_in image ≡ formats.Btrfs → MatchResult result (Lists image) (ListRefuses image) }
+    ensures right { IsTrue S.tells → (image : Image) → S.blocks source.old ≡ image → format_in image ≡ formats.Btrfs → block.now.bytes ≡ block_at image 16 → MatchResult result (Lists image) (ListRefuses image) }
     ensures known { IfErr result IsListAnswer }
 {
-    match btrfs_rows(alloc, source) {
+    match Btrfs::list(alloc, source, block) {
         Ok(rows) => Ok(rows),
         Err(answer) => Err(of_btrfs(answer)),
     }
