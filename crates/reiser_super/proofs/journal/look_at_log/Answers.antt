@@ -16,7 +16,7 @@ loop-place-preserved g c =
     let before = c.loop-place.invariant in
     record {
       kept = g.met.S.BlockSource.kept_trans _ _ _ before.kept c.read.ensures.kept;
-      faults = omega (arith, before.faults, c.read.ensures.cause.later);
+      same = omega (arith, before.same, c.in_ok-read.ensures.cause.kept);
       none = λ tells.
           let same = g.met.S.BlockSource.kept_blocks c.args.src.now c.loop-place.src tells before.kept in
           let read : c.read.new.into.bytes ≡ log_block c.args.sup.now (g.S.BlockSource.blocks c.args.src.now) c.loop-place.place =
