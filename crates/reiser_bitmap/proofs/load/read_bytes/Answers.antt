@@ -1,4 +1,4 @@
-use Rattle.std.proofs.Common.{◌≡◌, ◌-◌, ◌*◌, ◌≤◌, min, ℕ, List, length, sym, ◌∙◌, ap, subst, arith}
+use Rattle.std.proofs.Common.{refl, ◌≡◌, ◌-◌, ◌*◌, ◌≤◌, min, ℕ, List, length, sym, ◌∙◌, ap, subst, arith}
 use Rattle.outside.specs.History.{Image, block_at}
 use Rattle.reiser_bitmap.specs.Layout.{bitmap_block}
 use Rattle.reiser_bitmap.proofs.LoadLemmas.{HasBitsOf, none_read, more_read, all_read}
@@ -7,7 +7,7 @@ use Rattle.reiser_bitmap.proofs.load.read_bytes.Goals as goal
 pub loop-k-init : goal.loop-k-init
 loop-k-init g c = record {
   kept = g.met.S.BlockSource.kept_refl c.args.src.now;
-  faults = omega arith;
+  same = refl;
   filled = omega (arith, ap length c.in_ok-bytes.ensures);
   read = λ tells. none_read _ c.in_ok-bytes.bytes.items c.in_ok-bytes.ensures;
 }
@@ -20,7 +20,7 @@ loop-k-preserved g c =
     let count : c.min-count.result ≡ min 4096 (c.div_ceil-size.result - length c.loop-k.bytes.items) = omega (arith, c.min-count.ensures, c.len.ensures) in
     record {
       kept = g.met.S.BlockSource.kept_trans _ _ _ before.kept c.read.ensures.kept;
-      faults = omega (arith, before.faults, c.read.ensures.cause.later);
+      same = omega (arith, before.same, c.in_ok-read.ensures.cause.kept);
       filled = omega (arith, c.in_ok-append.ensures.size, count, full, before.filled);
       read = λ tells.
           let image : Image = g.S.BlockSource.blocks c.args.src.now in
