@@ -1,26 +1,31 @@
 -- From the leaves of a tree up to its root.
-use Rattle.std.proofs.Common.{◌≡◌, ℕ, zero, suc, ◌+◌, ◌^◌, ◌<◌, ◌≤◌, List, [], ◌∷◌, ◌++◌, length, get_or, refl, sym, ◌∙◌, ap, subst, arith, append_assoc, ⊎_elim}
+use Rattle.std.proofs.Common.{◌≡◌, ℕ, zero, suc, ◌+◌, ◌^◌, ◌<◌, ◌≤◌, Bool, List, [], ◌∷◌, ◌++◌, length, map, get_or, refl, sym, ◌∙◌, ap, subst, arith, append_assoc, ⊎_elim}
 use Rattle.std.specs.List.{flat_map, sum}
 use Rattle.std.specs.Int.{div_ceil}
 use Rattle.std.proofs.Math.Nat.{pow-suc}
 use Rattle.std.proofs.lemmas.Bool.{cases_lt}
-use Rattle.std.proofs.lemmas.List.{append-nil}
+use Rattle.std.proofs.lemmas.List.{append-nil, length_push}
 use Rattle.btr_node.specs.Inner.{first_keys}
 use Rattle.btr_node.specs.Leaf.{Item, keys_of}
 use Rattle.btr_node.specs.NodeSize.{IsNodeSize}
 use Rattle.btr_node.specs.Order.{Ascends, ascends}
 use Rattle.btr_node.specs.declared.child.Child.{Child}
 use Rattle.btr_walk.specs.Laws.{IsSubtree, SubtreesAreTrees}
-use Rattle.btr_walk.specs.Events.{may_be_bare}
+use Rattle.btr_walk.specs.Events.{may_be_bare, nodes_in, pointer_events}
 use Rattle.btr_walk.specs.Map.{identity}
 use Rattle.btr_walk.specs.Node.{child_pointer}
 use Rattle.btr_walk.specs.declared.tree.Pointer.{Pointer}
-use Rattle.btr_tree.specs.Building.{Made, pointer_to}
+use Rattle.btr_tree.specs.Building.{Made, StandAt, pointer_to}
 use Rattle.btr_tree.specs.Packing.{fan_out, level_sizes}
-use Rattle.btr_tree.specs.Roots.{AreRoots, IsExtended, HasRoots, IsRaised, IsRoot}
+use Rattle.btr_tree.specs.Roots.{AreRoots, IsExtended, HasRoots, IsRaised, IsRoot, HasNodes, AreFirst, nodes_below, pointers_to, level_pointers}
+use Rattle.std.specs.List.Sorted.{IsPermutation}
+use Rattle.std.proofs.lemmas.List.Sorted.{IsPermutation-refl, IsPermutation-trans, IsPermutation-append_right, IsPermutation-append_comm}
+use Rattle.std.proofs.lemmas.List.Sums.{sum_by_push}
+use Rattle.outside.specs.History.{Image}
+use Rattle.btr_tree.proofs.Meeting.{below_one, levels_more}
 use Rattle.btr_tree.proofs.KeyOrder.{heads_ascend}
-use Rattle.btr_tree.proofs.RaisingLoop.{extended_none}
-use Rattle.btr_tree.proofs.Sizes.{IsSmaller, smaller, sum-one, sum-more}
+use Rattle.btr_tree.proofs.RaisingLoop.{extended_none, stand_front}
+use Rattle.btr_tree.proofs.Sizes.{IsSmaller, smaller, sum-one, sum-more, sizes-one, sizes-more}
 
 -- the keys of roots ascend where those of all items do
 pub roots_ascend : (m : Made) (level : ℕ) (children : List Child) (items : List Item) → HasRoots m level children items → Ascends (keys_of items) → Ascends (first_keys children)
@@ -49,6 +54,13 @@ pub record IsClimbing (old now : Made) (leaves children : List Child) (level : �
   pub rest : length now.nodes + sum (level_sizes (suc depth) (fan_out old.form.nodesize) (length children))
       ≡ sum (level_sizes 256 (fan_out old.form.nodesize) (length leaves)) + length children
   pub roots : (items : List Item) → HasRoots old 0 leaves items → HasRoots now level children items
+  -- the sizes of the levels below
+  pub sizes : List ℕ
+  pub levels : length sizes ≡ level
+  pub sum_is : length now.nodes ≡ sum sizes + length children
+  pub sizes_are : level_sizes 256 (fan_out old.form.nodesize) (length leaves) ≡ sizes ++ level_sizes (suc depth) (fan_out old.form.nodesize) (length children)
+  pub nodes : (items : List Item) → HasRoots old 0 leaves items → AreFirst old leaves → (image : Image) (bare : Bool) → StandAt image now.form.nodesize now.slots now.nodes
+      → IsPermutation (nodes_below image now bare level children) (level_pointers old.generation 0 0 old.slots (sizes ++ length children ∷ []))
 
 pub climbing_begins : (old : Made) (leaves : List Child) → 1 ≤ length leaves → length leaves ≤ 2 ^ 64 → length old.nodes ≡ length leaves → length old.nodes ≤ length old.slots
     → IsClimbing old old leaves leaves 0
@@ -61,6 +73,13 @@ climbing_begins old leaves some small made few = record {
   few = few;
   rest = omega arith;
   roots = λ items has. has;
+  sizes = [];
+  levels = refl;
+  sum_is = omega (arith, made);
+  sizes_are = refl;
+  nodes = λ items has first image bare stand.
+      subst (λ ps. IsPermutation ps (level_pointers old.generation 0 0 old.slots (length leaves ∷ [])))
+      (append-nil (pointers_to old.generation 0 0 (length leaves) old.slots) ∙ sym (first image bare stand)) (IsPermutation-refl (level_pointers old.generation 0 0 old.slots (length leaves ∷ [])));
 }
 
 -- a level is a byte
@@ -71,15 +90,31 @@ climbing_below old now leaves children level so_far more = by_depth so_far.depth
     by_depth zero deep enough = absurd (omega arith)
     by_depth (suc depth) deep enough = omega arith
 
+zeroth : (k : ℕ) → k ≡ 0 + k
+zeroth k = omega arith
+
+sum_push : (xs : List ℕ) (n : ℕ) → sum (xs ++ n ∷ []) ≡ sum xs + n
+sum_push xs n = sum_by_push (λ x. x) xs n
+
+stand_old : (image : Image) (old new : Made) → IsExtended old new → StandAt image new.form.nodesize new.slots new.nodes → StandAt image old.form.nodesize old.slots old.nodes
+stand_old image old new ext stand =
+    stand_front image old.form.nodesize old.slots old.nodes ext.more (subst (λ (x : Made). StandAt image x.form.nodesize x.slots x.nodes) ext.is stand)
+
+met_more : {X : Type 0} (all own below old new : List X) → IsPermutation all (own ++ below) → IsPermutation below old → new ≡ old ++ own → IsPermutation all new
+met_more all own below old new upper lower is =
+    subst (IsPermutation all) (sym is)
+    (IsPermutation-trans all (own ++ below) (old ++ own) upper (IsPermutation-trans (own ++ below) (own ++ old) (old ++ own) (IsPermutation-append_right own below old lower) (IsPermutation-append_comm own old)))
+
 pub climbing_goes_on : (old now new : Made) (leaves children parents : List Child) (level above : ℕ) → 121 ≤ fan_out old.form.nodesize → IsClimbing old now leaves children level
     → 1 < length children → above ≡ suc level → IsRaised now children above new parents → IsClimbing old new leaves parents above
-climbing_goes_on old now new leaves children parents level above wide so_far more at raised = by_depth so_far.depth so_far.deep so_far.enough so_far.rest
+climbing_goes_on old now new leaves children parents level above wide so_far more at raised = by_depth so_far.depth so_far.deep so_far.enough so_far.rest so_far.sizes_are
   where
     by_depth : (depth : ℕ) → depth + level ≡ 255 → length children ≤ 2 ^ depth
         → length now.nodes + sum (level_sizes (suc depth) (fan_out old.form.nodesize) (length children)) ≡ sum (level_sizes 256 (fan_out old.form.nodesize) (length leaves)) + length children
+        → level_sizes 256 (fan_out old.form.nodesize) (length leaves) ≡ so_far.sizes ++ level_sizes (suc depth) (fan_out old.form.nodesize) (length children)
         → IsClimbing old new leaves parents above
-    by_depth zero deep enough rest = absurd (omega arith)
-    by_depth (suc depth) deep enough rest =
+    by_depth zero deep enough rest sizes = absurd (omega arith)
+    by_depth (suc depth) deep enough rest sizes =
         let fan : ℕ = fan_out old.form.nodesize in
         let n : ℕ = length children in
         let form : fan_out now.form.nodesize ≡ fan = ap (λ (x : Made). fan_out x.form.nodesize) so_far.extended.is in
@@ -96,6 +131,29 @@ climbing_goes_on old now new leaves children parents level above wide so_far mor
           few = raised.few;
           rest = omega (arith, raised.made, sums, rest);
           roots = λ items has. raised.roots level items at (so_far.roots items has);
+          sizes = so_far.sizes ++ n ∷ [];
+          levels = length_push so_far.sizes n ∙ omega (arith, so_far.levels, at);
+          sum_is = omega (arith, raised.made, so_far.sum_is, sum_push so_far.sizes n);
+          sizes_are =
+              sizes
+              ∙ (ap (λ ss. so_far.sizes ++ ss) (sizes-more (suc depth) fan n more ∙ ap (λ (k : ℕ). n ∷ level_sizes (suc depth) fan k) (sym count))
+              ∙ sym (append_assoc so_far.sizes (n ∷ []) (level_sizes (suc depth) fan (length parents))));
+          nodes = λ items has first image bare stand.
+              let stand_now : StandAt image now.form.nodesize now.slots now.nodes = stand_old image now new raised.extended stand in
+              let lower : IsPermutation (nodes_below image now bare level children) (level_pointers old.generation 0 0 old.slots (so_far.sizes ++ n ∷ [])) = so_far.nodes items has first image bare stand_now in
+              let same : nodes_below image now bare level children ≡ nodes_below image new bare level children = ap (λ (x : Made). nodes_below image x bare level children) (sym (ap (λ (x : Made). let y : Made = record now { form = x.form; owner = x.owner } in y) raised.extended.is)) in
+              let upper = raised.nodes level items at (so_far.roots items has) image bare stand in
+              let skip : length now.nodes ≡ sum (so_far.sizes ++ n ∷ []) = omega (arith, so_far.sum_is, sum_push so_far.sizes n) in
+              let at_level : above ≡ length (so_far.sizes ++ n ∷ []) = omega (arith, so_far.levels, at, length_push so_far.sizes n) in
+              let own : map (child_pointer above) parents ≡ pointers_to old.generation (0 + length (so_far.sizes ++ n ∷ [])) (0 + sum (so_far.sizes ++ n ∷ [])) (length parents) old.slots =
+              raised.pointers
+              ∙ (ap (λ (x : Made). pointers_to x.generation above (length now.nodes) (length parents) x.slots) so_far.extended.is
+              ∙ (ap (λ (k : ℕ). pointers_to old.generation above k (length parents) old.slots) (skip ∙ zeroth (sum (so_far.sizes ++ n ∷ [])))
+              ∙ ap (λ (l : ℕ). pointers_to old.generation l (0 + sum (so_far.sizes ++ n ∷ [])) (length parents) old.slots) (at_level ∙ zeroth (length (so_far.sizes ++ n ∷ []))))) in
+              met_more (nodes_below image new bare above parents) (map (child_pointer above) parents) (nodes_below image new bare level children) (level_pointers old.generation 0 0 old.slots (so_far.sizes ++ n ∷ []))
+              (level_pointers old.generation 0 0 old.slots ((so_far.sizes ++ n ∷ []) ++ length parents ∷ [])) upper
+              (subst (λ ps. IsPermutation ps (level_pointers old.generation 0 0 old.slots (so_far.sizes ++ n ∷ []))) same lower)
+              (levels_more old.generation 0 0 old.slots (so_far.sizes ++ n ∷ []) (length parents) ∙ ap (λ ps. level_pointers old.generation 0 0 old.slots (so_far.sizes ++ n ∷ []) ++ ps) (sym own));
         }
 
 -- where the next level finds too few slots, so does the tree
@@ -121,6 +179,30 @@ climbing_short old now leaves children level wide so_far more short = by_depth s
 pub climbing_count : (old now : Made) (leaves children : List Child) (level : ℕ) → IsClimbing old now leaves children level → length children ≤ 1
     → length now.nodes ≡ sum (level_sizes 256 (fan_out old.form.nodesize) (length leaves))
 climbing_count old now leaves children level so_far one = omega (arith, so_far.rest, sum-one so_far.depth (fan_out old.form.nodesize) (length children) one, so_far.some)
+
+-- one root meets the nodes of all levels
+pub climbing_nodes : (old now : Made) (leaves children : List Child) (level : ℕ) (items : List Item) (d : Child) → IsClimbing old now leaves children level → length children ≡ 1 → HasRoots old 0 leaves items → AreFirst old leaves
+    → HasNodes now (get_or children 0 d).address level (level_sizes 256 (fan_out old.form.nodesize) (length leaves))
+climbing_nodes old now leaves children level items d so_far one has first = λ image stand.
+    let sizes : level_sizes 256 (fan_out old.form.nodesize) (length leaves) ≡ so_far.sizes ++ length children ∷ [] =
+    so_far.sizes_are ∙ ap (λ ss. so_far.sizes ++ ss) (sizes-one so_far.depth (fan_out old.form.nodesize) (length children) (omega (arith, one))) in
+    let bare : Bool = may_be_bare (pointer_to now.generation level (get_or children 0 d).address) in
+    let met = so_far.nodes items has first image bare stand in
+    let same : nodes_below image now bare level children ≡ nodes_in (pointer_events image identity now.form now.owner bare (pointer_to now.generation level (get_or children 0 d).address)) =
+    one_met children (so_far.roots items has) one image bare in
+    subst (λ ss. IsPermutation (nodes_in (pointer_events image identity now.form now.owner bare (pointer_to now.generation level (get_or children 0 d).address))) (level_pointers now.generation 0 0 now.slots ss)) (sym sizes)
+    (subst (λ ps. IsPermutation ps (level_pointers now.generation 0 0 now.slots (so_far.sizes ++ length children ∷ []))) same
+    (subst (λ (x : Made). IsPermutation (nodes_below image now bare level children) (level_pointers x.generation 0 0 x.slots (so_far.sizes ++ length children ∷ [])))
+    (sym (ap (λ (x : Made). let y : Made = record old { generation = x.generation; slots = x.slots } in y) so_far.extended.is)) met))
+  where
+    one_met : (children : List Child) → HasRoots now level children items → length children ≡ 1 → (image : Image) (bare : Bool)
+        → nodes_below image now bare level children ≡ nodes_in (pointer_events image identity now.form now.owner bare (pointer_to now.generation level (get_or children 0 d).address))
+    one_met [] has one image bare = absurd (omega arith)
+    one_met (c ∷ (e ∷ children)) has one image bare = absurd (omega arith)
+    one_met (c ∷ []) has one image bare =
+        let is : child_pointer level c ≡ pointer_to now.generation level c.address =
+        ap (λ (g : ℕ). let p : Pointer = record { address = c.address; level = level; generation = g } in p) (has.roots.one_generation 0 c (omega arith)) in
+        below_one image now bare level c ∙ ap (λ (p : Pointer). nodes_in (pointer_events image identity now.form now.owner bare p)) is
 
 -- one root is the root of the tree
 pub root_of : (law : SubtreesAreTrees) (m : Made) (level : ℕ) (children : List Child) (items : List Item) (d : Child) → length children ≡ 1 → HasRoots m level children items → Ascends (keys_of items)

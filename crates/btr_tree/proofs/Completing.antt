@@ -10,11 +10,11 @@ use Rattle.btr_walk.specs.Laws.{LeavesGiveItems, SubtreesAreTrees}
 use Rattle.btr_tree.specs.Building.{Made, AreSlots, begun_at, with_node, ReadsBack}
 use Rattle.btr_tree.specs.Builder.{Building, pushed, leaf_closed, IsInHand, IsNextSlot, Stands}
 use Rattle.btr_tree.specs.Counting.{tree_nodes, nodes_above}
-use Rattle.btr_tree.specs.Packing.{capacity}
-use Rattle.btr_tree.specs.Roots.{IsForest, IsClimbed, IsCompleted, IsRoot, lengths_of}
+use Rattle.btr_tree.specs.Packing.{capacity, leaves, tree_levels}
+use Rattle.btr_tree.specs.Roots.{IsForest, IsClimbed, IsCompleted, IsRoot, HasNodes, lengths_of}
 use Rattle.btr_tree.specs.declared.climb.Root.{Root}
 use Rattle.btr_tree.proofs.Climbing.{extended_then}
-use Rattle.btr_tree.proofs.Leaves.{leaf_roots, leaf_count, packed_count, packed_same, empty_nodes, empty_root, extended_node}
+use Rattle.btr_tree.proofs.Leaves.{leaf_roots, leaves_first, empty_met, leaf_count, packed_count, packed_same, empty_nodes, empty_root, extended_node}
 use Rattle.btr_tree.proofs.Standing.{next_is}
 
 module _ (law : LeavesGiveItems) (b : Building) (child : Child) (so_far : Stands b) (hand : IsInHand b child) (read : ReadsBack b.made.draft (node_bytes b.made.draft)) where
@@ -30,6 +30,9 @@ module _ (law : LeavesGiveItems) (b : Building) (child : Child) (so_far : Stands
   pub closed_forest : IsForest closed.made 0 closed.children
   closed_forest = record { items = pushed b; roots = leaf_roots law b child so_far hand read; order = so_far.order }
 
+  closed_leaves : length closed.children ≡ length (leaves b.made.form.nodesize (lengths_of (pushed b)))
+  closed_leaves = sym closed_made ∙ (sym (packed_count law b child so_far hand read) ∙ packed_same (capacity b.made.form.nodesize) (pushed b))
+
   pub closed_count : nodes_above b.made.form.nodesize (length closed.children) ≡ tree_nodes b.made.form.nodesize (lengths_of (pushed b))
   closed_count =
       ap (nodes_above b.made.form.nodesize)
@@ -42,6 +45,9 @@ module _ (law : LeavesGiveItems) (b : Building) (child : Child) (so_far : Stands
     count = climbed.count ∙ closed_count;
     nodes_are = climbed.nodes_are;
     root_is = climbed.root_is (pushed b) (leaf_roots law b child so_far hand read) so_far.order;
+    nodes =
+        subst (λ (n : ℕ). HasNodes new.made root.address root.level (tree_levels b.made.form.nodesize n)) closed_leaves
+        (climbed.nodes (pushed b) (leaf_roots law b child so_far hand read) (leaves_first law b child so_far hand read));
   }
 
 pub completed_empty : (give : LeavesGiveItems) (are : SubtreesAreTrees) (b new : Building) (root : Root) (a : ℕ) → IsNodeSize b.made.form.nodesize → AreSlots b.made.form.nodesize b.made.slots
@@ -65,4 +71,9 @@ completed_empty give are b new root a size slots none no_items at read is addres
           (subst (λ (l : ℕ). IsRoot new.made root.address l []) (sym level)
           (subst (λ (x : ℕ). IsRoot new.made x 0 []) (sym address)
           (subst (λ (m : Made). IsRoot m a 0 []) (sym is) (empty_root give are b.made a size slots none at read))));
+      nodes =
+          subst (λ is. HasNodes new.made root.address root.level (tree_levels b.made.form.nodesize (length (leaves b.made.form.nodesize (lengths_of is))))) (sym empty)
+          (subst (λ (l : ℕ). HasNodes new.made root.address l (tree_levels b.made.form.nodesize (length (leaves b.made.form.nodesize [])))) (sym level)
+          (subst (λ (x : ℕ). HasNodes new.made x 0 (tree_levels b.made.form.nodesize (length (leaves b.made.form.nodesize [])))) (sym address)
+          (subst (λ (m : Made). HasNodes m a 0 (tree_levels b.made.form.nodesize (length (leaves b.made.form.nodesize [])))) (sym is) (empty_met b.made a none at))));
     }

@@ -1,9 +1,9 @@
 -- The leaves that were made are subtrees.
-use Rattle.std.proofs.Common.{◌≡◌, ℕ, suc, ◌+◌, ◌%◌, ◌^◌, ◌<◌, ◌≤◌, ◌||◌, ltb, Bool, true, List, [], ◌∷◌, ◌++◌, length, map, get_or, refl, sym, ◌∙◌, ap, subst, arith, ⊎_elim}
+use Rattle.std.proofs.Common.{◌≡◌, ℕ, suc, ◌+◌, ◌%◌, ◌^◌, ◌<◌, ◌≤◌, ◌||◌, ltb, Bool, true, List, [], ◌∷◌, ◌++◌, length, map, take, get_or, refl, sym, ◌∙◌, ap, subst, arith, ⊎_elim}
 use Rattle.std.specs.Prelude.{All}
 use Rattle.std.specs.List.{flat_map, sum_by}
 use Rattle.std.proofs.lemmas.Bool.{or_right, lt-ltb, cases_lt}
-use Rattle.std.proofs.lemmas.List.{length-map, length_push, map-append}
+use Rattle.std.proofs.lemmas.List.{append-nil, take_more, length-map, length_push, map-append}
 use Rattle.std.proofs.lemmas.List.Sums.{sum_by-cons}
 use Rattle.std.proofs.lemmas.List.Elements.{All-nil, All-cons, All-head, All-tail}
 use Rattle.outside.specs.History.{Image}
@@ -23,8 +23,12 @@ use Rattle.btr_walk.specs.declared.tree.Pointer.{Pointer}
 use Rattle.btr_tree.specs.Building.{Made, AreSlots, slot, pointer_to, begun_at, with_node, ReadsBack}
 use Rattle.btr_tree.specs.Builder.{Building, pushed, first_key, child_of, children_of, IsInHand, IsNextSlot, Stands, item_size}
 use Rattle.btr_tree.specs.Counting.{tree_nodes}
-use Rattle.btr_tree.specs.Packing.{packed_from, packed, weight, capacity, level_sizes}
-use Rattle.btr_tree.specs.Roots.{HasRoots, IsExtended, IsRoot, lengths_of}
+use Rattle.btr_tree.specs.Packing.{packed_from, packed, weight, capacity, level_sizes, leaves, tree_levels}
+use Rattle.btr_tree.specs.Roots.{HasRoots, IsExtended, IsRoot, HasNodes, AreFirst, nodes_below, pointers_to, level_pointers, lengths_of}
+use Rattle.btr_walk.specs.Events.{may_be_bare, nodes_in, pointer_events}
+use Rattle.std.specs.List.Sorted.{IsPermutation}
+use Rattle.std.proofs.lemmas.List.Sorted.{IsPermutation-refl}
+use Rattle.btr_tree.proofs.Meeting.{leaf_met}
 use Rattle.btr_tree.proofs.Groups.{packed-fits, packed-next, packed-none}
 use Rattle.btr_tree.proofs.Raising.{slot_mapped, stand_last}
 use Rattle.btr_tree.proofs.Standing.{leaves_more, children_more, full_more, lists_are, pushed_same, next_is}
@@ -78,6 +82,15 @@ flat_same : (nodes : List (List ℕ)) → flat_map (λ is. is) (map items_in nod
 flat_same [] = refl
 flat_same (n ∷ nodes) = ap (λ is. items_in n ++ is) (flat_same nodes)
 
+first_met : (image : Image) (form : Form) (owner generation : ℕ) (bare : Bool) (slots : List ℕ) (lists : List (List Item)) → length lists ≤ length slots
+    → flat_map (λ p. nodes_in (pointer_events image identity form owner bare p)) (map (child_pointer 0) (children_of generation slots lists)) ≡ map (pointer_to generation 0) (take (length lists) slots)
+first_met image form owner generation bare [] [] few = refl
+first_met image form owner generation bare [] (l ∷ lists) few = absurd (omega arith)
+first_met image form owner generation bare (a ∷ slots) [] few = refl
+first_met image form owner generation bare (a ∷ slots) (l ∷ lists) few =
+    ap (λ ps. ps ++ flat_map (λ p. nodes_in (pointer_events image identity form owner bare p)) (map (child_pointer 0) (children_of generation slots lists))) (leaf_met image form owner bare generation a)
+    ∙ ap (λ ps. pointer_to generation 0 a ∷ ps) (first_met image form owner generation bare slots lists (omega arith))
+
 -- once the last leaf is made
 module _ (law : LeavesGiveItems) (b : Building) (child : Child) (so_far : Stands b) (hand : IsInHand b child) (read : ReadsBack b.made.draft (node_bytes b.made.draft)) where
   abbrev m : Made
@@ -108,6 +121,15 @@ module _ (law : LeavesGiveItems) (b : Building) (child : Child) (so_far : Stands
   pub leaf_count : (length m.nodes ≡ length (b.children ++ child ∷ [])) × (length m.nodes ≤ length m.slots)
   leaf_count =
       (sym (ap length (children_more b child so_far hand read) ∙ (length-children_of m.generation m.slots (map items_in m.nodes) few_lists ∙ length-map m.nodes items_in)), few)
+
+  -- they are met at the first slots
+  pub leaves_first : AreFirst m (b.children ++ child ∷ [])
+  leaves_first = λ image bare stand.
+      let k : ℕ = length (map items_in m.nodes) in
+      let is : b.children ++ child ∷ [] ≡ children_of m.generation m.slots (map items_in m.nodes) = children_more b child so_far hand read in
+      let many : length (b.children ++ child ∷ []) ≡ k = ap length is ∙ length-children_of m.generation m.slots (map items_in m.nodes) few_lists in
+      ap (nodes_below image m bare 0) is
+      ∙ (first_met image m.form m.owner m.generation bare m.slots (map items_in m.nodes) few_lists ∙ ap (λ (n : ℕ). pointers_to m.generation 0 0 n m.slots) (sym many))
 
   -- the leaves are those that packing the items gives
   pub packed_count : length (packed item_size (capacity b.made.form.nodesize) (pushed b)) ≡ length m.nodes
@@ -156,3 +178,15 @@ empty_root give are m a size slots none at read = λ image stand.
     let leaf : IsLeaf (want m.form m.owner p) (node_at image identity m.form.nodesize a) = subst (IsLeaf (want m.form m.owner p)) (sym node) (read.leaf refl) in
     let below = give image identity m.form m.owner true p (slot_mapped m.form.nodesize a size aligned small) leaf refl in
     are image identity m.form m.owner p [] (subst (λ is. IsSubtree image identity m.form m.owner true p is) (ap items_in node ∙ read.items refl) below) refl
+
+-- an empty tree has one node
+pub empty_met : (m : Made) (a : ℕ) → m.nodes ≡ [] → IsNextSlot m a → HasNodes (with_node (begun_at m 0 a) (node_bytes (begun_at m 0 a).draft)) a 0 (tree_levels m.form.nodesize (length (leaves m.form.nodesize [])))
+unfolding packed_from level_sizes
+empty_met m a none at = λ image stand.
+    let next = next_is m a at in
+    let first : get_or m.slots 0 0 ≡ a = ap (λ ns. slot m.slots (length {A = List ℕ} ns)) (sym none) ∙ next.0 in
+    let some : 0 < length m.slots = omega (arith, next.1) in
+    let one : take 1 m.slots ≡ a ∷ [] = take_more m.slots 0 0 some ∙ ap (λ (x : ℕ). x ∷ []) first in
+    let own : nodes_in (pointer_events image identity m.form m.owner (may_be_bare (pointer_to m.generation 0 a)) (pointer_to m.generation 0 a)) ≡ level_pointers m.generation 0 0 m.slots (1 ∷ []) =
+    leaf_met image m.form m.owner (may_be_bare (pointer_to m.generation 0 a)) m.generation a ∙ sym (append-nil (pointers_to m.generation 0 0 1 m.slots) ∙ ap (map (pointer_to m.generation 0)) one) in
+    subst (IsPermutation (nodes_in (pointer_events image identity m.form m.owner (may_be_bare (pointer_to m.generation 0 a)) (pointer_to m.generation 0 a)))) own (IsPermutation-refl _)

@@ -6,6 +6,7 @@ pub mod Groups
 pub mod KeyOrder
 pub mod Leaves
 pub mod Maps
+pub mod Meeting
 pub mod OnDisk
 pub mod PiecesOf
 pub mod Raising

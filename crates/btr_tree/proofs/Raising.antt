@@ -21,7 +21,9 @@ use Rattle.btr_walk.specs.declared.tree.Form.{Form}
 use Rattle.btr_walk.specs.declared.tree.Pointer.{Pointer}
 use Rattle.btr_tree.specs.Building.{Made, AreSlots, slot, StandAt, pointer_to, IsParent}
 use Rattle.btr_tree.specs.Builder.{first_key}
-use Rattle.btr_tree.specs.Roots.{AreRoots}
+use Rattle.btr_tree.specs.Roots.{AreRoots, nodes_below}
+use Rattle.btr_walk.specs.Events.{nodes_in, pointer_events}
+use Rattle.btr_tree.proofs.Meeting.{inner_met, below_one}
 
 -- the keys of the first children ascend, and of any part
 pub front_ascends : (part : List Child) (i : ℕ) (d : Child) → Ascends (first_keys part) → i < length part → Ascends (first_keys (take i part) ++ (get_or part i d).key ∷ [])
@@ -172,6 +174,17 @@ module _ (law : ChildrenGiveItems) (m : Made) (level : ℕ) (part : List Child) 
       subst (λ cs. AreSubtrees image identity m.form m.owner bare (map (child_pointer level) cs) lists) (sym links)
       (roots.subtrees image bare (stand_fewer image m.form.nodesize m.slots m.nodes parent.bytes stand)) in
       law image identity m.form m.owner bare p level lists refl mapped inner are
+
+  -- the walk of a parent meets the parent, and then what its children meet
+  pub parent_met : (image : Image) (bare : Bool) → StandAt image m.form.nodesize m.slots (m.nodes ++ parent.bytes ∷ [])
+      → nodes_below image m bare (suc level) (child ∷ []) ≡ child_pointer (suc level) child ∷ nodes_below image m bare level part
+  parent_met image bare stand =
+      let node : node_at image identity m.form.nodesize parent.address ≡ parent.bytes =
+      sym (ap (node_at image identity m.form.nodesize) slot_is) ∙ stand_last image m.form.nodesize m.slots m.nodes parent.bytes stand in
+      let met = inner_met image m.form m.owner bare level m.generation parent.address (flat lists) part (below_parent image bare stand) (ap children_in node ∙ parent.links) in
+      let is : child_pointer (suc level) child ≡ p = ap (child_pointer (suc level)) parent.child_is in
+      below_one image m bare (suc level) child
+      ∙ (ap (λ (q : Pointer). nodes_in (pointer_events image identity m.form m.owner bare q)) is ∙ (met ∙ ap (λ (q : Pointer). q ∷ nodes_below image m bare level part) (sym is)))
 
   one_root : IsOneRoot grown (suc level) child (flat lists)
   one_root =

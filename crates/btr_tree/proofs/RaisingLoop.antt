@@ -1,25 +1,30 @@
 -- A level of a tree, one node after the other.
-use Rattle.std.proofs.Common.{◌≡◌, ℕ, zero, suc, ◌+◌, ◌-◌, ◌*◌, ◌<◌, ◌≤◌, min, List, [], ◌∷◌, ◌++◌, length, take, drop, get_or, Some, None, refl, sym, ◌∙◌, ap, subst, arith, append_assoc, length-append, ⊎_elim}
+use Rattle.std.proofs.Common.{◌≡◌, ℕ, zero, suc, ◌+◌, ◌-◌, ◌*◌, ◌<◌, ◌≤◌, min, Bool, List, [], ◌∷◌, ◌++◌, length, map, take, drop, get_or, Some, None, refl, sym, ◌∙◌, ap, subst, arith, append_assoc, length-append, ⊎_elim}
 use Rattle.std.specs.List.{flat_map, slice_get}
 use Rattle.std.specs.Int.{div_ceil}
 use Rattle.std.proofs.Math.Nat.{mul-suc, mul_comm}
 use Rattle.std.proofs.lemmas.Bool.{cases_lt}
 use Rattle.std.proofs.lemmas.Grind.{div_ceil_times}
-use Rattle.std.proofs.lemmas.List.{append-nil, take_all, length-map, length_push, get_or_append_left}
+use Rattle.std.proofs.lemmas.List.{append-nil, map-append, take_all, take_more, length-map, length-drop, length_push, get_or_append_left, get_or-drop}
 use Rattle.std.proofs.lemmas.List.Concat.{flat_map-append}
 use Rattle.std.proofs.lemmas.List.Elements.{All-nil}
 use Rattle.std.proofs.lemmas.Nat.{mul-le}
-use Rattle.std.proofs.lemmas.Option.{slice_get_within, slice_get-get_or}
+use Rattle.std.proofs.lemmas.Option.{slice_get_within, slice_get-get_or, get_or_from_slice_get}
 use Rattle.outside.specs.History.{Image}
 use Rattle.btr_node.specs.Leaf.{Item}
 use Rattle.btr_node.specs.NodeSize.{IsNodeSize}
 use Rattle.btr_node.specs.declared.child.Child.{Child}
 use Rattle.btr_walk.specs.Laws.{ChildrenGiveItems}
-use Rattle.btr_tree.specs.Building.{Made, AreSlots, StandAt, IsParent}
+use Rattle.btr_tree.specs.Building.{Made, AreSlots, StandAt, IsParent, pointer_to}
 use Rattle.btr_tree.specs.Builder.{first_key}
 use Rattle.btr_tree.specs.Packing.{fan_out}
-use Rattle.btr_tree.specs.Roots.{AreRoots, IsExtended, HasRoots, IsRaised}
-use Rattle.btr_tree.proofs.Raising.{flat, flat-is, part_roots, roots_more}
+use Rattle.btr_tree.specs.Roots.{AreRoots, IsExtended, HasRoots, IsRaised, nodes_below, pointers_to}
+use Rattle.btr_walk.specs.Node.{child_pointer}
+use Rattle.btr_walk.specs.declared.tree.Pointer.{Pointer}
+use Rattle.std.specs.List.Sorted.{IsPermutation}
+use Rattle.std.proofs.lemmas.List.Sorted.{IsPermutation-refl, IsPermutation-trans, IsPermutation-append_left}
+use Rattle.btr_tree.proofs.Meeting.{perm_more, below_append}
+use Rattle.btr_tree.proofs.Raising.{flat, flat-is, part_roots, roots_more, parent_met, stand_fewer}
 
 -- how many nodes hold so many children
 pub filled_count : (n fan k : ℕ) → 0 < fan → n ≤ fan * k → fan * k < n + fan → k ≡ div_ceil n fan
@@ -37,7 +42,7 @@ filled_count n fan k some enough tight =
         omega (arith, step, mul_comm (suc a) fan, mul-suc fan a, mul_comm a fan)
 
 -- more nodes leave roots as they are
-stand_front : (image : Image) (n : ℕ) (slots : List ℕ) (nodes more : List (List ℕ)) → StandAt image n slots (nodes ++ more) → StandAt image n slots nodes
+pub stand_front : (image : Image) (n : ℕ) (slots : List ℕ) (nodes more : List (List ℕ)) → StandAt image n slots (nodes ++ more) → StandAt image n slots nodes
 stand_front image n slots nodes more stand = λ i h. stand i (omega (arith, length-append nodes more, h)) ∙ get_or_append_left nodes more [] i h
 
 pub roots_extended : (old new : Made) (level : ℕ) (children : List Child) (lists : List (List Item)) → IsExtended old new → AreRoots old level children lists → AreRoots new level children lists
@@ -67,6 +72,9 @@ pub record IsRaising (old : Made) (children : List Child) (level : ℕ) (now : M
   pub made : length now.nodes ≡ length old.nodes + length parents
   pub few : length now.nodes ≤ length now.slots
   pub roots : (below : ℕ) (lists : List (List Item)) → level ≡ suc below → AreRoots old below children lists → HasRoots now level parents (flat (take start lists))
+  pub pointers : map (child_pointer level) parents ≡ pointers_to old.generation level (length old.nodes) (length parents) old.slots
+  pub nodes : (below : ℕ) (lists : List (List Item)) → level ≡ suc below → AreRoots old below children lists → (image : Image) (bare : Bool) → StandAt image now.form.nodesize now.slots now.nodes
+      → IsPermutation (nodes_below image now bare level parents) (map (child_pointer level) parents ++ nodes_below image now bare below (take start children))
 
 flat_nothing : flat [] ≡ []
 unfolding flat
@@ -102,6 +110,8 @@ raising_begins old children level wide few = record {
     roots = record { keys = refl; full = All-nil (λ (items : List Item). 1 ≤ length items); one_generation = All-nil (λ (c : Child). c.generation ≡ old.generation); subtrees = λ image bare stand. tt };
     items_are = sym flat_nothing;
   };
+  pointers = refl;
+  nodes = λ below lists is roots image bare stand. IsPermutation-refl [];
 }
   where
     zeroth : (fan : ℕ) → fan * 0 ≡ 0
@@ -112,6 +122,32 @@ raising_begins old children level wide few = record {
 
     none' : (fan n : ℕ) → 0 < fan → fan * 0 < n + fan
     none' fan n wide = omega (arith, zeroth fan)
+
+more_met : {X : Type 0} (old new ps qs bs cs ds : List X) (p : X) → IsPermutation old (ps ++ bs) → new ≡ old ++ p ∷ cs → qs ≡ ps ++ p ∷ [] → ds ≡ bs ++ cs → IsPermutation new (qs ++ ds)
+more_met old new ps qs bs cs ds p so_far a b c =
+    subst (λ zs. IsPermutation zs (qs ++ ds)) (sym a)
+    (subst (λ zs. IsPermutation (old ++ p ∷ cs) (zs ++ ds)) (sym b)
+    (subst (λ zs. IsPermutation (old ++ p ∷ cs) ((ps ++ p ∷ []) ++ zs)) (sym c)
+    (IsPermutation-trans (old ++ p ∷ cs) ((ps ++ bs) ++ p ∷ cs) ((ps ++ p ∷ []) ++ (bs ++ cs)) (IsPermutation-append_left (p ∷ cs) old (ps ++ bs) so_far) (perm_more ps bs cs p))))
+
+pointers_more : (old now new : Made) (level : ℕ) (parents part : List Child) (child : Child) → IsExtended old now → length now.nodes ≡ length old.nodes + length parents
+    → map (child_pointer level) parents ≡ pointers_to old.generation level (length old.nodes) (length parents) old.slots → IsParent now level part child new
+    → map (child_pointer level) (parents ++ child ∷ []) ≡ pointers_to old.generation level (length old.nodes) (length (parents ++ child ∷ [])) old.slots
+pointers_more old now new level parents part child ext made so_far parent =
+    let n : ℕ = length parents in
+    let slots : now.slots ≡ old.slots = ap (λ (x : Made). x.slots) ext.is in
+    let next : slice_get old.slots (length old.nodes + n) ≡ Some parent.address = ap (slice_get old.slots) (sym made) ∙ (ap (λ ss. slice_get ss (length now.nodes)) (sym slots) ∙ parent.next) in
+    let inside = slice_get_within old.slots (length old.nodes + n) parent.address next in
+    let at : get_or (drop (length old.nodes) old.slots) n 0 ≡ parent.address = get_or-drop (length old.nodes) old.slots n 0 ∙ get_or_from_slice_get old.slots (length old.nodes + n) parent.address 0 next in
+    let one : child_pointer level child ≡ pointer_to old.generation level parent.address =
+    ap (child_pointer level) parent.child_is ∙ ap (λ (x : Made). pointer_to x.generation level parent.address) ext.is in
+    let taken : take (length (parents ++ child ∷ [])) (drop (length old.nodes) old.slots) ≡ take n (drop (length old.nodes) old.slots) ++ parent.address ∷ [] =
+    ap (λ (k : ℕ). take k (drop (length old.nodes) old.slots)) (length_push parents child)
+    ∙ (take_more (drop (length old.nodes) old.slots) n 0 (omega (arith, inside, length-drop (length old.nodes) old.slots)) ∙ ap (λ (a : ℕ). take n (drop (length old.nodes) old.slots) ++ a ∷ []) at) in
+    map-append (child_pointer level) parents (child ∷ [])
+    ∙ (ap (λ ps. ps ++ child_pointer level child ∷ []) so_far
+    ∙ (ap (λ (p : Pointer). pointers_to old.generation level (length old.nodes) n old.slots ++ p ∷ []) one
+    ∙ sym (ap (map (pointer_to old.generation level)) taken ∙ map-append (pointer_to old.generation level) (take n (drop (length old.nodes) old.slots)) (parent.address ∷ []))))
 
 pub raising_goes_on : (law : ChildrenGiveItems) (old now new : Made) (children parents part : List Child) (level start end : ℕ) (child : Child)
     → IsNodeSize old.form.nodesize → AreSlots old.form.nodesize old.slots → IsRaising old children level now parents start → start < length children
@@ -151,6 +187,28 @@ raising_goes_on law old now new children parents part level start end child size
                 ∙ (ap (λ is. is ++ flat part_lists) (sym (flat-is before.lists) ∙ before.items_are)
                 ∙ sym (ap flat (take_on start (end - start) end lists (omega arith)) ∙ flat-append (take start lists) part_lists)));
           };
+      pointers = pointers_more old now new level parents part child so_far.extended so_far.made so_far.pointers parent;
+      nodes = λ below lists is roots image bare stand.
+          let before : List Child = take start children in
+          let parent' : IsParent now (suc below) part child new = subst (λ (l : ℕ). IsParent now l part child new) is parent in
+          let stand_new : StandAt image now.form.nodesize now.slots (now.nodes ++ parent'.bytes ∷ []) = subst (λ (x : Made). StandAt image x.form.nodesize x.slots x.nodes) parent'.is stand in
+          let stand_now : StandAt image now.form.nodesize now.slots now.nodes = stand_fewer image now.form.nodesize now.slots now.nodes parent'.bytes stand_new in
+          let part_lists : List (List Item) = take (end - start) (drop start lists) in
+          let part_now : AreRoots now below part part_lists =
+          subst (λ cs. AreRoots now below cs part_lists) (sym part_is) (part_roots now below start (end - start) children lists (roots_extended old now below children lists so_far.extended roots)) in
+          let size_now : IsNodeSize now.form.nodesize = subst (λ (x : Made). IsNodeSize x.form.nodesize) (sym so_far.extended.is) size in
+          let slots_now : AreSlots now.form.nodesize now.slots = subst (λ (x : Made). AreSlots x.form.nodesize x.slots) (sym so_far.extended.is) slots in
+          let so_far' : IsPermutation (nodes_below image now bare level parents) (map (child_pointer level) parents ++ nodes_below image now bare below before) = so_far.nodes below lists is roots image bare stand_now in
+          let one : nodes_below image now bare level (child ∷ []) ≡ child_pointer level child ∷ nodes_below image now bare below part =
+          subst (λ (l : ℕ). nodes_below image now bare l (child ∷ []) ≡ child_pointer l child ∷ nodes_below image now bare below part) (sym is)
+          (parent_met law now below part part_lists child new size_now slots_now (omega arith) part_now parent' image bare stand_new) in
+          let all : nodes_below image now bare below (take end children) ≡ nodes_below image now bare below before ++ nodes_below image now bare below part =
+          ap (nodes_below image now bare below) (take_on start (end - start) end children (omega arith) ∙ ap (λ cs. before ++ cs) (sym part_is)) ∙ below_append image now bare below before part in
+          let step : IsPermutation (nodes_below image now bare level (parents ++ child ∷ [])) (map (child_pointer level) (parents ++ child ∷ []) ++ nodes_below image now bare below (take end children)) =
+          more_met (nodes_below image now bare level parents) (nodes_below image now bare level (parents ++ child ∷ [])) (map (child_pointer level) parents) (map (child_pointer level) (parents ++ child ∷ []))
+          (nodes_below image now bare below before) (nodes_below image now bare below part) (nodes_below image now bare below (take end children)) (child_pointer level child) so_far'
+          (below_append image now bare level parents (child ∷ []) ∙ ap (λ ps. nodes_below image now bare level parents ++ ps) one) (map-append (child_pointer level) parents (child ∷ [])) all in
+          subst (λ (x : Made). IsPermutation (nodes_below image x bare level (parents ++ child ∷ [])) (map (child_pointer level) (parents ++ child ∷ []) ++ nodes_below image x bare below (take end children))) (sym parent.is) step;
     }
   where
     one_more : (fan k : ℕ) → fan * (k + 1) ≡ fan * k + fan
@@ -171,6 +229,10 @@ raising_ends old now children parents level start wide so_far end = record {
         roots = before.roots;
         items_are = before.items_are ∙ (ap flat (take_all start has.lists (omega arith)) ∙ (sym (flat-is has.lists) ∙ has.items_are));
       };
+  pointers = so_far.pointers;
+  nodes = λ below items is has image bare stand.
+      subst (λ cs. IsPermutation (nodes_below image now bare level parents) (map (child_pointer level) parents ++ nodes_below image now bare below cs)) (take_all start children end)
+      (so_far.nodes below has.lists is has.roots image bare stand);
 }
 
 -- while children are left, a node is missing

@@ -1,6 +1,7 @@
 -- Subtrees of a tree that is being written.
-use Rattle.std.specs.Prelude.{◌≡◌, ℕ, suc, ◌+◌, ◌≤◌, Bool, List, ◌++◌, length, map, Some}
+use Rattle.std.specs.Prelude.{◌≡◌, ℕ, suc, ◌+◌, ◌≤◌, Bool, List, [], ◌∷◌, ◌++◌, length, map, take, drop, Some}
 use Rattle.std.specs.List.{All, flat_map, sum}
+use Rattle.std.specs.List.Sorted.{IsPermutation}
 use Rattle.std.specs.Int.{div_ceil}
 use Rattle.outside.specs.History.{Image}
 use Rattle.btr_node.specs.Draft.{Draft}
@@ -12,10 +13,12 @@ use Rattle.btr_walk.specs.Laws.{AreSubtrees}
 use Rattle.btr_walk.specs.Map.{identity}
 use Rattle.btr_walk.specs.Node.{child_pointer}
 use Rattle.btr_walk.specs.Tree.{tree_items}
+use Rattle.btr_walk.specs.Events.{nodes_in, pointer_events, tree_events}
+use Rattle.btr_walk.specs.declared.tree.Pointer.{Pointer}
 use Rattle.btr_tree.specs.Building.{Made, StandAt, pointer_to}
 use Rattle.btr_tree.specs.Builder.{Building, pushed, first_key}
 use Rattle.btr_tree.specs.Counting.{tree_nodes}
-use Rattle.btr_tree.specs.Packing.{fan_out, tree_levels}
+use Rattle.btr_tree.specs.Packing.{fan_out, leaves as leaves_by, tree_levels}
 use Rattle.btr_tree.specs.declared.climb.Root.{Root}
 
 -- Each child is the root of a subtree that has these items and some at all, on every disk on which the nodes stand.
@@ -25,6 +28,20 @@ pub record AreRoots (m : Made) (level : ℕ) (children : List Child) (lists : Li
   pub one_generation : All (λ child. child.generation ≡ m.generation) children
   pub subtrees : (image : Image) (bare : Bool) → StandAt image m.form.nodesize m.slots m.nodes
       → AreSubtrees image identity m.form m.owner bare (map (child_pointer level) children) lists
+
+-- the nodes that a walk meets below these children, each child before those below it
+abbrev pub nodes_below : Image → Made → Bool → ℕ → List Child → List Pointer
+nodes_below image m bare level children = flat_map (λ p. nodes_in (pointer_events image identity m.form m.owner bare p)) (map (child_pointer level) children)
+
+-- nodes of one level at so many slots behind the first ones
+abbrev pub pointers_to : ℕ → ℕ → ℕ → ℕ → List ℕ → List Pointer
+pointers_to generation level skip n slots = map (pointer_to generation level) (take n (drop skip slots))
+
+-- The nodes of a tree by its levels, which have these sizes: those of a level take the slots behind those of the levels
+-- below it.
+abbrev pub level_pointers : ℕ → ℕ → ℕ → List ℕ → List ℕ → List Pointer
+level_pointers generation level skip slots [] = []
+level_pointers generation level skip slots (n ∷ sizes) = pointers_to generation level skip n slots ++ level_pointers generation (suc level) (skip + n) slots sizes
 
 -- nodes were added, and nothing else changed but the node in hand
 pub record IsExtended (old new : Made) : Type 0 where
@@ -45,6 +62,9 @@ pub record IsRaised (old : Made) (children : List Child) (level : ℕ) (new : Ma
   pub made : length new.nodes ≡ length old.nodes + length parents
   pub few : length new.nodes ≤ length new.slots
   pub roots : (below : ℕ) (items : List Item) → level ≡ suc below → HasRoots old below children items → HasRoots new level parents items
+  pub pointers : map (child_pointer level) parents ≡ pointers_to old.generation level (length old.nodes) (length parents) old.slots
+  pub nodes : (below : ℕ) (items : List Item) → level ≡ suc below → HasRoots old below children items → (image : Image) (bare : Bool) → StandAt image new.form.nodesize new.slots new.nodes
+      → IsPermutation (nodes_below image new bare level parents) (map (child_pointer level) parents ++ nodes_below image new bare below children)
 
 -- roots of subtrees whose keys ascend
 pub record IsForest (m : Made) (level : ℕ) (children : List Child) : Type 0 where
@@ -58,6 +78,18 @@ IsRoot m address level items =
     (image : Image) → StandAt image m.form.nodesize m.slots m.nodes
     → tree_items image identity m.form (pointer_to m.generation level address) m.owner ≡ Some items
 
+-- A walk of the tree meets the nodes of its levels, each once and at its slot, and no other.
+abbrev pub HasNodes : Made → ℕ → ℕ → List ℕ → Type 0
+HasNodes m address level sizes =
+    (image : Image) → StandAt image m.form.nodesize m.slots m.nodes
+    → IsPermutation (nodes_in (tree_events image identity m.form (pointer_to m.generation level address) m.owner)) (level_pointers m.generation 0 0 m.slots sizes)
+
+-- the leaves are met at the first slots
+abbrev pub AreFirst : Made → List Child → Type 0
+AreFirst m leaves =
+    (image : Image) (bare : Bool) → StandAt image m.form.nodesize m.slots m.nodes
+    → nodes_below image m bare 0 leaves ≡ pointers_to m.generation 0 0 (length leaves) m.slots
+
 -- The root was made above these leaves: it has their items, and the nodes are as many as the levels of such a tree have.
 pub record IsClimbed (old : Made) (leaves : List Child) (new : Made) (root : Root) : Type 0 where
   pub extended : IsExtended old new
@@ -65,6 +97,7 @@ pub record IsClimbed (old : Made) (leaves : List Child) (new : Made) (root : Roo
   pub count : length new.nodes ≡ sum (tree_levels old.form.nodesize (length leaves))
   pub nodes_are : root.nodes ≡ length new.nodes
   pub root_is : (items : List Item) → HasRoots old 0 leaves items → Ascends (keys_of items) → IsRoot new root.address root.level items
+  pub nodes : (items : List Item) → HasRoots old 0 leaves items → AreFirst old leaves → HasNodes new root.address root.level (tree_levels old.form.nodesize (length leaves))
 
 -- the lengths of the bodies of items
 abbrev pub lengths_of : List Item → List ℕ
@@ -77,3 +110,11 @@ pub record IsCompleted (old new : Building) (root : Root) : Type 0 where
   pub count : length new.made.nodes ≡ tree_nodes old.made.form.nodesize (lengths_of (pushed old))
   pub nodes_are : root.nodes ≡ length new.made.nodes
   pub root_is : IsRoot new.made root.address root.level (pushed old)
+  pub nodes : HasNodes new.made root.address root.level (tree_levels old.made.form.nodesize (length (leaves_by old.made.form.nodesize (lengths_of (pushed old)))))
+
+-- On a disk, a walk of the tree under this root meets the nodes that packing the items gives: each once and at its slot,
+-- the leaves at the first ones and each level behind those below it, and no other.
+abbrev pub MeetsNodes : Image → Made → ℕ → ℕ → List Item → Type 0
+MeetsNodes image m address level items =
+    IsPermutation (nodes_in (tree_events image identity m.form (pointer_to m.generation level address) m.owner))
+    (level_pointers m.generation 0 0 m.slots (tree_levels m.form.nodesize (length (leaves_by m.form.nodesize (lengths_of items)))))

@@ -8,7 +8,7 @@ ghost use Rattle.btr_node.specs.NodeSize.{IsNodeSize};
 ghost use Rattle.btr_node.specs.Order.{Ascends};
 ghost use Rattle.btr_tree.specs.Building.{AreSlots, IsFresh, StandAt, ReadsBack};
 ghost use Rattle.btr_tree.specs.Counting.{nodes_above, tree_nodes};
-ghost use Rattle.btr_tree.specs.Roots.{IsForest, IsClimbed, IsCompleted, lengths_of};
+ghost use Rattle.btr_tree.specs.Roots.{IsForest, IsClimbed, IsCompleted, MeetsNodes, lengths_of};
 ghost use Rattle.btr_tree.specs.Builder.{pushed, leaf_closed, leaf_begun, IsNextSlot, Stands, IsSameTree, HasTree, leaves_of};
 
 use crate::answer::NodeAnswer;
@@ -133,6 +133,7 @@ impl TreeBuilder {
         requires open { D.opened disk.old ≡ Some Access.Write }
         requires in_range { All (λ a. a + self.old.made.form.nodesize ≤ 4096 * D.size disk.old) self.old.made.slots }
         ensures tree { IsTrue D.tells → IfOk result (λ root. HasTree (reads (D.history disk.new)) self.old.made root.address root.level (pushed self.old)) }
+        ensures nodes { IsTrue D.tells → IfOk result (λ root. MeetsNodes (reads (D.history disk.new)) self.old.made root.address root.level (pushed self.old)) }
         ensures completed { IfOk result (IsCompleted self.old self.new) }
         ensures stand { IsTrue D.tells → OnOk result (StandAt (reads (D.history disk.new)) self.new.made.form.nodesize self.new.made.slots self.new.made.nodes) }
         ensures spent { IsTrue self.new.spent ↔ IsErr result }
@@ -164,6 +165,7 @@ impl TreeBuilder {
         requires open { D.opened disk.old ≡ Some Access.Write }
         requires in_range { All (λ a. a + self.old.made.form.nodesize ≤ 4096 * D.size disk.old) self.old.made.slots }
         ensures tree { IsTrue D.tells → IfOk result (λ root. HasTree (reads (D.history disk.new)) self.old.made root.address root.level (pushed self.old)) }
+        ensures nodes { IsTrue D.tells → IfOk result (λ root. MeetsNodes (reads (D.history disk.new)) self.old.made root.address root.level (pushed self.old)) }
         ensures completed { IfOk result (IsCompleted self.old self.new) }
         ensures stand { IsTrue D.tells → OnOk result (StandAt (reads (D.history disk.new)) self.new.made.form.nodesize self.new.made.slots self.new.made.nodes) }
         ensures out { result ≡ Err TreeAnswer.OutOfSlots

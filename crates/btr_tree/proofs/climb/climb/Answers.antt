@@ -3,11 +3,11 @@ use Rattle.std.specs.Int.{div_ceil}
 use Rattle.btr_node.specs.Inner.{first_keys}
 use Rattle.btr_node.specs.Order.{ascends}
 use Rattle.btr_node.specs.declared.child.Child.{Child}
-use Rattle.btr_tree.specs.Packing.{fan_out}
-use Rattle.btr_tree.specs.Roots.{IsRaised, IsRoot}
+use Rattle.btr_tree.specs.Packing.{fan_out, tree_levels}
+use Rattle.btr_tree.specs.Roots.{IsRaised, IsRoot, HasNodes}
 use Rattle.btr_tree.specs.declared.answer.NodeAnswer.TheVariants.{OutOfSlots}
 use Rattle.btr_tree.specs.declared.climb.Root.{Root}
-use Rattle.btr_tree.proofs.Climbing.{roots_ascend, climbing_begins, climbing_goes_on, climbing_short, climbing_count, root_of, wide_fan}
+use Rattle.btr_tree.proofs.Climbing.{roots_ascend, climbing_begins, climbing_goes_on, climbing_short, climbing_count, climbing_nodes, root_of, wide_fan}
 use Rattle.btr_tree.proofs.climb.climb.Goals as goal
 
 abbrev err_of : {E : Type 0} (T : Type 0) → E → Result T E
@@ -51,4 +51,8 @@ returns-clause-climbed c =
           let first : c.index.result.now ≡ get_or c.loop-alloc.children.items 0 c.index.result.now = c.index.ensures in
           subst (λ (x : Child). IsRoot c.loop-alloc.nodes x.address c.loop-alloc.level items) (sym first)
           (root_of c.subtrees_are_trees.ensures c.loop-alloc.nodes c.loop-alloc.level c.loop-alloc.children.items items c.index.result.now one (c.loop-alloc.invariant.roots items has) order);
+      nodes = λ items has starts.
+          let first : c.index.result.now ≡ get_or c.loop-alloc.children.items 0 c.index.result.now = c.index.ensures in
+          subst (λ (x : Child). HasNodes c.loop-alloc.nodes x.address c.loop-alloc.level (tree_levels c.args.nodes.now.form.nodesize (length c.args.leaves.items))) (sym first)
+          (climbing_nodes c.args.nodes.now c.loop-alloc.nodes c.args.leaves.items c.loop-alloc.children.items c.loop-alloc.level items c.index.result.now c.loop-alloc.invariant one has starts);
     }
