@@ -12,12 +12,12 @@ use Rattle.reiser_bitmap.proofs.Ranges.{contains_range, range_contains, contains
 use Rattle.reiser_bitmap.proofs.RunLemmas.{begins_here}
 
 -- the front of a range that passes: its numbers pass, and where it ends before the range the next one does not
-record IsFront (p : ℕ → Bool) (a m c : ℕ) : Type 0 where
-  few : c ≤ m
-  all : (k : ℕ) → a ≤ k → k < a + c → p k ≡ true
-  stop : c < m → p (a + c) ≡ false
+pub record IsFront (p : ℕ → Bool) (a m c : ℕ) : Type 0 where
+  pub few : c ≤ m
+  pub all : (k : ℕ) → a ≤ k → k < a + c → p k ≡ true
+  pub stop : c < m → p (a + c) ≡ false
 
-front : (p : ℕ → Bool) (a m : ℕ) → IsFront p a m (length (take_while p (range_with_len a m)))
+pub front : (p : ℕ → Bool) (a m : ℕ) → IsFront p a m (length (take_while p (range_with_len a m)))
 front p a zero = record { few = omega arith; all = λ k low high. absurd (omega arith); stop = λ h. absurd (omega arith) }
 front p a (suc m) =
     let rest : ℕ = length (take_while p (range_with_len (a + 1) m)) in
@@ -65,7 +65,7 @@ run_is_maximal p n u end inside t =
     }
 
 -- what a filter keeps of a range ascends
-starts_ascend : (p : ℕ → Bool) (a m i j d : ℕ) → i < j → j < length (filter p (range_with_len a m)) → get_or (filter p (range_with_len a m)) i d < get_or (filter p (range_with_len a m)) j d
+pub starts_ascend : (p : ℕ → Bool) (a m i j d : ℕ) → i < j → j < length (filter p (range_with_len a m)) → get_or (filter p (range_with_len a m)) i d < get_or (filter p (range_with_len a m)) j d
 starts_ascend p a zero i j d below inside = absurd (omega arith)
 starts_ascend p a (suc m) i j d below inside =
     let rest : List ℕ = filter p (range_with_len (a + 1) m) in
@@ -119,7 +119,7 @@ find_start p (suc u) t =
     (λ (gap : p u ≡ false). (suc u, start_here p (suc u) t (λ k next. ap p (let e : k ≡ u = omega arith in e) ∙ gap)))
     (cases_Bool (p u))
 
-mapped : {X Y : Type 0} (f : X → Y) (P : Y → Type 0) (xs : List X) (k : ℕ) (x : X) → k < length xs → get_or xs k x ≡ x → P (f x) → Any P (map f xs)
+pub mapped : {X Y : Type 0} (f : X → Y) (P : Y → Type 0) (xs : List X) (k : ℕ) (x : X) → k < length xs → get_or xs k x ≡ x → P (f x) → Any P (map f xs)
 mapped f P xs k x h is holds = (k, f x, omega (arith, length-map xs f), get_or-map f xs k x (f x) h ∙ ap f is, holds)
 
 pub runs_are_maximal : (p : ℕ → Bool) (n : ℕ) → ((u : ℕ) → n ≤ u → p u ≡ false) → AreMaximalRuns p (maximal_runs p n)

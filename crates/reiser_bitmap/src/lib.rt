@@ -10,6 +10,7 @@ mod count;
 mod laws;
 mod layout;
 mod load;
+mod next;
 mod runs;
 mod system;
 mod units;

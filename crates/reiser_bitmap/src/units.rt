@@ -85,7 +85,7 @@ fn has_no_bits(bytes: &[u8], at: usize) -> bool
 }
 
 /// Whether the eight bytes from byte `at` on are zeros.
-fn is_zero(bytes: &[u8], at: usize) -> bool
+pub(crate) fn is_zero(bytes: &[u8], at: usize) -> bool
     requires { at + 8 ≤ length bytes.now }
     ensures { IsTrue result ↔ AreZeros bytes.now at 8 }
 {
