@@ -90,7 +90,7 @@ sum_zero f (x ∷ xs) zeros =
     let rest : sum_by f xs ≡ 0 = sum_zero f xs zeros in
     omega (arith, head, rest, zeros x)
 
-sum_split : {X : Type 0} (f g h : X → ℕ) (xs : List X) → ((x : X) → h x ≡ f x + g x) → sum_by h xs ≡ sum_by f xs + sum_by g xs
+pub sum_split : {X : Type 0} (f g h : X → ℕ) (xs : List X) → ((x : X) → h x ≡ f x + g x) → sum_by h xs ≡ sum_by f xs + sum_by g xs
 sum_split f g h [] is = refl
 sum_split f g h (x ∷ xs) is =
     let of_h : sum_by h (x ∷ xs) ≡ h x + sum_by h xs = sum_by-cons h x xs in

@@ -34,7 +34,7 @@ loop-objects-preserved g c =
     let before = c.loop-objects.invariant in
     record {
       kept = g.met.S.BlockSource.kept_trans _ _ _ before.kept c.advance.ensures.kept;
-      later = omega (arith, before.later, c.advance.ensures.cause.later);
+      same = c.in_ok-advance.ensures.cause.kept (λ e. absurd cc) ∙ before.same;
       tree = c.advance.ensures.tree ∙ before.tree;
       size = c.advance.ensures.size ∙ before.size;
       unspent = c.in_ok-advance.ensures.unspent;

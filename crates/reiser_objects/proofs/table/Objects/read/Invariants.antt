@@ -1,4 +1,4 @@
-use Rattle.std.proofs.Common.{◌≡◌, ◌≤◌, List, length, IsTrue, false}
+use Rattle.std.proofs.Common.{◌≡◌, List, length, IsTrue, false}
 use Rattle.reiser_walk.specs.Items.{Item}
 use Rattle.reiser_walk.specs.Walks.{Walks, fuel, block_count}
 use Rattle.reiser_objects.specs.Read.{tree_at}
@@ -8,7 +8,7 @@ use Rattle.reiser_objects.proofs.table.Objects.read.Given as goal
 abbrev pub invariant-loop-objects : goal.invariant-loop-objects
 invariant-loop-objects g l = record {
   kept : g.S.BlockSource.kept l.fn.src l.src;
-  later : g.S.BlockSource.faults l.fn.src ≤ g.S.BlockSource.faults l.src;
+  same : g.S.BlockSource.faults l.src ≡ g.S.BlockSource.faults l.fn.src;
   tree : l.walker.tree ≡ tree_at l.root l.height l.journal_first l.journal_size;
   size : block_count l.walker ≡ length l.map;
   unspent : l.walker.spent ≡ false;
