@@ -22,7 +22,7 @@ use std::alloc::Global;
 
 impl Names {
     /// The named inodes, where all the rules of names are kept. `root` is the address of the tree's root node, and `roots`
-    /// has the numbers of the trees that have a root item ([`crate::root_numbers`]).
+    /// has the numbers of the trees that have a root item.
     ///
     /// The root directory is there; each inode that it reaches by names has an item on its grammar, a known kind, and as a
     /// symlink a target of at most 4095 bytes; each entry of a named directory is on its grammar, with a name that a

@@ -13,7 +13,6 @@ mod inodes;
 mod links;
 mod naming;
 mod read;
-mod roots;
 mod seen;
 mod table;
 
@@ -21,5 +20,4 @@ pub use entry::index_entry;
 pub use inodes::{InodeFound, kind_of_mode};
 pub use links::inode_node;
 pub use naming::{Naming, OffForm};
-pub use roots::root_numbers;
 pub use table::Names;

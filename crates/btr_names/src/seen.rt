@@ -9,7 +9,6 @@ ghost use Rattle.btr_names.specs.Steps.{is_open};
 
 use crate::inode_rules::bad;
 use crate::links::{is_link, is_open, names_inode};
-use crate::roots::add;
 use crate::{Names, Naming};
 use indexmap::IndexSet;
 use outside::{BtrAnswer, BtrRule, Memory};
@@ -129,4 +128,13 @@ fn leads_down(names: &Names, named: &IndexSet<NodeId>, naming: &Naming) -> bool
     is_link(names, named, naming)
         && names_inode(naming)
         && names.is_directory(naming.location.objectid)
+}
+
+/// Adds a number to a set. Whether it is new.
+fn add(numbers: &mut IndexSet<u64>, number: u64) -> Result<bool, Memory>
+    ensures added { IfOk result (λ new. new ≡ not (contains nat_eq numbers.old number)) }
+    ensures has { OnOk result ((other : ℕ) → contains nat_eq numbers.new other ≡ (nat_eq number other || contains nat_eq numbers.old other)) }
+{
+    let new = numbers.insert(number)?;
+    Ok(new)
 }
