@@ -6,10 +6,10 @@ use Rattle.btr_reader.specs.declared.chunk.ChunkAt.{ChunkAt}
 use Rattle.btr_reader.specs.Chunks.{entry_size, front_chunk, chunks_within}
 
 -- what is behind the first chunk
-abbrev with_first : List ℕ → ℕ → Option ChunkAt → Option (List ChunkAt)
+abbrev pub with_first : List ℕ → ℕ → Option ChunkAt → Option (List ChunkAt)
 with_first rest n first = option_and_then (λ c. option_map (λ cs. c ∷ cs) (chunks_within n (drop (entry_size rest) rest))) first
 
-more_chunks : (n : ℕ) (rest : List ℕ) → 0 < length rest → length rest ≤ n → (m : ℕ) × (n ≡ suc m) × (chunks_within n rest ≡ with_first rest m (front_chunk rest))
+pub more_chunks : (n : ℕ) (rest : List ℕ) → 0 < length rest → length rest ≤ n → (m : ℕ) × (n ≡ suc m) × (chunks_within n rest ≡ with_first rest m (front_chunk rest))
 unfolding chunks_within
 more_chunks n [] some few = absurd (omega arith)
 more_chunks zero (b ∷ bs) some few = absurd (omega arith)

@@ -2,11 +2,13 @@ pub mod Adding
 pub mod Among
 pub mod Answered
 pub mod Array
+pub mod ArrayBack
 pub mod Bridging
 pub mod EntryItems
 pub mod FirstPlaces
 pub mod Gathering
 pub mod Known
+pub mod MapApart
 pub mod MapBlocks
 pub mod NoLogs
 pub mod NotedRoots

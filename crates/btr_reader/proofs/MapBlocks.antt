@@ -85,16 +85,24 @@ later_none : (xs ys : List BtrRefusal) → or_later xs ys ≡ [] → ys ≡ []
 later_none [] ys none = none
 later_none (x ∷ xs) ys none = absurd (cc none)
 
+-- nothing is wrong with the array of a volume that was opened, nor with the items of its chunk tree
+pub opened_sound : (image : Image) (s : Super) (ranges : List MapRange) → IsOpened image s ranges
+    → (boot_refusals (length image) (boot_chunks s) ≡ []) × (items_refusals (length image) (boot_ranges (boot_chunks s)) (boot_ranges (boot_chunks s)) (found image (boot_ranges (boot_chunks s)) (chunk_tree s)) ≡ [])
+opened_sound image s ranges opened =
+    let device : ℕ = length image in
+    let boot : List MapRange = boot_ranges (boot_chunks s) in
+    let all : or_later (boot_refusals (length image) (boot_chunks s)) (trees_refusals image s (boot_ranges (boot_chunks s))) ≡ [] = sym (opening_is image s opened.super) ∙ opened.sound in
+    let trees : trees_refusals image s (boot_ranges (boot_chunks s)) ≡ [] = later_none (boot_refusals device (boot_chunks s)) (trees_refusals image s boot) all in
+    let nodes : List BtrRefusal = wrong image boot (chunk_tree s) in
+    let items : List BtrRefusal = items_refusals device boot boot (found image boot (chunk_tree s)) in (
+      first_none (boot_refusals device (boot_chunks s)) (trees_refusals image s boot) all,
+      none_right nodes items (first_none (nodes ++ items) (wrong image (map_from image s boot) (root_tree s)) trees),
+    )
+
 -- the map of a volume that was opened
 pub opened_in_blocks : (image : Image) (s : Super) (ranges : List MapRange) → IsOpened image s ranges → AreInBlocks ranges
 opened_in_blocks image s ranges opened =
     let device : ℕ = length image in
     let boot : List MapRange = boot_ranges (boot_chunks s) in
-    let all : or_later (boot_refusals (length image) (boot_chunks s)) (trees_refusals image s (boot_ranges (boot_chunks s))) ≡ [] = sym (opening_is image s opened.super) ∙ opened.sound in
-    let array : boot_refusals (length image) (boot_chunks s) ≡ [] = first_none (boot_refusals device (boot_chunks s)) (trees_refusals image s boot) all in
-    let trees : trees_refusals image s (boot_ranges (boot_chunks s)) ≡ [] = later_none (boot_refusals device (boot_chunks s)) (trees_refusals image s boot) all in
-    let nodes : List BtrRefusal = wrong image boot (chunk_tree s) in
-    let items : List BtrRefusal = items_refusals device boot boot (found image boot (chunk_tree s)) in
-    let sound : items_refusals (length image) (boot_ranges (boot_chunks s)) (boot_ranges (boot_chunks s)) (found image (boot_ranges (boot_chunks s)) (chunk_tree s)) ≡ [] =
-    none_right nodes items (first_none (nodes ++ items) (wrong image (map_from image s boot) (root_tree s)) trees) in
-    subst AreInBlocks (sym opened.map_is) (with_items_in_blocks device boot boot (found image boot (chunk_tree s)) sound (boot_in_blocks device (boot_chunks s) array))
+    let sound = opened_sound image s ranges opened in
+    subst AreInBlocks (sym opened.map_is) (with_items_in_blocks device boot boot (found image boot (chunk_tree s)) sound.1 (boot_in_blocks device (boot_chunks s) sound.0))

@@ -69,25 +69,25 @@ extent_heads_read_back head behind fits =
     let long : ltb (length bytes) 24 ≡ false = le-ltb _ _ (omega (arith, length-append (extent_head_bytes head) behind, extent_head_reads.len head fits, extent_head_width)) in
     ap (λ (b : Bool). cond b None (Some (extent_head_layout.read bytes))) long ∙ ap (λ (z : List ℕ). Some (extent_head_layout.read z)) (sym same) ∙ ap Some (extent_head_reads.back head behind fits)
 
-chunk_reads : Reads chunk_layout (λ v. v)
+pub chunk_reads : Reads chunk_layout (λ v. v)
 unfolding chunk_layout
 chunk_reads = start make_chunk ▹ u64_reads ▹ u64_reads ▹ u64_reads ▹ u64_reads ▹ u32_reads ▹ u32_reads ▹ u32_reads ▹ u16_reads ▹ u16_reads ▹ part_reads stripe_reads
 
-chunk_width : chunk_layout.width ≡ 80
+pub chunk_width : chunk_layout.width ≡ 80
 unfolding chunk_layout stripe_layout
 chunk_width = refl
 
--- where the number of stripes stands
-stripes_at : (chunk : Chunk) → chunk_layout.fits chunk → field 2 (chunk_bytes chunk) 44 ≡ chunk.num_stripes
+-- where the number of stripes stands, whatever is behind the chunk
+pub stripes_at : (chunk : Chunk) (behind : List ℕ) → chunk_layout.fits chunk → field 2 (chunk_layout.spell chunk behind) 44 ≡ chunk.num_stripes
 unfolding chunk_layout
-stripes_at chunk fits =
-    little_number-reads_back 2 chunk.num_stripes (little_bytes 2 chunk.sub_stripes ++ (stripe_layout.spell chunk.stripe [] ++ [])) fits.0.0.1
+stripes_at chunk behind fits =
+    little_number-reads_back 2 chunk.num_stripes (little_bytes 2 chunk.sub_stripes ++ (stripe_layout.spell chunk.stripe [] ++ behind)) fits.0.0.1
 
 pub chunks_read_back : ChunksReadBack
 chunks_read_back chunk fits one =
     let bytes = chunk_bytes chunk in
     let len : length bytes ≡ 80 = chunk_reads.len chunk fits ∙ chunk_width in
-    let stripes : field 2 bytes 44 ≡ 1 = stripes_at chunk fits ∙ one in
+    let stripes : field 2 bytes 44 ≡ 1 = stripes_at chunk [] fits ∙ one in
     let long : ltb (length bytes) 80 ≡ false = le-ltb _ _ (omega (arith, len)) in
     let fills : (length bytes == 48 + 32 * field 2 bytes 44) ≡ true = eq-eqb _ _ (omega (arith, len, stripes)) in
     ap (λ (b : Bool). cond b None (cond (length bytes == 48 + 32 * field 2 bytes 44) (Some (chunk_layout.read bytes)) None)) long
