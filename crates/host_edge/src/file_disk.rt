@@ -3,27 +3,32 @@ ghost use Rattle.outside.specs.Fault.{Rose};
 ghost use Rattle.outside.specs.History.{nothing};
 ghost use Rattle.host_edge.specs.FileDisk.{Kept, opened_for, length_of, kept_refl, kept_trans, closed_length, tells_nothing};
 
-use crate::mounts::is_mounted;
+use crate::devices::{DeviceNumber, family, is_held};
+use crate::mounts::is_busy;
 use crate::opened::Opened;
 use outside::{Access, BlockSource, Disk, Fault};
 use std::fs::{File, Files, OpenOptions};
-use std::io;
 use std::io::ErrorKind;
+use std::os::unix::fs::FileTypeExt;
+use std::{fs, io};
 use vol_block::{Block, BlockNo};
 
 /// A file or a device as a disk, read and written a whole block at a time at its place.
 ///
 /// Its length is what seeking to its end gives, so that a block device has its own; a last part of less than a block
-/// is no block. Each call of the system that fails is counted, and so is a read or a write that ends early. What is
-/// mounted is not opened for writing: that counts as a failure too.
+/// is no block. Each call of the system that fails is counted, and so is a read or a write that ends early.
+///
+/// Only a plain file or a block device is opened. For writing it is not opened where it is in use: where it is mounted,
+/// swapped to, or below another device, where that is true of one of its partitions or of the device that it is a
+/// partition of, or where another program holds a lock on it. Each of these counts as a failure too.
 #[derive(Drop)]
-pub struct FileDisk<R: Files<File = File> + AllocGlobal + Drop> {
+pub struct FileDisk<R: Files<File = File> + AllocGlobal + Clone + Drop> {
     files: R,
     opened: Option<Opened>,
     faults: u64,
 }
 
-impl<R: Files<File = File> + AllocGlobal + Drop> FileDisk<R> {
+impl<R: Files<File = File> + AllocGlobal + Clone + Drop> FileDisk<R> {
     /// A disk that is not open. It will find its file by these files.
     pub fn new(files: R) -> Self
         ensures { opened_for result ≡ None }
@@ -38,14 +43,32 @@ impl<R: Files<File = File> + AllocGlobal + Drop> FileDisk<R> {
     fn open_file(&self, path: &str, access: Access) -> io::Result<Opened>
         ensures { IfOk result (λ opened. opened.access ≡ access) }
     {
-        if access == Access::Write && is_mounted(&self.files, path)? {
+        let kind = fs::metadata(&self.files, path)?.file_type();
+        if !kind.is_file() && !kind.is_block_device() {
+            return Err(io::Error::from(ErrorKind::InvalidInput));
+        }
+        if access == Access::Write && self.is_in_use(path)? {
             return Err(io::Error::from(ErrorKind::ResourceBusy));
         }
         let file = OpenOptions::new()
             .read(true)
             .write(access == Access::Write)
             .open(&self.files, path)?;
+        if access == Access::Write && file.try_lock().is_err() {
+            return Err(io::Error::from(ErrorKind::ResourceBusy));
+        }
         Opened::new(file, access)
+    }
+
+    /// Whether what stands at a path is in use: mounted, swapped to, or below another device; of a device also its
+    /// partitions and the device that it is a partition of.
+    fn is_in_use(&self, path: &str) -> io::Result<bool> {
+        let here = self.files.canonicalize(self.files.alloc(), path)?;
+        let devices = match DeviceNumber::at(&self.files, path)? {
+            Some(device) => family(&self.files, device)?,
+            None => Vec::new(self.files.alloc()),
+        };
+        Ok(is_held(&self.files, &devices)? || is_busy(&self.files, &devices, here.as_str())?)
     }
 
     /// Counts a failure.
@@ -59,7 +82,7 @@ impl<R: Files<File = File> + AllocGlobal + Drop> FileDisk<R> {
     }
 }
 
-impl<R: Files<File = File> + AllocGlobal + Drop> BlockSource for FileDisk<R> {
+impl<R: Files<File = File> + AllocGlobal + Clone + Drop> BlockSource for FileDisk<R> {
     ghost tells = { false };
 
     ghost blocks = { λ d. [] };
@@ -99,7 +122,7 @@ impl<R: Files<File = File> + AllocGlobal + Drop> BlockSource for FileDisk<R> {
     }
 }
 
-impl<R: Files<File = File> + AllocGlobal + Drop> Disk for FileDisk<R> {
+impl<R: Files<File = File> + AllocGlobal + Clone + Drop> Disk for FileDisk<R> {
     ghost history = { λ d. nothing };
 
     ghost opened = { λ d. opened_for d };

@@ -5,6 +5,7 @@
 //! tell, so no contract speaks of it.
 #![tactic(auto)]
 
+mod devices;
 mod file_disk;
 mod mounts;
 mod opened;

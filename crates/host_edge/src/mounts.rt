@@ -1,63 +1,48 @@
 ghost use Rattle.std.specs.Prelude.{◌≡◌, ◌≤◌, length, OnSome};
 
+use crate::devices::DeviceNumber;
 use std::alloc::{AllocError, Global};
 use std::fs::Files;
 use std::io::ErrorKind;
-use std::os::unix::fs::{FileTypeExt, MetadataExt};
 use std::{fs, io};
 
-/// The number of a device.
-#[derive(Clone, Copy, Debug, PartialEq, Eq)]
-pub struct DeviceNumber {
-    pub major: u32,
-    pub minor: u32,
-}
-
-impl DeviceNumber {
-    /// As Linux writes it in a file's status.
-    fn encoded(self) -> u64 {
-        let major = u64::from(self.major);
-        let minor = u64::from(self.minor);
-        ((major & 0xffff_f000) << 32)
-            | ((major & 0xfff) << 8)
-            | ((minor & 0xffff_ff00) << 12)
-            | (minor & 0xff)
-    }
-}
-
-/// A mount, as a line of `/proc/self/mountinfo` tells it.
+/// A mount, as a line of `/proc/self/mountinfo` tells it. A line is bytes: a path in it may have any.
 #[derive(Clone, Copy, Debug)]
 pub struct Mount<'a> {
     device: DeviceNumber,
-    source: &'a str,
+    source: &'a [u8],
 }
 
 impl<'a> Mount<'a> {
     /// Reads a line. The third field is the device's number; behind a field that is a dash come the type of the file
     /// system and the source.
-    pub fn read(line: &'a str) -> Option<Mount<'a>> {
-        let (front, back) = line.split_once(" - ")?;
-        let (major, minor) = front.split(' ').nth(2)?.split_once(':')?;
+    pub fn read(line: &'a [u8]) -> Option<Mount<'a>> {
+        let mut fields = line.split(|byte| *byte == b' ');
+        let device = DeviceNumber::read(fields.nth(2)?)?;
+        let _dash = fields.find(|field| *field == b"-".as_slice())?;
         Some(Mount {
-            device: DeviceNumber {
-                major: major.parse().ok()?,
-                minor: minor.parse().ok()?,
-            },
-            source: back.split(' ').nth(1)?,
+            device,
+            source: fields.nth(1)?,
         })
     }
 
+    /// The number of the device that the file system lies on.
     pub fn device(&self) -> DeviceNumber {
         self.device
     }
 
-    /// The source, if it is a path: a space, a tab, a line feed and a backslash stand there as `\` and three octal
-    /// digits.
+    /// The source, if it is a path.
     pub fn source(&self, alloc: Global) -> Result<Option<String>, AllocError> {
-        if !self.source.starts_with('/') {
-            return Ok(None);
-        }
-        Ok(String::from_utf8(unescaped(alloc, self.source.as_bytes())?).ok())
+        path_of(alloc, self.source)
+    }
+}
+
+/// A path as tables of the system spell it, where it is one and a text: a space, a tab, a line feed and a backslash
+/// stand there as `\\` and three octal digits.
+fn path_of(alloc: Global, field: &[u8]) -> Result<Option<String>, AllocError> {
+    match field {
+        [b'/', ..] => Ok(String::from_utf8(unescaped(alloc, field)?).ok()),
+        _ => Ok(None),
     }
 }
 
@@ -91,29 +76,71 @@ fn octal(text: &[u8]) -> Option<u8>
     }
 }
 
-/// Whether what is at a path is mounted: a block device by its number or by the path of a mount's source, any other
-/// file by that path alone. Where the system has no list of mounts nothing is.
-pub fn is_mounted<R: Files + AllocGlobal>(files: &R, path: &str) -> io::Result<bool> {
-    let table = match fs::read_to_string(files, "/proc/self/mountinfo") {
-        Ok(table) => table,
-        Err(e) if e.kind() == ErrorKind::NotFound => return Ok(false),
-        Err(e) => return Err(e),
-    };
-    let status = fs::metadata(files, path)?;
-    let number = if status.file_type().is_block_device() {
-        Some(status.rdev())
-    } else {
-        None
-    };
-    let here = files.canonicalize(files.alloc(), path)?;
-    for line in table.lines() {
+/// A table of the system; where there is none it is empty.
+fn table<R: Files + AllocGlobal>(files: &R, path: &str) -> io::Result<Vec<u8>> {
+    match fs::read(files, path) {
+        Ok(bytes) => Ok(bytes),
+        Err(e) if e.kind() == ErrorKind::NotFound => Ok(Vec::new(files.alloc())),
+        Err(e) => Err(e),
+    }
+}
+
+/// Whether a path leads to this one, which has no symlinks and no dots.
+fn leads_to<R: Files + AllocGlobal>(files: &R, path: &str, here: &str) -> bool {
+    match files.canonicalize(files.alloc(), path) {
+        Ok(path) => path.as_str() == here,
+        Err(_) => false,
+    }
+}
+
+/// Whether one of these devices, or what stands at this path, is mounted or is swapped to. The path has no symlinks and no
+/// dots.
+pub fn is_busy<R: Files + AllocGlobal>(
+    files: &R,
+    devices: &[DeviceNumber],
+    here: &str,
+) -> io::Result<bool> {
+    Ok(is_mounted(files, devices, here)? || is_swap(files, devices, here)?)
+}
+
+fn is_mounted<R: Files + AllocGlobal>(
+    files: &R,
+    devices: &[DeviceNumber],
+    here: &str,
+) -> io::Result<bool> {
+    let mounts = table(files, "/proc/self/mountinfo")?;
+    for line in mounts.as_slice().split(|byte| *byte == b'\n') {
         if let Some(mount) = Mount::read(line) {
-            if number == Some(mount.device().encoded()) {
+            if devices.contains(&mount.device()) {
                 return Ok(true);
             }
             if let Some(source) = mount.source(files.alloc())? {
-                let source = files.canonicalize(files.alloc(), source.as_str());
-                if source.is_ok_and(|source| source.as_str() == here.as_str()) {
+                if leads_to(files, source.as_str(), here) {
+                    return Ok(true);
+                }
+            }
+        }
+    }
+    Ok(false)
+}
+
+/// The first line of `/proc/swaps` has the names of the columns, and each other one begins with a path.
+fn is_swap<R: Files + AllocGlobal>(
+    files: &R,
+    devices: &[DeviceNumber],
+    here: &str,
+) -> io::Result<bool> {
+    let swaps = table(files, "/proc/swaps")?;
+    for line in swaps.as_slice().split(|byte| *byte == b'\n') {
+        let Some(first) = line.split(|byte| *byte == b' ' || *byte == b'\t').next() else {
+            continue;
+        };
+        if let Some(path) = path_of(files.alloc(), first)? {
+            if leads_to(files, path.as_str(), here) {
+                return Ok(true);
+            }
+            if let Some(device) = DeviceNumber::at(files, path.as_str())? {
+                if devices.contains(&device) {
                     return Ok(true);
                 }
             }

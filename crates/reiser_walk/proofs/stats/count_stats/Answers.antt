@@ -26,7 +26,7 @@ loop-walker-preserved-then-is_stat g c =
     let before = c.loop-walker.invariant in
     record {
       kept = g.met.S.BlockSource.kept_trans _ _ _ before.kept c.advance.ensures.kept;
-      later = omega (arith, before.later, c.advance.ensures.cause.later);
+      same = c.in_ok-advance.ensures.cause.kept (λ e. absurd cc) ∙ before.same;
       unspent = c.in_ok-advance.ensures.unspent;
       tree = c.advance.ensures.tree ∙ before.tree;
       size = c.advance.ensures.size ∙ before.size;
@@ -46,7 +46,7 @@ loop-walker-preserved g c =
     let before = c.loop-walker.invariant in
     record {
       kept = g.met.S.BlockSource.kept_trans _ _ _ before.kept c.advance.ensures.kept;
-      later = omega (arith, before.later, c.advance.ensures.cause.later);
+      same = c.in_ok-advance.ensures.cause.kept (λ e. absurd cc) ∙ before.same;
       unspent = c.in_ok-advance.ensures.unspent;
       tree = c.advance.ensures.tree ∙ before.tree;
       size = c.advance.ensures.size ∙ before.size;

@@ -8,7 +8,7 @@ use Rattle.reiser_walk.proofs.stats.count_stats.Given as goal
 abbrev pub invariant-loop-walker : goal.invariant-loop-walker
 invariant-loop-walker g l = record {
   kept : g.S.BlockSource.kept l.fn.src l.src;
-  later : g.S.BlockSource.faults l.fn.src ≤ g.S.BlockSource.faults l.src;
+  same : g.S.BlockSource.faults l.src ≡ g.S.BlockSource.faults l.fn.src;
   unspent : l.walker.spent ≡ false;
   tree : l.walker.tree ≡ l.fn.walker.tree;
   size : block_count l.walker ≡ length l.map;

@@ -18,7 +18,7 @@ put_pointer-requires-clause-fits g c = omega (arith, c.loop-j-test.true, c.count
 pub loop-j-init : goal.loop-j-init
 loop-j-init g c = record {
   kept = g.met.S.BlockSource.kept_refl _;
-  later = omega arith;
+  same = refl;
   size = refl;
   next = λ h. omega (arith, h);
   none = λ h. refl;
@@ -32,7 +32,7 @@ loop-j-preserved g c =
     let within : c.loop-j.j < length c.args.body.now / 4 = omega (arith, c.loop-j-test.true, c.count_below-j-end.ensures) in
     record {
       kept = g.met.S.BlockSource.kept_trans _ _ _ before.kept c.put_pointer.ensures.kept;
-      later = omega (arith, before.later, c.put_pointer.ensures.cause.later);
+      same = c.in_ok-put_pointer.ensures.cause.kept ∙ before.same;
       size = c.put_pointer.ensures.size ∙ before.size;
       next = λ h. omega (arith, c.put_pointer.ensures.next (before.next h));
       none = λ h. absurd (omega (arith, within, h));

@@ -7,7 +7,7 @@ use Rattle.reiser_files.proofs.marker.FileMarker.put_pointers.Given as goal
 abbrev pub invariant-loop-j : goal.invariant-loop-j
 invariant-loop-j g l = record {
   kept : g.S.BlockSource.kept l.fn.src l.src;
-  later : g.S.BlockSource.faults l.fn.src ≤ g.S.BlockSource.faults l.src;
+  same : g.S.BlockSource.faults l.src ≡ g.S.BlockSource.faults l.fn.src;
   size : l.self.size ≡ l.fn.self.size;
   next : l.fn.self.next ≤ l.first → l.self.next ≤ l.first + l.j;
   none : length l.body / 4 ≡ 0 → l.self ≡ l.fn.self;

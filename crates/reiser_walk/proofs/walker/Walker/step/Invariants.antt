@@ -7,7 +7,7 @@ use Rattle.reiser_walk.proofs.walker.Walker.step.Given as goal
 abbrev pub invariant-loop-self : goal.invariant-loop-self
 invariant-loop-self g l = record {
   kept : g.S.BlockSource.kept l.fn.src l.src;
-  later : g.S.BlockSource.faults l.fn.src ≤ g.S.BlockSource.faults l.src;
+  same : g.S.BlockSource.faults l.src ≡ g.S.BlockSource.faults l.fn.src;
   tree : l.self.tree ≡ l.fn.self.tree;
   size : block_count l.self ≡ block_count l.fn.self;
   spent : l.self.spent ≡ l.fn.self.spent;
