@@ -18,7 +18,7 @@ put_block-requires-clause-fits g c = omega (arith, c.loop-j.invariant.size, c.lo
 pub loop-j-init : goal.loop-j-init
 loop-j-init g c = record {
   kept = g.met.S.BlockSource.kept_refl _;
-  later = omega arith;
+  same = refl;
   size = refl;
   next = λ h. omega (arith, h);
   near = λ h. omega (arith, h);
@@ -32,7 +32,7 @@ loop-j-preserved g c =
     let within : c.loop-j.j < c.args.range.now.num_bytes / 4096 = omega (arith, c.loop-j-test.true, c.count_below-j-end.ensures) in
     record {
       kept = g.met.S.BlockSource.kept_trans _ _ _ before.kept c.put_block.ensures.kept;
-      later = omega (arith, before.later, c.put_block.ensures.cause.later);
+      same = c.in_ok-put_block.ensures.cause.kept ∙ before.same;
       size = c.put_block.ensures.size ∙ before.size;
       next = λ h. omega (arith, c.put_block.ensures.next, before.next h);
       near = λ h. omega (arith, c.put_block.ensures.next, before.next h);

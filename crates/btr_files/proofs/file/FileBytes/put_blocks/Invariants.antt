@@ -10,7 +10,7 @@ use Rattle.btr_files.proofs.file.FileBytes.put_blocks.Given as goal
 abbrev pub invariant-loop-j : goal.invariant-loop-j
 invariant-loop-j g l = record {
   kept : g.S.BlockSource.kept l.fn.src l.src;
-  later : g.S.BlockSource.faults l.fn.src ≤ g.S.BlockSource.faults l.src;
+  same : g.S.BlockSource.faults l.src ≡ g.S.BlockSource.faults l.fn.src;
   size : l.self.size ≡ l.fn.self.size;
   next : 4096 * l.fn.self.next ≤ l.offset → l.self.next ≤ l.offset / 4096 + l.j;
   near : 4096 * l.fn.self.next ≤ l.offset → 4096 * l.self.next ≤ l.offset + 4096 * l.j;
