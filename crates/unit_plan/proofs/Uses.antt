@@ -1,5 +1,5 @@
 -- What the units of a plan are used for.
-use Rattle.std.proofs.Common.{◌≡◌, ℕ, suc, ◌+◌, ◌-◌, ◌*◌, ◌/◌, ◌<◌, ◌≤◌, ◌&&◌, ◌||◌, ltb, leb, not, Bool, true, false, List, length, cond, Some, None, inr, refl, sym, ◌∙◌, ap, subst, arith, ⊎_elim}
+use Rattle.std.proofs.Common.{◌≡◌, ℕ, suc, ◌+◌, ◌-◌, ◌*◌, ◌/◌, ◌<◌, ◌≤◌, ◌&&◌, ◌||◌, ltb, leb, not, Bool, true, false, List, length, get_or, cond, Some, None, inr, refl, sym, ◌∙◌, ap, subst, arith, ⊎_elim}
 use Rattle.std.specs.Prelude.{Any, Contains}
 use Rattle.std.specs.List.{list_any}
 use Rattle.std.proofs.lemmas.Bool.{cases_Bool, cases_lt, and_parts, and_from, and_left, and_right, or_cases, or_left, or_right, not-true, not_from_false, both_ways, lt-ltb, le-ltb, le-leb, ltb-true, leb-true}
@@ -12,7 +12,7 @@ use Rattle.unit_plan.specs.declared.chunk.Role.TheVariants.{System, Metadata, Da
 use Rattle.unit_plan.specs.declared.plan.Plan.{Plan}
 use Rattle.unit_plan.specs.declared.need.Need.{Need}
 use Rattle.unit_plan.specs.Choice.{is_in, is_among, is_chosen, holds_data, is_unallocated, volume_units}
-use Rattle.unit_plan.specs.Chunks.{is_in_runs, has_role, role_of, role_by, use_of, usable_end, is_data_unit, RolesAreUses}
+use Rattle.unit_plan.specs.Chunks.{is_in_runs, has_role, role_of, role_by, use_of, usable_end, is_data_unit, RolesAreUses, PlansFit}
 use Rattle.unit_plan.specs.Laws.{AreFreeUnits, IsSoundPlan}
 use Rattle.unit_plan.proofs.Sound.{plans_sound}
 use Rattle.unit_plan.proofs.Starts.{among_contains, HasData, data_there}
@@ -98,3 +98,18 @@ module _ (used : List Bool) (need : Need) (plan : Plan) (sound : IsSoundPlan use
 
 pub roles_uses : RolesAreUses
 roles_uses = λ used need plan enough is u low. role_is used need plan (plans_sound used need plan enough is) u low
+
+pub plans_fit : PlansFit
+plans_fit = λ used need plan enough is.
+    let sound : IsSoundPlan used need plan = plans_sound used need plan enough is in
+    record {
+      system = λ k d h. let free : IsFreeUnit used (get_or plan.system k d) = sound.system.free k d h in omega (arith, free.inside);
+      metadata = λ k d h. let free : IsFreeUnit used (get_or plan.metadata k d) = sound.metadata.free k d h in omega (arith, free.inside);
+      unallocated = λ k d h.
+          let r : Run = get_or plan.unallocated k d in
+          let run = sound.unallocated.each k d h in
+          let last : ℕ = r.first + r.count - 1 in
+          let t = run.all last (omega (arith, run.not_empty), omega (arith, run.not_empty)) in
+          let low : last < volume_units used = ltb-true last (volume_units used) (and_parts (ltb last (volume_units used)) _ (and_parts (ltb 0 last) _ t).1).0 in
+          omega (arith, low, run.not_empty);
+    }

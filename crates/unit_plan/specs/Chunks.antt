@@ -84,3 +84,7 @@ abbrev pub ChunksAreFew : Type 0
 ChunksAreFew =
     (used : List Bool) (need : Need) (plan : Plan) (chunks : List Chunk) → HasEnoughSpace used need → IsPlan used need plan
     → AreChunks plan (length used) chunks → length chunks ≤ chunk_bound (length (free_runs used)) (length used)
+
+-- the units of a plan lie on its volume
+abbrev pub PlansFit : Type 0
+PlansFit = (used : List Bool) (need : Need) (plan : Plan) → HasEnoughSpace used need → IsPlan used need plan → FitsVolume plan (length used)

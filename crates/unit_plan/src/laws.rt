@@ -1,7 +1,7 @@
 // Laws of the definitions, each the contract of a function that does nothing.
 ghost use Rattle.unit_plan.specs.Laws.{PlansAreSound};
 ghost use Rattle.unit_plan.specs.Places.{PlacesServe};
-ghost use Rattle.unit_plan.specs.Chunks.{ChunksAreFew, RolesAreUses};
+ghost use Rattle.unit_plan.specs.Chunks.{ChunksAreFew, PlansFit, RolesAreUses};
 
 /// A plan has as many units as are needed. Each list ascends, its units are free, and no unit is in two lists. The runs
 /// without use are maximal.
@@ -22,4 +22,9 @@ pub fn chunks_are_few()
 /// The nodes of ascending units are slots of a tree: distinct multiples of the node size, ascending, within the units.
 pub fn places_serve()
     ensures { PlacesServe }
+{}
+
+/// The units of a plan, and those of its runs without use, begin on the volume that it was made for.
+pub fn plans_fit()
+    ensures { PlansFit }
 {}

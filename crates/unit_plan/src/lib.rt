@@ -26,7 +26,7 @@ pub use chunk::{Chunk, Chunks, Role};
 pub use counts::Counts;
 pub use division::chunks_of;
 pub use label::Label;
-pub use laws::{chunks_are_few, places_serve, plans_are_sound, roles_are_uses};
+pub use laws::{chunks_are_few, places_serve, plans_are_sound, plans_fit, roles_are_uses};
 pub use need::{Need, needed};
 pub use options::{LabelChoice, Options, UuidChoice};
 pub use piece::{Piece, PieceList};

@@ -1,4 +1,9 @@
-use crate::{Counts, Options, Piece, PieceList, Plan, PlanAnswer, Units, choose, needed};
+ghost use Rattle.unit_plan.specs.Choice.{IsSmall};
+
+use crate::{
+    Chunk, Counts, Need, Options, Piece, PieceList, Plan, PlanAnswer, Role, Units, choose,
+    chunks_of, needed, plans_fit,
+};
 use outside::Memory;
 use reiser_bitmap::{Bitmap, Run};
 use std::alloc::Global;
@@ -130,4 +135,37 @@ fn pieces_in_a_list(rt: HostRuntime) {
         },
     };
     assert_eq!(rt; blocks_of(&list), 7956);
+}
+
+/// The last chunk of the plan for a volume, and how many there are.
+fn chunks(alloc: Global, map: &Bitmap, need: &Need) -> Result<(usize, Option<Chunk>), PlanAnswer>
+    requires need { IsSmall need.now }
+{
+    plans_fit();
+    let plan = choose(alloc, map, need)?;
+    if map.len() >= 1 << 60 {
+        return Ok((0, None));
+    }
+    let chunks = chunks_of(alloc, &plan, map.len())?;
+    let last = match chunks.len().checked_sub(1) {
+        Some(i) => Some(chunks.get(i)),
+        None => None,
+    };
+    Ok((chunks.len(), last))
+}
+
+// Units 1 to 32 hold data, 33 is for the chunk tree, 34 and 35 for the other trees, and 36 for copies.
+#[test]
+fn chunks_of_an_empty_volume(rt: HostRuntime) -> Result<(), PlanAnswer> {
+    let need = needed(&EMPTY_VOLUME, &Options::plain());
+    let map = begun(rt.alloc(), 12288, 8212)?;
+    let (count, last) = chunks(rt.alloc(), &map, &need)?;
+    assert_eq!(rt; count, 4);
+    let wanted = Chunk {
+        start: 9216,
+        length: 256,
+        role: Role::Data,
+    };
+    assert_eq!(rt; last, Some(wanted));
+    Ok(())
 }
