@@ -28,7 +28,8 @@ use Rattle.object_files.specs.Answers.{IsFault, IsFaultOrMemory}
 use Rattle.object_files.specs.Holds.{HoldsObject, HoldsLink, object_items}
 use Rattle.reiser_volume.specs.declared.row.Known.{Known}
 use Rattle.reiser_volume.specs.declared.volume.Volume.{Volume}
-use Rattle.reiser_volume.specs.Made.{IsContent, IsKnownAt, IsOf, bytes_at}
+use Rattle.fs_rows.specs.Content.{IsContent}
+use Rattle.reiser_volume.specs.Made.{IsKnownAt, IsOf, bytes_at}
 use Rattle.reiser_volume.specs.Volume.{superblock, used_of, tree_of, volume_items}
 
 pub fault_or : (e : VolAnswer) → IsFault e → IsFaultOrMemory e

@@ -1,3 +1,4 @@
+pub mod Bounds
 pub mod Filing
 pub mod Holding
 pub mod Leading

@@ -34,7 +34,8 @@ use Rattle.reiser_objects.specs.Names.{IsNamed}
 use Rattle.reiser_objects.specs.Rules.{IsObject}
 use Rattle.reiser_volume.specs.declared.row.Known.{Known}
 use Rattle.reiser_volume.specs.declared.volume.Volume.{Volume}
-use Rattle.reiser_volume.specs.Made.{IsContent, IsKnownAt, IsOf, row_by, bytes_at, no_stat, stat_at, kind_by, whole_row}
+use Rattle.fs_rows.specs.Content.{IsContent}
+use Rattle.reiser_volume.specs.Made.{IsKnownAt, IsOf, row_by, bytes_at, no_stat, stat_at, kind_by, whole_row}
 use Rattle.reiser_volume.specs.Opened.{IsOpened, links_in}
 use Rattle.reiser_volume.specs.Rows.{Leads, IsLeastPath, IsRow}
 use Rattle.reiser_volume.specs.Volume.{IsAccepted, AreRowsOf, superblock, volume_items}

@@ -13,10 +13,11 @@ use Rattle.reiser_objects.specs.declared.naming.Naming.{Naming}
 use Rattle.reiser_objects.specs.declared.stat.ObjectStat.{ObjectStat}
 use Rattle.reiser_objects.specs.Items.{stat_of_object}
 use Rattle.reiser_objects.specs.Keys.{root, items_of}
+use Rattle.fs_rows.specs.Kinds.{has_bytes}
 use Rattle.reiser_objects.specs.Kinds.{kind_of_mode, is_symlink}
 use Rattle.reiser_objects.specs.Names.{IsNamed}
 use Rattle.reiser_names.specs.Links.{AreLinks}
-use Rattle.reiser_volume.specs.Laws.{has_bytes, SameFileBlocks, ItemsDecideRows}
+use Rattle.reiser_volume.specs.Laws.{SameFileBlocks, ItemsDecideRows}
 use Rattle.reiser_volume.specs.Rows.{flag, HasStat, IsRow, AreReiserRows}
 use Rattle.reiser_volume.proofs.Leading.{leads_named}
 use Rattle.reiser_volume.proofs.Unplaced.{rows_to, rows_from}

@@ -1,5 +1,5 @@
 -- The used blocks of an accepted volume decide the bytes of its files, and so its rows.
-use Rattle.std.proofs.Common.{◌≡◌, ◌≢◌, ◌-◌, ℕ, Bool, true, false, not, ◌&&◌, ◌||◌, List, [], length, filter, Contains, if◌then◌else◌, sym, ◌∙◌, ap, subst, true≢false}
+use Rattle.std.proofs.Common.{◌≡◌, ◌≢◌, ◌-◌, ℕ, Bool, true, false, not, ◌&&◌, List, [], length, filter, Contains, if◌then◌else◌, sym, ◌∙◌, ap, subst, true≢false}
 use Rattle.std.specs.List.{list_any}
 use Rattle.std.proofs.lemmas.Bool.{false_from_ne_true, ne_eqb}
 use Rattle.std.proofs.lemmas.List.Elements.{All-contains}
@@ -25,7 +25,7 @@ use Rattle.reiser_files.proofs.Sorts.{items_name}
 use Rattle.reiser_objects.specs.declared.key.ObjectKey.{ObjectKey}
 use Rattle.reiser_objects.specs.declared.naming.Naming.{Naming}
 use Rattle.reiser_objects.specs.Keys.{key_of, same_key, items_of}
-use Rattle.reiser_objects.specs.Kinds.{is_file, is_symlink}
+use Rattle.fs_rows.specs.Kinds.{has_bytes}
 use Rattle.object_files.specs.Laws.{SameUsed}
 use Rattle.object_files.proofs.Inside.{Names, named_inside}
 use Rattle.reiser_volume.specs.Rows.{IsRow, AreReiserRows}
@@ -77,7 +77,7 @@ module _ (image other : Image) (flags : ℕ) (items : List Item) (same : (key : 
     fields = r.fields;
     least = r.least;
     names = r.names;
-    bytes = r.bytes ∙ ap (λ (bytes : List ℕ). if is_file row.kind || is_symlink row.kind then bytes else []) (sym (same key r.stat.fields.size));
+    bytes = r.bytes ∙ ap (λ (bytes : List ℕ). if has_bytes row.kind then bytes else []) (sym (same key r.stat.fields.size));
   }
 
   pub rows_same : (rows : List WholeRow) → AreReiserRows image flags items rows → AreReiserRows other flags items rows

@@ -2,11 +2,10 @@
 use Rattle.std.proofs.Common.{◌≡◌, ◌≤◌, ◌↔◌, ◌+◌, ℕ, true, false, Bool, List, [], length, sym, ◌∙◌, ap, subst, arith}
 use Rattle.std.specs.Prelude.{Contains}
 use Rattle.std.specs.List.{list_any}
-use Rattle.std.proofs.lemmas.List.FromFn.{length-map-range_with_len}
 use Rattle.outside.specs.History.{Image, block_at}
 use Rattle.fs_rows.specs.Rows.{WholeRow}
 use Rattle.reiser_bitmap.specs.Bits.{has}
-use Rattle.reiser_bitmap.specs.Layout.{bitmap_block, is_marked, bitmap_of}
+use Rattle.reiser_bitmap.specs.Layout.{bitmap_block, bitmap_of}
 use Rattle.reiser_bitmap.specs.System.{system_blocks}
 use Rattle.reiser_bitmap.proofs.MoreLaws.{bitmap_decided}
 use Rattle.reiser_bitmap.proofs.SystemBlocks.{superblock_in, bitmap_in, journal_in}

@@ -1,5 +1,5 @@
 -- What the items of a volume say does not depend on the leaves that they lie in.
-use Rattle.std.proofs.Common.{◌≡◌, ◌↔◌, ℕ, zero, suc, ◌/◌, ◌%◌, ◌==◌, Bool, true, false, cond, ◌||◌, List, [], ◌∷◌, ◌++◌, map, filter, Option, Some, None, unwrap_or, if◌then◌else◌, refl, sym, ap, subst, ◌∙◌}
+use Rattle.std.proofs.Common.{◌≡◌, ◌↔◌, ℕ, zero, suc, ◌/◌, ◌%◌, ◌==◌, Bool, true, false, cond, List, [], ◌∷◌, ◌++◌, map, filter, Option, Some, None, unwrap_or, if◌then◌else◌, refl, sym, ap, subst, ◌∙◌}
 use Rattle.std.specs.Option.{option_map, option_or}
 use Rattle.std.proofs.lemmas.List.{map-append}
 use Rattle.std.proofs.lemmas.Simd.{map-map}
@@ -18,7 +18,7 @@ use Rattle.reiser_objects.specs.declared.naming.Naming.{Naming}
 use Rattle.reiser_objects.specs.declared.stat.ObjectStat.{ObjectStat}
 use Rattle.reiser_objects.specs.Items.{stat_by_kind, first_stat, stat_of_object}
 use Rattle.reiser_objects.specs.Keys.{root, same_key, key_of, items_of}
-use Rattle.reiser_objects.specs.Kinds.{is_file, is_symlink}
+use Rattle.fs_rows.specs.Kinds.{has_bytes}
 use Rattle.reiser_objects.specs.Names.{is_listed, naming_by, namings_by_kind, namings_in, namings, is_followed, followed, IsReachedBy, IsNamed}
 use Rattle.reiser_names.specs.Links.{AreLinks}
 use Rattle.reiser_names.proofs.Uniqueness.{links_one}
@@ -209,7 +209,7 @@ module _ (image : Image) (flags : ℕ) (items : List Item) (rows : List WholeRow
     fields = fields_to flags r.stat row r.fields;
     least = record { leads = leads_to links root row.least key r.least.leads; least = λ other leads. r.least.least other (leads_from links root other key leads) };
     names = r.names;
-    bytes = r.bytes ∙ ap (λ (bytes : List ℕ). if is_file row.kind || is_symlink row.kind then bytes else []) (sym (bytes_bare image items key r.stat.fields.size));
+    bytes = r.bytes ∙ ap (λ (bytes : List ℕ). if has_bytes row.kind then bytes else []) (sym (bytes_bare image items key r.stat.fields.size));
   }
 
   row_from : (links : List Naming) (key : ObjectKey) (row : WholeRow) → IsRow image flags (unplaced items) (map bare_naming links) rows key row → IsRow image flags items links rows key row
@@ -223,8 +223,8 @@ module _ (image : Image) (flags : ℕ) (items : List Item) (rows : List WholeRow
         least = record { leads = leads_from links root row.least key r.least.leads; least = λ other leads. r.least.least other (leads_to links root other key leads) };
         names = r.names;
         bytes = r.bytes
-            ∙ (ap (λ (t : ObjectStat). if is_file row.kind || is_symlink row.kind then file_bytes image (items_of key (unplaced items)) t.fields.size else []) (sym s.2)
-            ∙ ap (λ (bytes : List ℕ). if is_file row.kind || is_symlink row.kind then bytes else []) (bytes_bare image items key s.0.fields.size));
+            ∙ (ap (λ (t : ObjectStat). if has_bytes row.kind then file_bytes image (items_of key (unplaced items)) t.fields.size else []) (sym s.2)
+            ∙ ap (λ (bytes : List ℕ). if has_bytes row.kind then bytes else []) (bytes_bare image items key s.0.fields.size));
       }
 
   pub rows_to : AreReiserRows image flags items rows → AreReiserRows image flags (unplaced items) rows

@@ -1,5 +1,5 @@
 -- Laws of the definitions.
-use Rattle.std.specs.Prelude.{◌≡◌, ◌≢◌, ◌≤◌, ◌<◌, ◌↔◌, ℕ, ◌*◌, Bool, true, ◌||◌, List, length, map, Some}
+use Rattle.std.specs.Prelude.{◌≡◌, ◌≢◌, ◌≤◌, ◌<◌, ◌↔◌, ℕ, ◌*◌, true, List, length, map, Some}
 use Rattle.std.specs.Int.{bit_at}
 use Rattle.outside.specs.History.{Image, block_at}
 use Rattle.outside.specs.declared.refusal.VolumeRefusal.{VolumeRefusal}
@@ -12,7 +12,8 @@ use Rattle.reiser_objects.specs.declared.key.ObjectKey.{ObjectKey}
 use Rattle.reiser_objects.specs.declared.stat.ObjectStat.{ObjectStat}
 use Rattle.reiser_objects.specs.Items.{stat_of_object}
 use Rattle.reiser_objects.specs.Keys.{items_of}
-use Rattle.reiser_objects.specs.Kinds.{kind_of_mode, is_file, is_symlink}
+use Rattle.fs_rows.specs.Kinds.{has_bytes}
+use Rattle.reiser_objects.specs.Kinds.{kind_of_mode}
 use Rattle.reiser_objects.specs.Names.{IsNamed}
 use Rattle.reiser_volume.specs.Rows.{AreReiserRows}
 use Rattle.reiser_volume.specs.Volume.{superblock, used_of, volume_items, AreRowsOf, IsAccepted, IsRefusal, IsFrontAccepted, IsFrontRefusal}
@@ -45,10 +46,6 @@ RowsAreOne = (image : Image) → IsAccepted image → (rows others : List WholeR
 -- the items without the leaves that they lie in: their keys, what else their heads say, and their bodies
 abbrev pub unplaced : List Item → List Item
 unplaced items = map (λ i. record { leaf = 0; head = i.head; body = i.body }) items
-
--- a kind whose rows have bytes
-abbrev pub has_bytes : Kind → Bool
-has_bytes kind = is_file kind || is_symlink kind
 
 -- The other image has the same in each block that the items of a named file or symlink name for a file block below its size.
 abbrev pub SameFileBlocks : Image → Image → List Item → Type 0

@@ -1,4 +1,5 @@
 pub mod Answers
+pub mod Bounds
 pub mod Front
 pub mod Laws
 pub mod Made

@@ -1,7 +1,7 @@
 -- The row that is made for each path of a volume.
-use Rattle.std.specs.Prelude.{◌≡◌, ℕ, ◌%◌, false, ◌&&◌, ◌||◌, not, List, [], Some, unwrap_or, if◌then◌else◌}
+use Rattle.std.specs.Prelude.{◌≡◌, ℕ, ◌%◌, false, ◌&&◌, not, List, [], Some, unwrap_or, if◌then◌else◌}
 use Rattle.outside.specs.History.{Image}
-use Rattle.fs_rows.specs.Rows.{NameList, WholeRow, length_by, mark_by, target_by}
+use Rattle.fs_rows.specs.Rows.{NameList, WholeRow}
 use Rattle.fs_rows.specs.declared.row.Kind.{Kind}
 use Rattle.fs_rows.specs.declared.row.Kind.TheVariants.{File}
 use Rattle.path_list.specs.declared.link.PathTo.{PathTo}
@@ -12,12 +12,13 @@ use Rattle.reiser_objects.specs.declared.key.ObjectKey.{ObjectKey}
 use Rattle.reiser_objects.specs.declared.stat.ObjectStat.{ObjectStat}
 use Rattle.reiser_objects.specs.Items.{stat_of_object}
 use Rattle.reiser_objects.specs.Keys.{items_of}
-use Rattle.reiser_objects.specs.Kinds.{kind_of_mode, is_directory, is_file, is_symlink}
+use Rattle.fs_rows.specs.Kinds.{is_directory, is_symlink, is_device, has_bytes}
+use Rattle.reiser_objects.specs.Kinds.{kind_of_mode}
 use Rattle.reiser_objects.specs.Names.{IsNamed}
 use Rattle.reiser_volume.specs.declared.row.Known.{Known}
 use Rattle.reiser_volume.specs.declared.volume.Volume.{Volume}
 use Rattle.reiser_volume.specs.Opened.{IsOpened}
-use Rattle.reiser_volume.specs.Rows.{flag, is_device, major_of, minor_of, time_of}
+use Rattle.reiser_volume.specs.Rows.{flag, major_of, minor_of, time_of}
 use Rattle.reiser_volume.specs.Volume.{IsAccepted, volume_items, superblock}
 use Rattle.reiser_objects.specs.Nodes.{key_at}
 
@@ -46,13 +47,7 @@ row_by flags stat kind path least names bytes = record {
 
 -- the bytes of a file, or of the target of a symlink
 abbrev pub bytes_at : Image → List Item → ObjectKey → ObjectStat → Kind → List ℕ
-bytes_at image items key stat kind = if is_file kind || is_symlink kind then file_bytes image (items_of key items) stat.fields.size else []
-
--- what a row has of these bytes
-pub record IsContent (kind : Kind) (bytes : List ℕ) (length : ℕ) (mark target : List ℕ) : Type 0 where
-  pub is_length : length ≡ length_by kind bytes
-  pub is_mark : mark ≡ mark_by kind bytes
-  pub is_target : target ≡ target_by kind bytes
+bytes_at image items key stat kind = if has_bytes kind then file_bytes image (items_of key items) stat.fields.size else []
 
 -- the stat data of an object and its kind
 pub record IsKnownAt (items : List Item) (key : ObjectKey) (known : Known) : Type 0 where

@@ -1,20 +1,19 @@
 -- The rows of a ReiserFS volume.
-use Rattle.std.specs.Prelude.{◌≡◌, ℕ, ◌+◌, ◌*◌, ◌/◌, ◌%◌, ◌^◌, ◌==◌, pos, Bool, true, false, not, ◌&&◌, ◌||◌, List, [], ◌∷◌, Some, Contains, if◌then◌else◌}
+use Rattle.std.specs.Prelude.{◌≡◌, ℕ, ◌+◌, ◌*◌, ◌/◌, ◌%◌, ◌^◌, ◌==◌, pos, Bool, true, not, ◌&&◌, List, [], ◌∷◌, Some, Contains, if◌then◌else◌}
 use Rattle.std.specs.Int.{bit_at}
 use Rattle.std.specs.Ordering.{is_le}
 use Rattle.outside.specs.History.{Image}
 use Rattle.reiser_walk.specs.Items.{Item}
 use Rattle.reiser_files.specs.Bytes.{file_bytes}
 use Rattle.fs_rows.specs.Rows.{NameList, WholeRow, AscendsByPath, path_cmp, name_count}
-use Rattle.fs_rows.specs.declared.row.Kind.{Kind}
-use Rattle.fs_rows.specs.declared.row.Kind.TheVariants.{Directory, File, Symlink, Character, Block, Fifo, Socket, Subvolume}
 use Rattle.fs_rows.specs.declared.row.Time.{Time}
 use Rattle.reiser_objects.specs.declared.key.ObjectKey.{ObjectKey}
 use Rattle.reiser_objects.specs.declared.naming.Naming.{Naming}
 use Rattle.reiser_objects.specs.declared.stat.ObjectStat.{ObjectStat}
 use Rattle.reiser_objects.specs.Items.{stat_of_object}
 use Rattle.reiser_objects.specs.Keys.{root, items_of}
-use Rattle.reiser_objects.specs.Kinds.{kind_of_mode, is_directory, is_file, is_symlink}
+use Rattle.fs_rows.specs.Kinds.{is_directory, is_symlink, is_device, has_bytes}
+use Rattle.reiser_objects.specs.Kinds.{kind_of_mode}
 use Rattle.reiser_names.specs.Links.{AreLinks}
 
 -- from one object to another by the names of a path
@@ -25,16 +24,6 @@ Leads links key (name ∷ names) target = (n : Naming) × Contains links n × (n
 -- seconds, read without a sign
 abbrev pub time_of : ℕ → Time
 time_of sec = record { sec = pos sec; nsec = 0 }
-
-abbrev pub is_device : Kind → Bool
-is_device Character = true
-is_device Block = true
-is_device Directory = false
-is_device File = false
-is_device Symlink = false
-is_device Fifo = false
-is_device Socket = false
-is_device Subvolume = false
 
 -- a device's number is (minor mod 256) + 256·major + 2^20·(minor / 256), with major below 4096
 abbrev pub major_of : ℕ → ℕ
@@ -78,7 +67,7 @@ pub record IsRow (image : Image) (flags : ℕ) (items : List Item) (links : List
   pub fields : HasStat flags stat row
   pub least : IsLeastPath links key row.least
   pub names : row.names ≡ (if is_directory row.kind then 0 else name_count rows row.least)
-  pub bytes : row.bytes ≡ (if is_file row.kind || is_symlink row.kind then file_bytes image (items_of key items) stat.fields.size else [])
+  pub bytes : row.bytes ≡ (if has_bytes row.kind then file_bytes image (items_of key items) stat.fields.size else [])
 
 -- The rows, which ascend by path: one for each path of a named object, and no others.
 pub record AreReiserRows (image : Image) (flags : ℕ) (items : List Item) (rows : List WholeRow) : Type 0 where

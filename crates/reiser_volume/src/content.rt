@@ -5,13 +5,14 @@ ghost use Rattle.outside.specs.Fault.{HasCauseOf};
 ghost use Rattle.outside.specs.History.{Image};
 ghost use Rattle.fs_rows.specs.declared.row.Kind.TheVariants.{File, Symlink};
 ghost use Rattle.object_files.specs.Answers.{IsFileAnswer, IsFaultOrMemory};
-ghost use Rattle.reiser_volume.specs.Made.{IsContent, IsKnownAt, IsOf, bytes_at};
+ghost use Rattle.fs_rows.specs.Content.{IsContent};
+ghost use Rattle.reiser_volume.specs.Made.{IsKnownAt, IsOf, bytes_at};
 ghost use Rattle.reiser_volume.specs.Volume.{volume_items};
 
 use crate::Volume;
-use crate::row::{Content, Known, no_content, same_content};
+use crate::row::{Known, same_content};
 use crate::rows::changed;
-use fs_rows::{Kind, Name, Row};
+use fs_rows::{Content, Kind, Name, Row, no_content};
 use object_files::{file_mark, link_target};
 use outside::{BlockSource, VolAnswer};
 use reiser_objects::ObjectKey;

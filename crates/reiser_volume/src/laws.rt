@@ -1,4 +1,5 @@
 // Laws of the definitions, each the contract of a function that does nothing.
+ghost use Rattle.reiser_volume.specs.Bounds.{AcceptedIsSmall};
 ghost use Rattle.reiser_volume.specs.Laws.{RefusalsBreakRules, FrontsAreJudged, UsedBlocksDecide, RowsAreOne, ItemsDecideRows};
 ghost use Rattle.reiser_volume.specs.Owners.{OwnersAreOne, MapsTellOwned};
 
@@ -38,4 +39,10 @@ pub fn owners_are_one()
 /// The map of a named object, as [`crate::Volume::file_map`] gives it, tells exactly the blocks that the object owns.
 pub fn maps_tell_owned()
     ensures { MapsTellOwned }
+{}
+
+/// What an accepted volume holds is bounded: its objects, its links and the bytes of their names, and the bytes of files that lie
+/// in the tree.
+pub fn accepted_is_small()
+    ensures { AcceptedIsSmall }
 {}

@@ -18,8 +18,8 @@ mod ways;
 
 pub use front::Front;
 pub use laws::{
-    fronts_are_judged, items_decide_rows, maps_tell_owned, owners_are_one, refusals_break_rules,
-    rows_are_one, used_blocks_decide,
+    accepted_is_small, fronts_are_judged, items_decide_rows, maps_tell_owned, owners_are_one,
+    refusals_break_rules, rows_are_one, used_blocks_decide,
 };
 pub use links::Link;
 pub use volume::Volume;

@@ -17,9 +17,9 @@ ghost use Rattle.reiser_volume.specs.Ways.{HasPaths};
 
 use crate::Volume;
 use crate::content::content;
-use crate::row::{Known, Spot, copy_path, make_row};
+use crate::row::{Known, make_row};
 use crate::ways::paths_of;
-use fs_rows::{Row, Rows};
+use fs_rows::{Row, Rows, Spot, copy_path};
 use outside::{BlockSource, Memory, Rule, VolAnswer, VolumeRefusal};
 use path_list::PathTo;
 use reiser_objects::{ObjectKey, key_at, kind_of_mode};

@@ -11,8 +11,9 @@ use Rattle.reiser_make.specs.Items.{attributes, user_of, group_of}
 use Rattle.reiser_make.specs.Rows.{seconds, plain_row}
 use Rattle.reiser_make.specs.declared.item.Owner.{Owner}
 use Rattle.reiser_objects.specs.declared.stat.ObjectStat.{ObjectStat}
-use Rattle.reiser_objects.specs.Kinds.{kind_of_mode, is_symlink}
-use Rattle.reiser_volume.specs.Rows.{HasStat, time_of, flag, is_device, major_of, minor_of}
+use Rattle.fs_rows.specs.Kinds.{is_symlink, is_device}
+use Rattle.reiser_objects.specs.Kinds.{kind_of_mode}
+use Rattle.reiser_volume.specs.Rows.{HasStat, time_of, flag, major_of, minor_of}
 use Rattle.sample_laws.proofs.Attributes.{read_back}
 
 seconds_are : (t : ℕ) → t < 2 ^ 63 → seconds t ≡ time_of t

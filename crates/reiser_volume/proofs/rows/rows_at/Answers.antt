@@ -12,7 +12,7 @@ use Rattle.reiser_volume.proofs.rows.rows_at.Goals as goal
 pub loop-i-init : goal.loop-i-init
 loop-i-init g c = record {
   kept = g.met.S.BlockSource.kept_refl c.args.src.now;
-  later = omega arith;
+  same = refl;
   told = λ tells image is accepted opened has. c.new-rows.ensures;
 }
 
@@ -23,7 +23,7 @@ loop-i-preserved g c =
     let within : c.loop-i.i < length list = omega (arith, c.loop-i-test.true) in
     record {
       kept = g.met.S.BlockSource.kept_trans _ _ _ before.kept c.row_at.ensures.kept;
-      later = omega (arith, before.later, c.row_at.ensures.cause.later);
+      same = c.in_ok-row.ensures.cause.kept (λ e. absurd cc) ∙ before.same;
       told = λ tells image is accepted opened has.
           let same = g.met.S.BlockSource.kept_blocks c.args.src.now c.loop-i.src tells before.kept ∙ is in
           let rows = before.told tells image is accepted opened has in

@@ -1,4 +1,4 @@
-use Rattle.std.proofs.Common.{◌≡◌, ◌≤◌, map, take, IsTrue}
+use Rattle.std.proofs.Common.{◌≡◌, map, take, IsTrue}
 use Rattle.outside.specs.History.{Image}
 use Rattle.fs_rows.specs.Rows.{row_of}
 use Rattle.reiser_volume.specs.Made.{whole_row}
@@ -10,6 +10,6 @@ use Rattle.reiser_volume.proofs.rows.rows_at.Given as goal
 abbrev pub invariant-loop-i : goal.invariant-loop-i
 invariant-loop-i g l = record {
   kept : g.S.BlockSource.kept l.fn.src l.src;
-  later : g.S.BlockSource.faults l.fn.src ≤ g.S.BlockSource.faults l.src;
+  same : g.S.BlockSource.faults l.src ≡ g.S.BlockSource.faults l.fn.src;
   told : IsTrue g.S.BlockSource.tells → (image : Image) → g.S.BlockSource.blocks l.fn.src ≡ image → IsAccepted image → IsOpened l.volume image → HasPaths l.volume l.paths.items → l.rows ≡ map (λ p. row_of (whole_row image l.paths.items p)) (take l.i l.paths.items);
 }

@@ -38,6 +38,7 @@ pub returns-clause-cause : goal.returns-clause-cause
 returns-clause-cause g c = record {
   later = omega (arith, c.open.ensures.cause.later, c.read.ensures.cause.later);
   failed = λ is. absurd (no_fault c.gather.result c.gather.ensures.answers is);
+  kept = λ other. c.in_ok-objects.ensures.cause.kept (λ e. absurd cc) ∙ c.in_ok-front.ensures.cause.kept (λ e. absurd cc);
 }
 
 pub returns-clause-answers : goal.returns-clause-answers
