@@ -17,22 +17,22 @@ laid_over-append (p ∷ ps) qs image = laid_over-append ps qs (slice_set image p
 pub record Goes (tells : Type 0) (used : ℕ → Type 0) (open_old open_new : Option Access) (size_old size_new faults_old faults_new : ℕ) (old new : History) (parts : List Placed) : Type 0 where
   pub access : open_new ≡ open_old
   pub size : size_new ≡ size_old
-  pub faults : faults_old ≤ faults_new
+  pub faults : faults_new ≡ faults_old
   pub only : tells → WritesOnly (λ b _. used b) old new
   pub written : tells → reads new ≡ laid_over parts (reads old)
 
 pub goes_none : (tells : Type 0) (used : ℕ → Type 0) (access : Option Access) (size faults : ℕ) (h : History) → Goes tells used access access size size faults faults h h []
-goes_none tells used access size faults h = record { access = refl; size = refl; faults = omega arith; only = λ t. writes_none (λ b _. used b) h; written = λ t. refl }
+goes_none tells used access size faults h = record { access = refl; size = refl; faults = refl; only = λ t. writes_none (λ b _. used b) h; written = λ t. refl }
 
 module _ (tells : Type 0) (used : ℕ → Type 0) (o₀ o₁ o₂ : Option Access) (s₀ s₁ s₂ f₀ f₁ f₂ : ℕ) (h₀ h₁ h₂ : History) where
   -- one block of a row more
   pub goes_more : (f : ℕ → Placed) (a n k b : ℕ) (bytes : List ℕ) → Goes tells used o₀ o₁ s₀ s₁ f₀ f₁ h₀ h₁ (map f (range_with_len a n)) → a + n ≡ k
-      → used b → (b, bytes) ≡ f k → o₂ ≡ o₁ → s₂ ≡ s₁ → f₁ ≤ f₂ → (tells → h₂ ≡ after (wrote b bytes true) h₁)
+      → used b → (b, bytes) ≡ f k → o₂ ≡ o₁ → s₂ ≡ s₁ → f₂ ≡ f₁ → (tells → h₂ ≡ after (wrote b bytes true) h₁)
       → Goes tells used o₀ o₂ s₀ s₂ f₀ f₂ h₀ h₂ (map f (range_with_len a (n + 1)))
-  goes_more f a n k b bytes before is in_use placed opened sized later done = record {
+  goes_more f a n k b bytes before is in_use placed opened sized same done = record {
     access = opened ∙ before.access;
     size = sized ∙ before.size;
-    faults = omega (arith, before.faults, later);
+    faults = same ∙ before.faults;
     only = λ t. writes_then (λ b _. used b) h₀ h₁ h₂ (before.only t) (write_only (λ b _. used b) {T = Unit {0}} {E = Unit {0}} h₁ h₂ b bytes (Ok tt) in_use (done t));
     written = λ t.
         ap reads (done t)
@@ -44,18 +44,18 @@ module _ (tells : Type 0) (used : ℕ → Type 0) (o₀ o₁ o₂ : Option Acces
 
   -- the same with the count as it is written elsewhere
   pub goes_more_to : (f : ℕ → Placed) (a n next k b : ℕ) (bytes : List ℕ) → n + 1 ≡ next → Goes tells used o₀ o₁ s₀ s₁ f₀ f₁ h₀ h₁ (map f (range_with_len a n)) → a + n ≡ k
-      → used b → (b, bytes) ≡ f k → o₂ ≡ o₁ → s₂ ≡ s₁ → f₁ ≤ f₂ → (tells → h₂ ≡ after (wrote b bytes true) h₁)
+      → used b → (b, bytes) ≡ f k → o₂ ≡ o₁ → s₂ ≡ s₁ → f₂ ≡ f₁ → (tells → h₂ ≡ after (wrote b bytes true) h₁)
       → Goes tells used o₀ o₂ s₀ s₂ f₀ f₂ h₀ h₂ (map f (range_with_len a next))
-  goes_more_to f a n next k b bytes to before is in_use placed opened sized later done =
-      subst (λ m. Goes tells used o₀ o₂ s₀ s₂ f₀ f₂ h₀ h₂ (map f (range_with_len a m))) to (goes_more f a n k b bytes before is in_use placed opened sized later done)
+  goes_more_to f a n next k b bytes to before is in_use placed opened sized same done =
+      subst (λ m. Goes tells used o₀ o₂ s₀ s₂ f₀ f₂ h₀ h₂ (map f (range_with_len a m))) to (goes_more f a n k b bytes before is in_use placed opened sized same done)
 
   -- some blocks more
-  pub goes_on : (ps qs all : List Placed) → ps ++ qs ≡ all → Goes tells used o₀ o₁ s₀ s₁ f₀ f₁ h₀ h₁ ps → o₂ ≡ o₁ → s₂ ≡ s₁ → f₁ ≤ f₂
+  pub goes_on : (ps qs all : List Placed) → ps ++ qs ≡ all → Goes tells used o₀ o₁ s₀ s₁ f₀ f₁ h₀ h₁ ps → o₂ ≡ o₁ → s₂ ≡ s₁ → f₂ ≡ f₁
       → (tells → WritesOnly (λ b _. used b) h₁ h₂) → (tells → reads h₂ ≡ laid_over qs (reads h₁)) → Goes tells used o₀ o₂ s₀ s₂ f₀ f₂ h₀ h₂ all
-  goes_on ps qs all to before opened sized later only written = record {
+  goes_on ps qs all to before opened sized same only written = record {
     access = opened ∙ before.access;
     size = sized ∙ before.size;
-    faults = omega (arith, before.faults, later);
+    faults = same ∙ before.faults;
     only = λ t. writes_then (λ b _. used b) h₀ h₁ h₂ (before.only t) (only t);
     written = λ t. written t ∙ ap (laid_over qs) (before.written t) ∙ sym (laid_over-append ps qs (reads h₀)) ∙ ap (λ z. laid_over z (reads h₀)) to;
   }

@@ -21,7 +21,7 @@ loop-k-preserved g c =
     let next : c.loop-k.k - 1 + 1 ≡ c.loop-k.k + 1 - 1 = omega (arith, c.loop-k.auto.k) in
     goes_more_to _ (IsUsed c.args.usage.now) _ _ _ _ _ _ _ _ _ _ _ _ f 1 (c.loop-k.k - 1) (c.loop-k.k + 1 - 1) c.loop-k.k (32768 * c.loop-k.k) c.put_bitmap.new.into.bytes next
     c.loop-k.invariant (omega (arith, c.loop-k.auto.k)) (used_bitmap c.args.usage.now c.loop-k.k (inside _ _ _ c.loop-k-test.true c.bitmap_blocks-k-end.ensures))
-    (ap (λ bytes. (32768 * c.loop-k.k, bytes)) c.put_bitmap.ensures) c.write.ensures.open c.write.ensures.size c.write.ensures.cause.later c.in_ok-write.ensures.effect
+    (ap (λ bytes. (32768 * c.loop-k.k, bytes)) c.put_bitmap.ensures) c.write.ensures.open c.write.ensures.size c.in_ok-write.ensures.cause.kept c.in_ok-write.ensures.effect
 
 last : (k end blocks count : ℕ) → 1 ≤ k → (1 ≤ end → k ≤ end) → end ≤ k → end ≡ div_ceil blocks 32768 → 1 ≤ blocks → k - 1 ≡ div_ceil blocks 32768 - 1
 last k end blocks count low high stop is some =

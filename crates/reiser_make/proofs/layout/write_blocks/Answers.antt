@@ -29,4 +29,4 @@ loop-j-preserved g c =
     c.loop-j.invariant (omega arith) (used_below c.args.plan.now.sample c.args.usage.now c.place.result c.requires.usage at.1)
     (ap (λ b. (b, c.put_block.new.into.bytes)) at.0
     ∙ ap (λ bytes. (place (stored_before c.args.plan.now.sample.names c.args.i + c.loop-j.j), bytes)) (c.put_block.ensures ∙ ap (λ k. file_bytes c.args.i c.args.sparse (4096 * k) 4096) c.stored_block.ensures))
-    c.write.ensures.open c.write.ensures.size c.write.ensures.cause.later c.in_ok-write.ensures.effect
+    c.write.ensures.open c.write.ensures.size c.in_ok-write.ensures.cause.kept c.in_ok-write.ensures.effect

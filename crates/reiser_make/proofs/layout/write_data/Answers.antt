@@ -14,4 +14,4 @@ loop-i-preserved g c =
     goes_on _ (IsUsed c.args.usage.now) _ _ _ _ _ _ _ _ _ _ _ _ (flat_map (data_of_name c.args.plan.now.sample) (range_with_len 0 c.loop-i.i)) (data_of_name c.args.plan.now.sample c.loop-i.i)
     (flat_map (data_of_name c.args.plan.now.sample) (range_with_len 0 (c.loop-i.i + 1)))
     (sym (flat_map_more (data_of_name c.args.plan.now.sample) 0 c.loop-i.i c.loop-i.i (omega arith)))
-    c.loop-i.invariant c.write_file.ensures.open c.write_file.ensures.size c.write_file.ensures.cause.later c.write_file.ensures.only c.in_ok-write_file.ensures.written
+    c.loop-i.invariant c.write_file.ensures.open c.write_file.ensures.size c.in_ok-write_file.ensures.cause.kept c.write_file.ensures.only c.in_ok-write_file.ensures.written

@@ -49,7 +49,7 @@ loop-below-preserved g c = record {
   goes = goes_on _ (IsUsed c.args.usage.now) _ _ _ _ _ _ _ _ _ _ _ _ (flat_map (level_part c.args.plan.now.sample) (range_with_len 1 (c.loop-below.below.number - 1))) (level_part c.args.plan.now.sample c.loop-below.below.number)
       (flat_map (level_part c.args.plan.now.sample) (range_with_len 1 (c.above-below.result.number - 1)))
       (levels_more c.args.plan.now.sample c.loop-below.below.number c.above-below.result.number c.loop-below.invariant.climbs.low c.above-below.ensures.number)
-      c.loop-below.invariant.goes c.write_level.ensures.open c.write_level.ensures.size c.write_level.ensures.cause.later c.write_level.ensures.only c.in_ok-write_level.ensures.written;
+      c.loop-below.invariant.goes c.write_level.ensures.open c.write_level.ensures.size c.in_ok-write_level.ensures.cause.kept c.write_level.ensures.only c.in_ok-write_level.ensures.written;
 }
 
 pub returns-clause-written : goal.returns-clause-written

@@ -43,7 +43,7 @@ loop-m-preserved g c =
           c.loop-m.invariant.goes (omega arith) (used_below c.args.plan.now.sample c.args.usage.now c.node_place.result c.requires.usage at.1)
           (ap (λ b. (b, c.put_next_leaf.new.into.bytes)) at.0
           ∙ ap (λ bytes. (node_place c.args.plan.now.sample 1 c.loop-m.m, bytes)) (c.put_next_leaf.ensures.bytes c.loop-m.m there c.loop-m.invariant.stands))
-          c.write.ensures.open c.write.ensures.size c.write.ensures.cause.later c.in_ok-write.ensures.effect;
+          c.write.ensures.open c.write.ensures.size c.in_ok-write.ensures.cause.kept c.in_ok-write.ensures.effect;
       stands = c.put_next_leaf.ensures.stands c.loop-m.m there c.loop-m.invariant.stands;
     }
 

@@ -44,7 +44,7 @@ loop-m-preserved g c =
           c.loop-m.invariant.goes (omega arith) (used_below c.args.plan.now.sample c.args.usage.now c.node_place.result c.requires.usage at.1)
           (ap (λ b. (b, c.put_inner.new.into.bytes)) at.0
           ∙ ap (λ bytes. (node_place c.args.plan.now.sample (c.args.below.now.number + 1) c.loop-m.m, bytes)) c.put_inner.ensures.node)
-          c.write.ensures.open c.write.ensures.size c.write.ensures.cause.later c.in_ok-write.ensures.effect;
+          c.write.ensures.open c.write.ensures.size c.in_ok-write.ensures.cause.kept c.in_ok-write.ensures.effect;
       stands = c.put_inner.ensures.stands;
     }
 

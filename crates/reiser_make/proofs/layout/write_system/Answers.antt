@@ -27,7 +27,7 @@ loop-b-preserved g c =
     goes_more _ (IsUsed c.args.usage.now) _ _ _ _ _ _ _ _ _ _ _ _ (system_placed c.args.plan.now.sample c.args.usage.now.blocks) 0 c.loop-b.b c.loop-b.b c.loop-b.b c.put_system.new.into.bytes
     c.loop-b.invariant (omega arith)
     (used_below c.args.plan.now.sample c.args.usage.now c.loop-b.b c.requires.usage (system_below (total c.args.plan.now.sample) c.loop-b.b (total_some c.args.plan.now.sample) c.loop-b-test.true))
-    (ap (λ bytes. (c.loop-b.b, bytes)) c.put_system.ensures) c.write.ensures.open c.write.ensures.size c.write.ensures.cause.later c.in_ok-write.ensures.effect
+    (ap (λ bytes. (c.loop-b.b, bytes)) c.put_system.ensures) c.write.ensures.open c.write.ensures.size c.in_ok-write.ensures.cause.kept c.in_ok-write.ensures.effect
 
 pub returns-clause-written : goal.returns-clause-written
 returns-clause-written g c = λ tells.
