@@ -1,26 +1,51 @@
 -- Zero bytes have no bits.
-use Rattle.std.proofs.Common.{◌≡◌, ℕ, ◌+◌, ◌-◌, ◌*◌, ◌/◌, ◌%◌, ◌<◌, ◌==◌, false, List, get_or, refl, sym, ◌∙◌, ap, arith, subst, ⊎_elim}
+use Rattle.std.proofs.Common.{[], ◌∷◌, zero, suc, ◌≤◌, bit_or, length, take, drop, length-take, ◌≡◌, ℕ, ◌+◌, ◌-◌, ◌*◌, ◌/◌, ◌%◌, ◌<◌, ◌==◌, false, List, get_or, refl, sym, ◌∙◌, ap, arith, subst, ⊎_elim}
 use Rattle.std.specs.Prelude.{slice_index}
 use Rattle.std.specs.Int.{bit_at}
 use Rattle.std.proofs.lemmas.Bool.{cases_lt, eqb-false}
 use Rattle.std.proofs.lemmas.Nat.Bits.{bit_at-zero, bit_at-lt, same_from_bits_below}
+use Rattle.std.specs.Simd.Lanes.{fold_l}
+use Rattle.std.specs.Int.Bits.{or_zero_l}
+use Rattle.std.proofs.lemmas.Nat.{le_or_l, le_or_r}
+use Rattle.std.proofs.lemmas.List.{get_or-take, get_or-drop}
 use Rattle.reiser_bitmap.specs.Bits.{bit_of}
 use Rattle.reiser_bitmap.specs.Zeros.{AreZeros, HasNoBits}
 
--- one word more is zero
-pub zeros_more : (bytes : List ℕ) (at word : ℕ) → AreZeros bytes at (8 * word) → AreZeros bytes (at + 8 * word) 8 → AreZeros bytes at (8 * (word + 1))
-zeros_more bytes at word before here = λ i h.
-    ⊎_elim (λ low. before i low)
-    (λ high. let inside : i - 8 * word < 8 = omega arith in
-    let is : at + 8 * word + (i - 8 * word) ≡ at + i = omega arith in
-    subst (λ (k : ℕ). slice_index bytes k ≡ 0) is (here (i - 8 * word) inside))
-    (cases_lt i (8 * word))
+-- ---- the lanes of a word
+-- what is left of lanes by "or" is 0 only where each lane is
+or_zero : (a : ℕ) (xs : List ℕ) → fold_l bit_or a xs ≡ 0 → (a ≡ 0) × ((i : ℕ) → get_or xs i 0 ≡ 0)
+or_zero a [] is = (is, λ i. refl)
+or_zero a (x ∷ xs) is =
+    let rest = or_zero (bit_or a x) xs is in
+    let here : a ≡ 0 = omega (arith, le_or_l a x, rest.0) in
+    let there : x ≡ 0 = omega (arith, le_or_r a x, rest.0) in
+    (here, λ i. lane x xs there rest.1 i)
+  where
+    lane : (y : ℕ) (ys : List ℕ) → y ≡ 0 → ((i : ℕ) → get_or ys i 0 ≡ 0) → (i : ℕ) → get_or (y ∷ ys) i 0 ≡ 0
+    lane y ys first others zero = first
+    lane y ys first others (suc i) = others i
 
-pub zeros_part : (bytes : List ℕ) (at word : ℕ) → AreZeros bytes at 32 → word < 4 → AreZeros bytes (at + 8 * word) 8
-zeros_part bytes at word whole inside = λ i h.
-    let is : at + (8 * word + i) ≡ at + 8 * word + i = omega arith in
-    let within : 8 * word + i < 32 = omega arith in
-    subst (λ (k : ℕ). slice_index bytes k ≡ 0) is (whole (8 * word + i) within)
+zero_or : (xs : List ℕ) → ((i : ℕ) → i < length xs → get_or xs i 0 ≡ 0) → fold_l bit_or 0 xs ≡ 0
+zero_or [] each = refl
+zero_or (x ∷ xs) each = ap (λ (a : ℕ). fold_l bit_or a xs) (or_zero_l x ∙ each 0 (omega arith)) ∙ zero_or xs (λ i h. each (suc i) (omega (arith, h)))
+
+-- the n bytes from a place on, as lanes
+lane_is : (bytes : List ℕ) (at i : ℕ) → i < 32 → get_or (take 32 (drop 0 (take (at + 32 - at) (drop at bytes)))) i 0 ≡ get_or bytes (at + i) 0
+lane_is bytes at i inside =
+    let width : at + 32 - at ≡ 32 = omega arith in
+    get_or-take 32 (take (at + 32 - at) (drop at bytes)) i 0 inside
+    ∙ ap (λ (n : ℕ). get_or (take n (drop at bytes)) i 0) width
+    ∙ get_or-take 32 (drop at bytes) i 0 inside
+    ∙ get_or-drop at bytes i 0
+
+pub lanes_from_zeros : (bytes : List ℕ) (at : ℕ) → AreZeros bytes at 32 → fold_l bit_or 0 (take 32 (drop 0 (take (at + 32 - at) (drop at bytes)))) ≡ 0
+lanes_from_zeros bytes at zeros = zero_or _ (λ i h.
+    let short : length (take 32 (drop 0 (take (at + 32 - at) (drop at bytes)))) ≤ 32 = omega (arith, length-take 32 (take (at + 32 - at) (drop at bytes))) in
+    let inside : i < 32 = omega (arith, short, h) in
+    lane_is bytes at i inside ∙ zeros i inside)
+
+pub zeros_from_lanes : (bytes : List ℕ) (at : ℕ) → fold_l bit_or 0 (take 32 (drop 0 (take (at + 32 - at) (drop at bytes)))) ≡ 0 → AreZeros bytes at 32
+zeros_from_lanes bytes at is = λ i inside. sym (lane_is bytes at i inside) ∙ (or_zero 0 (take 32 (drop 0 (take (at + 32 - at) (drop at bytes)))) is).1 i
 
 -- no bits in zeros
 pub no_bits_from_zeros : (bytes : List ℕ) (at : ℕ) → AreZeros bytes at 32 → HasNoBits bytes (8 * at) 256

@@ -5,6 +5,7 @@ ghost use Rattle.reiser_bitmap.specs.Runs.{free_runs};
 
 use crate::{Bitmap, Run, Runs};
 use outside::Memory;
+use std::simd::u8x32;
 use vol_block::{is_reserved, u64_at};
 
 /// How many blocks a unit of 1 MiB has.
@@ -71,17 +72,14 @@ fn add_units(runs: &mut Runs, first: u64, end: u64) -> Result<(), Memory>
     Ok(())
 }
 
-/// Whether the 32 bytes from byte `at` on, those of a unit, have no bit.
+/// Whether the 32 bytes from byte `at` on, those of a unit, have no bit: all of them are looked at as one word of 32
+/// lanes.
 fn has_no_bits(bytes: &[u8], at: usize) -> bool
     requires { at + 32 ≤ length bytes.now }
     ensures { IsTrue result ↔ HasNoBits bytes.now (8 * at) 256 }
 {
-    for word in 0..4 {
-        if !is_zero(bytes, at + 8 * word) {
-            return false;
-        }
-    }
-    true
+    let unit = u8x32::from_slice(&bytes[at..at + 32]);
+    unit.reduce_or() == 0
 }
 
 /// Whether the eight bytes from byte `at` on are zeros.
