@@ -5,7 +5,7 @@ use Rattle.std.proofs.lemmas.Bool.{cases_eq, and_from, le-leb, lt-ltb}
 use Rattle.std.proofs.lemmas.List.{take-append-drop, drop-drop, nil_from_length, length-drop}
 use Rattle.std.specs.List.{slice_get}
 use Rattle.std.proofs.lemmas.Nat.{mul-le}
-use Rattle.std.proofs.lemmas.List.{length-take}
+use Rattle.std.proofs.lemmas.List.{length-take, get_or-take}
 use Rattle.std.proofs.lemmas.Option.{get_or_from_slice_get, slice_get_within}
 use Rattle.outside.specs.History.{Image, block_at}
 use Rattle.btr_node.specs.NodeSize.{IsNodeSize}
@@ -133,6 +133,17 @@ stand_more n k slots nodes old new bytes size right inside long is so_far others
 pub in_slots : (n : ℕ) (slots : List ℕ) (k a size b : ℕ) → slice_get slots k ≡ Some a → size ≡ n → IsInNode size a b → IsInSlots n slots b
 in_slots n slots k a size b at same inside =
     (k, a, slice_get_within slots k a at, get_or_from_slice_get slots k a a at, subst (λ (s : ℕ). IsInNode s a b) same inside)
+
+-- and of the first ones
+pub in_first : (n m : ℕ) (slots : List ℕ) (k a size b : ℕ) → k < m → slice_get slots k ≡ Some a → size ≡ n → IsInNode size a b → IsInSlots n (take m slots) b
+in_first n m slots k a size b low at same inside =
+    let within = slice_get_within slots k a at in (
+      k,
+      a,
+      omega (arith, within, low, length-take m slots),
+      get_or-take m slots k a low ∙ get_or_from_slice_get slots k a a at,
+      subst (λ (s : ℕ). IsInNode s a b) same inside,
+    )
 
 -- the bytes of one node among those of all
 abbrev pub node_part : ℕ → ℕ → List ℕ → List ℕ

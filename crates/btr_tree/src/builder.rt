@@ -1,4 +1,4 @@
-ghost use Rattle.std.specs.Prelude.{◌≡◌, ◌≤◌, ◌<◌, ◌+◌, ◌*◌, ◌↔◌, ◌++◌, ◌∷◌, [], Some, All, Err, IsErr, IsOk, ℕ, length, drop, true, false, IfOk, OnOk, IsTrue};
+ghost use Rattle.std.specs.Prelude.{◌≡◌, ◌≤◌, ◌<◌, ◌+◌, ◌*◌, ◌↔◌, ◌++◌, ◌∷◌, [], Some, All, Err, IsErr, IsOk, ℕ, length, take, drop, true, false, IfOk, OnOk, IsTrue};
 ghost use Rattle.outside.specs.Fault.{HasCauseOf};
 ghost use Rattle.outside.specs.History.{reads, WritesOnly};
 ghost use Rattle.btr_tree.specs.Writing.{IsInSlots};
@@ -125,7 +125,8 @@ impl TreeBuilder {
     /// Makes the last leaf and the levels above, and writes all nodes to their slots. The root reads as the tree of the items
     /// that were pushed.
     ///
-    /// OutOfSlots comes only where the tree has more nodes than there are slots. Then nothing was written.
+    /// OutOfSlots comes only where the tree has more nodes than there are slots. At any answer only slots that were taken may
+    /// have been written.
     pub fn finish<D: Disk>(&mut self, disk: &mut D) -> Result<Root, TreeAnswer>
         requires unspent { self.old.spent ≡ false }
         requires going { self.old.done ≡ false }
@@ -142,7 +143,7 @@ impl TreeBuilder {
             → length self.old.made.slots < tree_nodes self.old.made.form.nodesize (lengths_of (pushed self.old)) }
         ensures open { D.opened disk.new ≡ D.opened disk.old }
         ensures size { D.size disk.new ≡ D.size disk.old }
-        ensures only { IsTrue D.tells → WritesOnly (λ b _. IsInSlots self.old.made.form.nodesize self.old.made.slots b) (D.history disk.old) (D.history disk.new) }
+        ensures only { IsTrue D.tells → WritesOnly (λ b _. IsInSlots self.old.made.form.nodesize (take (length self.new.made.nodes) self.old.made.slots) b) (D.history disk.old) (D.history disk.new) }
         ensures cause { HasCauseOf TreeAnswer.Fault (D.faults disk.old) (D.faults disk.new) result }
     {
         let result = self.write_tree(disk);
@@ -172,7 +173,7 @@ impl TreeBuilder {
             → length self.old.made.slots < tree_nodes self.old.made.form.nodesize (lengths_of (pushed self.old)) }
         ensures open { D.opened disk.new ≡ D.opened disk.old }
         ensures size { D.size disk.new ≡ D.size disk.old }
-        ensures only { IsTrue D.tells → WritesOnly (λ b _. IsInSlots self.old.made.form.nodesize self.old.made.slots b) (D.history disk.old) (D.history disk.new) }
+        ensures only { IsTrue D.tells → WritesOnly (λ b _. IsInSlots self.old.made.form.nodesize (take (length self.new.made.nodes) self.old.made.slots) b) (D.history disk.old) (D.history disk.new) }
         ensures cause { HasCauseOf TreeAnswer.Fault (D.faults disk.old) (D.faults disk.new) result }
     {
         let root = match self.complete() {

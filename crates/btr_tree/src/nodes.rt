@@ -1,4 +1,4 @@
-ghost use Rattle.std.specs.Prelude.{◌≡◌, ◌≤◌, ◌<◌, ◌+◌, ◌*◌, ◌^◌, ◌++◌, ◌∷◌, [], Some, All, length, drop, slice_get, IfOk, OnOk, OnErr, IsTrue};
+ghost use Rattle.std.specs.Prelude.{◌≡◌, ◌≤◌, ◌<◌, ◌+◌, ◌*◌, ◌^◌, ◌++◌, ◌∷◌, [], Some, All, length, take, drop, slice_get, IfOk, OnOk, OnErr, IsTrue};
 ghost use Rattle.outside.specs.Fault.{HasCause};
 ghost use Rattle.outside.specs.History.{reads, WritesOnly};
 ghost use Rattle.btr_tree.specs.Writing.{IsInSlots};
@@ -183,7 +183,7 @@ impl Nodes {
         requires in_range { All (λ a. a + self.now.form.nodesize ≤ 4096 * D.size disk.old) self.now.slots }
         ensures open { D.opened disk.new ≡ D.opened disk.old }
         ensures size { D.size disk.new ≡ D.size disk.old }
-        ensures only { IsTrue D.tells → WritesOnly (λ b _. IsInSlots self.now.form.nodesize self.now.slots b) (D.history disk.old) (D.history disk.new) }
+        ensures only { IsTrue D.tells → WritesOnly (λ b _. IsInSlots self.now.form.nodesize (take (length self.now.nodes) self.now.slots) b) (D.history disk.old) (D.history disk.new) }
         ensures written { IsTrue D.tells → OnOk result (StandAt (reads (D.history disk.new)) self.now.form.nodesize self.now.slots self.now.nodes) }
         ensures cause { HasCause (D.faults disk.old) (D.faults disk.new) result }
     {

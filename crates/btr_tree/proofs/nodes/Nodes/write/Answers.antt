@@ -1,4 +1,4 @@
-use Rattle.std.proofs.Common.{◌≡◌, ℕ, ◌+◌, ◌/◌, ◌<◌, List, [], length, get_or, sym, ◌∙◌, ap, subst, arith}
+use Rattle.std.proofs.Common.{◌≡◌, ℕ, ◌+◌, ◌/◌, ◌<◌, List, [], length, take, get_or, sym, ◌∙◌, ap, subst, arith}
 use Rattle.std.proofs.lemmas.Option.{get_or_from_slice_get}
 use Rattle.outside.specs.History.{block_at, reads, WritesOnly}
 use Rattle.outside.proofs.Crash.{writes_then, writes_weaker}
@@ -6,7 +6,7 @@ use Rattle.outside.proofs.Phases.{reads_outside}
 use Rattle.btr_walk.specs.Map.{identity, node_at}
 use Rattle.btr_tree.specs.Building.{Made, AreSlots, pieces_of, slot}
 use Rattle.btr_tree.specs.Writing.{IsInNode, IsInSlots, HoldBytes}
-use Rattle.btr_tree.proofs.OnDisk.{stand_more, in_slots, node_part, part_long, part_is}
+use Rattle.btr_tree.proofs.OnDisk.{stand_more, in_first, node_part, part_long, part_is}
 use Rattle.btr_tree.proofs.PiecesOf.{length-pieces_of}
 use Rattle.btr_tree.proofs.nodes.Nodes.write.Goals as goal
 
@@ -15,11 +15,11 @@ returns-in_err-write_node-clause-only g c = λ tells.
     let n : ℕ = c.self.inside.form.nodesize in
     let k : ℕ = c.loop-k.k in
     let long : length (node_part n k c.deref.result.now) ≡ n = part_long n k c.self.inside.count c.deref.result.now (ap length c.deref.ensures.value ∙ c.self.invariant.whole) c.loop-k-test.true in
-    let one : WritesOnly (λ b _. IsInSlots n c.self.inside.slots b) (g.D.Disk.history c.loop-k.disk) (g.D.Disk.history c.write_node.new.disk) =
-    writes_weaker (λ b _. IsInNode (length (node_part n k c.deref.result.now)) c.get.result b) (λ b _. IsInSlots n c.self.inside.slots b)
-    (λ b _ h. in_slots n c.self.inside.slots k c.get.result (length (node_part n k c.deref.result.now)) b c.get.ensures long h) _ _ (c.write_node.ensures.only tells) in
-    writes_then (λ b _. IsInSlots c.args.self.now.form.nodesize c.args.self.now.slots b) _ _ _ (c.loop-k.invariant.only tells)
-    (subst (λ (m : Made). WritesOnly (λ b _. IsInSlots m.form.nodesize m.slots b) (g.D.Disk.history c.loop-k.disk) (g.D.Disk.history c.write_node.new.disk)) c.self.view_is one)
+    let one : WritesOnly (λ b _. IsInSlots n (take (length (pieces_of n c.self.inside.count c.self.inside.bytes.items)) c.self.inside.slots) b) (g.D.Disk.history c.loop-k.disk) (g.D.Disk.history c.write_node.new.disk) =
+    writes_weaker (λ b _. IsInNode (length (node_part n k c.deref.result.now)) c.get.result b) (λ b _. IsInSlots n (take (length (pieces_of n c.self.inside.count c.self.inside.bytes.items)) c.self.inside.slots) b)
+    (λ b _ h. in_first n (length (pieces_of n c.self.inside.count c.self.inside.bytes.items)) c.self.inside.slots k c.get.result (length (node_part n k c.deref.result.now)) b (omega (arith, c.loop-k-test.true, length-pieces_of n c.self.inside.count c.self.inside.bytes.items)) c.get.ensures long h) _ _ (c.write_node.ensures.only tells) in
+    writes_then (λ b _. IsInSlots c.args.self.now.form.nodesize (take (length c.args.self.now.nodes) c.args.self.now.slots) b) _ _ _ (c.loop-k.invariant.only tells)
+    (subst (λ (m : Made). WritesOnly (λ b _. IsInSlots m.form.nodesize (take (length m.nodes) m.slots) b) (g.D.Disk.history c.loop-k.disk) (g.D.Disk.history c.write_node.new.disk)) c.self.view_is one)
 
 pub loop-k-preserved : goal.loop-k-preserved
 loop-k-preserved g c =
@@ -34,11 +34,11 @@ loop-k-preserved g c =
       size = c.write_node.ensures.size ∙ before.size;
       same = c.in_ok-write_node.ensures.cause.kept ∙ before.same;
       only = λ tells.
-          let one : WritesOnly (λ b _. IsInSlots n c.self.inside.slots b) (g.D.Disk.history c.loop-k.disk) (g.D.Disk.history c.write_node.new.disk) =
-          writes_weaker (λ b _. IsInNode (length part) c.get.result b) (λ b _. IsInSlots n c.self.inside.slots b)
-          (λ b _ h. in_slots n c.self.inside.slots k c.get.result (length part) b c.get.ensures long h) _ _ (c.write_node.ensures.only tells) in
-          writes_then (λ b _. IsInSlots c.args.self.now.form.nodesize c.args.self.now.slots b) _ _ _ (before.only tells)
-          (subst (λ (m : Made). WritesOnly (λ b _. IsInSlots m.form.nodesize m.slots b) (g.D.Disk.history c.loop-k.disk) (g.D.Disk.history c.write_node.new.disk)) c.self.view_is one);
+          let one : WritesOnly (λ b _. IsInSlots n (take (length (pieces_of n c.self.inside.count c.self.inside.bytes.items)) c.self.inside.slots) b) (g.D.Disk.history c.loop-k.disk) (g.D.Disk.history c.write_node.new.disk) =
+          writes_weaker (λ b _. IsInNode (length part) c.get.result b) (λ b _. IsInSlots n (take (length (pieces_of n c.self.inside.count c.self.inside.bytes.items)) c.self.inside.slots) b)
+          (λ b _ h. in_first n (length (pieces_of n c.self.inside.count c.self.inside.bytes.items)) c.self.inside.slots k c.get.result (length part) b (omega (arith, c.loop-k-test.true, length-pieces_of n c.self.inside.count c.self.inside.bytes.items)) c.get.ensures long h) _ _ (c.write_node.ensures.only tells) in
+          writes_then (λ b _. IsInSlots c.args.self.now.form.nodesize (take (length c.args.self.now.nodes) c.args.self.now.slots) b) _ _ _ (before.only tells)
+          (subst (λ (m : Made). WritesOnly (λ b _. IsInSlots m.form.nodesize (take (length m.nodes) m.slots) b) (g.D.Disk.history c.loop-k.disk) (g.D.Disk.history c.write_node.new.disk)) c.self.view_is one);
       written = λ tells.
           let right : AreSlots n c.self.inside.slots = subst (λ (m : Made). AreSlots m.form.nodesize m.slots) (sym c.self.view_is) c.requires.slots in
           let so_far : (i : ℕ) → i < k → node_at (reads (g.D.Disk.history c.loop-k.disk)) identity n (slot c.self.inside.slots i) ≡ get_or nodes i [] =
