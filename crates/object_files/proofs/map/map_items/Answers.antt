@@ -21,7 +21,7 @@ loop-mapper-preserved g c =
     let before = c.loop-mapper.invariant in
     record {
       kept = g.met.S.BlockSource.kept_trans _ _ _ before.kept c.advance.ensures.kept;
-      later = omega (arith, before.later, c.advance.ensures.cause.later);
+      same = c.in_ok-advance.ensures.cause.kept (λ e. absurd cc) ∙ before.same;
       size = c.add_item.ensures.size ∙ before.size;
       told = λ tells image is all are reads.
           let same = g.met.S.BlockSource.kept_blocks c.args.src.now c.loop-mapper.src tells before.kept ∙ is in

@@ -1,4 +1,4 @@
-use Rattle.std.proofs.Common.{◌≡◌, ◌∙◌, ◌++◌, ◌∷◌, ℕ, List, [], true, sym, ap, subst, arith}
+use Rattle.std.proofs.Common.{◌≡◌, ◌∙◌, ◌++◌, ◌∷◌, ℕ, List, [], refl, true, sym, ap, subst, arith}
 use Rattle.std.proofs.lemmas.Result.{err_from_is_err_and}
 use Rattle.fs_rows.specs.Mark.{mark_of_bytes}
 use Rattle.reiser_walk.specs.Items.{Item}
@@ -13,7 +13,7 @@ use Rattle.object_files.proofs.mark.mark_items.Goals as goal
 pub loop-marker-init : goal.loop-marker-init
 loop-marker-init g c = record {
   kept = g.met.S.BlockSource.kept_refl c.args.src.now;
-  later = omega arith;
+  same = refl;
   size = c.new-marker.ensures.size;
   told = λ tells image is all are reads. ([], reads, c.new-marker.ensures.none image);
 }
@@ -32,7 +32,7 @@ loop-marker-preserved g c =
     let kept = g.met.S.BlockSource.kept_trans _ _ _ before.kept c.advance.ensures.kept in
     record {
       kept = g.met.S.BlockSource.kept_trans _ _ _ kept c.mark_item.ensures.kept;
-      later = omega (arith, before.later, c.advance.ensures.cause.later, c.mark_item.ensures.cause.later);
+      same = c.in_ok-mark_item.ensures.cause.kept (λ e. absurd cc) ∙ (c.in_ok-advance.ensures.cause.kept (λ e. absurd cc) ∙ before.same);
       size = c.mark_item.ensures.size ∙ before.size;
       told = λ tells image is all are reads.
           let same = g.met.S.BlockSource.kept_blocks c.args.src.now c.loop-marker.src tells before.kept ∙ is in

@@ -1,4 +1,4 @@
-use Rattle.std.proofs.Common.{◌≡◌, ◌≤◌, List, [], IsTrue}
+use Rattle.std.proofs.Common.{◌≡◌, List, [], IsTrue}
 use Rattle.outside.specs.History.{Image}
 use Rattle.reiser_walk.specs.Items.{Item}
 use Rattle.reiser_files.specs.States.{MarksFile}
@@ -9,7 +9,7 @@ use Rattle.object_files.proofs.mark.mark_items.Given as goal
 abbrev pub invariant-loop-marker : goal.invariant-loop-marker
 invariant-loop-marker g l = record {
   kept : g.S.BlockSource.kept l.fn.src l.src;
-  later : g.S.BlockSource.faults l.fn.src ≤ g.S.BlockSource.faults l.src;
+  same : g.S.BlockSource.faults l.src ≡ g.S.BlockSource.faults l.fn.src;
   size : l.marker.size ≡ l.size;
   told : IsTrue g.S.BlockSource.tells → (image : Image) → g.S.BlockSource.blocks l.fn.src ≡ image → (all : List Item) → AreFileItems (g.S.BlockSource.size l.fn.src) all → Reads l.fn.items l.leaves image [] all
       → (given : List Item) × Reads l.items l.leaves image given all × MarksFile l.marker image given;

@@ -1,4 +1,4 @@
-use Rattle.std.proofs.Common.{◌∙◌, ◌++◌, ◌∷◌, List, [], sym, ap, subst, arith}
+use Rattle.std.proofs.Common.{◌∙◌, ◌++◌, ◌∷◌, List, [], refl, sym, ap, subst, arith}
 use Rattle.std.proofs.lemmas.Result.{err_from_is_err_and}
 use Rattle.reiser_walk.specs.Items.{Item}
 use Rattle.reiser_files.specs.Bytes.{tail_block}
@@ -11,7 +11,7 @@ use Rattle.object_files.proofs.tail.gather_items.Goals as goal
 pub loop-into-init : goal.loop-into-init
 loop-into-init g c = record {
   kept = g.met.S.BlockSource.kept_refl c.args.src.now;
-  later = omega arith;
+  same = refl;
   told = λ tells image is all are reads. ([], reads, c.zero.ensures ∙ sym (empty_tail c.args.size c.args.k));
 }
 
@@ -28,7 +28,7 @@ loop-into-preserved g c =
     let before = c.loop-into.invariant in
     record {
       kept = g.met.S.BlockSource.kept_trans _ _ _ before.kept c.advance.ensures.kept;
-      later = omega (arith, before.later, c.advance.ensures.cause.later);
+      same = c.in_ok-advance.ensures.cause.kept (λ e. absurd cc) ∙ before.same;
       told = λ tells image is all are reads.
           let same = g.met.S.BlockSource.kept_blocks c.args.src.now c.loop-into.src tells before.kept ∙ is in
           let told = before.told tells image is all are reads in

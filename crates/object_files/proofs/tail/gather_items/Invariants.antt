@@ -1,4 +1,4 @@
-use Rattle.std.proofs.Common.{◌≡◌, ◌≤◌, List, [], IsTrue}
+use Rattle.std.proofs.Common.{◌≡◌, List, [], IsTrue}
 use Rattle.outside.specs.History.{Image}
 use Rattle.reiser_walk.specs.Items.{Item}
 use Rattle.reiser_files.specs.Bytes.{tail_block}
@@ -9,7 +9,7 @@ use Rattle.object_files.proofs.tail.gather_items.Given as goal
 abbrev pub invariant-loop-into : goal.invariant-loop-into
 invariant-loop-into g l = record {
   kept : g.S.BlockSource.kept l.fn.src l.src;
-  later : g.S.BlockSource.faults l.fn.src ≤ g.S.BlockSource.faults l.src;
+  same : g.S.BlockSource.faults l.src ≡ g.S.BlockSource.faults l.fn.src;
   told : IsTrue g.S.BlockSource.tells → (image : Image) → g.S.BlockSource.blocks l.fn.src ≡ image → (all : List Item) → AreFileItems (g.S.BlockSource.size l.fn.src) all → Reads l.fn.items l.leaves image [] all
       → (given : List Item) × Reads l.items l.leaves image given all × (l.into.bytes ≡ tail_block given l.size l.k);
 }

@@ -13,7 +13,7 @@ returns-in_err-fill-clause-comes g c = λ tells image is given items reads.
 pub loop-self-preserved : goal.loop-self-preserved
 loop-self-preserved g c = record {
   kept = g.met.S.BlockSource.kept_trans _ _ _ c.loop-self.invariant.kept c.fill.ensures.kept;
-  later = omega (arith, c.loop-self.invariant.later, c.fill.ensures.cause.later);
+  same = c.in_ok-fill.ensures.cause.kept (λ e. absurd cc) ∙ c.loop-self.invariant.same;
   key = c.look.ensures.key ∙ (c.fill.ensures.key ∙ c.loop-self.invariant.key);
   fewer = omega (arith, c.loop-self.invariant.fewer, c.fill.ensures.fuel, c.look.ensures.fuel c.args.leaves.now);
   reads = λ tells image is given items reads.
