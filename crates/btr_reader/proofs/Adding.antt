@@ -12,7 +12,7 @@ use Rattle.btr_walk.specs.declared.map.MapRange.{MapRange}
 use Rattle.btr_walk.specs.Events.{TreeItem}
 use Rattle.btr_walk.proofs.Events.{none_both}
 use Rattle.btr_reader.specs.declared.chunk.ChunkAt.{ChunkAt}
-use Rattle.btr_reader.specs.Chunks.{range_of, same_range, is_chunk_key, beside_refusals, chunks_refusals, chunk_in, new_chunk, with_chunk, chunk_item_refusals, with_items, items_refusals}
+use Rattle.btr_reader.specs.Chunks.{range_of, same_chunk, is_chunk_key, beside_refusals, chunks_refusals, chunk_in, new_chunk, with_chunk, chunk_item_refusals, with_items, items_refusals}
 use Rattle.btr_reader.specs.Opening.{IsAmong}
 use Rattle.btr_reader.proofs.Among.{among_left, among_right}
 
@@ -25,8 +25,8 @@ next_refused device ranges chunks i d all e lt rest bad =
     (among_left (beside_refusals device ranges c) (chunks_refusals device (ranges ++ range_of c ∷ []) (drop (i + 1) chunks)) e bad)
 
 -- a chunk of the chunk tree that the array has not
-pub chunk_is_new : (boot : List MapRange) (key : Key) (body : List ℕ) (chunk : Chunk) → is_chunk_key key ≡ true → chunk_of body ≡ Some chunk
-    → list_any (same_range (range_of (record { logical = key.offset; chunk = chunk }))) boot ≡ false
+pub chunk_is_new : (boot : List ChunkAt) (key : Key) (body : List ℕ) (chunk : Chunk) → is_chunk_key key ≡ true → chunk_of body ≡ Some chunk
+    → list_any (same_chunk (record { logical = key.offset; chunk = chunk })) boot ≡ false
     → chunk_in boot key body ≡ Some (Some (record { logical = key.offset; chunk = chunk }))
 chunk_is_new boot key body chunk named read fresh =
     let c : ChunkAt = record { logical = key.offset; chunk = chunk } in
@@ -34,11 +34,11 @@ chunk_is_new boot key body chunk named read fresh =
     ∙ (ap (λ (o : Option Chunk). option_map (λ x. new_chunk boot (record { logical = key.offset; chunk = x })) o) read
     ∙ ap (λ t. Some (if t then None else Some c)) fresh)
 
-pub with_items-append : (boot ranges : List MapRange) (xs ys : List TreeItem) → with_items boot ranges (xs ++ ys) ≡ with_items boot (with_items boot ranges xs) ys
+pub with_items-append : (boot : List ChunkAt) (ranges : List MapRange) (xs ys : List TreeItem) → with_items boot ranges (xs ++ ys) ≡ with_items boot (with_items boot ranges xs) ys
 with_items-append boot ranges [] ys = refl
 with_items-append boot ranges (i ∷ xs) ys = with_items-append boot (with_chunk ranges (chunk_in boot i.key i.body)) xs ys
 
-pub items_refusals-append : (device : ℕ) (boot ranges : List MapRange) (xs ys : List TreeItem)
+pub items_refusals-append : (device : ℕ) (boot : List ChunkAt) (ranges : List MapRange) (xs ys : List TreeItem)
     → items_refusals device boot ranges (xs ++ ys) ≡ items_refusals device boot ranges xs ++ items_refusals device boot (with_items boot ranges xs) ys
 items_refusals-append device boot ranges [] ys = refl
 items_refusals-append device boot ranges (i ∷ xs) ys =
@@ -48,39 +48,39 @@ items_refusals-append device boot ranges (i ∷ xs) ys =
     ∙ sym (append_assoc own (items_refusals device boot after xs) (items_refusals device boot (with_items boot after xs) ys))
 
 -- an item more
-pub item_added : (boot ranges new : List MapRange) (given : List TreeItem) (i : TreeItem) (key : Key) (body : List ℕ) → key ≡ i.key → body ≡ i.body → ranges ≡ with_items boot boot given
-    → new ≡ with_chunk ranges (chunk_in boot key body) → new ≡ with_items boot boot (given ++ i ∷ [])
-item_added boot ranges new given i key body named is before after =
+pub item_added : (boot : List ChunkAt) (first ranges new : List MapRange) (given : List TreeItem) (i : TreeItem) (key : Key) (body : List ℕ) → key ≡ i.key → body ≡ i.body → ranges ≡ with_items boot first given
+    → new ≡ with_chunk ranges (chunk_in boot key body) → new ≡ with_items boot first (given ++ i ∷ [])
+item_added boot first ranges new given i key body named is before after =
     after
     ∙ (ap (λ (k : Key). with_chunk ranges (chunk_in boot k body)) named
     ∙ (ap (λ (b : List ℕ). with_chunk ranges (chunk_in boot i.key b)) is
-    ∙ (ap (λ (r : List MapRange). with_chunk r (chunk_in boot i.key i.body)) before ∙ sym (with_items-append boot boot given (i ∷ [])))))
+    ∙ (ap (λ (r : List MapRange). with_chunk r (chunk_in boot i.key i.body)) before ∙ sym (with_items-append boot first given (i ∷ [])))))
 
-abbrev own_refusals : ℕ → List MapRange → List MapRange → Key → List ℕ → List BtrRefusal
+abbrev own_refusals : ℕ → List ChunkAt → List MapRange → Key → List ℕ → List BtrRefusal
 own_refusals device boot ranges key body = chunk_item_refusals device ranges key.offset (chunk_in boot key body)
 
-same_own : (device : ℕ) (boot ranges other : List MapRange) (i : TreeItem) (key : Key) (body : List ℕ) → key ≡ i.key → body ≡ i.body → ranges ≡ other
+same_own : (device : ℕ) (boot : List ChunkAt) (ranges other : List MapRange) (i : TreeItem) (key : Key) (body : List ℕ) → key ≡ i.key → body ≡ i.body → ranges ≡ other
     → own_refusals device boot ranges key body ≡ own_refusals device boot other i.key i.body
 same_own device boot ranges other i key body named is same =
     ap (λ (k : Key). own_refusals device boot ranges k body) named
     ∙ (ap (own_refusals device boot ranges i.key) is ∙ ap (λ (r : List MapRange). own_refusals device boot r i.key i.body) same)
 
-pub item_right : (device : ℕ) (boot ranges : List MapRange) (given : List TreeItem) (i : TreeItem) (key : Key) (body : List ℕ) → key ≡ i.key → body ≡ i.body → ranges ≡ with_items boot boot given
-    → items_refusals device boot boot given ≡ [] → chunk_item_refusals device ranges key.offset (chunk_in boot key body) ≡ [] → items_refusals device boot boot (given ++ i ∷ []) ≡ []
-item_right device boot ranges given i key body named is before none own =
-    items_refusals-append device boot boot given (i ∷ [])
-    ∙ none_both (items_refusals device boot boot given) _ none
-    (none_both (own_refusals device boot (with_items boot boot given) i.key i.body) [] (sym (same_own device boot ranges (with_items boot boot given) i key body named is before) ∙ own) refl)
+pub item_right : (device : ℕ) (boot : List ChunkAt) (first ranges : List MapRange) (given : List TreeItem) (i : TreeItem) (key : Key) (body : List ℕ) → key ≡ i.key → body ≡ i.body → ranges ≡ with_items boot first given
+    → items_refusals device boot first given ≡ [] → chunk_item_refusals device ranges key.offset (chunk_in boot key body) ≡ [] → items_refusals device boot first (given ++ i ∷ []) ≡ []
+item_right device boot first ranges given i key body named is before none own =
+    items_refusals-append device boot first given (i ∷ [])
+    ∙ none_both (items_refusals device boot first given) _ none
+    (none_both (own_refusals device boot (with_items boot first given) i.key i.body) [] (sym (same_own device boot ranges (with_items boot first given) i key body named is before) ∙ own) refl)
 
 -- an item that is refused is among the items of the tree
-pub item_refused : (device : ℕ) (boot ranges : List MapRange) (all given later : List TreeItem) (i : TreeItem) (key : Key) (body : List ℕ) (e : BtrAnswer) → key ≡ i.key → body ≡ i.body
-    → ranges ≡ with_items boot boot given → all ≡ (given ++ i ∷ []) ++ later → IsAmong (chunk_item_refusals device ranges key.offset (chunk_in boot key body)) e
-    → IsAmong (items_refusals device boot boot all) e
-item_refused device boot ranges all given later i key body e named is before parts bad =
-    let here : List BtrRefusal = own_refusals device boot (with_items boot boot given) i.key i.body in
-    let bad_here : IsAmong here e = subst (λ (z : List BtrRefusal). IsAmong z e) (same_own device boot ranges (with_items boot boot given) i key body named is before) bad in
-    let first : IsAmong (items_refusals device boot boot (given ++ i ∷ [])) e =
-    subst (λ (z : List BtrRefusal). IsAmong z e) (sym (items_refusals-append device boot boot given (i ∷ [])))
-    (among_right (items_refusals device boot boot given) (here ++ []) e (among_left here [] e bad_here)) in
-    subst (λ (z : List BtrRefusal). IsAmong z e) (sym (ap (items_refusals device boot boot) parts ∙ items_refusals-append device boot boot (given ++ i ∷ []) later))
-    (among_left (items_refusals device boot boot (given ++ i ∷ [])) _ e first)
+pub item_refused : (device : ℕ) (boot : List ChunkAt) (first ranges : List MapRange) (all given later : List TreeItem) (i : TreeItem) (key : Key) (body : List ℕ) (e : BtrAnswer) → key ≡ i.key → body ≡ i.body
+    → ranges ≡ with_items boot first given → all ≡ (given ++ i ∷ []) ++ later → IsAmong (chunk_item_refusals device ranges key.offset (chunk_in boot key body)) e
+    → IsAmong (items_refusals device boot first all) e
+item_refused device boot first ranges all given later i key body e named is before parts bad =
+    let here : List BtrRefusal = own_refusals device boot (with_items boot first given) i.key i.body in
+    let bad_here : IsAmong here e = subst (λ (z : List BtrRefusal). IsAmong z e) (same_own device boot ranges (with_items boot first given) i key body named is before) bad in
+    let begun : IsAmong (items_refusals device boot first (given ++ i ∷ [])) e =
+    subst (λ (z : List BtrRefusal). IsAmong z e) (sym (items_refusals-append device boot first given (i ∷ [])))
+    (among_right (items_refusals device boot first given) (here ++ []) e (among_left here [] e bad_here)) in
+    subst (λ (z : List BtrRefusal). IsAmong z e) (sym (ap (items_refusals device boot first) parts ∙ items_refusals-append device boot first (given ++ i ∷ []) later))
+    (among_left (items_refusals device boot first (given ++ i ∷ [])) _ e begun)

@@ -19,5 +19,6 @@ pub mod PartsRead
 pub mod RowContents
 pub mod RowMade
 pub mod Rowed
+pub mod SameItems
 pub mod Stages
 pub mod Supers

@@ -16,7 +16,7 @@ use Rattle.btr_files.proofs.ExtentLists.{none_left, none_right}
 use Rattle.btr_reader.specs.declared.chunk.ChunkAt.{ChunkAt}
 use Rattle.btr_reader.specs.Chunks.{range_of, overlap, chunk_refusals, beside_refusals, chunks_refusals, chunk_in, with_chunk, chunk_item_refusals, with_items, items_refusals}
 use Rattle.btr_reader.specs.Laws.{Maps, AreApart}
-use Rattle.btr_reader.specs.Opening.{chunk_tree, boot_chunks, boot_ranges, boot_refusals, IsOpened}
+use Rattle.btr_reader.specs.Opening.{chunk_tree, boot_chunks, boot_list, boot_refusals, IsOpened}
 use Rattle.btr_reader.proofs.MapBlocks.{opened_sound}
 
 or_first : (a b : Bool) → (a || b) ≡ false → a ≡ false
@@ -72,7 +72,7 @@ chunks_apart device others (c ∷ cs) all none =
 no_pairs : AllPairs AreApart []
 no_pairs i j d before within = absurd (omega (arith, before, within))
 
-boot_apart : (device : ℕ) (chunks : Option (List ChunkAt)) → boot_refusals device chunks ≡ [] → AllPairs AreApart (boot_ranges chunks)
+boot_apart : (device : ℕ) (chunks : Option (List ChunkAt)) → boot_refusals device chunks ≡ [] → AllPairs AreApart (map range_of (boot_list chunks))
 boot_apart device None none = no_pairs
 boot_apart device (Some chunks) none = chunks_apart device [] chunks no_pairs none
 
@@ -83,7 +83,7 @@ with_chunk_apart device ranges logical None none all = all
 with_chunk_apart device ranges logical (Some None) none all = all
 with_chunk_apart device ranges logical (Some (Some c)) none all = chunk_apart device ranges c all none
 
-with_items_apart : (device : ℕ) (boot ranges : List MapRange) (items : List TreeItem) → items_refusals device boot ranges items ≡ [] → AllPairs AreApart ranges
+with_items_apart : (device : ℕ) (boot : List ChunkAt) (ranges : List MapRange) (items : List TreeItem) → items_refusals device boot ranges items ≡ [] → AllPairs AreApart ranges
     → AllPairs AreApart (with_items boot ranges items)
 with_items_apart device boot ranges [] none all = all
 with_items_apart device boot ranges (i ∷ items) none all =
@@ -97,6 +97,6 @@ with_items_apart device boot ranges (i ∷ items) none all =
 pub opened_apart : (image : Image) (s : Super) (ranges : List MapRange) → IsOpened image s ranges → AllPairs AreApart ranges
 opened_apart image s ranges opened =
     let device : ℕ = length image in
-    let boot : List MapRange = boot_ranges (boot_chunks s) in
+    let boot : List ChunkAt = boot_list (boot_chunks s) in
     let sound = opened_sound image s ranges opened in
-    subst (AllPairs AreApart) (sym opened.map_is) (with_items_apart device boot boot (found image boot (chunk_tree s)) sound.1 (boot_apart device (boot_chunks s) sound.0))
+    subst (AllPairs AreApart) (sym opened.map_is) (with_items_apart device boot (map range_of boot) (found image (map range_of boot) (chunk_tree s)) sound.1 (boot_apart device (boot_chunks s) sound.0))

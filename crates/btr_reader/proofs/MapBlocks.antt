@@ -16,7 +16,7 @@ use Rattle.btr_files.specs.Extents.{unless}
 use Rattle.btr_files.proofs.ExtentLists.{none_left, none_right, holds_unless, first, second}
 use Rattle.btr_reader.specs.declared.chunk.ChunkAt.{ChunkAt}
 use Rattle.btr_reader.specs.Chunks.{range_of, is_read_kind, lies_on, chunk_refusals, beside_refusals, chunks_refusals, chunk_in, with_chunk, chunk_item_refusals, with_items, items_refusals}
-use Rattle.btr_reader.specs.Opening.{chunk_tree, root_tree, boot_chunks, boot_ranges, boot_refusals, map_from, or_later, trees_refusals, IsOpened}
+use Rattle.btr_reader.specs.Opening.{chunk_tree, root_tree, boot_chunks, boot_list, boot_refusals, map_from, or_later, trees_refusals, IsOpened}
 use Rattle.btr_reader.proofs.Opens.{opening_is}
 
 on_device : (device : ℕ) (c : ChunkAt) → chunk_refusals device c ≡ [] → lies_on device c ≡ true
@@ -55,7 +55,7 @@ chunks_in_blocks device others (c ∷ cs) none =
     All-cons IsInBlocks (range_of c) (map range_of cs) (chunk_in_blocks device others c (none_left own rest none))
     (chunks_in_blocks device (others ++ range_of c ∷ []) cs (none_right own rest none))
 
-boot_in_blocks : (device : ℕ) (chunks : Option (List ChunkAt)) → boot_refusals device chunks ≡ [] → AreInBlocks (boot_ranges chunks)
+boot_in_blocks : (device : ℕ) (chunks : Option (List ChunkAt)) → boot_refusals device chunks ≡ [] → AreInBlocks (map range_of (boot_list chunks))
 boot_in_blocks device None none = All-nil IsInBlocks
 boot_in_blocks device (Some chunks) none = chunks_in_blocks device [] chunks none
 
@@ -67,7 +67,7 @@ with_chunk_in_blocks device ranges logical (Some None) none all = all
 with_chunk_in_blocks device ranges logical (Some (Some c)) none all =
     All-append IsInBlocks ranges (range_of c ∷ []) all (All-cons IsInBlocks (range_of c) [] (chunk_in_blocks device ranges c none) (All-nil IsInBlocks))
 
-with_items_in_blocks : (device : ℕ) (boot ranges : List MapRange) (items : List TreeItem) → items_refusals device boot ranges items ≡ [] → AreInBlocks ranges
+with_items_in_blocks : (device : ℕ) (boot : List ChunkAt) (ranges : List MapRange) (items : List TreeItem) → items_refusals device boot ranges items ≡ [] → AreInBlocks ranges
     → AreInBlocks (with_items boot ranges items)
 with_items_in_blocks device boot ranges [] none all = all
 with_items_in_blocks device boot ranges (i ∷ items) none all =
@@ -87,14 +87,14 @@ later_none (x ∷ xs) ys none = absurd (cc none)
 
 -- nothing is wrong with the array of a volume that was opened, nor with the items of its chunk tree
 pub opened_sound : (image : Image) (s : Super) (ranges : List MapRange) → IsOpened image s ranges
-    → (boot_refusals (length image) (boot_chunks s) ≡ []) × (items_refusals (length image) (boot_ranges (boot_chunks s)) (boot_ranges (boot_chunks s)) (found image (boot_ranges (boot_chunks s)) (chunk_tree s)) ≡ [])
+    → (boot_refusals (length image) (boot_chunks s) ≡ []) × (items_refusals (length image) (boot_list (boot_chunks s)) (map range_of (boot_list (boot_chunks s))) (found image (map range_of (boot_list (boot_chunks s))) (chunk_tree s)) ≡ [])
 opened_sound image s ranges opened =
     let device : ℕ = length image in
-    let boot : List MapRange = boot_ranges (boot_chunks s) in
-    let all : or_later (boot_refusals (length image) (boot_chunks s)) (trees_refusals image s (boot_ranges (boot_chunks s))) ≡ [] = sym (opening_is image s opened.super) ∙ opened.sound in
-    let trees : trees_refusals image s (boot_ranges (boot_chunks s)) ≡ [] = later_none (boot_refusals device (boot_chunks s)) (trees_refusals image s boot) all in
-    let nodes : List BtrRefusal = wrong image boot (chunk_tree s) in
-    let items : List BtrRefusal = items_refusals device boot boot (found image boot (chunk_tree s)) in (
+    let boot : List ChunkAt = boot_list (boot_chunks s) in
+    let all : or_later (boot_refusals (length image) (boot_chunks s)) (trees_refusals image s (boot_list (boot_chunks s))) ≡ [] = sym (opening_is image s opened.super) ∙ opened.sound in
+    let trees : trees_refusals image s (boot_list (boot_chunks s)) ≡ [] = later_none (boot_refusals device (boot_chunks s)) (trees_refusals image s boot) all in
+    let nodes : List BtrRefusal = wrong image (map range_of boot) (chunk_tree s) in
+    let items : List BtrRefusal = items_refusals device boot (map range_of boot) (found image (map range_of boot) (chunk_tree s)) in (
       first_none (boot_refusals device (boot_chunks s)) (trees_refusals image s boot) all,
       none_right nodes items (first_none (nodes ++ items) (wrong image (map_from image s boot) (root_tree s)) trees),
     )
@@ -103,6 +103,6 @@ opened_sound image s ranges opened =
 pub opened_in_blocks : (image : Image) (s : Super) (ranges : List MapRange) → IsOpened image s ranges → AreInBlocks ranges
 opened_in_blocks image s ranges opened =
     let device : ℕ = length image in
-    let boot : List MapRange = boot_ranges (boot_chunks s) in
+    let boot : List ChunkAt = boot_list (boot_chunks s) in
     let sound = opened_sound image s ranges opened in
-    subst AreInBlocks (sym opened.map_is) (with_items_in_blocks device boot boot (found image boot (chunk_tree s)) sound.1 (boot_in_blocks device (boot_chunks s) sound.0))
+    subst AreInBlocks (sym opened.map_is) (with_items_in_blocks device boot (map range_of boot) (found image (map range_of boot) (chunk_tree s)) sound.1 (boot_in_blocks device (boot_chunks s) sound.0))

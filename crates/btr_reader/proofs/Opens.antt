@@ -1,5 +1,5 @@
 -- The stages of opening a volume.
-use Rattle.std.proofs.Common.{◌≡◌, ℕ, List, [], ◌++◌, length, Result, Ok, Contains, refl, sym, ◌∙◌, ap, subst, arith}
+use Rattle.std.proofs.Common.{◌≡◌, ℕ, List, [], ◌++◌, length, map, Some, Result, Ok, Contains, refl, sym, ◌∙◌, ap, subst, arith}
 use Rattle.outside.specs.History.{Image}
 use Rattle.outside.specs.declared.answer.BtrAnswer.{BtrAnswer}
 use Rattle.outside.specs.declared.answer.BtrAnswer.TheVariants.{Refused, Fault, Memory}
@@ -8,15 +8,16 @@ use Rattle.btr_super.specs.declared.superblock.Super.{Super}
 use Rattle.btr_walk.specs.declared.map.MapRange.{MapRange}
 use Rattle.btr_walk.specs.declared.tree.Tree.{Tree}
 use Rattle.btr_walk.specs.Walks.{wrong, found}
+use Rattle.btr_reader.specs.declared.chunk.ChunkAt.{ChunkAt}
 use Rattle.btr_reader.specs.declared.roots.RootItems.{RootItems}
-use Rattle.btr_reader.specs.Chunks.{items_refusals, with_items}
-use Rattle.btr_reader.specs.Opening.{super_on, chunk_tree, root_tree, boot_chunks, boot_ranges, boot_refusals, map_from, or_later, trees_refusals, refusals_after, opening_refusals, IsOpened, IsAmong, IsSuperAnswer}
+use Rattle.btr_reader.specs.Chunks.{range_of, items_refusals, with_items}
+use Rattle.btr_reader.specs.Opening.{super_on, chunk_tree, root_tree, boot_chunks, boot_list, boot_refusals, map_from, or_later, trees_refusals, refusals_after, opening_refusals, IsOpened, IsAmong, IsSuperAnswer}
 use Rattle.btr_reader.specs.Roots.{HasRoots}
 use Rattle.btr_reader.specs.Rows.{roots_on}
 use Rattle.btr_reader.proofs.Among.{among_first, among_later, none_later}
 
 pub opening_is : (image : Image) (s : Super) → super_on image ≡ Ok s
-    → opening_refusals image ≡ or_later (boot_refusals (length image) (boot_chunks s)) (trees_refusals image s (boot_ranges (boot_chunks s)))
+    → opening_refusals image ≡ or_later (boot_refusals (length image) (boot_chunks s)) (trees_refusals image s (boot_list (boot_chunks s)))
 unfolding opening_refusals
 opening_is image s read = ap (refusals_after image) read
 
@@ -26,9 +27,13 @@ super_refused image (Refused r) read = subst (λ (o : Result Super BtrRefusal). 
 super_refused image Fault read = tt
 super_refused image Memory read = absurd read
 
+-- the chunks of the array
+abbrev here : Super → List ChunkAt
+here s = boot_list (boot_chunks s)
+
 -- what is wrong with a chunk tree and its items
-abbrev chunks_wrong : Image → ℕ → List MapRange → Tree → List BtrRefusal
-chunks_wrong image device boot tree = wrong image boot tree ++ items_refusals device boot boot (found image boot tree)
+abbrev chunks_wrong : Image → ℕ → List ChunkAt → List MapRange → Tree → List BtrRefusal
+chunks_wrong image device chunks first tree = wrong image first tree ++ items_refusals device chunks first (found image first tree)
 
 pub boot_refused : (image : Image) (s : Super) (device : ℕ) (e : BtrAnswer) → super_on image ≡ Ok s → device ≡ length image
     → IsAmong (boot_refusals device (boot_chunks s)) e → IsAmong (opening_refusals image) e
@@ -36,58 +41,57 @@ boot_refused image s device e read size bad =
     subst (λ (z : List BtrRefusal). IsAmong z e) (sym (opening_is image s read))
     (among_first (boot_refusals (length image) (boot_chunks s)) _ e (subst (λ (n : ℕ). IsAmong (boot_refusals n (boot_chunks s)) e) size bad))
 
-same_chunks : (image : Image) (s : Super) (device : ℕ) (boot slice : List MapRange) (tree : Tree) → device ≡ length image → boot ≡ boot_ranges (boot_chunks s) → slice ≡ boot → tree ≡ chunk_tree s
-    → chunks_wrong image device slice tree ≡ chunks_wrong image (length image) (boot_ranges (boot_chunks s)) (chunk_tree s)
-same_chunks image s device boot slice tree size is same named =
-    ap (λ (n : ℕ). chunks_wrong image n slice tree) size
-    ∙ (ap (λ (b : List MapRange). chunks_wrong image (length image) b tree) (same ∙ is) ∙ ap (chunks_wrong image (length image) (boot_ranges (boot_chunks s))) named)
+-- the chunks that were read of the array, and their map
+pub chunks_here : (s : Super) (chunks slice : List ChunkAt) → boot_chunks s ≡ Some chunks → slice ≡ chunks → slice ≡ boot_list (boot_chunks s)
+chunks_here s chunks slice known is = is ∙ sym (ap boot_list known)
 
-pub chunks_refused : (image : Image) (s : Super) (device : ℕ) (boot slice : List MapRange) (tree : Tree) (e : BtrAnswer) → super_on image ≡ Ok s → device ≡ length image
-    → boot_refusals device (boot_chunks s) ≡ [] → boot ≡ boot_ranges (boot_chunks s) → slice ≡ boot → tree ≡ chunk_tree s
-    → IsAmong (chunks_wrong image device slice tree) e → IsAmong (opening_refusals image) e
-chunks_refused image s device boot slice tree e read size none is same named bad =
-    let here : List MapRange = boot_ranges (boot_chunks s) in
-    subst (λ (z : List BtrRefusal). IsAmong z e) (sym (opening_is image s read))
-    (among_later (boot_refusals (length image) (boot_chunks s)) (trees_refusals image s here) e (subst (λ (n : ℕ). boot_refusals n (boot_chunks s) ≡ []) size none)
-    (among_first (chunks_wrong image (length image) here (chunk_tree s)) (wrong image (map_from image s here) (root_tree s)) e
-    (subst (λ (z : List BtrRefusal). IsAmong z e) (same_chunks image s device boot slice tree size is same named) bad)))
+pub ranges_here : (s : Super) (chunks : List ChunkAt) (ranges slice : List MapRange) → boot_chunks s ≡ Some chunks → ranges ≡ map range_of chunks → slice ≡ ranges → slice ≡ map range_of (boot_list (boot_chunks s))
+ranges_here s chunks ranges slice known made is = is ∙ (made ∙ ap (map range_of) (sym (ap boot_list known)))
 
-same_map : (image : Image) (s : Super) (boot slice ranges : List MapRange) (tree : Tree) → boot ≡ boot_ranges (boot_chunks s) → slice ≡ boot → tree ≡ chunk_tree s → ranges ≡ with_items slice slice (found image slice tree)
-    → ranges ≡ map_from image s (boot_ranges (boot_chunks s))
-same_map image s boot slice ranges tree is same named made =
-    made
-    ∙ (ap (λ (b : List MapRange). with_items b b (found image b tree)) (same ∙ is)
-    ∙ ap (λ (t : Tree). with_items (boot_ranges (boot_chunks s)) (boot_ranges (boot_chunks s)) (found image (boot_ranges (boot_chunks s)) t)) named)
+module _ (image : Image) (s : Super) (device : ℕ) (chunks : List ChunkAt) (first : List MapRange) (tree : Tree) (read : super_on image ≡ Ok s) (size : device ≡ length image) (none : boot_refusals device (boot_chunks s) ≡ [])
+    (is : chunks ≡ boot_list (boot_chunks s)) (same : first ≡ map range_of (boot_list (boot_chunks s))) (named : tree ≡ chunk_tree s) where
+  same_chunks : chunks_wrong image device chunks first tree ≡ chunks_wrong image (length image) (here s) (map range_of (here s)) (chunk_tree s)
+  same_chunks =
+      ap (λ (n : ℕ). chunks_wrong image n chunks first tree) size
+      ∙ (ap (λ (c : List ChunkAt). chunks_wrong image (length image) c first tree) is
+      ∙ (ap (λ (b : List MapRange). chunks_wrong image (length image) (here s) b tree) same ∙ ap (chunks_wrong image (length image) (here s) (map range_of (here s))) named))
 
-pub root_refused : (image : Image) (s : Super) (device : ℕ) (boot slice ranges other : List MapRange) (tree root : Tree) (e : BtrAnswer) → super_on image ≡ Ok s → device ≡ length image
-    → boot_refusals device (boot_chunks s) ≡ [] → boot ≡ boot_ranges (boot_chunks s) → slice ≡ boot → tree ≡ chunk_tree s
-    → chunks_wrong image device slice tree ≡ [] → ranges ≡ with_items slice slice (found image slice tree) → other ≡ ranges → root ≡ root_tree s
-    → IsAmong (wrong image other root) e → IsAmong (opening_refusals image) e
-root_refused image s device boot slice ranges other tree root e read size none is same named sound made copied root_is bad =
-    let here : List MapRange = boot_ranges (boot_chunks s) in
-    subst (λ (z : List BtrRefusal). IsAmong z e) (sym (opening_is image s read))
-    (among_later (boot_refusals (length image) (boot_chunks s)) (trees_refusals image s here) e (subst (λ (n : ℕ). boot_refusals n (boot_chunks s) ≡ []) size none)
-    (among_later (chunks_wrong image (length image) here (chunk_tree s)) (wrong image (map_from image s here) (root_tree s)) e
-    (sym (same_chunks image s device boot slice tree size is same named) ∙ sound)
-    (subst (λ (t : Tree). IsAmong (wrong image (map_from image s here) t) e) root_is
-    (subst (λ (r : List MapRange). IsAmong (wrong image r root) e) (copied ∙ same_map image s boot slice ranges tree is same named made) bad))))
+  array_right : boot_refusals (length image) (boot_chunks s) ≡ []
+  array_right = subst (λ (n : ℕ). boot_refusals n (boot_chunks s) ≡ []) size none
 
-pub opened : (image : Image) (s : Super) (device : ℕ) (boot slice ranges other : List MapRange) (tree root : Tree) → super_on image ≡ Ok s → device ≡ length image
-    → boot_refusals device (boot_chunks s) ≡ [] → boot ≡ boot_ranges (boot_chunks s) → slice ≡ boot → tree ≡ chunk_tree s
-    → chunks_wrong image device slice tree ≡ [] → ranges ≡ with_items slice slice (found image slice tree) → other ≡ ranges → root ≡ root_tree s
-    → wrong image other root ≡ [] → IsOpened image s ranges
-opened image s device boot slice ranges other tree root read size none is same named sound made copied root_is right =
-    let here : List MapRange = boot_ranges (boot_chunks s) in
-    let map_is : ranges ≡ map_from image s here = same_map image s boot slice ranges tree is same named made in
-    record {
+  pub chunks_refused : (e : BtrAnswer) → IsAmong (chunks_wrong image device chunks first tree) e → IsAmong (opening_refusals image) e
+  chunks_refused e bad =
+      subst (λ (z : List BtrRefusal). IsAmong z e) (sym (opening_is image s read))
+      (among_later (boot_refusals (length image) (boot_chunks s)) (trees_refusals image s (here s)) e array_right
+      (among_first (chunks_wrong image (length image) (here s) (map range_of (here s)) (chunk_tree s)) (wrong image (map_from image s (here s)) (root_tree s)) e
+      (subst (λ (z : List BtrRefusal). IsAmong z e) same_chunks bad)))
+
+  module _ (ranges other : List MapRange) (root : Tree) (sound : chunks_wrong image device chunks first tree ≡ []) (made : ranges ≡ with_items chunks first (found image first tree)) (copied : other ≡ ranges) (root_is : root ≡ root_tree s) where
+    same_map : ranges ≡ map_from image s (here s)
+    same_map =
+        made
+        ∙ (ap (λ (c : List ChunkAt). with_items c first (found image first tree)) is
+        ∙ (ap (λ (b : List MapRange). with_items (here s) b (found image b tree)) same
+        ∙ ap (λ (t : Tree). with_items (here s) (map range_of (here s)) (found image (map range_of (here s)) t)) named))
+
+    pub root_refused : (e : BtrAnswer) → IsAmong (wrong image other root) e → IsAmong (opening_refusals image) e
+    root_refused e bad =
+        subst (λ (z : List BtrRefusal). IsAmong z e) (sym (opening_is image s read))
+        (among_later (boot_refusals (length image) (boot_chunks s)) (trees_refusals image s (here s)) e array_right
+        (among_later (chunks_wrong image (length image) (here s) (map range_of (here s)) (chunk_tree s)) (wrong image (map_from image s (here s)) (root_tree s)) e
+        (sym same_chunks ∙ sound)
+        (subst (λ (t : Tree). IsAmong (wrong image (map_from image s (here s)) t) e) root_is
+        (subst (λ (r : List MapRange). IsAmong (wrong image r root) e) (copied ∙ same_map) bad))))
+
+    pub opened : wrong image other root ≡ [] → IsOpened image s ranges
+    opened right = record {
       sound =
           opening_is image s read
-          ∙ none_later (boot_refusals (length image) (boot_chunks s)) (trees_refusals image s here) (subst (λ (n : ℕ). boot_refusals n (boot_chunks s) ≡ []) size none)
-          (none_later (chunks_wrong image (length image) here (chunk_tree s)) (wrong image (map_from image s here) (root_tree s))
-          (sym (same_chunks image s device boot slice tree size is same named) ∙ sound)
-          (subst (λ (t : Tree). wrong image (map_from image s here) t ≡ []) root_is (subst (λ (r : List MapRange). wrong image r root ≡ []) (copied ∙ map_is) right)));
+          ∙ none_later (boot_refusals (length image) (boot_chunks s)) (trees_refusals image s (here s)) array_right
+          (none_later (chunks_wrong image (length image) (here s) (map range_of (here s)) (chunk_tree s)) (wrong image (map_from image s (here s)) (root_tree s)) (sym same_chunks ∙ sound)
+          (subst (λ (t : Tree). wrong image (map_from image s (here s)) t ≡ []) root_is (subst (λ (r : List MapRange). wrong image r root ≡ []) (copied ∙ same_map) right)));
       super = read;
-      map_is = map_is;
+      map_is = same_map;
     }
 
 -- what was noted of the root tree that was walked was noted of the volume's root tree

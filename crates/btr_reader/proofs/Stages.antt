@@ -19,7 +19,8 @@ use Rattle.btr_files.specs.Extents.{extents_of, extents_refusals}
 use Rattle.btr_reader.specs.Image.{ImageFile, is_file, is_called, entry_named, image_entry, saved_entry, pointer_in, tree_number, inode_number, file_if_image, image_at, image_in, items_at, image_below, saved_image, entry_refusals, after_pointer, after_root, if_there, own_refusals, file_refusals, image_refusals_in, refusals_below, image_refusals}
 use Rattle.btr_names.specs.Inodes.{inode_item}
 use Rattle.btr_names.specs.Links.{namings}
-use Rattle.btr_reader.specs.Opening.{tree_of, root_tree, boot_chunks, boot_ranges, boot_refusals, map_from, or_later, trees_refusals, IsOpened, IsAmong}
+use Rattle.btr_reader.specs.declared.chunk.ChunkAt.{ChunkAt}
+use Rattle.btr_reader.specs.Opening.{tree_of, root_tree, boot_chunks, boot_list, boot_refusals, map_from, or_later, trees_refusals, IsOpened, IsAmong}
 use Rattle.btr_reader.specs.Pieces.{Gathers, MapsImage}
 use Rattle.btr_reader.specs.Reading.{FindsTree, FindsFile, ReadsImage}
 use Rattle.btr_reader.specs.Roots.{root_item, pointer_of}
@@ -165,7 +166,7 @@ later_none (x ∷ xs) ys h = absurd (cc h)
 -- nothing is wrong with the root tree of a volume that was opened
 pub root_right : (image : Image) (s : Super) (ranges : List MapRange) → IsOpened image s ranges → wrong image ranges (root_tree s) ≡ []
 root_right image s ranges k =
-    let boot : List MapRange = boot_ranges (boot_chunks s) in
+    let boot : List ChunkAt = boot_list (boot_chunks s) in
     let trees : trees_refusals image s boot ≡ [] =
     later_none (boot_refusals (length image) (boot_chunks s)) (trees_refusals image s boot) (sym (opening_is image s k.super) ∙ k.sound) in
     subst (λ (r : List MapRange). wrong image r (root_tree s) ≡ []) (sym k.map_is) (later_none _ (wrong image (map_from image s boot) (root_tree s)) trees)

@@ -1,5 +1,5 @@
 -- The chunks of a volume, and the map of addresses that they make.
-use Rattle.std.specs.Prelude.{ℕ, zero, suc, ◌+◌, ◌*◌, ◌%◌, ◌==◌, nat_lt, nat_le, max, min, Bool, ◌&&◌, ◌||◌, if◌then◌else◌, List, [], ◌∷◌, ◌++◌, length, drop, slice_range, Option, Some, None}
+use Rattle.std.specs.Prelude.{ℕ, zero, suc, ◌+◌, ◌*◌, ◌%◌, ◌==◌, nat_eq, nat_lt, nat_le, max, min, Bool, ◌&&◌, ◌||◌, if◌then◌else◌, List, [], ◌∷◌, ◌++◌, length, drop, slice_range, Option, Some, None}
 use Rattle.std.specs.List.{list_any}
 use Rattle.std.specs.Option.{option_map, option_and_then}
 use Rattle.outside.specs.declared.refusal.BtrRefusal.{BtrRefusal}
@@ -10,6 +10,9 @@ use Rattle.vol_block.specs.Volume.{field}
 use Rattle.btr_keys.specs.Key.{key_at}
 use Rattle.btr_keys.specs.declared.key.Key.{Key}
 use Rattle.btr_space_items.specs.Chunk.{chunk_of}
+use Rattle.btr_space_items.specs.declared.chunk.Chunk.{Chunk}
+use Rattle.btr_space_items.specs.declared.stripe.Stripe.{Stripe}
+use Rattle.std.specs.Cmp.Lexicographic.{pointwise}
 use Rattle.btr_walk.specs.declared.map.MapRange.{MapRange}
 use Rattle.btr_walk.specs.Events.{TreeItem}
 use Rattle.btr_files.specs.Extents.{unless}
@@ -84,17 +87,31 @@ abbrev pub chunks_refusals : ℕ → List MapRange → List ChunkAt → List Btr
 chunks_refusals device others [] = []
 chunks_refusals device others (c ∷ cs) = beside_refusals device others c ++ chunks_refusals device (others ++ range_of c ∷ []) cs
 
--- the ranges are the same
-abbrev pub same_range : MapRange → MapRange → Bool
-same_range a b = (a.logical == b.logical) && ((a.length == b.length) && (a.physical == b.physical))
+-- all fields are the same
+abbrev pub same_stripe : Stripe → Stripe → Bool
+same_stripe a b = (a.devid == b.devid) && ((a.offset == b.offset) && pointwise nat_eq a.device_uuid b.device_uuid)
+
+abbrev pub same_body : Chunk → Chunk → Bool
+same_body a b =
+    (a.length == b.length)
+    && ((a.owner == b.owner)
+    && ((a.stripe_len == b.stripe_len)
+    && ((a.kind == b.kind)
+    && ((a.io_align == b.io_align)
+    && ((a.io_width == b.io_width)
+    && ((a.sector_size == b.sector_size)
+    && ((a.num_stripes == b.num_stripes) && ((a.sub_stripes == b.sub_stripes) && same_stripe a.stripe b.stripe))))))))
+
+abbrev pub same_chunk : ChunkAt → ChunkAt → Bool
+same_chunk a b = (a.logical == b.logical) && same_body a.chunk b.chunk
 
 -- a chunk that none of these is
-abbrev pub new_chunk : List MapRange → ChunkAt → Option ChunkAt
-new_chunk boot c = if list_any (same_range (range_of c)) boot then None else Some c
+abbrev pub new_chunk : List ChunkAt → ChunkAt → Option ChunkAt
+new_chunk boot c = if list_any (same_chunk c) boot then None else Some c
 
--- What an item of the chunk tree adds, where these are the ranges of the bootstrap array: the chunk that it is. One with
--- the range of a chunk of the array is that chunk.
-abbrev pub chunk_in : List MapRange → Key → List ℕ → Option (Option ChunkAt)
+-- What an item of the chunk tree adds, where these are the chunks of the bootstrap array: the chunk that it is. One with all
+-- the fields of a chunk of the array is that chunk; another one with its addresses is wrong beside it.
+abbrev pub chunk_in : List ChunkAt → Key → List ℕ → Option (Option ChunkAt)
 chunk_in boot key body =
     if is_chunk_key key then option_map (λ chunk. new_chunk boot (record { logical = key.offset; chunk = chunk })) (chunk_of body) else Some None
 
@@ -110,11 +127,11 @@ chunk_item_refusals device ranges logical (Some None) = []
 chunk_item_refusals device ranges logical (Some (Some c)) = beside_refusals device ranges c
 
 -- the map after the items of the chunk tree, and what is wrong with the items
-abbrev pub with_items : List MapRange → List MapRange → List TreeItem → List MapRange
+abbrev pub with_items : List ChunkAt → List MapRange → List TreeItem → List MapRange
 with_items boot ranges [] = ranges
 with_items boot ranges (i ∷ items) = with_items boot (with_chunk ranges (chunk_in boot i.key i.body)) items
 
-abbrev pub items_refusals : ℕ → List MapRange → List MapRange → List TreeItem → List BtrRefusal
+abbrev pub items_refusals : ℕ → List ChunkAt → List MapRange → List TreeItem → List BtrRefusal
 items_refusals device boot ranges [] = []
 items_refusals device boot ranges (i ∷ items) =
     chunk_item_refusals device ranges i.key.offset (chunk_in boot i.key i.body) ++ items_refusals device boot (with_chunk ranges (chunk_in boot i.key i.body)) items

@@ -1,5 +1,5 @@
 -- What holds of an opened volume.
-use Rattle.std.specs.Prelude.{◌≡◌, ℕ, ◌+◌, ◌^◌, ◌≤◌, ◌<◌, AllPairs, List, ◌++◌, length, Some}
+use Rattle.std.specs.Prelude.{◌≡◌, ℕ, ◌+◌, ◌^◌, ◌≤◌, ◌<◌, AllPairs, Contains, List, ◌++◌, length, map, Some}
 use Rattle.std.specs.List.{flat_map, AllByRecursion}
 use Rattle.btr_keys.specs.Key.{key_bytes, make_key}
 use Rattle.btr_space_items.specs.Chunk.{chunk_layout, chunk_bytes}
@@ -7,10 +7,14 @@ use Rattle.btr_reader.specs.declared.chunk.ChunkAt.{ChunkAt}
 use Rattle.outside.specs.History.{Image}
 use Rattle.btr_super.specs.declared.superblock.Super.{Super}
 use Rattle.btr_walk.specs.declared.map.MapRange.{MapRange}
+use Rattle.btr_keys.specs.FileExtent.{FileExtentValue, file_extent_of}
+use Rattle.btr_walk.specs.Events.{TreeItem}
 use Rattle.btr_files.specs.Blocks.{AreInBlocks}
+use Rattle.btr_files.specs.Extents.{extents_of, extent_length, content_byte}
+use Rattle.btr_names.specs.Links.{IsNamed}
 use Rattle.fs_rows.specs.Rows.{WholeRow}
 use Rattle.btr_reader.specs.Opening.{IsOpened, boot_chunks}
-use Rattle.btr_reader.specs.Rows.{AreBtrfsRows}
+use Rattle.btr_reader.specs.Rows.{AreRows, AreBtrfsRows}
 
 -- The ranges of its map begin and end with blocks, as its chunks do.
 abbrev pub OpenedMapsAreInBlocks : Type 0
@@ -49,3 +53,19 @@ ArraysReadBack =
     (s : Super) (chunks : List ChunkAt) (behind : List ℕ) → AllByRecursion FitsArray chunks
     → s.sys_chunk_array ≡ flat_map array_entry chunks ++ behind → s.sys_chunk_array_size ≡ length (flat_map array_entry chunks)
     → boot_chunks s ≡ Some chunks
+
+-- the items without the leaves that they lie in
+abbrev pub unplaced : List TreeItem → List TreeItem
+unplaced items = map (λ (i : TreeItem). record { leaf = 0; key = i.key; body = i.body }) items
+
+-- The extents of named inodes have the same bytes over two disks, each by its map.
+abbrev pub SameExtents : Image → List MapRange → Image → List MapRange → List TreeItem → Type 0
+SameExtents image ranges other elsewhere items =
+    (ino : ℕ) (i : TreeItem) (e : FileExtentValue) (k : ℕ) → IsNamed items ino → Contains (extents_of items ino) i → file_extent_of i.body ≡ Some e → k < extent_length e.content
+    → content_byte other elsewhere e.content k ≡ content_byte image ranges e.content k
+
+-- Keys and bodies of a tree's items decide its rows, with the bytes of the extents: not the leaves that the items lie in.
+abbrev pub ItemsDecideBtrfsRows : Type 0
+ItemsDecideBtrfsRows =
+    (image other : Image) (ranges elsewhere : List MapRange) (items others : List TreeItem) (rows : List WholeRow) → unplaced items ≡ unplaced others → SameExtents image ranges other elsewhere items
+    → AreRows image ranges items rows → AreRows other elsewhere others rows

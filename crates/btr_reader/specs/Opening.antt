@@ -42,24 +42,26 @@ abbrev pub boot_chunks : Super → Option (List ChunkAt)
 boot_chunks s = array_chunks (take s.sys_chunk_array_size s.sys_chunk_array)
 
 -- The map of addresses: the chunks of the array, then those of the chunk tree, whose nodes lie by the array alone.
-abbrev pub map_from : Image → Super → List MapRange → List MapRange
-map_from image s boot = with_items boot boot (found image boot (chunk_tree s))
+abbrev pub map_from : Image → Super → List ChunkAt → List MapRange
+map_from image s boot = with_items boot (map range_of boot) (found image (map range_of boot) (chunk_tree s))
 
 -- some first, or what comes after them
 abbrev pub or_later : List BtrRefusal → List BtrRefusal → List BtrRefusal
 or_later [] later = later
 or_later (r ∷ rs) later = r ∷ rs
 
--- what is wrong from the chunk tree on, where these are the ranges of the array
-abbrev pub trees_refusals : Image → Super → List MapRange → List BtrRefusal
+-- what is wrong from the chunk tree on, where these are the chunks of the array
+abbrev pub trees_refusals : Image → Super → List ChunkAt → List BtrRefusal
 trees_refusals image s boot =
-    or_later (wrong image boot (chunk_tree s) ++ items_refusals (length image) boot boot (found image boot (chunk_tree s)))
+    or_later (wrong image (map range_of boot) (chunk_tree s) ++ items_refusals (length image) boot (map range_of boot) (found image (map range_of boot) (chunk_tree s)))
     (wrong image (map_from image s boot) (root_tree s))
 
--- the map of the array, and what is wrong with the array
-abbrev pub boot_ranges : Option (List ChunkAt) → List MapRange
-boot_ranges None = []
-boot_ranges (Some chunks) = map range_of chunks
+-- the chunks of an array that is a list of chunks
+abbrev pub boot_list : Option (List ChunkAt) → List ChunkAt
+boot_list None = []
+boot_list (Some chunks) = chunks
+
+-- what is wrong with the array
 
 abbrev pub boot_refusals : ℕ → Option (List ChunkAt) → List BtrRefusal
 boot_refusals device None = BadBtrfs 65536 ChunkForm ∷ []
@@ -67,7 +69,7 @@ boot_refusals device (Some chunks) = chunks_refusals device [] chunks
 
 abbrev pub refusals_after : Image → Result Super BtrRefusal → List BtrRefusal
 refusals_after image (Err r) = r ∷ []
-refusals_after image (Ok s) = or_later (boot_refusals (length image) (boot_chunks s)) (trees_refusals image s (boot_ranges (boot_chunks s)))
+refusals_after image (Ok s) = or_later (boot_refusals (length image) (boot_chunks s)) (trees_refusals image s (boot_list (boot_chunks s)))
 
 -- The refusals of a volume as it is opened. Those of the superblock come before all others, and what can't be found
 -- because of a refusal isn't looked at.
@@ -76,7 +78,7 @@ opening_refusals image = refusals_after image (super_on image)
 
 -- the map of addresses of a volume that can be opened
 abbrev pub chunk_map : Image → Super → List MapRange
-chunk_map image s = map_from image s (boot_ranges (boot_chunks s))
+chunk_map image s = map_from image s (boot_list (boot_chunks s))
 
 -- a volume was opened: this is its superblock, and this its map
 pub record IsOpened (image : Image) (s : Super) (ranges : List MapRange) : Type 0 where

@@ -1,13 +1,13 @@
 ghost use Rattle.std.specs.Prelude.{◌≡◌, ◌++◌, ◌∷◌, [], map, true, OnOk, OnErr, IfErr, Contains};
 ghost use Rattle.std.specs.List.{list_any};
-ghost use Rattle.btr_reader.specs.Chunks.{range_of, is_read_kind, lies_on, overlap, same_range, beside_refusals, chunks_refusals, is_chunk_key};
+ghost use Rattle.btr_reader.specs.Chunks.{range_of, is_read_kind, lies_on, overlap, same_stripe, same_body, same_chunk, beside_refusals, chunks_refusals, is_chunk_key};
 ghost use Rattle.btr_names.specs.Refuses.{IsNoFault};
 ghost use Rattle.btr_reader.specs.Opening.{IsAmong, NamesNoLogTree};
 ghost use Rattle.btr_super.specs.Rules.{NamesNoLog};
 ghost use Rattle.btr_walk.specs.Walks.{LieOn};
 
 use btr_keys::Key;
-use btr_space_items::Chunk;
+use btr_space_items::{Chunk, Stripe};
 use btr_walk::MapRange;
 use outside::{BtrAnswer, BtrRefusal, BtrRule, Feature, Memory};
 
@@ -81,19 +81,42 @@ fn overlaps(range: &MapRange, others: &[MapRange]) -> bool
     false
 }
 
-/// Whether two ranges are the same.
-fn same_range(a: &MapRange, b: &MapRange) -> bool
-    ensures { result ≡ same_range a.now b.now }
+/// Whether all fields of two stripes are the same.
+fn same_stripe(a: &Stripe, b: &Stripe) -> bool
+    ensures { result ≡ same_stripe a.now b.now }
 {
-    a.logical == b.logical && a.length == b.length && a.physical == b.physical
+    a.devid == b.devid && a.offset == b.offset && a.device_uuid == b.device_uuid
 }
 
-/// Whether a range is one of these.
-pub fn is_among(range: &MapRange, others: &[MapRange]) -> bool
-    ensures { result ≡ list_any (same_range range.now) others.now }
+/// Whether all fields of two chunks are the same.
+fn same_body(a: &Chunk, b: &Chunk) -> bool
+    ensures { result ≡ same_body a.now b.now }
+{
+    a.length == b.length
+        && a.owner == b.owner
+        && a.stripe_len == b.stripe_len
+        && a.kind == b.kind
+        && a.io_align == b.io_align
+        && a.io_width == b.io_width
+        && a.sector_size == b.sector_size
+        && a.num_stripes == b.num_stripes
+        && a.sub_stripes == b.sub_stripes
+        && same_stripe(&a.stripe, &b.stripe)
+}
+
+/// The same with their addresses.
+fn same_chunk(a: &ChunkAt, b: &ChunkAt) -> bool
+    ensures { result ≡ same_chunk a.now b.now }
+{
+    a.logical == b.logical && same_body(&a.chunk, &b.chunk)
+}
+
+/// Whether a chunk is one of these.
+pub fn is_among(c: &ChunkAt, others: &[ChunkAt]) -> bool
+    ensures { result ≡ list_any (same_chunk c.now) others.now }
 {
     for other in others {
-        if same_range(range, other) {
+        if same_chunk(c, other) {
             return true;
         }
     }

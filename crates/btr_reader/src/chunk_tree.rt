@@ -7,17 +7,17 @@ ghost use Rattle.btr_reader.specs.Chunks.{chunk_in, with_chunk, with_items, chun
 ghost use Rattle.btr_names.specs.Refuses.{IsNoFault};
 ghost use Rattle.btr_reader.specs.Opening.{IsAmong, NamesNoLogTree};
 
-use crate::chunk::{ChunkAt, add_chunk, is_among, is_chunk_key, range_of};
+use crate::chunk::{ChunkAt, add_chunk, is_among, is_chunk_key};
 use btr_keys::Key;
 use btr_space_items::Chunk;
 use btr_walk::{MapRange, Tree, TreeWalker};
 use outside::{BlockSource, BtrAnswer, BtrRefusal, BtrRule, Memory};
 use std::alloc::Global;
 
-/// Adds what an item of the chunk tree adds to the map, where `boot` is the map of the bootstrap array.
+/// Adds what an item of the chunk tree adds to the map, where `boot` are the chunks of the bootstrap array.
 fn add_item(
     ranges: &mut Vec<MapRange>,
-    boot: &[MapRange],
+    boot: &[ChunkAt],
     device: u64,
     key: &Key,
     body: &[u8],
@@ -46,39 +46,40 @@ fn add_item(
         logical: key.offset,
         chunk,
     };
-    if is_among(&range_of(&c), boot) {
+    if is_among(&c, boot) {
         return Ok(());
     }
     add_chunk(ranges, device, &c)
 }
 
-/// The map of addresses that a chunk tree makes beside the bootstrap array, whose map is `boot`. The nodes of the tree
-/// lie by the array alone.
+/// The map of addresses that a chunk tree makes beside the bootstrap array, whose chunks are `boot` and whose map is `first`.
+/// The nodes of the tree lie by the array alone.
 pub fn read_chunks<S: BlockSource>(
     alloc: Global,
     src: &mut S,
     tree: Tree,
     device: u64,
-    boot: &[MapRange],
+    boot: &[ChunkAt],
+    first: &[MapRange],
 ) -> Result<Vec<MapRange>, BtrAnswer>
     requires size { IsNodeSize tree.form.nodesize }
     requires high { tree.root.level ≤ 7 }
     requires device { device ≡ S.size src.old }
-    requires inside { LieOn device boot.now }
+    requires inside { LieOn device first.now }
     ensures kept { S.kept src.old src.new }
     ensures cause { HasCauseOf BtrAnswer.Fault (S.faults src.old) (S.faults src.new) result }
     ensures known { IfErr result NamesNoLogTree }
     ensures inside { IfOk result (λ ranges. LieOn device ranges.items) }
     ensures ok { IsTrue S.tells → (image : Image) → S.blocks src.old ≡ image →
-        OnOk result (wrong image boot.now tree ++ items_refusals device boot.now boot.now (found image boot.now tree) ≡ []) }
+        OnOk result (wrong image first.now tree ++ items_refusals device boot.now first.now (found image first.now tree) ≡ []) }
     ensures map { IsTrue S.tells → (image : Image) → S.blocks src.old ≡ image →
-        IfOk result (λ ranges. ranges.items ≡ with_items boot.now boot.now (found image boot.now tree)) }
+        IfOk result (λ ranges. ranges.items ≡ with_items boot.now first.now (found image first.now tree)) }
     ensures err { IsTrue S.tells → (image : Image) → S.blocks src.old ≡ image →
-        IfErr result (IsAmong (wrong image boot.now tree ++ items_refusals device boot.now boot.now (found image boot.now tree))) }
+        IfErr result (IsAmong (wrong image first.now tree ++ items_refusals device boot.now first.now (found image first.now tree))) }
 {
-    let mut ranges = copy_of(alloc, boot)?;
+    let mut ranges = copy_of(alloc, first)?;
     let mut walker = TreeWalker::new(alloc, tree)?;
-    while walker.advance(src, boot)? {
+    while walker.advance(src, first)? {
         match add_item(&mut ranges, boot, device, &walker.key(), walker.body()) {
             Ok(()) => {}
             Err(e) => return Err(e),
@@ -87,10 +88,10 @@ pub fn read_chunks<S: BlockSource>(
     Ok(ranges)
 }
 
-fn copy_of(alloc: Global, boot: &[MapRange]) -> Result<Vec<MapRange>, Memory>
-    ensures { IfOk result (λ ranges. ranges.items ≡ boot.now) }
+fn copy_of(alloc: Global, first: &[MapRange]) -> Result<Vec<MapRange>, Memory>
+    ensures { IfOk result (λ ranges. ranges.items ≡ first.now) }
 {
     let mut ranges = Vec::new(alloc);
-    ranges.extend_from_slice(boot)?;
+    ranges.extend_from_slice(first)?;
     Ok(ranges)
 }

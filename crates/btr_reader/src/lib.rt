@@ -26,7 +26,8 @@ pub use entries::find_entry;
 pub use image_map::{ImageMap, Piece};
 pub use inodes::find_inode;
 pub use laws::{
-    arrays_read_back, btrfs_rows_are_one, opened_maps_are_apart, opened_maps_are_in_blocks,
+    arrays_read_back, btrfs_rows_are_one, items_decide_btrfs_rows, opened_maps_are_apart,
+    opened_maps_are_in_blocks,
 };
 pub use roots::{RootFound, RootItems};
 pub use volume::Btrfs;

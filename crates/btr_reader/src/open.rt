@@ -3,12 +3,13 @@ ghost use Rattle.outside.specs.Fault.{HasCauseOf};
 ghost use Rattle.outside.specs.History.{Image, OverTold, block_at};
 ghost use Rattle.btr_super.specs.Rules.{super_of, NamesNoLog};
 ghost use Rattle.btr_walk.specs.Walks.{LieOn};
+ghost use Rattle.btr_reader.specs.Chunks.{range_of};
 ghost use Rattle.btr_names.specs.Refuses.{IsNoFault};
-ghost use Rattle.btr_reader.specs.Opening.{form_of, chunk_tree, root_tree, super_on, boot_chunks, opening_refusals, boot_refusals, boot_ranges, IsOpened, IsAmong, IsInBounds, IsSuperAnswer, NamesNoLogTree};
+ghost use Rattle.btr_reader.specs.Opening.{form_of, chunk_tree, root_tree, super_on, boot_chunks, opening_refusals, boot_refusals, IsOpened, IsAmong, IsInBounds, IsSuperAnswer, NamesNoLogTree};
 ghost use Rattle.btr_reader.specs.Volume.{IsVolumeOn};
 
 use crate::bootstrap::array_chunks;
-use crate::chunk::add_chunks;
+use crate::chunk::{ChunkAt, add_chunks};
 use crate::chunk_tree::read_chunks;
 use crate::roots::read_roots;
 use crate::volume::Btrfs;
@@ -26,6 +27,13 @@ const SUPER_PLACE: BlockNo = 16;
 const ROOT_TREE: u64 = 1;
 
 const CHUNK_TREE: u64 = 3;
+
+/// The chunks of the bootstrap array, and the map of addresses that they make.
+#[derive(Drop)]
+struct Boot {
+    chunks: Vec<ChunkAt>,
+    ranges: Vec<MapRange>,
+}
 
 /// What the nodes of the volume share.
 pub fn form_of(sup: &Super) -> Form
@@ -113,12 +121,13 @@ pub fn super_by(block: &Block, device: u64) -> Result<Super, BtrAnswer>
     }
 }
 
-/// The map of addresses that the bootstrap array makes on a device of `device` blocks.
-fn read_boot(alloc: Global, sup: &Super, device: u64) -> Result<Vec<MapRange>, BtrAnswer>
+/// The chunks of the bootstrap array, on a device of `device` blocks.
+fn read_boot(alloc: Global, sup: &Super, device: u64) -> Result<Boot, BtrAnswer>
     requires { IsInBounds sup.now }
-    ensures inside { IfOk result (λ ranges. LieOn device ranges.items) }
+    ensures inside { IfOk result (λ b. LieOn device b.ranges.items) }
     ensures ok { OnOk result (boot_refusals device (boot_chunks sup.now) ≡ []) }
-    ensures ranges { IfOk result (λ ranges. ranges.items ≡ boot_ranges (boot_chunks sup.now)) }
+    ensures chunks { IfOk result (λ b. boot_chunks sup.now ≡ Some b.chunks.items) }
+    ensures ranges { IfOk result (λ b. b.ranges.items ≡ map range_of b.chunks.items) }
     ensures err { IfErr result (IsAmong (boot_refusals device (boot_chunks sup.now))) }
     ensures known { IfErr result NamesNoLogTree }
     ensures cause { IfErr result IsNoFault }
@@ -132,7 +141,7 @@ fn read_boot(alloc: Global, sup: &Super, device: u64) -> Result<Vec<MapRange>, B
     };
     let mut ranges = Vec::new(alloc);
     match add_chunks(&mut ranges, device, chunks.as_slice()) {
-        Ok(()) => Ok(ranges),
+        Ok(()) => Ok(Boot { chunks, ranges }),
         Err(e) => Err(e),
     }
 }
@@ -193,7 +202,14 @@ impl Btrfs {
     {
         let device = src.len();
         let boot = read_boot(alloc, &sup, device)?;
-        let ranges = read_chunks(alloc, src, chunk_tree(&sup), device, boot.as_slice())?;
+        let ranges = read_chunks(
+            alloc,
+            src,
+            chunk_tree(&sup),
+            device,
+            boot.chunks.as_slice(),
+            boot.ranges.as_slice(),
+        )?;
         let roots = read_roots(alloc, src, root_tree(&sup), ranges.as_slice())?;
         Ok(Btrfs {
             sup,

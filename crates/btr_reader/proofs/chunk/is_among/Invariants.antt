@@ -1,7 +1,7 @@
 use Rattle.std.proofs.Common.{◌≡◌, drop}
 use Rattle.std.specs.List.{list_any}
-use Rattle.btr_reader.specs.Chunks.{same_range}
+use Rattle.btr_reader.specs.Chunks.{same_chunk}
 use Rattle.btr_reader.proofs.chunk.is_among.Given as goal
 
 abbrev pub invariant-loop-other : goal.invariant-loop-other
-invariant-loop-other l = list_any (same_range l.range) (drop l.other-index l.others) ≡ list_any (same_range l.range) l.others
+invariant-loop-other l = list_any (same_chunk l.c) (drop l.other-index l.others) ≡ list_any (same_chunk l.c) l.others

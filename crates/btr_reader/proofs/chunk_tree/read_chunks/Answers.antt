@@ -7,6 +7,7 @@ use Rattle.btr_walk.specs.declared.tree.Tree.{Tree}
 use Rattle.btr_walk.specs.Events.{TreeItem}
 use Rattle.btr_walk.specs.Walks.{Blames, LieOn, wrong, found}
 use Rattle.btr_walk.proofs.Events.{none_both}
+use Rattle.btr_reader.specs.declared.chunk.ChunkAt.{ChunkAt}
 use Rattle.btr_reader.specs.Chunks.{items_refusals, with_items}
 use Rattle.btr_reader.specs.Opening.{IsAmong}
 use Rattle.btr_reader.proofs.Adding.{item_added, item_right, item_refused}
@@ -14,8 +15,8 @@ use Rattle.btr_reader.proofs.Among.{blames_among, among_left, among_right, given
 use Rattle.btr_reader.proofs.chunk_tree.read_chunks.Goals as goal
 
 -- what is wrong with the chunk tree and its items
-abbrev all_wrong : Image → ℕ → List MapRange → Tree → List BtrRefusal
-all_wrong image device boot tree = wrong image boot tree ++ items_refusals device boot boot (found image boot tree)
+abbrev all_wrong : Image → ℕ → List ChunkAt → List MapRange → Tree → List BtrRefusal
+all_wrong image device chunks boot tree = wrong image boot tree ++ items_refusals device chunks boot (found image boot tree)
 
 pub loop-walker-init : goal.loop-walker-init
 loop-walker-init g c = record {
@@ -31,12 +32,13 @@ pub returns-in_err-advance-clause-err : goal.returns-in_err-advance-clause-err
 returns-in_err-advance-clause-err g c = λ tells image is.
     let told = c.loop-walker.invariant.walks tells in
     let here : Image = g.S.BlockSource.blocks c.args.src.now in
-    let boot : List MapRange = c.args.boot.now in
+    let chunks : List ChunkAt = c.args.boot.now in
+    let boot : List MapRange = c.args.first.now in
     let same = g.met.S.BlockSource.kept_blocks c.args.src.now c.loop-walker.src tells c.loop-walker.invariant.kept in
     let blames = c.in_err-advance.ensures.comes tells here same told.0 told.1 in
     let err = err_from_is_err_and c.from_residual-in_err-advance.result c.from_residual-in_err-advance.ensures.1 in
-    rw err.1 (subst (λ (m : Image). IsAmong (all_wrong m c.args.device boot c.args.tree) err.0) is
-    (subst (IsAmong (all_wrong here c.args.device boot c.args.tree)) (sym err.2)
+    rw err.1 (subst (λ (m : Image). IsAmong (all_wrong m c.args.device chunks boot c.args.tree) err.0) is
+    (subst (IsAmong (all_wrong here c.args.device chunks boot c.args.tree)) (sym err.2)
     (among_left (wrong here boot c.args.tree) _ c.in_err-advance.field-0.0
     (blames_among (wrong here boot c.args.tree) c.in_err-advance.field-0.0
     (subst (λ (tree : Tree). Blames (wrong here boot tree) c.in_err-advance.field-0.0) c.loop-walker.invariant.tree blames)))))
@@ -44,7 +46,8 @@ returns-in_err-advance-clause-err g c = λ tells image is.
 pub loop-walker-preserved : goal.loop-walker-preserved
 loop-walker-preserved g c =
     let before = c.loop-walker.invariant in
-    let boot : List MapRange = c.args.boot.now in
+    let chunks : List ChunkAt = c.args.boot.now in
+    let boot : List MapRange = c.args.first.now in
     record {
       kept = g.met.S.BlockSource.kept_trans _ _ _ before.kept c.advance.ensures.kept;
       same = c.in_ok-advance.ensures.cause.kept (λ e. absurd cc) ∙ before.same;
@@ -60,8 +63,8 @@ loop-walker-preserved g c =
           let body = c.body.ensures i came.2 in (
             told.0 ++ i ∷ [],
             came.1,
-            item_added boot c.loop-walker.ranges.items c.add_item.new.ranges.items told.0 i c.key.result c.body.result.now key body told.2 c.in-Ok.ensures.added,
-            item_right c.args.device boot c.loop-walker.ranges.items told.0 i c.key.result c.body.result.now key body told.2 told.3 c.in-Ok.ensures.ok,
+            item_added chunks boot c.loop-walker.ranges.items c.add_item.new.ranges.items told.0 i c.key.result c.body.result.now key body told.2 c.in-Ok.ensures.added,
+            item_right c.args.device chunks boot c.loop-walker.ranges.items told.0 i c.key.result c.body.result.now key body told.2 told.3 c.in-Ok.ensures.ok,
           );
     }
 
@@ -69,39 +72,42 @@ pub returns-in-Err-clause-err : goal.returns-in-Err-clause-err
 returns-in-Err-clause-err g c = λ tells image is.
     let before = c.loop-walker.invariant in
     let here : Image = g.S.BlockSource.blocks c.args.src.now in
-    let boot : List MapRange = c.args.boot.now in
+    let chunks : List ChunkAt = c.args.boot.now in
+    let boot : List MapRange = c.args.first.now in
     let told = before.walks tells in
     let same = g.met.S.BlockSource.kept_blocks c.args.src.now c.loop-walker.src tells before.kept in
     let came = rw c.if-branch.true at (c.in_ok-advance.ensures.comes tells here same told.0 told.1) in
     let i : TreeItem = came.0 in
     let first = given_first c.advance.new.self here boot (told.0 ++ i ∷ []) came.1 in
     let tree = c.advance.ensures.tree ∙ before.tree in
-    subst (λ (m : Image). IsAmong (all_wrong m c.args.device boot c.args.tree) c.in-Err.e) is
+    subst (λ (m : Image). IsAmong (all_wrong m c.args.device chunks boot c.args.tree) c.in-Err.e) is
     (among_right (wrong here boot c.args.tree) _ c.in-Err.e
-    (item_refused c.args.device boot c.loop-walker.ranges.items (found here boot c.args.tree) told.0 first.0 i c.key.result c.body.result.now c.in-Err.e
+    (item_refused c.args.device chunks boot c.loop-walker.ranges.items (found here boot c.args.tree) told.0 first.0 i c.key.result c.body.result.now c.in-Err.e
     (c.key.ensures i came.2) (c.body.ensures i came.2) told.2 (ap (λ (t : Tree). found here boot t) (sym tree) ∙ first.1) c.in-Err.ensures.err))
 
 pub returns-clause-ok : goal.returns-clause-ok
 returns-clause-ok g c = λ tells image is.
     let before = c.loop-walker.invariant in
     let here : Image = g.S.BlockSource.blocks c.args.src.now in
-    let boot : List MapRange = c.args.boot.now in
+    let chunks : List ChunkAt = c.args.boot.now in
+    let boot : List MapRange = c.args.first.now in
     let told = before.walks tells in
     let same = g.met.S.BlockSource.kept_blocks c.args.src.now c.loop-walker.src tells before.kept in
     let end = rw c.if-branch.false at (c.in_ok-advance.ensures.comes tells here same told.0 told.1) in
     let all : told.0 ≡ found here boot c.args.tree = end.1.all ∙ ap (λ (t : Tree). found here boot t) before.tree in
-    subst (λ (m : Image). all_wrong m c.args.device boot c.args.tree ≡ []) is
+    subst (λ (m : Image). all_wrong m c.args.device chunks boot c.args.tree ≡ []) is
     (none_both (wrong here boot c.args.tree) _
     (subst (λ (tree : Tree). wrong here boot tree ≡ []) before.tree end.1.sound)
-    (ap (items_refusals c.args.device boot boot) (sym all) ∙ told.3))
+    (ap (items_refusals c.args.device chunks boot) (sym all) ∙ told.3))
 
 pub returns-clause-map : goal.returns-clause-map
 returns-clause-map g c = λ tells image is.
     let before = c.loop-walker.invariant in
     let here : Image = g.S.BlockSource.blocks c.args.src.now in
-    let boot : List MapRange = c.args.boot.now in
+    let chunks : List ChunkAt = c.args.boot.now in
+    let boot : List MapRange = c.args.first.now in
     let told = before.walks tells in
     let same = g.met.S.BlockSource.kept_blocks c.args.src.now c.loop-walker.src tells before.kept in
     let end = rw c.if-branch.false at (c.in_ok-advance.ensures.comes tells here same told.0 told.1) in
     let all : told.0 ≡ found here boot c.args.tree = end.1.all ∙ ap (λ (t : Tree). found here boot t) before.tree in
-    told.2 ∙ (ap (with_items boot boot) all ∙ ap (λ (m : Image). with_items boot boot (found m boot c.args.tree)) is)
+    told.2 ∙ (ap (with_items chunks boot) all ∙ ap (λ (m : Image). with_items chunks boot (found m boot c.args.tree)) is)

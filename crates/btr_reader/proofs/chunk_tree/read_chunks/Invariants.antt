@@ -11,7 +11,7 @@ invariant-loop-walker g l = record {
   tree : l.walker.tree ≡ l.fn.tree;
   fresh : l.walker.spent ≡ false;
   inside : LieOn l.device l.ranges.items;
-  walks : IsTrue g.S.BlockSource.tells → (given : List TreeItem) × Walks l.walker (g.S.BlockSource.blocks l.fn.src) l.boot given × (l.ranges.items ≡ with_items l.boot l.boot given) × (items_refusals l.device l.boot l.boot given ≡ []);
+  walks : IsTrue g.S.BlockSource.tells → (given : List TreeItem) × Walks l.walker (g.S.BlockSource.blocks l.fn.src) l.first given × (l.ranges.items ≡ with_items l.boot l.first given) × (items_refusals l.device l.boot l.first given ≡ []);
 }
 
 abbrev pub decreases-loop-walker : goal.decreases-loop-walker
