@@ -40,11 +40,11 @@ pairs_more : {X : Type 0} (R : X → X → Type 0) (xs : List X) (y : X) → All
 pairs_more R xs y all last i j d before within =
     ⊎_elim
     (λ less. subst (λ a. R a (get_or (xs ++ y ∷ []) j d)) (sym (get_or_append_left xs (y ∷ []) d i (omega (arith, before, less))))
-        (subst (R (get_or xs i d)) (sym (get_or_append_left xs (y ∷ []) d j less)) (all i j d before less)))
+    (subst (R (get_or xs i d)) (sym (get_or_append_left xs (y ∷ []) d j less)) (all i j d before less)))
     (λ not_less.
-        let end : length xs ≡ j = omega (arith, not_less, within, length_more xs y) in
-        subst (λ a. R a (get_or (xs ++ y ∷ []) j d)) (sym (get_or_append_left xs (y ∷ []) d i (omega (arith, before, end))))
-        (subst (R (get_or xs i d)) (sym (get_or_at xs y [] d j end)) (last i d (omega (arith, before, end)))))
+    let end : length xs ≡ j = omega (arith, not_less, within, length_more xs y) in
+    subst (λ a. R a (get_or (xs ++ y ∷ []) j d)) (sym (get_or_append_left xs (y ∷ []) d i (omega (arith, before, end))))
+    (subst (R (get_or xs i d)) (sym (get_or_at xs y [] d j end)) (last i d (omega (arith, before, end)))))
     (cases_lt j (length xs))
 
 -- ranges that do not overlap have no address in common

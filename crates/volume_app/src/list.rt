@@ -58,11 +58,7 @@ fn list_reiser<S: BlockSource>(alloc: Global, source: &mut S) -> Result<Rows, An
 }
 
 /// The rows of a Btrfs volume, by its block 16.
-fn list_btrfs<S: BlockSource>(
-    alloc: Global,
-    source: &mut S,
-    block: &Block,
-) -> Result<Rows, Answer>
+fn list_btrfs<S: BlockSource>(alloc: Global, source: &mut S, block: &Block) -> Result<Rows, Answer>
     ensures kept { S.kept source.old source.new }
     ensures cause { HasCauseOf Answer.Fault (S.faults source.old) (S.faults source.new) result }
     ensures right { IsTrue S.tells → (image : Image) → S.blocks source.old ≡ image → format_in image ≡ formats.Btrfs → block.now.bytes ≡ block_at image 16 → MatchResult result (Lists image) (ListRefuses image) }
