@@ -61,6 +61,15 @@ abbrev pub LeavesDisk : Option Ordered → History → History → Ending → Ty
 LeavesDisk None old new ending = new ≡ old
 LeavesDisk (Some o) old new ending = Leaves o old new ending
 
+-- A fault is the ending where the count of the device's faults rose; every other ending leaves the count.
+abbrev pub TellsFault : Ending → ℕ → ℕ → Type 0
+TellsFault Made before now = now ≡ before
+TellsFault Usage before now = now ≡ before
+TellsFault (Short blocks device) before now = now ≡ before
+TellsFault (Full needed blocks) before now = now ≡ before
+TellsFault Fault before now = Rose before now
+TellsFault Memory before now = now ≡ before
+
 -- no block was written but those that the volume has as used
 abbrev pub OnlyUsed : Option Ordered → History → History → Type 0
 OnlyUsed None old new = new ≡ old

@@ -1,4 +1,4 @@
-ghost use Rattle.std.specs.Prelude.{◌≡◌, ◌↔◌, ◌≤◌, ◌<◌, ◌-◌, ◌^◌, ◌⊎◌, map, Some, None, IfSome, IsTrue, IfErr, OnOk, string_bytes};
+ghost use Rattle.std.specs.Prelude.{◌≡◌, ◌≢◌, ◌↔◌, ◌≤◌, ◌<◌, ◌-◌, ◌^◌, ◌⊎◌, map, Some, None, IfSome, IsTrue, IfErr, OnOk, string_bytes};
 ghost use Rattle.outside.specs.Fault.{HasCauseOf, Rose};
 ghost use Rattle.outside.specs.History.{reads, WritesOnly};
 ghost use Rattle.reiser_make.specs.Maker.{IsRight, Keeps};
@@ -13,6 +13,7 @@ ghost use Rattle.sample_app.specs.Outcome.{
   Leaves,
   LeavesDisk,
   OnlyUsed,
+  TellsFault,
   Uses,
   Runs,
 };
@@ -36,6 +37,7 @@ pub fn run<D: Disk, E: Sink>(alloc: Global, words: &[String], disk: &mut D, err:
 
     ensures usage { (result ≡ 2) ↔ (order (map string_bytes words.now) ≡ None) }
     ensures device { result ≡ 3 → Rose (D.faults disk.old) (D.faults disk.new) }
+    ensures faultless { result ≢ 3 → D.faults disk.new ≡ D.faults disk.old }
     ensures ends { Runs (order (map string_bytes words.now)) (D.size disk.new) result (IsTrue D.tells) (D.history disk.old) (D.history disk.new)
         (IsTrue E.tells) (E.faults err.old) (E.faults err.new) (E.taken err.old) (E.taken err.new) }
     ensures only { IsTrue D.tells → OnlyUsed (order (map string_bytes words.now)) (D.history disk.old) (D.history disk.new) }
@@ -56,8 +58,7 @@ fn perform<D: Disk>(alloc: Global, words: &[String], disk: &mut D) -> Ending
     ensures right { EndsRight (order (map string_bytes words.now)) (D.size disk.new) result }
     ensures left { IsTrue D.tells → LeavesDisk (order (map string_bytes words.now)) (D.history disk.old) (D.history disk.new) result }
     ensures only { IsTrue D.tells → OnlyUsed (order (map string_bytes words.now)) (D.history disk.old) (D.history disk.new) }
-    ensures later { D.faults disk.old ≤ D.faults disk.new }
-    ensures cause { result ≡ Ending.Fault → Rose (D.faults disk.old) (D.faults disk.new) }
+    ensures cause { TellsFault result (D.faults disk.old) (D.faults disk.new) }
 {
     match read_words(words) {
         None => Ending::Usage,
@@ -72,8 +73,7 @@ fn make_on_path<D: Disk>(alloc: Global, order: &Order<'_>, disk: &mut D) -> Endi
     ensures right { FitsDevice (seen order.now) (D.size disk.new) result }
     ensures left { IsTrue D.tells → Leaves (seen order.now) (D.history disk.old) (D.history disk.new) result }
     ensures only { IsTrue D.tells → WritesOnly (λ b _. Uses (seen order.now) b) (D.history disk.old) (D.history disk.new) }
-    ensures later { D.faults disk.old ≤ D.faults disk.new }
-    ensures cause { result ≡ Ending.Fault → Rose (D.faults disk.old) (D.faults disk.new) }
+    ensures cause { TellsFault result (D.faults disk.old) (D.faults disk.new) }
 {
     match disk.open(order.path, Access::Write) {
         Ok(()) => make_on_device(alloc, order, disk),
@@ -87,8 +87,7 @@ fn make_on_device<D: Disk>(alloc: Global, order: &Order<'_>, disk: &mut D) -> En
     ensures right { FitsDevice (seen order.now) (D.size disk.new) result }
     ensures left { IsTrue D.tells → Leaves (seen order.now) (D.history disk.old) (D.history disk.new) result }
     ensures only { IsTrue D.tells → WritesOnly (λ b _. Uses (seen order.now) b) (D.history disk.old) (D.history disk.new) }
-    ensures later { D.faults disk.old ≤ D.faults disk.new }
-    ensures cause { result ≡ Ending.Fault → Rose (D.faults disk.old) (D.faults disk.new) }
+    ensures cause { TellsFault result (D.faults disk.old) (D.faults disk.new) }
 {
     let device = disk.len();
     if device < order.blocks {

@@ -1,4 +1,4 @@
-use Rattle.sample_app.proofs.Outcomes.{made_or_memory, usage_exactly}
+use Rattle.sample_app.proofs.Outcomes.{made_or_memory, usage_exactly, risen, faultless}
 use Rattle.sample_app.proofs.top.run.Goals as goal
 
 pub returns-clause-complete : goal.returns-clause-complete
@@ -10,3 +10,9 @@ pub returns-clause-usage : goal.returns-clause-usage
 returns-clause-usage g c =
     rw c.status.ensures
     (usage_exactly _ _ c.perform-ending.result c.perform-ending.ensures.right)
+
+pub returns-clause-device : goal.returns-clause-device
+returns-clause-device g c = rw c.status.ensures (risen c.perform-ending.result _ _ c.perform-ending.ensures.cause)
+
+pub returns-clause-faultless : goal.returns-clause-faultless
+returns-clause-faultless g c = rw c.status.ensures (faultless c.perform-ending.result _ _ c.perform-ending.ensures.cause)
