@@ -1,20 +1,10 @@
 -- What `inspect` prints of a Btrfs volume: lines of a word, a space, a value and a line feed.
-use Rattle.std.specs.Prelude.{ℕ, List, [], ◌∷◌, ◌++◌, codes, decimal, nat_eq, Option, Some, None}
-use Rattle.std.specs.List.{before_first}
+use Rattle.std.specs.Prelude.{ℕ, List, [], ◌∷◌, ◌++◌, codes, decimal, Option, Some, None}
 use Rattle.uuid.specs.Text.{hyphenated_text, lower}
 use Rattle.outside.specs.History.{Image}
-use Rattle.sink_text.specs.Escape.{escaped}
+use Rattle.sink_text.specs.Label.{label_of, label_text}
 use Rattle.btr_summary.specs.declared.summary.Summary.{Summary}
 use Rattle.btr_summary.specs.Told.{summary_of}
-
--- a label ends before its first zero byte
-abbrev pub label_of : List ℕ → List ℕ
-label_of bytes = before_first (λ c. nat_eq c 0) bytes
-
--- a dash for an empty label, else the label with its bytes escaped
-abbrev pub label_text : List ℕ → List ℕ
-label_text [] = codes "-"
-label_text (c ∷ cs) = escaped (c ∷ cs)
 
 -- a dash for a missing image, else its length in blocks
 abbrev pub image_text : Option ℕ → List ℕ

@@ -1,12 +1,12 @@
 ghost use Rattle.std.specs.Prelude.{◌≡◌, IsTrue};
 ghost use Rattle.outside.specs.Fault.{HasCause, Takes};
 ghost use Rattle.sink_text.specs.Text.{piece_text};
-ghost use Rattle.btr_summary.specs.Text.{label_of, label_text, image_text, summary_text};
+ghost use Rattle.btr_summary.specs.Text.{image_text, summary_text};
 
 use crate::summary::Summary;
 use outside::{Fault, Sink};
-use sink_text::Piece::{Decimal, Escaped, Hyphenated, Plain};
-use sink_text::{Piece, write_pieces};
+use sink_text::Piece::{Decimal, Hyphenated, Plain};
+use sink_text::{Piece, label_piece, write_pieces};
 
 impl Summary {
     /// Prints the seven lines `format`, `fsid`, `blocks`, `generation`, `nodesize`, `label` and `image`. After a fault the
@@ -25,22 +25,12 @@ impl Summary {
             Plain(b"\nnodesize "),
             Decimal(u64::from(self.nodesize)),
             Plain(b"\nlabel "),
-            label_piece(label_of(&self.label)),
+            label_piece(&self.label),
             Plain(b"\nimage "),
             image_piece(self.image),
             Plain(b"\n"),
         ];
         write_pieces(&pieces, out)
-    }
-}
-
-/// How a label is printed: a dash where it is empty.
-fn label_piece(label: &[u8]) -> Piece<'_>
-    ensures { piece_text result ≡ label_text label.now }
-{
-    match label {
-        [] => Plain(b"-"),
-        _ => Escaped(label),
     }
 }
 
@@ -52,15 +42,4 @@ fn image_piece(blocks: Option<u64>) -> Piece<'static>
         Some(blocks) => Decimal(blocks),
         None => Plain(b"-"),
     }
-}
-
-/// The label without the zeros that fill it up.
-fn label_of(label: &[u8; 256]) -> &[u8]
-    ensures { result.now ≡ label_of label.now }
-{
-    let mut end = 0;
-    while end < label.len() && label[end] != 0 {
-        end += 1;
-    }
-    &label[..end]
 }
