@@ -1,9 +1,8 @@
-ghost use Rattle.std.specs.Prelude.{◌≡◌, ◌<◌, ◌==◌, ◌++◌, ◌∷◌, ◌+◌, ◌^◌, [], length, slice_get, Some, OnOk, OnErr};
-ghost use Rattle.reiser_files.specs.Runs.{goes_on, with_block, is_next, extended};
+ghost use Rattle.std.specs.Prelude.{◌≡◌, ◌<◌, ◌+◌, ◌^◌, OnOk, OnErr};
+ghost use Rattle.reiser_files.specs.Runs.{goes_on, longer, with_block, is_next, extended};
 
+use copy_list::CopyList;
 use outside::Memory;
-use std::alloc::Global;
-use std::marker::Model;
 use vol_block::BlockNo;
 
 /// Where a run of a file's blocks lies.
@@ -27,94 +26,55 @@ pub struct FileRun {
 }
 
 /// Where the blocks of a file lie: runs in ascending blocks of the file. What no run covers is a hole.
-#[derive(Drop)]
-pub struct FileMap {
-    items: Vec<FileRun>,
-}
+pub type FileMap = CopyList<FileRun>;
 
-impl Model for FileMap {
-    ghost use Rattle.std.specs.Prelude.{List};
-    ghost use Rattle.reiser_files.specs.declared.map.FileRun.{FileRun};
-
-    ghost Value = { List FileRun };
-
-    ghost view = { λ m. m.items.items };
-}
-
-impl FileMap {
-    /// No runs: a file that is all hole.
-    pub fn new(alloc: Global) -> FileMap
-        ensures { result ≡ [] }
-    {
-        FileMap {
-            items: Vec::new(alloc),
-        }
-    }
-
-    /// Appends a run. Without memory the map is unchanged.
-    pub fn add(&mut self, run: FileRun) -> Result<(), Memory>
-        ensures ok { OnOk result (self.new ≡ self.old ++ run ∷ []) }
-        ensures err { OnErr result (self.new ≡ self.old) }
-    {
-        self.items.push(run)?;
-        Ok(())
-    }
-
-    /// How many runs there are.
-    pub fn len(&self) -> usize
-        ensures { result ≡ length self.now }
-    {
-        self.items.len()
-    }
-
-    /// Whether there is no run.
-    pub fn is_empty(&self) -> bool
-        ensures { result ≡ (length self.now == 0) }
-    {
-        self.items.is_empty()
-    }
-
-    /// Run number `i`.
-    pub fn get(&self, i: usize) -> FileRun
-        requires { i < length self.now }
-        ensures { slice_get self.now i ≡ Some result }
-    {
-        self.items[i]
-    }
-
-    /// Appends block `k` of the file, or makes the last run longer where that goes on with it. Without memory the map
-    /// is unchanged.
-    pub(crate) fn add_block(&mut self, k: u64, from: RunFrom) -> Result<(), Memory>
-        requires { k + 1 < 2 ^ 64 }
-        ensures ok { OnOk result (self.new ≡ with_block self.old k from) }
-        ensures err { OnErr result (self.new ≡ self.old) }
-    {
-        let len = self.items.len();
-        if len > 0 && self.items[len - 1].goes_on(k, from) {
-            self.items[len - 1].count += 1;
+/// Appends block `k` of the file, or makes the last run longer where that goes on with it. Without memory the map is
+/// unchanged.
+fn add_block(map: &mut FileMap, k: u64, from: RunFrom) -> Result<(), Memory>
+    requires { k + 1 < 2 ^ 64 }
+    ensures ok { OnOk result (map.new ≡ with_block map.old k from) }
+    ensures err { OnErr result (map.new ≡ map.old) }
+{
+    let len = map.len();
+    if len > 0 {
+        let last = map.get(len - 1);
+        if last.goes_on(k, from) {
+            map.set(len - 1, last.longer());
             return Ok(());
         }
-        self.add(FileRun {
-            at: k,
-            count: 1,
-            from,
-        })
     }
+    map.add(FileRun {
+        at: k,
+        count: 1,
+        from,
+    })
+}
 
-    /// Appends block `k` of the file, if it lies anywhere. Without memory the map is unchanged.
-    pub(crate) fn extend(&mut self, k: u64, from: Option<RunFrom>) -> Result<(), Memory>
-        requires { k + 1 < 2 ^ 64 }
-        ensures ok { OnOk result (self.new ≡ extended self.old k from) }
-        ensures err { OnErr result (self.new ≡ self.old) }
-    {
-        match from {
-            Some(from) => self.add_block(k, from),
-            None => Ok(()),
-        }
+/// Appends block `k` of the file, if it lies anywhere. Without memory the map is unchanged.
+pub(crate) fn extend(map: &mut FileMap, k: u64, from: Option<RunFrom>) -> Result<(), Memory>
+    requires { k + 1 < 2 ^ 64 }
+    ensures ok { OnOk result (map.new ≡ extended map.old k from) }
+    ensures err { OnErr result (map.new ≡ map.old) }
+{
+    match from {
+        Some(from) => add_block(map, k, from),
+        None => Ok(()),
     }
 }
 
 impl FileRun {
+    /// The run with one block more.
+    fn longer(self) -> FileRun
+        requires { self.count + 1 < 2 ^ 64 }
+        ensures { result ≡ longer self }
+    {
+        FileRun {
+            at: self.at,
+            count: self.count + 1,
+            from: self.from,
+        }
+    }
+
     /// Whether the run goes on with block `k` of the file, which lies there.
     fn goes_on(&self, k: u64, from: RunFrom) -> bool
         ensures { result ≡ goes_on self.now k from }

@@ -6,6 +6,7 @@ ghost use Rattle.reiser_files.specs.Parts.{OverlaysTail, OverlaysDisks};
 ghost use Rattle.reiser_files.specs.States.{HoldsRuns, MapsFile};
 ghost use Rattle.reiser_files.specs.declared.map.RunFrom.{RunFrom};
 
+use crate::map::extend;
 use crate::pieces::{block_count, count_below, first_byte, pointer};
 use crate::{FileMap, FileMapper, RunFrom};
 use outside::Memory;
@@ -45,7 +46,7 @@ impl FileMapper {
         ensures { (given : List Item) → MapsFile self given → IfOk result (λ map. map ≡ file_runs given self.size) }
     {
         if self.next < block_count(self.size) {
-            self.map.extend(self.next, self.from)?;
+            extend(&mut self.map, self.next, self.from)?;
         }
         Ok(self.map)
     }
@@ -57,7 +58,7 @@ impl FileMapper {
         ensures same { (f : ℕ → Option RunFrom) → HoldsRuns self.old f → OnOk result (HoldsRuns self.new f) }
     {
         if self.next < k {
-            self.map.extend(self.next, self.from)?;
+            extend(&mut self.map, self.next, self.from)?;
             self.from = None;
             self.next = k;
         }
