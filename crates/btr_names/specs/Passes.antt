@@ -87,6 +87,12 @@ pub record HasSeen {S : Type 0} (opened : ℕ → Bool) (names : IndexSet NameIn
   pub each : (q : NameIn) → contains same_name names q ≡ list_any (names_as opened q) seen
   pub once : AllPairs (DifferInName opened) seen
 
+-- the name of this entry is there already, or there was no memory
+abbrev pub IsTwice : Naming → BtrAnswer → Type 0
+IsTwice n (Refused r) = r ≡ BadBtrfs n.leaf NameForm
+IsTwice n Fault = ⊥
+IsTwice n Memory = Unit {0}
+
 -- a named directory has one name twice, or there was no memory
 abbrev pub BlamesTwice : (ℕ → Bool) → List Naming → BtrAnswer → Type 0
 BlamesTwice opened ns (Refused r) = (m : Naming) × ((n : Naming) × AreIn ns m n × (opened n.dir ≡ true) × (m.dir ≡ n.dir) × (m.name ≡ n.name) × (r ≡ BadBtrfs n.leaf NameForm))

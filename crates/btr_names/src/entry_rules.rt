@@ -97,7 +97,7 @@ fn tree_rule(roots: &IndexSet<u64>, number: u64) -> Option<BtrRule>
 }
 
 /// Whether a name is not empty, has no slash and no zero byte, and is neither `.` nor `..`.
-fn is_name(name: &[u8]) -> bool
+pub fn is_name(name: &[u8]) -> bool
     ensures { result ≡ is_name name.now }
 {
     !name.is_empty() && !has_separator(name) && name != b".".as_slice() && name != b"..".as_slice()

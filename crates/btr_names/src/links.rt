@@ -54,12 +54,14 @@ fn is_saved_name(name: &[u8]) -> bool
     name == SAVED.as_slice()
 }
 
+/// Whether an entry names an inode.
 pub fn names_inode(naming: &Naming) -> bool
     ensures { result ≡ names_inode naming.now }
 {
     naming.location.kind == 1
 }
 
+/// Whether an entry names another tree.
 pub fn names_tree(naming: &Naming) -> bool
     ensures { result ≡ names_tree naming.now }
 {

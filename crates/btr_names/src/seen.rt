@@ -4,7 +4,7 @@ ghost use Rattle.indexmap.specs.IndexSet.{contains};
 ghost use Rattle.path_list.specs.Links.{same_node};
 ghost use Rattle.btr_names.specs.declared.naming.Naming.{Naming as NamingOf};
 ghost use Rattle.btr_names.specs.declared.seen.NameIn.{NameIn as NameInOf};
-ghost use Rattle.btr_names.specs.Passes.{same_name, DifferInName, HasSeen, BlamesTwice, leads_down, LeadApart, HasDirectories, BlamesAgain};
+ghost use Rattle.btr_names.specs.Passes.{same_name, DifferInName, HasSeen, IsTwice, BlamesTwice, leads_down, LeadApart, HasDirectories, BlamesAgain};
 ghost use Rattle.btr_names.specs.Steps.{is_open};
 
 use crate::inode_rules::bad;
@@ -15,7 +15,7 @@ use outside::{BtrAnswer, BtrRule, Memory};
 use path_list::NodeId;
 use std::alloc::Global;
 
-/// A name in a directory.
+/// A name in a directory, to be looked up among those that were seen.
 #[derive(Debug, PartialEq, Eq, Hash, Drop)]
 pub struct NameIn {
     pub dir: u64,
@@ -53,8 +53,13 @@ fn see_open(
 }
 
 /// Adds a name to those that were seen, if its directory has it not yet.
-fn see_name(seen: &mut IndexSet<NameIn>, alloc: Global, naming: &Naming) -> Result<(), BtrAnswer>
-    ensures { (opened : ℕ → Bool) (before : List NamingOf) → opened naming.now.dir ≡ true → HasSeen opened seen.old before
+pub fn see_name(
+    seen: &mut IndexSet<NameIn>,
+    alloc: Global,
+    naming: &Naming,
+) -> Result<(), BtrAnswer>
+    ensures answer { IfErr result (IsTwice naming.now) }
+    ensures seen { (opened : ℕ → Bool) (before : List NamingOf) → opened naming.now.dir ≡ true → HasSeen opened seen.old before
         → MatchResult result (λ _. HasSeen opened seen.new (before ++ naming.now ∷ [])) (BlamesTwice opened (before ++ naming.now ∷ [])) }
 {
     let name = name_in(alloc, naming)?;

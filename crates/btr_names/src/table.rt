@@ -1,4 +1,4 @@
-ghost use Rattle.std.specs.Prelude.{◌≡◌, ◌++◌, ◌∷◌, [], ℕ, List, Some, OnOk, nat_eq, unwrap_or, if◌then◌else◌};
+ghost use Rattle.std.specs.Prelude.{◌≡◌, ◌++◌, ◌∷◌, [], ℕ, List, Some, IfOk, OnOk, nat_eq, unwrap_or, if◌then◌else◌};
 ghost use Rattle.indexmap.specs.IndexMap.{get};
 ghost use Rattle.btr_keys.specs.DirEntry.{dir_entry_value};
 ghost use Rattle.btr_walk.specs.Events.{TreeItem};
@@ -179,12 +179,25 @@ fn note_entry(
 ) -> Result<(), Memory>
     ensures { (i : TreeItem) → i.key ≡ key.now → i.leaf ≡ leaf → OnOk result (namings.new.items ≡ namings.old.items ++ naming_of i (dir_entry_value entry.now) ∷ []) }
 {
-    namings.push(Naming {
+    let naming = naming_of(alloc, key, entry, leaf)?;
+    namings.push(naming)?;
+    Ok(())
+}
+
+/// The entry of a directory index with this key, which stands in the leaf at this address.
+pub fn naming_of(
+    alloc: Global,
+    key: &Key,
+    entry: &DirEntry<'_>,
+    leaf: u64,
+) -> Result<Naming, Memory>
+    ensures { (i : TreeItem) → i.key ≡ key.now → i.leaf ≡ leaf → IfOk result (λ n. n ≡ naming_of i (dir_entry_value entry.now)) }
+{
+    Ok(Naming {
         leaf,
         dir: key.objectid,
         index: key.offset,
         location: entry.location,
         name: Name::new(alloc, entry.name)?,
-    })?;
-    Ok(())
+    })
 }
