@@ -1,7 +1,7 @@
-ghost use Rattle.std.specs.Prelude.{◌≡◌, [], List, IsTrue, IfErr};
+ghost use Rattle.std.specs.Prelude.{◌≡◌, [], List, IfErr};
 ghost use Rattle.std.specs.Result.{MatchResult};
 ghost use Rattle.outside.specs.Fault.{HasCauseOf};
-ghost use Rattle.outside.specs.History.{Image};
+ghost use Rattle.outside.specs.History.{OverTold};
 ghost use Rattle.reiser_walk.specs.Items.{Item};
 ghost use Rattle.reiser_files.specs.Runs.{file_runs};
 ghost use Rattle.object_files.specs.Answers.{IsFileAnswer, IsFaultOrMemory};
@@ -25,8 +25,8 @@ pub fn map_items<S: BlockSource>(
     ensures kept { S.kept src.old src.new }
     ensures cause { HasCauseOf VolAnswer.Fault (S.faults src.old) (S.faults src.new) result }
     ensures answers { IfErr result IsFileAnswer }
-    ensures map { IsTrue S.tells → (image : Image) → S.blocks src.old ≡ image → (all : List Item) → AreFileItems (S.size src.old) all → Reads items leaves.now image [] all →
-        MatchResult result (λ map. map ≡ file_runs all size) IsFaultOrMemory }
+    ensures map { OverTold S.tells (S.blocks src.old) (λ image. (all : List Item) → AreFileItems (S.size src.old) all → Reads items leaves.now image [] all →
+        MatchResult result (λ map. map ≡ file_runs all size) IsFaultOrMemory) }
 {
     let mut mapper = FileMapper::new(alloc, size);
     while items.advance(src, leaves)? {

@@ -1,7 +1,7 @@
-ghost use Rattle.std.specs.Prelude.{◌≡◌, ◌++◌, ◌∷◌, [], List, true, Some, IsTrue, IfErr};
+ghost use Rattle.std.specs.Prelude.{◌≡◌, ◌++◌, ◌∷◌, [], List, true, Some, IfErr};
 ghost use Rattle.std.specs.Result.{MatchResult};
 ghost use Rattle.outside.specs.Fault.{HasCauseOf};
-ghost use Rattle.outside.specs.History.{Image};
+ghost use Rattle.outside.specs.History.{OverTold};
 ghost use Rattle.fs_rows.specs.Mark.{mark_of_bytes};
 ghost use Rattle.reiser_walk.specs.Items.{Item};
 ghost use Rattle.reiser_files.specs.Bytes.{file_bytes, MayFollow};
@@ -27,8 +27,8 @@ pub fn mark_items<S: BlockSource>(
     ensures kept { S.kept src.old src.new }
     ensures cause { HasCauseOf VolAnswer.Fault (S.faults src.old) (S.faults src.new) result }
     ensures answers { IfErr result IsReadAnswer }
-    ensures mark { IsTrue S.tells → (image : Image) → S.blocks src.old ≡ image → (all : List Item) → AreFileItems (S.size src.old) all → Reads items leaves.now image [] all →
-        MatchResult result (λ mark. mark ≡ mark_of_bytes (file_bytes image all size)) IsFault }
+    ensures mark { OverTold S.tells (S.blocks src.old) (λ image. (all : List Item) → AreFileItems (S.size src.old) all → Reads items leaves.now image [] all →
+        MatchResult result (λ mark. mark ≡ mark_of_bytes (file_bytes image all size)) IsFault) }
 {
     let mut marker = FileMarker::new(size);
     while items.advance(src, leaves)? {
@@ -48,9 +48,9 @@ fn mark_item<S: BlockSource>(
     ensures cause { HasCauseOf VolAnswer.Fault (S.faults src.old) (S.faults src.new) result }
     ensures answers { IfErr result IsReadAnswer }
     ensures size { marker.new.size ≡ marker.old.size }
-    ensures given { IsTrue S.tells → (image : Image) → S.blocks src.old ≡ image → (given : List Item) (i : Item) → standing items.now ≡ Some i →
+    ensures given { OverTold S.tells (S.blocks src.old) (λ image. (given : List Item) (i : Item) → standing items.now ≡ Some i →
         MayFollow given i → are_inside i.head.kind i.body (S.size src.old) ≡ true → MarksFile marker.old image given →
-        MatchResult result (λ _. MarksFile marker.new image (given ++ i ∷ [])) IsFault }
+        MatchResult result (λ _. MarksFile marker.new image (given ++ i ∷ [])) IsFault) }
 {
     let head = items.head();
     if !are_inside(&head, items.body(), src.len()) {

@@ -1,7 +1,7 @@
-ghost use Rattle.std.specs.Prelude.{◌≡◌, ◌≢◌, ◌≤◌, ◌<◌, IsTrue, IsOk, IfOk, IfErr};
+ghost use Rattle.std.specs.Prelude.{◌≡◌, ◌≢◌, ◌≤◌, ◌<◌, IsOk, IfOk, IfErr};
 ghost use Rattle.std.specs.Result.{MatchResult};
 ghost use Rattle.outside.specs.Fault.{HasCauseOf};
-ghost use Rattle.outside.specs.History.{Image, block_at};
+ghost use Rattle.outside.specs.History.{Image, block_at, OverTold};
 ghost use Rattle.reiser_node.specs.Leaf.{IsLeaf};
 ghost use Rattle.object_files.specs.Answers.{IsReadAnswer, IsFault};
 ghost use Rattle.object_files.specs.Reads.{IsLeafOf, IsWholeLeaf};
@@ -30,7 +30,7 @@ impl LeafInHand {
         ensures answers { IfErr result IsReadAnswer }
         ensures few { IfOk result (λ l. l.at.left ≤ 169) }
         ensures some { IfOk result (λ l. 0 < l.at.left) }
-        ensures whole { IsTrue S.tells → (image : Image) → S.blocks src.old ≡ image → IsLeafOf image no → MatchResult result (IsWholeLeaf image no) IsFault }
+        ensures whole { OverTold S.tells (S.blocks src.old) (λ image. IsLeafOf image no → MatchResult result (IsWholeLeaf image no) IsFault) }
     {
         if no >= src.len() {
             return Err(changed(no));

@@ -1,7 +1,7 @@
 ghost use Rattle.std.specs.Prelude.{◌≡◌, ◌≤◌, ◌<◌, ◌++◌, ◌∷◌, [], ℕ, List, Bool, length, false, Some, IsTrue, IfOk, IfErr, IfSome};
 ghost use Rattle.std.specs.Result.{MatchResult};
 ghost use Rattle.outside.specs.Fault.{HasCauseOf};
-ghost use Rattle.outside.specs.History.{Image};
+ghost use Rattle.outside.specs.History.{Image, OverTold};
 ghost use Rattle.reiser_walk.specs.Items.{Item};
 ghost use Rattle.reiser_walk.specs.declared.tree.Tree.{Tree};
 ghost use Rattle.reiser_objects.specs.Table.{HasNoted};
@@ -47,8 +47,8 @@ impl ObjectItems {
         ensures stands { IfOk result (λ more. IsTrue more → HasItem self.new) }
         // It ends, whatever the source gives.
         ensures ends { IfOk result (λ more. IsTrue more → fuel leaves.now self.new < fuel leaves.now self.old) }
-        ensures comes { IsTrue S.tells → (image : Image) → S.blocks src.old ≡ image → (given items : List Item) → Reads self.old leaves.now image given items →
-            MatchResult result (λ more. Comes more self.new leaves.now image given items) IsFault }
+        ensures comes { OverTold S.tells (S.blocks src.old) (λ image. (given items : List Item) → Reads self.old leaves.now image given items →
+            MatchResult result (λ more. Comes more self.new leaves.now image given items) IsFault) }
     {
         while self.fill(src, leaves)? {
             match self.look() {
@@ -68,8 +68,8 @@ impl ObjectItems {
         ensures key { self.new.key ≡ self.old.key }
         ensures left { IfOk result (λ more. IsTrue more → 0 < self.new.leaf.at.left) }
         ensures fuel { fuel leaves.now self.new ≤ fuel leaves.now self.old }
-        ensures fills { IsTrue S.tells → (image : Image) → S.blocks src.old ≡ image → (given items : List Item) → Reads self.old leaves.now image given items →
-            MatchResult result (λ more. Fills more self.new leaves.now image given items) IsFault }
+        ensures fills { OverTold S.tells (S.blocks src.old) (λ image. (given items : List Item) → Reads self.old leaves.now image given items →
+            MatchResult result (λ more. Fills more self.new leaves.now image given items) IsFault) }
     {
         if self.leaf.at.left > 0 {
             return Ok(true);

@@ -1,7 +1,7 @@
-ghost use Rattle.std.specs.Prelude.{◌≡◌, ◌<◌, ◌*◌, ◌^◌, [], List, IsTrue, IfErr};
+ghost use Rattle.std.specs.Prelude.{◌≡◌, ◌<◌, ◌*◌, ◌^◌, [], List, IfErr};
 ghost use Rattle.std.specs.Result.{MatchResult};
 ghost use Rattle.outside.specs.Fault.{HasCauseOf};
-ghost use Rattle.outside.specs.History.{Image};
+ghost use Rattle.outside.specs.History.{OverTold};
 ghost use Rattle.reiser_walk.specs.Items.{Item};
 ghost use Rattle.reiser_files.specs.Bytes.{tail_block};
 ghost use Rattle.object_files.specs.Answers.{IsReadAnswer, IsFault};
@@ -27,8 +27,8 @@ pub fn gather_items<S: BlockSource>(
     ensures kept { S.kept src.old src.new }
     ensures cause { HasCauseOf VolAnswer.Fault (S.faults src.old) (S.faults src.new) result }
     ensures answers { IfErr result IsReadAnswer }
-    ensures tail { IsTrue S.tells → (image : Image) → S.blocks src.old ≡ image → (all : List Item) → AreFileItems (S.size src.old) all → Reads items leaves.now image [] all →
-        MatchResult result (λ _. into.new.bytes ≡ tail_block all size k) IsFault }
+    ensures tail { OverTold S.tells (S.blocks src.old) (λ image. (all : List Item) → AreFileItems (S.size src.old) all → Reads items leaves.now image [] all →
+        MatchResult result (λ _. into.new.bytes ≡ tail_block all size k) IsFault) }
 {
     *into = Block::zero();
     while items.advance(src, leaves)? {

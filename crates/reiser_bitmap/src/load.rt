@@ -1,6 +1,6 @@
-ghost use Rattle.std.specs.Prelude.{◌≡◌, ◌+◌, ◌/◌, ◌≤◌, ◌++◌, [], length, take, IsTrue, IfOk, IfErr, OnOk};
+ghost use Rattle.std.specs.Prelude.{◌≡◌, ◌+◌, ◌/◌, ◌≤◌, ◌++◌, [], length, take, IfOk, IfErr, OnOk};
 ghost use Rattle.outside.specs.Fault.{HasCauseOf};
-ghost use Rattle.outside.specs.History.{Image};
+ghost use Rattle.outside.specs.History.{OverTold};
 ghost use Rattle.reiser_bitmap.specs.Answers.{IsNoRefusal};
 ghost use Rattle.reiser_bitmap.specs.Bits.{bits};
 ghost use Rattle.reiser_bitmap.specs.Layout.{bitmap_of};
@@ -30,7 +30,7 @@ impl Bitmap {
         ensures cause { HasCauseOf VolAnswer.Fault (S.faults src.old) (S.faults src.new) result }
         ensures answers { IfErr result IsNoRefusal }
         ensures size { IfOk result (λ m. length m ≡ blocks) }
-        ensures loaded { IsTrue S.tells → (image : Image) → S.blocks src.old ≡ image → IfOk result (λ m. m ≡ bitmap_of blocks image) }
+        ensures loaded { OverTold S.tells (S.blocks src.old) (λ image. IfOk result (λ m. m ≡ bitmap_of blocks image)) }
     {
         match read_bytes(alloc, src, blocks) {
             Ok(bytes) => Ok(Bitmap::of_bytes(blocks, bytes)),
@@ -56,7 +56,7 @@ fn read_bytes<S: BlockSource>(alloc: Global, src: &mut S, blocks: u64) -> Result
     ensures cause { HasCauseOf VolAnswer.Fault (S.faults src.old) (S.faults src.new) result }
     ensures answers { IfErr result IsNoRefusal }
     ensures size { IfOk result (λ bytes. length bytes.items ≡ (blocks + 7) / 8) }
-    ensures read { IsTrue S.tells → (image : Image) → S.blocks src.old ≡ image → IfOk result (λ bytes. bits blocks bytes.items ≡ bitmap_of blocks image) }
+    ensures read { OverTold S.tells (S.blocks src.old) (λ image. IfOk result (λ bytes. bits blocks bytes.items ≡ bitmap_of blocks image)) }
 {
     let size = blocks.div_ceil(8) as usize;
     let mut bytes = with_room(alloc, size)?;

@@ -1,6 +1,6 @@
-ghost use Rattle.std.specs.Prelude.{◌≡◌, ◌≤◌, ◌<◌, ◌+◌, [], length, IsTrue, IfOk, IfErr};
+ghost use Rattle.std.specs.Prelude.{◌≡◌, ◌≤◌, ◌<◌, ◌+◌, [], length, IfOk, IfErr};
 ghost use Rattle.outside.specs.Fault.{HasCauseOf};
-ghost use Rattle.outside.specs.History.{Image};
+ghost use Rattle.outside.specs.History.{OverTold};
 ghost use Rattle.reiser_walk.specs.Rules.{tree_damages};
 ghost use Rattle.reiser_walk.specs.Tree.{items_of};
 ghost use Rattle.reiser_objects.specs.Read.{tree_at, BlamesTree, IsReadAnswer};
@@ -32,12 +32,9 @@ impl Objects {
         ensures kept { S.kept src.old src.new }
         ensures cause { HasCauseOf VolAnswer.Fault (S.faults src.old) (S.faults src.new) result }
         ensures answers { IfErr result IsReadAnswer }
-        ensures noted { IsTrue S.tells → (image : Image) → S.blocks src.old ≡ image →
-            IfOk result (λ objects. HasNoted objects (items_of (tree_at root height journal_first journal_size) image (length map.now))) }
-        ensures sound { IsTrue S.tells → (image : Image) → S.blocks src.old ≡ image →
-            IfOk result (λ _. tree_damages (tree_at root height journal_first journal_size) image map.now ≡ []) }
-        ensures damage { IsTrue S.tells → (image : Image) → S.blocks src.old ≡ image →
-            IfErr result (BlamesTree (tree_at root height journal_first journal_size) image map.now) }
+        ensures noted { OverTold S.tells (S.blocks src.old) (λ image. IfOk result (λ objects. HasNoted objects (items_of (tree_at root height journal_first journal_size) image (length map.now)))) }
+        ensures sound { OverTold S.tells (S.blocks src.old) (λ image. IfOk result (λ _. tree_damages (tree_at root height journal_first journal_size) image map.now ≡ [])) }
+        ensures damage { OverTold S.tells (S.blocks src.old) (λ image. IfErr result (BlamesTree (tree_at root height journal_first journal_size) image map.now)) }
     {
         let mut walker = Walker::new(alloc, map, root, height, journal_first, journal_size)?;
         let mut objects = Objects::new(alloc);

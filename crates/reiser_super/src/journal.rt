@@ -1,6 +1,6 @@
 ghost use Rattle.std.specs.Prelude.{◌≡◌, ◌+◌, ◌%◌, ◌<◌, ◌≤◌, [], IsTrue, OnOk, IfErr};
 ghost use Rattle.outside.specs.Fault.{HasCauseOf};
-ghost use Rattle.outside.specs.History.{Image};
+ghost use Rattle.outside.specs.History.{OverTold};
 ghost use Rattle.reiser_super.specs.Journal.{pending_transactions, waiting_at, all_transactions, commits, is_descriptor, is_newer, last_flushed, names_place, next_place, transaction, transaction_length};
 ghost use Rattle.reiser_super.specs.State.{IsJournalAnswer, IsPendingIn};
 
@@ -23,8 +23,8 @@ pub fn journal_state<S: BlockSource>(src: &mut S, sup: &Super) -> Result<(), Vol
     ensures kept { S.kept src.old src.new }
     ensures cause { HasCauseOf VolAnswer.Fault (S.faults src.old) (S.faults src.new) result }
     ensures answers { IfErr result IsJournalAnswer }
-    ensures clean { IsTrue S.tells → (image : Image) → S.blocks src.old ≡ image → OnOk result (pending_transactions sup.now image ≡ []) }
-    ensures pending { IsTrue S.tells → (image : Image) → S.blocks src.old ≡ image → IfErr result (IsPendingIn (pending_transactions sup.now image)) }
+    ensures clean { OverTold S.tells (S.blocks src.old) (λ image. OnOk result (pending_transactions sup.now image ≡ [])) }
+    ensures pending { OverTold S.tells (S.blocks src.old) (λ image. IfErr result (IsPendingIn (pending_transactions sup.now image))) }
 {
     let mut block = Block::zero();
     src.read(sup.journal_first + sup.journal_size, &mut block)?;
@@ -51,8 +51,8 @@ fn look_at_place<S: BlockSource>(
     ensures kept { S.kept src.old src.new }
     ensures cause { HasCauseOf VolAnswer.Fault (S.faults src.old) (S.faults src.new) result }
     ensures answers { IfErr result IsJournalAnswer }
-    ensures clean { IsTrue S.tells → (image : Image) → S.blocks src.old ≡ image → OnOk result (waiting_at sup.now image flushed place ≡ []) }
-    ensures pending { IsTrue S.tells → (image : Image) → S.blocks src.old ≡ image → IfErr result (IsPendingIn (waiting_at sup.now image flushed place)) }
+    ensures clean { OverTold S.tells (S.blocks src.old) (λ image. OnOk result (waiting_at sup.now image flushed place ≡ [])) }
+    ensures pending { OverTold S.tells (S.blocks src.old) (λ image. IfErr result (IsPendingIn (waiting_at sup.now image flushed place))) }
 {
     src.read(sup.journal_first + place, block)?;
     if !is_newer(block, flushed, sup.journal_size) {
@@ -75,8 +75,8 @@ fn look_at_log<S: BlockSource>(src: &mut S, sup: &Super, block: &mut Block) -> R
     ensures kept { S.kept src.old src.new }
     ensures cause { HasCauseOf VolAnswer.Fault (S.faults src.old) (S.faults src.new) result }
     ensures answers { IfErr result IsJournalAnswer }
-    ensures clean { IsTrue S.tells → (image : Image) → S.blocks src.old ≡ image → OnOk result (all_transactions sup.now image ≡ []) }
-    ensures pending { IsTrue S.tells → (image : Image) → S.blocks src.old ≡ image → IfErr result (IsPendingIn (all_transactions sup.now image)) }
+    ensures clean { OverTold S.tells (S.blocks src.old) (λ image. OnOk result (all_transactions sup.now image ≡ [])) }
+    ensures pending { OverTold S.tells (S.blocks src.old) (λ image. IfErr result (IsPendingIn (all_transactions sup.now image))) }
 {
     for place in 0..sup.journal_size {
         src.read(sup.journal_first + place, block)?;

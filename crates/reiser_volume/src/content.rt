@@ -1,8 +1,8 @@
-ghost use Rattle.std.specs.Prelude.{◌≡◌, List, ℕ, IsTrue, IfErr};
+ghost use Rattle.std.specs.Prelude.{◌≡◌, List, ℕ, IfErr};
 ghost use Rattle.std.specs.Option.{MatchOption};
 ghost use Rattle.std.specs.Result.{MatchResult};
 ghost use Rattle.outside.specs.Fault.{HasCauseOf};
-ghost use Rattle.outside.specs.History.{Image};
+ghost use Rattle.outside.specs.History.{OverTold};
 ghost use Rattle.fs_rows.specs.declared.row.Kind.TheVariants.{File, Symlink};
 ghost use Rattle.object_files.specs.Answers.{IsFileAnswer, IsFaultOrMemory};
 ghost use Rattle.fs_rows.specs.Content.{IsContent};
@@ -30,9 +30,9 @@ pub fn content<S: BlockSource>(
     ensures kept { S.kept src.old src.new }
     ensures cause { HasCauseOf VolAnswer.Fault (S.faults src.old) (S.faults src.new) result }
     ensures answers { IfErr result IsFileAnswer }
-    ensures content { IsTrue S.tells → (image : Image) → S.blocks src.old ≡ image → IsOf image volume.now key → IsKnownAt (volume_items image) key known.now → (bytes : List ℕ) → bytes ≡ bytes_at image (volume_items image) key known.now.stat known.now.kind →
+    ensures content { OverTold S.tells (S.blocks src.old) (λ image. IsOf image volume.now key → IsKnownAt (volume_items image) key known.now → (bytes : List ℕ) → bytes ≡ bytes_at image (volume_items image) key known.now.stat known.now.kind →
         MatchOption first.entry (Unit {0}) (λ row. IsContent known.now.kind bytes row.now.length row.now.mark row.now.target) →
-        MatchResult result (λ c. IsContent known.now.kind bytes c.length c.mark c.target) IsFaultOrMemory }
+        MatchResult result (λ c. IsContent known.now.kind bytes c.length c.mark c.target) IsFaultOrMemory) }
 {
     match first {
         Some(row) => {
@@ -54,8 +54,8 @@ fn read_content<S: BlockSource>(
     ensures kept { S.kept src.old src.new }
     ensures cause { HasCauseOf VolAnswer.Fault (S.faults src.old) (S.faults src.new) result }
     ensures answers { IfErr result IsFileAnswer }
-    ensures content { IsTrue S.tells → (image : Image) → S.blocks src.old ≡ image → IsOf image volume.now key → IsKnownAt (volume_items image) key known.now →
-        MatchResult result (λ c. IsContent known.now.kind (bytes_at image (volume_items image) key known.now.stat known.now.kind) c.length c.mark c.target) IsFaultOrMemory }
+    ensures content { OverTold S.tells (S.blocks src.old) (λ image. IsOf image volume.now key → IsKnownAt (volume_items image) key known.now →
+        MatchResult result (λ c. IsContent known.now.kind (bytes_at image (volume_items image) key known.now.stat known.now.kind) c.length c.mark c.target) IsFaultOrMemory) }
 {
     match known.kind {
         Kind::File => file_content(alloc, src, volume, key, known),
@@ -83,8 +83,8 @@ fn file_content<S: BlockSource>(
     ensures kept { S.kept src.old src.new }
     ensures cause { HasCauseOf VolAnswer.Fault (S.faults src.old) (S.faults src.new) result }
     ensures answers { IfErr result IsFileAnswer }
-    ensures content { IsTrue S.tells → (image : Image) → S.blocks src.old ≡ image → IsOf image volume.now key → IsKnownAt (volume_items image) key known.now →
-        MatchResult result (λ c. IsContent File (bytes_at image (volume_items image) key known.now.stat File) c.length c.mark c.target) IsFaultOrMemory }
+    ensures content { OverTold S.tells (S.blocks src.old) (λ image. IsOf image volume.now key → IsKnownAt (volume_items image) key known.now →
+        MatchResult result (λ c. IsContent File (bytes_at image (volume_items image) key known.now.stat File) c.length c.mark c.target) IsFaultOrMemory) }
 {
     let size = known.stat.fields.size;
     let mark = file_mark(src, &volume.objects, key, size)?;
@@ -106,8 +106,8 @@ fn link_content<S: BlockSource>(
     ensures kept { S.kept src.old src.new }
     ensures cause { HasCauseOf VolAnswer.Fault (S.faults src.old) (S.faults src.new) result }
     ensures answers { IfErr result IsFileAnswer }
-    ensures content { IsTrue S.tells → (image : Image) → S.blocks src.old ≡ image → IsOf image volume.now key → IsKnownAt (volume_items image) key known.now → known.now.kind ≡ Symlink →
-        MatchResult result (λ c. IsContent Symlink (bytes_at image (volume_items image) key known.now.stat Symlink) c.length c.mark c.target) IsFaultOrMemory }
+    ensures content { OverTold S.tells (S.blocks src.old) (λ image. IsOf image volume.now key → IsKnownAt (volume_items image) key known.now → known.now.kind ≡ Symlink →
+        MatchResult result (λ c. IsContent Symlink (bytes_at image (volume_items image) key known.now.stat Symlink) c.length c.mark c.target) IsFaultOrMemory) }
 {
     let size = known.stat.fields.size;
     if size > 4096 {

@@ -1,8 +1,8 @@
-ghost use Rattle.std.specs.Prelude.{◌≡◌, ◌<◌, ◌*◌, ◌^◌, length, slice_get, Some, IsTrue, IfOk, IfErr};
+ghost use Rattle.std.specs.Prelude.{◌≡◌, ◌<◌, ◌*◌, ◌^◌, length, slice_get, Some, IfOk, IfErr};
 ghost use Rattle.std.specs.Result.{MatchResult};
 ghost use Rattle.indexmap.specs.IndexMap.{keys};
 ghost use Rattle.outside.specs.Fault.{HasCauseOf};
-ghost use Rattle.outside.specs.History.{Image};
+ghost use Rattle.outside.specs.History.{OverTold};
 ghost use Rattle.object_files.specs.Answers.{IsFault, IsFaultOrMemory, IsReadAnswer, IsFileAnswer};
 ghost use Rattle.reiser_files.specs.Bytes.{tail_block};
 ghost use Rattle.reiser_files.specs.Runs.{file_runs};
@@ -35,10 +35,10 @@ impl Volume {
         ensures kept { S.kept src.old src.new }
         ensures cause { HasCauseOf VolAnswer.Fault (S.faults src.old) (S.faults src.new) result }
         ensures answers { IfErr result IsFileAnswer }
-        ensures map { IsTrue S.tells → (image : Image) → S.blocks src.old ≡ image → IsAccepted image → IsOpened self.now image → (key : KeyOf) → slice_get (keys self.now.named) i ≡ Some key →
-            MatchResult result (λ map. map ≡ file_runs (items_of key (volume_items image)) (stat_at (volume_items image) key).fields.size) IsFaultOrMemory }
-        ensures owned { IsTrue S.tells → (image : Image) → S.blocks src.old ≡ image → IsAccepted image → IsOpened self.now image → (key : KeyOf) → slice_get (keys self.now.named) i ≡ Some key →
-            IfOk result (TellsOwned image key) }
+        ensures map { OverTold S.tells (S.blocks src.old) (λ image. IsAccepted image → IsOpened self.now image → (key : KeyOf) → slice_get (keys self.now.named) i ≡ Some key →
+            MatchResult result (λ map. map ≡ file_runs (items_of key (volume_items image)) (stat_at (volume_items image) key).fields.size) IsFaultOrMemory) }
+        ensures owned { OverTold S.tells (S.blocks src.old) (λ image. IsAccepted image → IsOpened self.now image → (key : KeyOf) → slice_get (keys self.now.named) i ≡ Some key →
+            IfOk result (TellsOwned image key)) }
     {
         let size = self.stat(i).fields.size;
         file_map(alloc, src, &self.objects, self.object(i), size)
@@ -58,8 +58,8 @@ impl Volume {
         ensures kept { S.kept src.old src.new }
         ensures cause { HasCauseOf VolAnswer.Fault (S.faults src.old) (S.faults src.new) result }
         ensures answers { IfErr result IsReadAnswer }
-        ensures tail { IsTrue S.tells → (image : Image) → S.blocks src.old ≡ image → IsAccepted image → IsOpened self.now image → (key : KeyOf) → slice_get (keys self.now.named) i ≡ Some key →
-            MatchResult result (λ _. into.new.bytes ≡ tail_block (items_of key (volume_items image)) (stat_at (volume_items image) key).fields.size at) IsFault }
+        ensures tail { OverTold S.tells (S.blocks src.old) (λ image. IsAccepted image → IsOpened self.now image → (key : KeyOf) → slice_get (keys self.now.named) i ≡ Some key →
+            MatchResult result (λ _. into.new.bytes ≡ tail_block (items_of key (volume_items image)) (stat_at (volume_items image) key).fields.size at) IsFault) }
     {
         let size = self.stat(i).fields.size;
         file_tail(src, &self.objects, self.object(i), size, at, into)

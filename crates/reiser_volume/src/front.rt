@@ -1,6 +1,6 @@
-ghost use Rattle.std.specs.Prelude.{◌≡◌, ◌≤◌, length, IsTrue, IfOk, IfErr};
+ghost use Rattle.std.specs.Prelude.{◌≡◌, ◌≤◌, length, IfOk, IfErr};
 ghost use Rattle.outside.specs.Fault.{HasCauseOf};
-ghost use Rattle.outside.specs.History.{Image};
+ghost use Rattle.outside.specs.History.{OverTold};
 ghost use Rattle.reiser_super.specs.Rules.{IsInBounds};
 ghost use Rattle.reiser_volume.specs.Answers.{IsSuperOf, IsBitmapOf};
 ghost use Rattle.reiser_volume.specs.Front.{IsFrontAnswer, IsFrontOf, RefusesFront};
@@ -35,8 +35,8 @@ impl Front {
         ensures inside { IfOk result (λ front. IsInBounds front.sup) }
         ensures device { IfOk result (λ front. front.sup.blocks ≤ S.size src.old) }
         ensures size { IfOk result (λ front. length front.bitmap ≡ front.sup.blocks) }
-        ensures found { IsTrue S.tells → (image : Image) → S.blocks src.old ≡ image → IfOk result (IsFrontOf image) }
-        ensures refused { IsTrue S.tells → (image : Image) → S.blocks src.old ≡ image → IfErr result (RefusesFront image) }
+        ensures found { OverTold S.tells (S.blocks src.old) (λ image. IfOk result (IsFrontOf image)) }
+        ensures refused { OverTold S.tells (S.blocks src.old) (λ image. IfErr result (RefusesFront image)) }
     {
         let sup = read_super(src)?;
         let bitmap = read_bitmap(alloc, src, &sup)?;
@@ -51,8 +51,8 @@ fn read_super<S: BlockSource>(src: &mut S) -> Result<Super, VolAnswer>
     ensures answers { IfErr result IsFrontAnswer }
     ensures inside { IfOk result IsInBounds }
     ensures device { IfOk result (λ s. s.blocks ≤ S.size src.old) }
-    ensures found { IsTrue S.tells → (image : Image) → S.blocks src.old ≡ image → IfOk result (IsSuperOf image) }
-    ensures refused { IsTrue S.tells → (image : Image) → S.blocks src.old ≡ image → IfErr result (RefusesFront image) }
+    ensures found { OverTold S.tells (S.blocks src.old) (λ image. IfOk result (IsSuperOf image)) }
+    ensures refused { OverTold S.tells (S.blocks src.old) (λ image. IfErr result (RefusesFront image)) }
 {
     let device = src.len();
     if device <= SUPERBLOCK {
@@ -72,8 +72,8 @@ fn read_bitmap<S: BlockSource>(alloc: Global, src: &mut S, sup: &Super) -> Resul
     ensures cause { HasCauseOf VolAnswer.Fault (S.faults src.old) (S.faults src.new) result }
     ensures answers { IfErr result IsFrontAnswer }
     ensures size { IfOk result (λ map. length map ≡ sup.now.blocks) }
-    ensures found { IsTrue S.tells → (image : Image) → S.blocks src.old ≡ image → IsSuperOf image sup.now → IfOk result (IsBitmapOf image) }
-    ensures refused { IsTrue S.tells → (image : Image) → S.blocks src.old ≡ image → IsSuperOf image sup.now → IfErr result (RefusesFront image) }
+    ensures found { OverTold S.tells (S.blocks src.old) (λ image. IsSuperOf image sup.now → IfOk result (IsBitmapOf image)) }
+    ensures refused { OverTold S.tells (S.blocks src.old) (λ image. IsSuperOf image sup.now → IfErr result (RefusesFront image)) }
 {
     journal_state(src, sup)?;
     let bitmap = Bitmap::load(alloc, src, sup.blocks)?;

@@ -1,6 +1,6 @@
-ghost use Rattle.std.specs.Prelude.{◌≡◌, IsTrue, IfOk, IfErr};
+ghost use Rattle.std.specs.Prelude.{◌≡◌, IfOk, IfErr};
 ghost use Rattle.outside.specs.Fault.{HasCauseOf};
-ghost use Rattle.outside.specs.History.{Image};
+ghost use Rattle.outside.specs.History.{OverTold};
 ghost use Rattle.reiser_volume.specs.Answers.{IsVolumeAnswer, RefusesVolume};
 ghost use Rattle.reiser_volume.specs.Opened.{IsOpened};
 ghost use Rattle.reiser_volume.specs.Volume.{IsAccepted};
@@ -21,9 +21,9 @@ impl Volume {
         ensures kept { S.kept src.old src.new }
         ensures cause { HasCauseOf VolAnswer.Fault (S.faults src.old) (S.faults src.new) result }
         ensures answers { IfErr result IsVolumeAnswer }
-        ensures accepted { IsTrue S.tells → (image : Image) → S.blocks src.old ≡ image → IfOk result (λ _. IsAccepted image) }
-        ensures opened { IsTrue S.tells → (image : Image) → S.blocks src.old ≡ image → IfOk result (λ volume. IsOpened volume image) }
-        ensures refused { IsTrue S.tells → (image : Image) → S.blocks src.old ≡ image → IfErr result (RefusesVolume image) }
+        ensures accepted { OverTold S.tells (S.blocks src.old) (λ image. IfOk result (λ _. IsAccepted image)) }
+        ensures opened { OverTold S.tells (S.blocks src.old) (λ image. IfOk result (λ volume. IsOpened volume image)) }
+        ensures refused { OverTold S.tells (S.blocks src.old) (λ image. IfErr result (RefusesVolume image)) }
     {
         let front = Front::open(alloc, src)?;
         let objects = Objects::read(

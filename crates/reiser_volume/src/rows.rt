@@ -1,8 +1,8 @@
-ghost use Rattle.std.specs.Prelude.{◌≡◌, ◌≤◌, ◌<◌, ℕ, List, [], map, take, length, slice_get, slice_index_or, Some, IsTrue, IfOk, IfErr};
+ghost use Rattle.std.specs.Prelude.{◌≡◌, ◌≤◌, ◌<◌, ℕ, List, [], map, take, length, slice_get, slice_index_or, Some, IfOk, IfErr};
 ghost use Rattle.std.specs.Option.{MatchOption};
 ghost use Rattle.std.specs.Result.{MatchResult};
 ghost use Rattle.outside.specs.Fault.{HasCauseOf};
-ghost use Rattle.outside.specs.History.{Image};
+ghost use Rattle.outside.specs.History.{Image, OverTold};
 ghost use Rattle.outside.specs.declared.answer.VolAnswer.TheVariants.{Refused};
 ghost use Rattle.outside.specs.declared.refusal.VolumeRefusal.TheVariants.{Damaged};
 ghost use Rattle.outside.specs.declared.rule.Rule.TheVariants.{Reread};
@@ -35,8 +35,8 @@ impl Volume {
         ensures kept { S.kept src.old src.new }
         ensures cause { HasCauseOf VolAnswer.Fault (S.faults src.old) (S.faults src.new) result }
         ensures answers { IfErr result IsFileAnswer }
-        ensures rows { IsTrue S.tells → (image : Image) → S.blocks src.old ≡ image → IsAccepted image → IsOpened self.now image →
-            MatchResult result (λ rows. (whole : List WholeRow) × AreRowsOf image whole × (rows ≡ map row_of whole)) IsFaultOrMemory }
+        ensures rows { OverTold S.tells (S.blocks src.old) (λ image. IsAccepted image → IsOpened self.now image →
+            MatchResult result (λ rows. (whole : List WholeRow) × AreRowsOf image whole × (rows ≡ map row_of whole)) IsFaultOrMemory) }
     {
         let paths = paths_of(alloc, self)?;
         rows_at(alloc, src, self, &paths)
@@ -53,8 +53,8 @@ fn rows_at<S: BlockSource>(
     ensures kept { S.kept src.old src.new }
     ensures cause { HasCauseOf VolAnswer.Fault (S.faults src.old) (S.faults src.new) result }
     ensures answers { IfErr result IsFileAnswer }
-    ensures rows { IsTrue S.tells → (image : Image) → S.blocks src.old ≡ image → IsAccepted image → IsOpened volume.now image → HasPaths volume.now paths.now.items →
-        MatchResult result (λ rows. rows ≡ map (λ p. row_of (whole_row image paths.now.items p)) paths.now.items) IsFaultOrMemory }
+    ensures rows { OverTold S.tells (S.blocks src.old) (λ image. IsAccepted image → IsOpened volume.now image → HasPaths volume.now paths.now.items →
+        MatchResult result (λ rows. rows ≡ map (λ p. row_of (whole_row image paths.now.items p)) paths.now.items) IsFaultOrMemory) }
 {
     let mut rows = Rows::new(alloc);
     for i in 0..paths.len() {
@@ -75,9 +75,9 @@ fn row_at<S: BlockSource>(
     ensures kept { S.kept src.old src.new }
     ensures cause { HasCauseOf VolAnswer.Fault (S.faults src.old) (S.faults src.new) result }
     ensures answers { IfErr result IsFileAnswer }
-    ensures row { IsTrue S.tells → (image : Image) → S.blocks src.old ≡ image → IsAccepted image → IsOpened volume.now image → (list : List PathOf) → HasPaths volume.now list → (i : ℕ) → slice_get list i ≡ Some path.now →
+    ensures row { OverTold S.tells (S.blocks src.old) (λ image. IsAccepted image → IsOpened volume.now image → (list : List PathOf) → HasPaths volume.now list → (i : ℕ) → slice_get list i ≡ Some path.now →
         rows.now ≡ map (λ p. row_of (whole_row image list p)) (take i list) →
-        MatchResult result (λ row. row ≡ row_of (whole_row image list path.now)) IsFaultOrMemory }
+        MatchResult result (λ row. row ≡ row_of (whole_row image list path.now)) IsFaultOrMemory) }
 {
     let key = key_at(path.target);
     let known = known(volume, key)?;

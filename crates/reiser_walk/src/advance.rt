@@ -1,7 +1,7 @@
 ghost use Rattle.std.specs.Prelude.{◌≡◌, ◌≤◌, ◌<◌, ◌+◌, ◌-◌, ◌++◌, ℕ, ◌∷◌, [], List, true, false, length, Contains, Ok, Some, None, IsTrue, IfOk, IfErr, IfSome, IfNone, OnSome, OnOk, OnErr};
 ghost use Rattle.std.specs.Result.{MatchResult};
 ghost use Rattle.outside.specs.Fault.{HasCauseOf};
-ghost use Rattle.outside.specs.History.{Image};
+ghost use Rattle.outside.specs.History.{Image, OverTold};
 ghost use Rattle.outside.specs.declared.rule.Rule.TheVariants.{KeyOrder, Body};
 ghost use Rattle.reiser_node.specs.declared.head.ItemHead.{ItemHead};
 ghost use Rattle.reiser_node.specs.Head.{head_at};
@@ -139,8 +139,8 @@ impl Walker {
         ensures tree { self.new.tree ≡ self.old.tree }
         ensures size { block_count self.new ≡ block_count self.old }
         ensures spent { self.new.spent ≡ self.old.spent }
-        ensures moves { IsTrue S.tells → (image : Image) → S.blocks src.old ≡ image → (given : List Item) → Walks self.old image map.now given →
-            MatchResult result (λ more. Moves more self.old.tree self.new image map.now given) (Blames self.old.tree image map.now) }
+        ensures moves { OverTold S.tells (S.blocks src.old) (λ image. (given : List Item) → Walks self.old image map.now given →
+            MatchResult result (λ more. Moves more self.old.tree self.new image map.now given) (Blames self.old.tree image map.now)) }
         ensures ends { IfOk result (λ more. IsTrue more → fuel self.new < fuel self.old) }
         ensures done { IfOk result (λ more. (more ≡ false) → IsDone self.new) }
         ensures again { IsDone self.old → (result ≡ Ok false) × (src.new ≡ src.old) }
@@ -239,8 +239,8 @@ impl Walker {
         ensures ends { IfOk result (λ more. IsTrue more → fuel self.new < fuel self.old) }
         ensures done { IfOk result (λ more. (more ≡ false) → IsDone self.new) }
         ensures again { IsDone self.old → (result ≡ Ok false) × (src.new ≡ src.old) }
-        ensures comes { IsTrue S.tells → (image : Image) → S.blocks src.old ≡ image → (given : List Item) → Walks self.old image map.now given →
-            MatchResult result (λ more. Comes more self.old.tree self.new image map.now given) (Blames self.old.tree image map.now) }
+        ensures comes { OverTold S.tells (S.blocks src.old) (λ image. (given : List Item) → Walks self.old image map.now given →
+            MatchResult result (λ more. Comes more self.old.tree self.new image map.now given) (Blames self.old.tree image map.now)) }
     {
         while self.leaf.at.left == 0 {
             match self.descend(src, map) {
@@ -276,8 +276,8 @@ impl Walker {
         ensures ends { IfOk result (λ more. IsTrue more → fuel self.new < fuel self.old) }
         ensures done { IfOk result (λ more. (more ≡ false) → IsDone self.new) }
         ensures again { IsDone self.old → (result ≡ Ok false) × (src.new ≡ src.old) }
-        ensures comes { IsTrue S.tells → (image : Image) → S.blocks src.old ≡ image → (given : List Item) → Walks self.old image map.now given →
-            MatchResult result (λ more. Comes more self.old.tree self.new image map.now given) (Blames self.old.tree image map.now) }
+        ensures comes { OverTold S.tells (S.blocks src.old) (λ image. (given : List Item) → Walks self.old image map.now given →
+            MatchResult result (λ more. Comes more self.old.tree self.new image map.now given) (Blames self.old.tree image map.now)) }
     {
         match self.step(src, map) {
             Ok(more) => Ok(more),

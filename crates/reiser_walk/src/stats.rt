@@ -1,6 +1,6 @@
-ghost use Rattle.std.specs.Prelude.{◌≡◌, ◌≤◌, ◌<◌, ◌^◌, [], false, length, IsTrue, IfOk, IfErr, OnOk};
+ghost use Rattle.std.specs.Prelude.{◌≡◌, ◌≤◌, ◌<◌, ◌^◌, [], false, length, IfOk, IfErr, OnOk};
 ghost use Rattle.outside.specs.Fault.{HasCauseOf};
-ghost use Rattle.outside.specs.History.{Image};
+ghost use Rattle.outside.specs.History.{OverTold};
 ghost use Rattle.reiser_walk.specs.Answers.{IsTreeAnswer, Blames};
 ghost use Rattle.reiser_walk.specs.Rules.{tree_damages};
 ghost use Rattle.reiser_walk.specs.Stats.{is_stat_kind, stat_count};
@@ -27,10 +27,10 @@ pub fn count_stats<S: BlockSource>(
     ensures kept { S.kept src.old src.new }
     ensures cause { HasCauseOf VolAnswer.Fault (S.faults src.old) (S.faults src.new) result }
     ensures answers { IfErr result IsTreeAnswer }
-    ensures count { IsTrue S.tells → (image : Image) → S.blocks src.old ≡ image → Walks walker.old image map.now [] →
-        IfOk result (λ n. n ≡ stat_count walker.old.tree image (length map.now)) }
-    ensures sound { IsTrue S.tells → (image : Image) → S.blocks src.old ≡ image → Walks walker.old image map.now [] → OnOk result (tree_damages walker.old.tree image map.now ≡ []) }
-    ensures damage { IsTrue S.tells → (image : Image) → S.blocks src.old ≡ image → Walks walker.old image map.now [] → IfErr result (Blames walker.old.tree image map.now) }
+    ensures count { OverTold S.tells (S.blocks src.old) (λ image. Walks walker.old image map.now [] →
+        IfOk result (λ n. n ≡ stat_count walker.old.tree image (length map.now))) }
+    ensures sound { OverTold S.tells (S.blocks src.old) (λ image. Walks walker.old image map.now [] → OnOk result (tree_damages walker.old.tree image map.now ≡ [])) }
+    ensures damage { OverTold S.tells (S.blocks src.old) (λ image. Walks walker.old image map.now [] → IfErr result (Blames walker.old.tree image map.now)) }
 {
     let mut count = 0;
     while walker.advance(src, map)? {

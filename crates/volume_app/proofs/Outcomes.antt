@@ -3,7 +3,7 @@ use Rattle.std.proofs.Common.{◌≡◌, ◌⊎◌, inl, inr, ℕ, ◌-◌, ◌^
 use Rattle.std.specs.Prelude.{◌≢◌, Option, Some, None}
 use Rattle.vol_block.specs.declared.format.Format.{Format}
 use Rattle.vol_block.specs.declared.format.Format.TheVariants as formats
-use Rattle.outside.specs.Fault.{Rose, Takes}
+use Rattle.outside.specs.Fault.{HasCause, Rose, Takes}
 use Rattle.outside.specs.History.{Image}
 use Rattle.outside.specs.declared.fault.Fault as faults
 use Rattle.outside.specs.declared.answer.Answer.{Answer}
@@ -18,12 +18,17 @@ use Rattle.outside.specs.Format.{format_in}
 use Rattle.volume_app.specs.Inspect.{IsInspectable, InspectRefuses}
 use Rattle.volume_app.specs.Listing.{IsListable, ListRefuses}
 use Rattle.btr_reader.proofs.PartsRead.{rows_not_refused}
-use Rattle.volume_app.specs.Outcome.{IsDone, EndsRight, Prints, HasFaults, ending_of}
+use Rattle.volume_app.specs.Outcome.{IsDone, EndsRight, Prints, Reports, HasFaults, ending_of}
 
 -- a text that was written is that of the ending
 pub prints_text : (is_text : List ℕ → Type 0) (text old new : List ℕ) (written : Result (Unit {0}) faults.Fault) → is_text text → Takes old text written new → Prints is_text (ending_of written) old new
 prints_text is_text text old new (Ok done) right takes = (text, right, takes)
 prints_text is_text text old new (Err fault) right takes = (text, right, takes)
+
+-- a line that was written is reported
+pub reported_by : {T E : Type 0} (line old new : List ℕ) (before now : ℕ) (written : Result T E) → Takes old line written new → HasCause before now written → Reports line before now old new
+reported_by line old new before now (Ok done) takes cause = inl takes
+reported_by line old new before now (Err fault) takes cause = inr (cause.failed, takes)
 
 not_risen : (before now : ℕ) → now ≡ before → before < 2 ^ 64 - 1 → Rose before now → ⊥
 not_risen before now same low rose = omega (arith, same, low, rose)

@@ -30,6 +30,14 @@ TakesMemory (Some (list path)) = Unit {0}
 TakesMemory (Some help) = ⊥
 TakesMemory (Some version) = ⊥
 
+-- a command that asks the disk; any other says the same whatever the disk is
+abbrev pub AsksDisk : Option Asked → Type 0
+AsksDisk None = ⊥
+AsksDisk (Some (inspect path)) = Unit {0}
+AsksDisk (Some (list path)) = Unit {0}
+AsksDisk (Some help) = ⊥
+AsksDisk (Some version) = ⊥
+
 -- the text that a command prints of a disk
 abbrev pub IsTextOf : Option Asked → Image → List ℕ → Type 0
 IsTextOf None disk text = text ≡ []
@@ -87,24 +95,26 @@ IsQuiet Usage = Unit {0}
 IsQuiet (Failed answer) = Unit {0}
 IsQuiet OutputFault = ⊥
 
--- counts never fall, and a fault is answered only where the count rose
+-- Counts never fall. A fault of the disk or of the output is answered where its count rose, and nowhere else.
 pub record HasFaults (ending : Ending) (disk_old disk_new out_old out_new : ℕ) : Type 0 where
   pub disk_later : disk_old ≤ disk_new
   pub out_later : out_old ≤ out_new
   pub device : ending ≡ Failed Fault → Rose disk_old disk_new
+  pub device_kept : ¬ (ending ≡ Failed Fault) → disk_new ≡ disk_old
   pub output : ending ≡ OutputFault → Rose out_old out_new
+  pub output_kept : ¬ (ending ≡ OutputFault) → out_new ≡ out_old
 
 -- what the error sink gained: the line, or after a fault a first part of it
 abbrev pub Reports : List ℕ → ℕ → ℕ → List ℕ → List ℕ → Type 0
 Reports line faults_old faults_new old new =
     (new ≡ old ++ line) ⊎ (Rose faults_old faults_new × ((k : ℕ) × (new ≡ old ++ take k line)))
 
--- The status is that of an ending that the command knows, with its line on the error sink. Where the disk tells its blocks, the ending is
--- right for them, and the output sink gained its text.
+-- The status is that of an ending that the command knows, with its line on the error sink. Where the disk tells its blocks, or the
+-- command asks it nothing, the ending is right for it, and the output sink gained its text.
 pub record Runs (asked : Option Asked) (tells : Type 0) (disk : Image) (answer : ℕ) (out_tells : Type 0) (out_old out_new : List ℕ) (err_tells : Type 0) (faults_old faults_new : ℕ) (err_old err_new : List ℕ) : Type 0 where
   pub ending : Ending
   pub answers : answer ≡ status ending
   pub known : Knows asked ending
-  pub right : tells → EndsRight asked disk ending
-  pub printed : tells → out_tells → Prints (IsTextOf asked disk) ending out_old out_new
+  pub right : (AsksDisk asked → tells) → EndsRight asked disk ending
+  pub printed : (AsksDisk asked → tells) → out_tells → Prints (IsTextOf asked disk) ending out_old out_new
   pub reported : err_tells → Reports (error_line ending) faults_old faults_new err_old err_new

@@ -1,7 +1,7 @@
 ghost use Rattle.std.specs.Prelude.{◌≡◌, ◌≢◌, None, IfErr, IsTrue};
 ghost use Rattle.std.specs.Result.{MatchResult};
 ghost use Rattle.outside.specs.Fault.{HasCause, HasCauseOf, Takes};
-ghost use Rattle.outside.specs.History.{Image, block_at, reads};
+ghost use Rattle.outside.specs.History.{block_at, reads, OverTold};
 ghost use Rattle.vol_block.specs.declared.format.Format.TheVariants as formats;
 ghost use Rattle.outside.specs.Format.{format_in};
 ghost use Rattle.volume_app.specs.Found.{IsFoundOn};
@@ -60,7 +60,7 @@ fn inspect_as<S: BlockSource>(
 ) -> Result<Inspected, Answer>
     ensures kept { S.kept source.old source.new }
     ensures cause { HasCauseOf Answer.Fault (S.faults source.old) (S.faults source.new) result }
-    ensures right { IsTrue S.tells → (image : Image) → S.blocks source.old ≡ image → IsFoundOn image found.now → MatchResult result (Inspects image) (InspectRefuses image) }
+    ensures right { OverTold S.tells (S.blocks source.old) (λ image. IsFoundOn image found.now → MatchResult result (Inspects image) (InspectRefuses image)) }
     ensures known { IfErr result IsInspectAnswer }
 {
     match found.format {
@@ -73,7 +73,7 @@ fn inspect_as<S: BlockSource>(
 fn inspect_reiser<S: BlockSource>(alloc: Global, source: &mut S) -> Result<Inspected, Answer>
     ensures kept { S.kept source.old source.new }
     ensures cause { HasCauseOf Answer.Fault (S.faults source.old) (S.faults source.new) result }
-    ensures right { IsTrue S.tells → (image : Image) → S.blocks source.old ≡ image → format_in image ≢ formats.Btrfs → MatchResult result (Inspects image) (InspectRefuses image) }
+    ensures right { OverTold S.tells (S.blocks source.old) (λ image. format_in image ≢ formats.Btrfs → MatchResult result (Inspects image) (InspectRefuses image)) }
     ensures known { IfErr result IsInspectAnswer }
 {
     match ReiserSummary::read(alloc, source) {
@@ -90,7 +90,7 @@ fn inspect_btrfs<S: BlockSource>(
 ) -> Result<Inspected, Answer>
     ensures kept { S.kept source.old source.new }
     ensures cause { HasCauseOf Answer.Fault (S.faults source.old) (S.faults source.new) result }
-    ensures right { IsTrue S.tells → (image : Image) → S.blocks source.old ≡ image → format_in image ≡ formats.Btrfs → block.now.bytes ≡ block_at image 16 → MatchResult result (Inspects image) (InspectRefuses image) }
+    ensures right { OverTold S.tells (S.blocks source.old) (λ image. format_in image ≡ formats.Btrfs → block.now.bytes ≡ block_at image 16 → MatchResult result (Inspects image) (InspectRefuses image)) }
     ensures known { IfErr result IsInspectAnswer }
 {
     match Summary::read(alloc, source, block) {

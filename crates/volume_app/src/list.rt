@@ -1,7 +1,7 @@
 ghost use Rattle.std.specs.Prelude.{◌≡◌, ◌≢◌, None, IfErr, IsTrue};
 ghost use Rattle.std.specs.Result.{MatchResult};
 ghost use Rattle.outside.specs.Fault.{HasCauseOf};
-ghost use Rattle.outside.specs.History.{Image, block_at, reads};
+ghost use Rattle.outside.specs.History.{block_at, reads, OverTold};
 ghost use Rattle.vol_block.specs.declared.format.Format.TheVariants as formats;
 ghost use Rattle.outside.specs.Format.{format_in};
 ghost use Rattle.volume_app.specs.Found.{IsFoundOn};
@@ -35,7 +35,7 @@ pub fn list<D: Disk>(alloc: Global, path: &str, disk: &mut D) -> Result<Rows, An
 fn list_as<S: BlockSource>(found: &Found, alloc: Global, source: &mut S) -> Result<Rows, Answer>
     ensures kept { S.kept source.old source.new }
     ensures cause { HasCauseOf Answer.Fault (S.faults source.old) (S.faults source.new) result }
-    ensures right { IsTrue S.tells → (image : Image) → S.blocks source.old ≡ image → IsFoundOn image found.now → MatchResult result (Lists image) (ListRefuses image) }
+    ensures right { OverTold S.tells (S.blocks source.old) (λ image. IsFoundOn image found.now → MatchResult result (Lists image) (ListRefuses image)) }
     ensures known { IfErr result IsListAnswer }
 {
     match found.format {
@@ -48,7 +48,7 @@ fn list_as<S: BlockSource>(found: &Found, alloc: Global, source: &mut S) -> Resu
 fn list_reiser<S: BlockSource>(alloc: Global, source: &mut S) -> Result<Rows, Answer>
     ensures kept { S.kept source.old source.new }
     ensures cause { HasCauseOf Answer.Fault (S.faults source.old) (S.faults source.new) result }
-    ensures right { IsTrue S.tells → (image : Image) → S.blocks source.old ≡ image → format_in image ≢ formats.Btrfs → MatchResult result (Lists image) (ListRefuses image) }
+    ensures right { OverTold S.tells (S.blocks source.old) (λ image. format_in image ≢ formats.Btrfs → MatchResult result (Lists image) (ListRefuses image)) }
     ensures known { IfErr result IsListAnswer }
 {
     match reiser_rows(alloc, source) {
@@ -61,7 +61,7 @@ fn list_reiser<S: BlockSource>(alloc: Global, source: &mut S) -> Result<Rows, An
 fn list_btrfs<S: BlockSource>(alloc: Global, source: &mut S, block: &Block) -> Result<Rows, Answer>
     ensures kept { S.kept source.old source.new }
     ensures cause { HasCauseOf Answer.Fault (S.faults source.old) (S.faults source.new) result }
-    ensures right { IsTrue S.tells → (image : Image) → S.blocks source.old ≡ image → format_in image ≡ formats.Btrfs → block.now.bytes ≡ block_at image 16 → MatchResult result (Lists image) (ListRefuses image) }
+    ensures right { OverTold S.tells (S.blocks source.old) (λ image. format_in image ≡ formats.Btrfs → block.now.bytes ≡ block_at image 16 → MatchResult result (Lists image) (ListRefuses image)) }
     ensures known { IfErr result IsListAnswer }
 {
     match Btrfs::list(alloc, source, block) {

@@ -1,7 +1,7 @@
 ghost use Rattle.std.specs.Prelude.{◌≡◌, [], IfOk, IfErr, IsTrue};
 ghost use Rattle.std.specs.Result.{MatchResult};
 ghost use Rattle.outside.specs.Fault.{HasCause, HasCauseOf, Takes};
-ghost use Rattle.outside.specs.History.{Image};
+ghost use Rattle.outside.specs.History.{OverTold};
 ghost use Rattle.reiser_volume.specs.Answers.{IsVolumeAnswer, RefusesVolume};
 ghost use Rattle.reiser_volume.specs.Volume.{IsAccepted};
 ghost use Rattle.sink_text.specs.Text.{piece_text};
@@ -31,9 +31,9 @@ impl ReiserSummary {
     pub fn read<S: BlockSource>(alloc: Global, source: &mut S) -> Result<ReiserSummary, VolAnswer>
         ensures kept { S.kept source.old source.new }
         ensures cause { HasCauseOf VolAnswer.Fault (S.faults source.old) (S.faults source.new) result }
-        ensures accepted { IsTrue S.tells → (image : Image) → S.blocks source.old ≡ image → IfOk result (λ s. IsAccepted image) }
-        ensures told { IsTrue S.tells → (image : Image) → S.blocks source.old ≡ image → IfOk result (λ s. s ≡ reiser_summary image) }
-        ensures refused { IsTrue S.tells → (image : Image) → S.blocks source.old ≡ image → IfErr result (RefusesVolume image) }
+        ensures accepted { OverTold S.tells (S.blocks source.old) (λ image. IfOk result (λ s. IsAccepted image)) }
+        ensures told { OverTold S.tells (S.blocks source.old) (λ image. IfOk result (λ s. s ≡ reiser_summary image)) }
+        ensures refused { OverTold S.tells (S.blocks source.old) (λ image. IfErr result (RefusesVolume image)) }
         ensures answers { IfErr result IsVolumeAnswer }
     {
         match Volume::open(alloc, source) {
@@ -112,7 +112,7 @@ fn label_of(label: &[u8; 16]) -> &[u8]
 pub fn reiser_rows<S: BlockSource>(alloc: Global, source: &mut S) -> Result<Rows, VolAnswer>
     ensures kept { S.kept source.old source.new }
     ensures cause { HasCauseOf VolAnswer.Fault (S.faults source.old) (S.faults source.new) result }
-    ensures rows { IsTrue S.tells → (image : Image) → S.blocks source.old ≡ image → MatchResult result (ListsReiser image) (RefusesVolume image) }
+    ensures rows { OverTold S.tells (S.blocks source.old) (λ image. MatchResult result (ListsReiser image) (RefusesVolume image)) }
     ensures answers { IfErr result IsRowsAnswer }
 {
     match Volume::open(alloc, source) {

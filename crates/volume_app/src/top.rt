@@ -1,8 +1,8 @@
 ghost use Rattle.std.specs.Prelude.{◌≡◌, ◌≢◌, ◌↔◌, ◌<◌, ◌-◌, ◌^◌, ◌⊎◌, ℕ, map, None, IfSome, IsTrue, string_bytes, option_and_then};
 ghost use Rattle.outside.specs.Fault.{Rose};
-ghost use Rattle.outside.specs.History.{Image, reads, clock, IsSettled, LeftSince};
+ghost use Rattle.outside.specs.History.{EachCrash, reads};
 ghost use Rattle.volume_app.specs.Command.{command, opens};
-ghost use Rattle.volume_app.specs.Outcome.{IsTextOf, Prints, Reports, IsDone, EndsRight, HasFaults, IsQuiet, Knows, Runs, TakesMemory, ending_of};
+ghost use Rattle.volume_app.specs.Outcome.{AsksDisk, IsTextOf, Prints, Reports, IsDone, EndsRight, HasFaults, IsQuiet, Knows, Runs, TakesMemory, ending_of};
 
 use crate::Ending;
 use crate::command::{Command, read_words};
@@ -35,13 +35,15 @@ pub fn run<D: Disk, O: Sink, E: Sink>(
     requires wanted { IfSome (option_and_then opens (command (map string_bytes words.now))) (λ o. D.wants o.0 o.1) }
 
     ensures usage { (result ≡ 2) ↔ (command (map string_bytes words.now) ≡ None) }
+    // A failed call is never answered by another status than its own.
     ensures device { result ≡ 3 → Rose (D.faults disk.old) (D.faults disk.new) }
+    ensures device_kept { result ≢ 3 → D.faults disk.new ≡ D.faults disk.old }
     ensures output { result ≡ 5 → Rose (O.faults out.old) (O.faults out.new) }
+    ensures output_kept { result ≢ 5 → O.faults out.new ≡ O.faults out.old }
     ensures memory { result ≡ 4 → TakesMemory (command (map string_bytes words.now)) }
     ensures unchanged { IsTrue D.tells → D.history disk.new ≡ D.history disk.old }
     // A crash at any moment leaves the disk as it was.
-    ensures crash { IsTrue D.tells → IsSettled (D.history disk.old) → (image : Image)
-        → LeftSince (clock (D.history disk.old)) (D.history disk.new) image → image ≡ reads (D.history disk.old) }
+    ensures crash { EachCrash D.tells (D.history disk.old) (D.history disk.new) (λ image. image ≡ reads (D.history disk.old)) }
     ensures ends { Runs (command (map string_bytes words.now)) (IsTrue D.tells) (reads (D.history disk.old)) result
         (IsTrue O.tells) (O.taken out.old) (O.taken out.new) (IsTrue E.tells) (E.faults err.old) (E.faults err.new) (E.taken err.old) (E.taken err.new) }
     // Also over a disk that tells nothing, a run that isn't done prints nothing.
@@ -61,8 +63,8 @@ fn perform<D: Disk, O: Sink>(alloc: Global, words: &[String], disk: &mut D, out:
     requires closed { D.opened disk.old ≡ None }
     requires wanted { IfSome (option_and_then opens (command (map string_bytes words.now))) (λ o. D.wants o.0 o.1) }
     ensures usage { (result ≡ Ending.Usage) ↔ (command (map string_bytes words.now) ≡ None) }
-    ensures right { IsTrue D.tells → EndsRight (command (map string_bytes words.now)) (reads (D.history disk.old)) result }
-    ensures printed { IsTrue D.tells → IsTrue O.tells → Prints (IsTextOf (command (map string_bytes words.now)) (reads (D.history disk.old))) result (O.taken out.old) (O.taken out.new) }
+    ensures right { (AsksDisk (command (map string_bytes words.now)) → IsTrue D.tells) → EndsRight (command (map string_bytes words.now)) (reads (D.history disk.old)) result }
+    ensures printed { (AsksDisk (command (map string_bytes words.now)) → IsTrue D.tells) → IsTrue O.tells → Prints (IsTextOf (command (map string_bytes words.now)) (reads (D.history disk.old))) result (O.taken out.old) (O.taken out.new) }
     ensures quiet { IsTrue O.tells → IsQuiet result → O.taken out.new ≡ O.taken out.old }
     ensures unchanged { IsTrue D.tells → D.history disk.new ≡ D.history disk.old }
     ensures memory { result ≡ Ending.Failed Answer.Memory → TakesMemory (command (map string_bytes words.now)) }

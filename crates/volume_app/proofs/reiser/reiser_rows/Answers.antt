@@ -3,6 +3,9 @@ use Rattle.std.proofs.lemmas.Result.{MatchResult-weaker}
 use Rattle.volume_app.proofs.Listing.{rows_refused}
 use Rattle.volume_app.proofs.reiser.reiser_rows.Goals as goal
 
+pub returns-in-Ok-clause-kept : goal.returns-in-Ok-clause-kept
+returns-in-Ok-clause-kept g c = g.met.S.BlockSource.kept_trans c.args.source.now c.open.new.src c.rows.new.src c.in-Ok.ensures.kept c.rows.ensures.kept
+
 pub returns-in-Ok-clause-rows : goal.returns-in-Ok-clause-rows
 returns-in-Ok-clause-rows g c = λ tells image is.
     let same = g.met.S.BlockSource.kept_blocks c.args.source.now c.open.new.src tells c.in-Ok.ensures.kept ∙ is in
