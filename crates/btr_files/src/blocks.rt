@@ -1,7 +1,7 @@
-ghost use Rattle.std.specs.Prelude.{◌≡◌, ◌<◌, ◌/◌, IfSome, IsTrue, OnOk};
+ghost use Rattle.std.specs.Prelude.{◌≡◌, ◌<◌, ◌/◌, IfSome, OnOk};
 ghost use Rattle.std.specs.Option.{option_map};
 ghost use Rattle.outside.specs.Fault.{HasCause};
-ghost use Rattle.outside.specs.History.{Image};
+ghost use Rattle.outside.specs.History.{OverTold};
 ghost use Rattle.btr_walk.specs.Map.{place};
 ghost use Rattle.btr_walk.specs.Walks.{LieOn};
 ghost use Rattle.btr_files.specs.Blocks.{block_or_zeros};
@@ -33,7 +33,7 @@ pub fn read_place<S: BlockSource>(
     requires inside { LieOn (S.size src.old) ranges.now }
     ensures kept { S.kept src.old src.new }
     ensures cause { HasCause (S.faults src.old) (S.faults src.new) result }
-    ensures block { IsTrue S.tells → (image : Image) → S.blocks src.old ≡ image → OnOk result (into.new.bytes ≡ block_or_zeros image (place ranges.now address)) }
+    ensures block { OverTold S.tells (S.blocks src.old) (λ image. OnOk result (into.new.bytes ≡ block_or_zeros image (place ranges.now address))) }
 {
     let device = src.len();
     match block_of(ranges, address, device) {

@@ -1,6 +1,6 @@
-ghost use Rattle.std.specs.Prelude.{◌≡◌, ◌≤◌, ◌<◌, ◌+◌, ◌-◌, ◌*◌, ◌%◌, ℕ, List, [], length, min, max, slice_index, true, false, IsTrue, OnOk};
+ghost use Rattle.std.specs.Prelude.{◌≡◌, ◌≤◌, ◌<◌, ◌+◌, ◌-◌, ◌*◌, ◌%◌, ℕ, List, [], length, min, max, slice_index, true, false, OnOk};
 ghost use Rattle.outside.specs.Fault.{HasCause};
-ghost use Rattle.outside.specs.History.{Image};
+ghost use Rattle.outside.specs.History.{Image, OverTold};
 ghost use Rattle.btr_keys.specs.FileExtent.{content_value, Regular};
 ghost use Rattle.btr_walk.specs.declared.map.MapRange.{MapRange as RangeOf};
 ghost use Rattle.btr_walk.specs.Events.{TreeItem};
@@ -95,8 +95,8 @@ impl FileBytes {
         ensures cause { HasCause (S.faults src.old) (S.faults src.new) result }
         ensures size { self.new.size ≡ self.old.size }
         ensures next { self.new.next ≡ max self.old.next k }
-        ensures bytes { IsTrue S.tells → (image : Image) → S.blocks src.old ≡ image → (f g : ℕ → ℕ) →
-            ReplacesBlock self.old.size k (block_or_zeros image (place ranges.now address)) f g → self.old.next ≤ k → HoldsBytes self.old f → OnOk result (HoldsBytes self.new g) }
+        ensures bytes { OverTold S.tells (S.blocks src.old) (λ image. (f g : ℕ → ℕ) →
+            ReplacesBlock self.old.size k (block_or_zeros image (place ranges.now address)) f g → self.old.next ≤ k → HoldsBytes self.old f → OnOk result (HoldsBytes self.new g)) }
     {
         let size = self.size;
         self.go_to(k);
@@ -119,9 +119,9 @@ impl FileBytes {
         ensures cause { HasCause (S.faults src.old) (S.faults src.new) result }
         ensures size { self.new.size ≡ self.old.size }
         ensures near { 4096 * self.old.next ≤ offset → OnOk result (4096 * self.new.next ≤ offset + range.now.num_bytes) }
-        ensures bytes { IsTrue S.tells → (image : Image) → S.blocks src.old ≡ image → AreInBlocks ranges.now → is_hole range.now ≡ false → range_is_aligned offset range.now ≡ true →
+        ensures bytes { OverTold S.tells (S.blocks src.old) (λ image. AreInBlocks ranges.now → is_hole range.now ≡ false → range_is_aligned offset range.now ≡ true →
             (f g : ℕ → ℕ) → Appends offset (min range.now.num_bytes (self.old.size - offset)) (content_byte image ranges.now (Regular range.now)) f g →
-            4096 * self.old.next ≤ offset → HoldsBytes self.old f → OnOk result (HoldsBytes self.new g) }
+            4096 * self.old.next ≤ offset → HoldsBytes self.old f → OnOk result (HoldsBytes self.new g)) }
     {
         let first = offset / 4096;
         for j in 0..count_below(first, range.num_bytes / 4096, block_count(self.size)) {
@@ -144,9 +144,9 @@ impl FileBytes {
         ensures cause { HasCause (S.faults src.old) (S.faults src.new) result }
         ensures size { self.new.size ≡ self.old.size }
         ensures near { 4096 * self.old.next ≤ offset → OnOk result (4096 * self.new.next ≤ offset + range.now.num_bytes) }
-        ensures bytes { IsTrue S.tells → (image : Image) → S.blocks src.old ≡ image → AreInBlocks ranges.now → range_is_aligned offset range.now ≡ true →
+        ensures bytes { OverTold S.tells (S.blocks src.old) (λ image. AreInBlocks ranges.now → range_is_aligned offset range.now ≡ true →
             (f g : ℕ → ℕ) → Appends offset (min range.now.num_bytes (self.old.size - offset)) (content_byte image ranges.now (Regular range.now)) f g →
-            4096 * self.old.next ≤ offset → HoldsBytes self.old f → OnOk result (HoldsBytes self.new g) }
+            4096 * self.old.next ≤ offset → HoldsBytes self.old f → OnOk result (HoldsBytes self.new g)) }
     {
         if is_hole(range) {
             return Ok(());
@@ -168,9 +168,9 @@ impl FileBytes {
         ensures cause { HasCause (S.faults src.old) (S.faults src.new) result }
         ensures size { self.new.size ≡ self.old.size }
         ensures near { 4096 * self.old.next ≤ offset → OnOk result (4096 * self.new.next ≤ offset + extent_length (content_value content.now)) }
-        ensures bytes { IsTrue S.tells → (image : Image) → S.blocks src.old ≡ image → AreInBlocks ranges.now → is_aligned offset (content_value content.now) ≡ true →
+        ensures bytes { OverTold S.tells (S.blocks src.old) (λ image. AreInBlocks ranges.now → is_aligned offset (content_value content.now) ≡ true →
             (f g : ℕ → ℕ) → Appends offset (min (extent_length (content_value content.now)) (self.old.size - offset)) (content_byte image ranges.now (content_value content.now)) f g →
-            4096 * self.old.next ≤ offset → HoldsBytes self.old f → OnOk result (HoldsBytes self.new g) }
+            4096 * self.old.next ≤ offset → HoldsBytes self.old f → OnOk result (HoldsBytes self.new g)) }
     {
         match content {
             ExtentContent::Inline(bytes) => {

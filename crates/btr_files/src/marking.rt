@@ -1,6 +1,6 @@
-ghost use Rattle.std.specs.Prelude.{◌≡◌, ◌≤◌, ◌<◌, ◌+◌, ◌-◌, ◌*◌, ◌^◌, ◌++◌, ◌∷◌, [], ℕ, List, Some, min, true, Contains, IfErr, IfOk, IsTrue, OnOk};
+ghost use Rattle.std.specs.Prelude.{◌≡◌, ◌≤◌, ◌<◌, ◌+◌, ◌-◌, ◌*◌, ◌^◌, ◌++◌, ◌∷◌, [], ℕ, List, Some, min, true, Contains, IfErr, IfOk, OnOk};
 ghost use Rattle.outside.specs.Fault.{HasCause, HasCauseOf};
-ghost use Rattle.outside.specs.History.{Image};
+ghost use Rattle.outside.specs.History.{Image, OverTold};
 ghost use Rattle.btr_keys.specs.FileExtent.{content_value, file_extent_of, file_extent_value};
 ghost use Rattle.btr_walk.specs.declared.map.MapRange.{MapRange as RangeOf};
 ghost use Rattle.btr_walk.specs.Events.{TreeItem};
@@ -75,9 +75,9 @@ impl ExtentMarker {
         ensures size { self.new.file.size ≡ self.old.file.size }
         ensures reach { OnOk result (self.new.reach ≡ record { end = offset + extent_length (content_value content.now); covered = self.old.reach.covered + covered_by (content_value content.now) }) }
         ensures near { 4096 * self.old.file.next ≤ offset → OnOk result (4096 * self.new.file.next ≤ offset + extent_length (content_value content.now)) }
-        ensures bytes { IsTrue S.tells → (image : Image) → S.blocks src.old ≡ image → AreInBlocks ranges.now → is_aligned offset (content_value content.now) ≡ true →
+        ensures bytes { OverTold S.tells (S.blocks src.old) (λ image. AreInBlocks ranges.now → is_aligned offset (content_value content.now) ≡ true →
             (f g : ℕ → ℕ) → Appends offset (min (extent_length (content_value content.now)) (self.old.file.size - offset)) (content_byte image ranges.now (content_value content.now)) f g →
-            4096 * self.old.file.next ≤ offset → HoldsBytes self.old.file f → OnOk result (HoldsBytes self.new.file g) }
+            4096 * self.old.file.next ≤ offset → HoldsBytes self.old.file f → OnOk result (HoldsBytes self.new.file g)) }
     {
         self.file.put_content(src, ranges, offset, content)?;
         self.reach = Reach {
@@ -106,8 +106,8 @@ impl ExtentMarker {
             ReachSoFar self.old.reach ranges.now given → OnOk result (ReachSoFar self.new.reach ranges.now (given ++ i ∷ [])) }
         ensures refused { (given : List TreeItem) (i : TreeItem) → i.leaf ≡ leaf → i.key.offset ≡ offset → i.body ≡ body.now →
             ReachSoFar self.old.reach ranges.now given → IfErr result (Blames (extents_refusals ranges.now 0 0 (given ++ i ∷ []))) }
-        ensures marks { IsTrue S.tells → (image : Image) → S.blocks src.old ≡ image → AreInBlocks ranges.now → (given : List TreeItem) (i : TreeItem) →
-            i.leaf ≡ leaf → i.key.offset ≡ offset → i.body ≡ body.now → MarksExtents self.old image ranges.now given → OnOk result (MarksExtents self.new image ranges.now (given ++ i ∷ [])) }
+        ensures marks { OverTold S.tells (S.blocks src.old) (λ image. AreInBlocks ranges.now → (given : List TreeItem) (i : TreeItem) →
+            i.leaf ≡ leaf → i.key.offset ≡ offset → i.body ≡ body.now → MarksExtents self.old image ranges.now given → OnOk result (MarksExtents self.new image ranges.now (given ++ i ∷ []))) }
     {
         let extent = match read_extent(&self.reach, ranges, leaf, offset, body) {
             Ok(extent) => extent,

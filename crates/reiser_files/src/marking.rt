@@ -1,6 +1,6 @@
-ghost use Rattle.std.specs.Prelude.{◌≡◌, ◌≢◌, ◌≤◌, ◌<◌, ◌+◌, ◌-◌, ◌*◌, ◌/◌, ◌^◌, ◌++◌, ◌∷◌, [], ℕ, List, length, take, max, true, IsTrue, OnOk};
+ghost use Rattle.std.specs.Prelude.{◌≡◌, ◌≢◌, ◌≤◌, ◌<◌, ◌+◌, ◌-◌, ◌*◌, ◌/◌, ◌^◌, ◌++◌, ◌∷◌, [], ℕ, List, length, take, max, true, OnOk};
 ghost use Rattle.outside.specs.Fault.{HasCause};
-ghost use Rattle.outside.specs.History.{Image, block_at};
+ghost use Rattle.outside.specs.History.{Image, block_at, OverTold};
 ghost use Rattle.fs_rows.specs.Mark.{mark_of_bytes};
 ghost use Rattle.reiser_walk.specs.Items.{Item};
 ghost use Rattle.reiser_files.specs.Bytes.{file_bytes, MayFollow};
@@ -40,8 +40,8 @@ impl FileMarker {
         ensures kept { S.kept src.old src.new }
         ensures cause { HasCause (S.faults src.old) (S.faults src.new) result }
         ensures size { self.new.size ≡ self.old.size }
-        ensures given { IsTrue S.tells → (image : Image) → S.blocks src.old ≡ image → (given : List Item) (i : Item) → i.head ≡ head.now → i.body ≡ body.now →
-            MayFollow given i → MarksFile self.old image given → OnOk result (MarksFile self.new image (given ++ i ∷ [])) }
+        ensures given { OverTold S.tells (S.blocks src.old) (λ image. (given : List Item) (i : Item) → i.head ≡ head.now → i.body ≡ body.now →
+            MayFollow given i → MarksFile self.old image given → OnOk result (MarksFile self.new image (given ++ i ∷ []))) }
     {
         match head.kind {
             ItemKind::Direct => {
@@ -117,8 +117,8 @@ impl FileMarker {
         ensures size { self.new.size ≡ self.old.size }
         ensures next { self.old.next ≤ first → OnOk result (self.new.next ≤ first + length body.now / 4) }
         ensures none { length body.now / 4 ≡ 0 → self.new ≡ self.old }
-        ensures bytes { IsTrue S.tells → (image : Image) → S.blocks src.old ≡ image → (f g : ℕ → ℕ) →
-            OverlaysNamed image self.old.size first body.now f g → self.old.next ≤ first → HoldsBytes self.old f → OnOk result (HoldsBytes self.new g) }
+        ensures bytes { OverTold S.tells (S.blocks src.old) (λ image. (f g : ℕ → ℕ) →
+            OverlaysNamed image self.old.size first body.now f g → self.old.next ≤ first → HoldsBytes self.old f → OnOk result (HoldsBytes self.new g)) }
     {
         for j in 0..count_below(first, body.len() / 4, block_count(self.size)) {
             self.put_pointer(src, first + j as u64, pointer(body, j) as u64)?;
@@ -139,8 +139,8 @@ impl FileMarker {
         ensures cause { HasCause (S.faults src.old) (S.faults src.new) result }
         ensures size { self.new.size ≡ self.old.size }
         ensures next { self.old.next ≤ k → self.new.next ≤ k }
-        ensures bytes { IsTrue S.tells → (image : Image) → S.blocks src.old ≡ image → (f g : ℕ → ℕ) → (block ≡ 0 → (n : ℕ) → f n ≡ g n) →
-            (block ≢ 0 → ReplacesBlock self.old.size k (block_at image block) f g) → self.old.next ≤ k → HoldsBytes self.old f → OnOk result (HoldsBytes self.new g) }
+        ensures bytes { OverTold S.tells (S.blocks src.old) (λ image. (f g : ℕ → ℕ) → (block ≡ 0 → (n : ℕ) → f n ≡ g n) →
+            (block ≢ 0 → ReplacesBlock self.old.size k (block_at image block) f g) → self.old.next ≤ k → HoldsBytes self.old f → OnOk result (HoldsBytes self.new g)) }
     {
         if block == 0 {
             return Ok(());
@@ -161,8 +161,8 @@ impl FileMarker {
         ensures cause { HasCause (S.faults src.old) (S.faults src.new) result }
         ensures size { self.new.size ≡ self.old.size }
         ensures next { self.new.next ≡ max self.old.next k }
-        ensures bytes { IsTrue S.tells → (image : Image) → S.blocks src.old ≡ image → (f g : ℕ → ℕ) →
-            ReplacesBlock self.old.size k (block_at image block) f g → self.old.next ≤ k → HoldsBytes self.old f → OnOk result (HoldsBytes self.new g) }
+        ensures bytes { OverTold S.tells (S.blocks src.old) (λ image. (f g : ℕ → ℕ) →
+            ReplacesBlock self.old.size k (block_at image block) f g → self.old.next ≤ k → HoldsBytes self.old f → OnOk result (HoldsBytes self.new g)) }
     {
         self.go_to(k);
         src.read(block, &mut self.block)?;
