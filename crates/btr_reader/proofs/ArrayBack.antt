@@ -1,5 +1,5 @@
 -- Chunks that were written into the bootstrap array read as these chunks.
-use Rattle.std.proofs.Common.{◌≡◌, ℕ, suc, ◌+◌, ◌*◌, ◌-◌, ◌^◌, ◌≤◌, ◌<◌, cond, ltb, Bool, true, false, List, [], ◌∷◌, ◌++◌, length, take, drop, Option, Some, None, refl, sym, ◌∙◌, ap, arith, append_assoc, length-append}
+use Rattle.std.proofs.Common.{◌≡◌, ℕ, ◌+◌, ◌-◌, ◌^◌, ◌≤◌, ◌<◌, cond, ltb, Bool, false, List, [], ◌∷◌, ◌++◌, length, take, drop, Option, Some, None, refl, sym, ◌∙◌, ap, arith, append_assoc, length-append}
 use Rattle.std.specs.List.{flat_map, AllByRecursion}
 use Rattle.std.specs.Option.{option_map}
 use Rattle.std.proofs.Math.Seq.{drop-append-add}
@@ -9,7 +9,7 @@ use Rattle.vol_block.specs.Volume.{field}
 use Rattle.btr_keys.specs.Key.{key_layout, key_bytes, make_key, key_at}
 use Rattle.btr_keys.specs.declared.key.Key.{Key}
 use Rattle.btr_keys.proofs.Records.{key_reads}
-use Rattle.btr_space_items.specs.Chunk.{chunk_layout, chunk_of, chunk_bytes}
+use Rattle.btr_space_items.specs.Chunk.{chunk_of, chunk_bytes}
 use Rattle.btr_space_items.specs.declared.chunk.Chunk.{Chunk}
 use Rattle.btr_space_items.proofs.Records.{chunks_read_back, chunk_reads, chunk_width, stripes_at}
 use Rattle.btr_super.specs.declared.superblock.Super.{Super}

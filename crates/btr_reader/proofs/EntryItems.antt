@@ -12,7 +12,7 @@ use Rattle.btr_names.specs.Links.{own_naming, namings}
 use Rattle.btr_reader.specs.Opening.{IsAmong}
 use Rattle.btr_reader.proofs.Among.{among_left, among_right}
 
-namings-append : (xs ys : List TreeItem) → namings (xs ++ ys) ≡ namings xs ++ namings ys
+pub namings-append : (xs ys : List TreeItem) → namings (xs ++ ys) ≡ namings xs ++ namings ys
 namings-append [] ys = refl
 namings-append (i ∷ xs) ys = ap (λ (z : List Naming). own_naming i ++ z) (namings-append xs ys) ∙ sym (append_assoc (own_naming i) (namings xs) (namings ys))
 

@@ -16,6 +16,7 @@ pub mod OneExtent
 pub mod OneRows
 pub mod Opens
 pub mod PartsRead
+pub mod RootNames
 pub mod RowContents
 pub mod RowMade
 pub mod Rowed

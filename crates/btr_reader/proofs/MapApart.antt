@@ -1,5 +1,5 @@
 -- The ranges of a map have no address in common.
-use Rattle.std.proofs.Common.{◌≡◌, ℕ, zero, suc, ◌+◌, ◌≤◌, ◌<◌, max, min, nat_lt, Bool, true, false, ◌||◌, if◌then◌else◌, List, [], ◌∷◌, ◌++◌, length, map, get_or, AllPairs, Option, Some, None, ⊎_elim, true≢false, refl, sym, ◌∙◌, ap, subst, arith, append_assoc, length-append}
+use Rattle.std.proofs.Common.{◌≡◌, ℕ, zero, suc, ◌+◌, ◌<◌, Bool, true, false, ◌||◌, if◌then◌else◌, List, [], ◌∷◌, ◌++◌, length, map, get_or, AllPairs, Option, Some, None, ⊎_elim, true≢false, refl, sym, subst, arith, append_assoc, length-append}
 use Rattle.std.specs.List.{list_any}
 use Rattle.std.proofs.lemmas.Bool.{cases_lt}
 use Rattle.std.proofs.lemmas.Bool.Decides.{nat_tests}
@@ -15,7 +15,7 @@ use Rattle.btr_walk.specs.Walks.{found}
 use Rattle.btr_files.proofs.ExtentLists.{none_left, none_right}
 use Rattle.btr_reader.specs.declared.chunk.ChunkAt.{ChunkAt}
 use Rattle.btr_reader.specs.Chunks.{range_of, overlap, chunk_refusals, beside_refusals, chunks_refusals, chunk_in, with_chunk, chunk_item_refusals, with_items, items_refusals}
-use Rattle.btr_reader.specs.Laws.{Maps, AreApart}
+use Rattle.btr_reader.specs.Laws.{AreApart}
 use Rattle.btr_reader.specs.Opening.{chunk_tree, boot_chunks, boot_list, boot_refusals, IsOpened}
 use Rattle.btr_reader.proofs.MapBlocks.{opened_sound}
 

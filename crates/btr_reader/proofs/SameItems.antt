@@ -15,10 +15,10 @@ use Rattle.fs_rows.specs.Rows.{NameList, WholeRow}
 use Rattle.path_list.proofs.Lists.{in_map, from_map, at_head, in_tail}
 use Rattle.btr_files.specs.Extents.{extents_of, is_extent_of, extent_length, content_byte, covers, byte_from, file_byte, file_bytes}
 use Rattle.btr_names.specs.declared.naming.Naming.{Naming}
-use Rattle.btr_names.specs.Inodes.{is_inode_of, inode_item, inode_on, kind_of_mode, IsDirectory}
+use Rattle.btr_names.specs.Inodes.{is_inode_of, inode_item, inode_on, IsDirectory}
 use Rattle.btr_names.specs.Links.{is_index, index_entry, naming_at, own_naming, namings, is_followed, followed, IsNamed, root, entry, Target, inode, tree, Names, Leads}
 use Rattle.btr_reader.specs.Laws.{unplaced, SameExtents, ItemsDecideBtrfsRows}
-use Rattle.btr_reader.specs.Rows.{top, has_bytes, IsLeastPath, IsInodeRow, IsTreeRow, IsRowOf, AreRows}
+use Rattle.btr_reader.specs.Rows.{top, has_bytes, IsRowOf, AreRows}
 
 -- what rows need of two trees, each over a disk and a map
 record Agree (image : Image) (ranges : List MapRange) (items : List TreeItem) (other : Image) (elsewhere : List MapRange) (others : List TreeItem) : Type 0 where

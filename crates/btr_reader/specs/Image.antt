@@ -1,12 +1,12 @@
 -- The saved image of the volume before.
-use Rattle.std.specs.Prelude.{ℕ, ◌+◌, ◌-◌, ◌*◌, ◌/◌, ◌%◌, ◌==◌, nat_lt, nat_eq, Bool, true, false, not, ◌&&◌, if◌then◌else◌, List, [], ◌∷◌, ◌++◌, codes, Option, Some, None}
+use Rattle.std.specs.Prelude.{ℕ, ◌+◌, ◌-◌, ◌*◌, ◌/◌, ◌%◌, ◌==◌, nat_lt, nat_eq, Bool, true, false, not, ◌&&◌, ◌||◌, if◌then◌else◌, List, [], ◌∷◌, ◌++◌, map, filter, codes, Option, Some, None}
 use Rattle.std.specs.Option.{option_map, option_and_then}
 use Rattle.std.specs.List.{list_any}
 use Rattle.std.specs.Cmp.Lexicographic.{pointwise}
 use Rattle.outside.specs.History.{Image}
 use Rattle.outside.specs.declared.refusal.BtrRefusal.{BtrRefusal}
 use Rattle.outside.specs.declared.refusal.BtrRefusal.TheVariants.{BadBtrfs}
-use Rattle.outside.specs.declared.rule.BtrRule.TheVariants.{Body}
+use Rattle.outside.specs.declared.rule.BtrRule.TheVariants.{Body, NameForm}
 use Rattle.btr_keys.specs.FileExtent.{ContentValue, Inline, Regular, Prealloc, FileExtentValue, file_extent_of}
 use Rattle.btr_keys.specs.Inode.{inode_of}
 use Rattle.btr_keys.specs.declared.inode.Inode.{Inode}
@@ -23,7 +23,7 @@ use Rattle.btr_reader.specs.Opening.{tree_of, or_later}
 use Rattle.btr_reader.specs.Roots.{root_item, pointer_of}
 use Rattle.btr_names.specs.Inodes.{inode_item}
 use Rattle.btr_names.specs.declared.naming.Naming.{Naming}
-use Rattle.btr_names.specs.Links.{namings, is_index, index_entry}
+use Rattle.btr_names.specs.Links.{namings, naming_of, is_index, index_entry, is_name, names_inode, names_tree}
 use Rattle.btr_files.specs.Extents.{extents_of, extents_refusals, is_hole, covers}
 use Rattle.btr_reader.specs.Rows.{roots_on}
 
@@ -133,10 +133,24 @@ image_place ranges f b = if nat_lt b f.blocks then file_block ranges f.extents b
 
 -- Refusals on the way to the image: of a root item, of a tree, of an entry of inode 256, of the image's inode and of its
 -- extents. What is not there is no refusal, and what can't be found because of a refusal isn't looked at.
+--
+-- The names of the root directory keep the rules of names: each is a name, each location is an inode or another tree, and
+-- no name is there twice.
+abbrev pub name_refusals : Naming → List BtrRefusal
+name_refusals n = if is_name n.name then [] else BadBtrfs n.leaf NameForm ∷ []
+
+abbrev pub location_refusals : Naming → List BtrRefusal
+location_refusals n = if names_inode n || names_tree n then [] else BadBtrfs n.leaf Body ∷ []
+
+-- of an entry by itself
+abbrev pub naming_refusals : Naming → List BtrRefusal
+naming_refusals n = name_refusals n ++ location_refusals n
+
 abbrev pub index_refusals_at : TreeItem → Option DirEntryValue → List BtrRefusal
 index_refusals_at i None = BadBtrfs i.leaf Body ∷ []
-index_refusals_at i (Some e) = []
+index_refusals_at i (Some e) = naming_refusals (naming_of i e)
 
+-- of a directory index of inode 256 by itself
 abbrev pub own_index_refusals : TreeItem → List BtrRefusal
 own_index_refusals i = if is_index i && (i.key.objectid == 256) then index_refusals_at i (index_entry i.body) else []
 
@@ -144,9 +158,26 @@ abbrev pub index_refusals : List TreeItem → List BtrRefusal
 index_refusals [] = []
 index_refusals (i ∷ items) = own_index_refusals i ++ index_refusals items
 
+-- the root directory of a file tree
+abbrev pub is_root_directory : ℕ → Bool
+is_root_directory ino = ino == 256
+
+-- both entries are of the root directory, and of one name
+abbrev pub is_again : Naming → Naming → Bool
+is_again m n = is_root_directory n.dir && ((m.dir == n.dir) && pointwise nat_eq m.name n.name)
+
+-- of a name that is there twice, at the later entry
+abbrev pub twice_refusals : List Naming → List BtrRefusal
+twice_refusals [] = []
+twice_refusals (m ∷ ns) = map (λ n. BadBtrfs n.leaf NameForm) (filter (is_again m) ns) ++ twice_refusals ns
+
+-- of the root directory of a tree with these items
+abbrev pub root_refusals : List TreeItem → List BtrRefusal
+root_refusals items = index_refusals items ++ twice_refusals (namings items)
+
 -- of a tree in which an entry of inode 256 is looked for
 abbrev pub entry_refusals : Image → List MapRange → Tree → List BtrRefusal
-entry_refusals image ranges t = wrong image ranges t ++ index_refusals (found image ranges t)
+entry_refusals image ranges t = wrong image ranges t ++ root_refusals (found image ranges t)
 
 abbrev pub after_pointer : (Pointer → List BtrRefusal) → ℕ → Option Pointer → List BtrRefusal
 after_pointer next leaf None = BadBtrfs leaf Body ∷ []

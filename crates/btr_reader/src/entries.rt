@@ -1,18 +1,24 @@
-ghost use Rattle.std.specs.Prelude.{◌≡◌, ◌≤◌, [], if◌then◌else◌, Some, None, IsTrue, IfOk, IfErr, OnOk, Contains};
+ghost use Rattle.std.specs.Prelude.{◌≡◌, ◌≤◌, ◌++◌, ◌∷◌, [], List, true, if◌then◌else◌, Some, None, IfOk, IfErr, OnOk};
 ghost use Rattle.outside.specs.Fault.{HasCauseOf};
-ghost use Rattle.outside.specs.History.{Image};
+ghost use Rattle.outside.specs.History.{Image, OverTold};
 ghost use Rattle.btr_node.specs.NodeSize.{IsNodeSize};
 ghost use Rattle.btr_walk.specs.Events.{TreeItem};
 ghost use Rattle.btr_walk.specs.Walks.{LieOn, found};
-ghost use Rattle.btr_reader.specs.Image.{first_key, entry_named, is_called, own_index_refusals, entry_refusals};
+ghost use Rattle.btr_reader.specs.Image.{first_key, entry_named, is_called, own_index_refusals, naming_refusals, is_root_directory, twice_refusals, entry_refusals};
+ghost use Rattle.btr_names.specs.declared.naming.Naming.{Naming as NamingOf};
 ghost use Rattle.btr_names.specs.Links.{own_naming, namings};
-ghost use Rattle.btr_super.specs.Rules.{NamesNoLog};
+ghost use Rattle.btr_names.specs.Passes.{HasSeen};
+ghost use Rattle.btr_names.specs.Refuses.{IsNoFault};
 ghost use Rattle.btr_reader.specs.Opening.{IsAmong, NamesNoLogTree};
 
+use crate::refused::refused;
 use btr_keys::{DirEntry, Key};
-use btr_names::index_entry;
+use btr_names::{
+    NameIn, Naming, index_entry, is_name, names_inode, names_tree, naming_of, see_name,
+};
 use btr_walk::{MapRange, Tree, TreeWalker};
-use outside::{BlockSource, BtrAnswer, BtrRefusal, BtrRule};
+use indexmap::IndexSet;
+use outside::{BlockSource, BtrAnswer, BtrRule};
 use std::alloc::Global;
 
 /// The kind in the key of a directory index.
@@ -37,32 +43,59 @@ fn first_called(first: Option<Key>, name: &[u8], entry: &DirEntry<'_>) -> Option
     }
 }
 
-/// The location of the first entry of inode 256 that is called so, after one more item of the tree.
+/// Adds an entry of the root directory to those that were seen, if it keeps the rules of names.
+fn see_entry(seen: &mut IndexSet<NameIn>, alloc: Global, naming: &Naming) -> Result<(), BtrAnswer>
+    ensures seen { (before : List NamingOf) → is_root_directory naming.now.dir ≡ true → HasSeen is_root_directory seen.old before
+        → OnOk result (HasSeen is_root_directory seen.new (before ++ naming.now ∷ [])) }
+    ensures ok { OnOk result (naming_refusals naming.now ≡ []) }
+    ensures err { (before : List NamingOf) → is_root_directory naming.now.dir ≡ true → HasSeen is_root_directory seen.old before
+        → IfErr result (IsAmong (naming_refusals naming.now ++ twice_refusals (before ++ naming.now ∷ []))) }
+    ensures known { IfErr result NamesNoLogTree }
+    ensures cause { IfErr result IsNoFault }
+{
+    if !is_name(naming.name.bytes()) {
+        return Err(refused(naming.leaf, BtrRule::NameForm));
+    }
+    if !names_inode(naming) && !names_tree(naming) {
+        return Err(refused(naming.leaf, BtrRule::Body));
+    }
+    see_name(seen, alloc, naming)
+}
+
+/// The location of the first entry of inode 256 that is called so, after one more item of the tree. `seen` are the names
+/// of that directory so far.
 fn seek_entry(
+    seen: &mut IndexSet<NameIn>,
+    alloc: Global,
     first: Option<Key>,
     name: &[u8],
     key: &Key,
     body: &[u8],
     leaf: u64,
-) -> Result<Option<Key>, BtrRefusal>
+) -> Result<Option<Key>, BtrAnswer>
     ensures found { (i : TreeItem) → i.key ≡ key.now → i.body ≡ body.now → IfOk result (λ o. o ≡ first_key first (entry_named (is_called name.now) (own_naming i))) }
-    ensures ok { (i : TreeItem) → i.key ≡ key.now → i.body ≡ body.now → OnOk result (own_index_refusals i ≡ []) }
-    ensures err { (i : TreeItem) → i.key ≡ key.now → i.body ≡ body.now → i.leaf ≡ leaf → IfErr result (λ r. Contains (own_index_refusals i) r) }
-    ensures known { IfErr result NamesNoLog }
+    ensures seen { (i : TreeItem) (given : List TreeItem) → i.key ≡ key.now → i.body ≡ body.now → i.leaf ≡ leaf → HasSeen is_root_directory seen.old (namings given)
+        → OnOk result (HasSeen is_root_directory seen.new (namings (given ++ i ∷ []))) }
+    ensures ok { (i : TreeItem) → i.key ≡ key.now → i.body ≡ body.now → i.leaf ≡ leaf → OnOk result (own_index_refusals i ≡ []) }
+    ensures err { (i : TreeItem) (given : List TreeItem) → i.key ≡ key.now → i.body ≡ body.now → i.leaf ≡ leaf → HasSeen is_root_directory seen.old (namings given)
+        → IfErr result (IsAmong (own_index_refusals i ++ twice_refusals (namings (given ++ i ∷ [])))) }
+    ensures known { IfErr result NamesNoLogTree }
+    ensures cause { IfErr result IsNoFault }
 {
     if key.kind != INDEX_KIND || key.objectid != ROOT_DIRECTORY {
         return Ok(first);
     }
-    match index_entry(body) {
-        Some(entry) => Ok(first_called(first, name, &entry)),
-        None => Err(BtrRefusal::BadBtrfs {
-            address: leaf,
-            rule: BtrRule::Body,
-        }),
-    }
+    let entry = match index_entry(body) {
+        Some(entry) => entry,
+        None => return Err(refused(leaf, BtrRule::Body)),
+    };
+    let naming = naming_of(alloc, key, &entry, leaf)?;
+    see_entry(seen, alloc, &naming)?;
+    Ok(first_called(first, name, &entry))
 }
 
-/// The location of the first entry of inode 256 of a tree that is called so.
+/// The location of the first entry of inode 256 of a tree that is called so. The entries of that directory keep the rules
+/// of names: each has a name, its location is an inode or another tree, and no name is there twice.
 pub fn find_entry<S: BlockSource>(
     alloc: Global,
     src: &mut S,
@@ -76,17 +109,23 @@ pub fn find_entry<S: BlockSource>(
     ensures kept { S.kept src.old src.new }
     ensures cause { HasCauseOf BtrAnswer.Fault (S.faults src.old) (S.faults src.new) result }
     ensures known { IfErr result NamesNoLogTree }
-    ensures entry { IsTrue S.tells → (image : Image) → S.blocks src.old ≡ image → IfOk result (λ o. o ≡ entry_named (is_called name.now) (namings (found image ranges.now tree))) }
-    ensures ok { IsTrue S.tells → (image : Image) → S.blocks src.old ≡ image → OnOk result (entry_refusals image ranges.now tree ≡ []) }
-    ensures err { IsTrue S.tells → (image : Image) → S.blocks src.old ≡ image → IfErr result (IsAmong (entry_refusals image ranges.now tree)) }
+    ensures entry { OverTold S.tells (S.blocks src.old) (λ image. IfOk result (λ o. o ≡ entry_named (is_called name.now) (namings (found image ranges.now tree)))) }
+    ensures ok { OverTold S.tells (S.blocks src.old) (λ image. OnOk result (entry_refusals image ranges.now tree ≡ [])) }
+    ensures err { OverTold S.tells (S.blocks src.old) (λ image. IfErr result (IsAmong (entry_refusals image ranges.now tree))) }
 {
     let mut first = None;
+    let mut seen = IndexSet::new(alloc);
     let mut walker = TreeWalker::new(alloc, tree)?;
     while walker.advance(src, ranges)? {
-        first = match seek_entry(first, name, &walker.key(), walker.body(), walker.leaf()) {
-            Ok(first) => first,
-            Err(refusal) => return Err(BtrAnswer::Refused(refusal)),
-        };
+        first = seek_entry(
+            &mut seen,
+            alloc,
+            first,
+            name,
+            &walker.key(),
+            walker.body(),
+            walker.leaf(),
+        )?;
     }
     Ok(first)
 }

@@ -268,8 +268,9 @@ impl Btrfs {
     ///
     /// Over the source that was opened it is refused exactly where something is wrong on the way, by one of the things
     /// that are. All nodes of the file tree and of the image's tree are looked at; of the bodies in them the directory
-    /// indexes of inode 256, and the inode and the extents of the file. A log tree is not looked at, over any source. Over
-    /// a source with another number of blocks it is refused, whatever the blocks are.
+    /// indexes of inode 256, and the inode and the extents of the file. The indexes keep the rules of names: each has a
+    /// name, its location is an inode or another tree, and no name is there twice. A log tree is not looked at, over any
+    /// source. Over a source with another number of blocks it is refused, whatever the blocks are.
     pub fn image_map<S: BlockSource>(
         &self,
         alloc: Global,

@@ -1,17 +1,18 @@
 use Rattle.std.proofs.Common.{◌≡◌, List, [], ◌∷◌, ◌++◌, refl, sym, ◌∙◌, ap, subst}
 use Rattle.std.proofs.lemmas.Result.{err_from_is_err_and}
 use Rattle.outside.specs.History.{Image}
-use Rattle.outside.specs.declared.answer.BtrAnswer.TheVariants.{Refused}
 use Rattle.btr_walk.specs.declared.map.MapRange.{MapRange}
 use Rattle.btr_walk.specs.declared.tree.Tree.{Tree}
 use Rattle.btr_walk.specs.Events.{TreeItem}
 use Rattle.btr_walk.specs.Walks.{Blames, found, wrong}
 use Rattle.btr_walk.proofs.Events.{none_both}
-use Rattle.btr_reader.specs.Image.{first_key, entry_named, is_called, index_refusals, entry_refusals}
+use Rattle.btr_reader.specs.Image.{first_key, entry_named, is_called, is_root_directory, twice_refusals, index_refusals, root_refusals, entry_refusals}
 use Rattle.btr_names.specs.Links.{own_naming, namings}
+use Rattle.btr_names.proofs.Seeing.{none_seen}
 use Rattle.btr_reader.specs.Opening.{IsAmong}
 use Rattle.btr_reader.proofs.Among.{blames_among, among_left, among_right, given_first}
-use Rattle.btr_reader.proofs.EntryItems.{entry_push, index_right, index_refused}
+use Rattle.btr_reader.proofs.EntryItems.{entry_push, index_right}
+use Rattle.btr_reader.proofs.RootNames.{none_twice, root_refused}
 use Rattle.btr_reader.proofs.entries.find_entry.Goals as goal
 
 pub loop-walker-init : goal.loop-walker-init
@@ -20,7 +21,7 @@ loop-walker-init g c = record {
   same = refl;
   tree = c.in_ok-walker.ensures.tree;
   fresh = c.in_ok-walker.ensures.fresh;
-  walks = λ tells. ([], c.in_ok-walker.ensures.walks _ _, refl, refl);
+  walks = λ tells. ([], c.in_ok-walker.ensures.walks _ _, refl, refl, none_seen is_root_directory c.new-seen.result c.new-seen.ensures.empty);
 }
 
 pub returns-in_err-advance-clause-err : goal.returns-in_err-advance-clause-err
@@ -51,17 +52,19 @@ loop-walker-preserved g c =
           let came = rw c.if-branch.true at (c.in_ok-advance.ensures.comes tells (g.S.BlockSource.blocks c.args.src.now) same told.0 told.1) in
           let i : TreeItem = came.0 in
           let key = sym (c.key.ensures i came.2) in
-          let body = sym (c.body.ensures i came.2) in (
+          let body = sym (c.body.ensures i came.2) in
+          let leaf = sym (c.leaf.ensures i came.2) in (
             told.0 ++ i ∷ [],
             came.1,
-            c.in-Ok.ensures.found i key body
+            c.in_ok-first.ensures.found i key body
                 ∙ (ap (λ o. first_key o (entry_named (is_called c.args.name.now) (own_naming i))) told.2 ∙ sym (entry_push (is_called c.args.name.now) told.0 i)),
-            index_right told.0 i told.3 (c.in-Ok.ensures.ok i key body),
+            index_right told.0 i told.3 (c.in_ok-first.ensures.ok i key body leaf),
+            c.in_ok-first.ensures.seen i told.0 key body leaf told.4,
           );
     }
 
-pub returns-in-Err-clause-err : goal.returns-in-Err-clause-err
-returns-in-Err-clause-err g c = λ tells image is.
+pub returns-in_err-first-clause-err : goal.returns-in_err-first-clause-err
+returns-in_err-first-clause-err g c = λ tells image is.
     let before = c.loop-walker.invariant in
     let here : Image = g.S.BlockSource.blocks c.args.src.now in
     let ranges : List MapRange = c.args.ranges.now in
@@ -71,10 +74,15 @@ returns-in-Err-clause-err g c = λ tells image is.
     let i : TreeItem = came.0 in
     let first = given_first c.advance.new.self here ranges (told.0 ++ i ∷ []) came.1 in
     let tree = c.advance.ensures.tree ∙ before.tree in
-    subst (λ (m : Image). IsAmong (entry_refusals m ranges c.args.tree) (Refused c.in-Err.refusal)) is
-    (among_right (wrong here ranges c.args.tree) _ (Refused c.in-Err.refusal)
-    (index_refused (found here ranges c.args.tree) told.0 first.0 i (Refused c.in-Err.refusal) (ap (λ (t : Tree). found here ranges t) (sym tree) ∙ first.1)
-    (c.in-Err.ensures.err i (sym (c.key.ensures i came.2)) (sym (c.body.ensures i came.2)) (sym (c.leaf.ensures i came.2)))))
+    let bad = c.in_err-first.ensures.err i told.0 (sym (c.key.ensures i came.2)) (sym (c.body.ensures i came.2)) (sym (c.leaf.ensures i came.2)) told.4 in
+    let err = err_from_is_err_and c.from_residual-in_err-first.result c.from_residual-in_err-first.ensures.1 in
+    rw err.1 (subst (λ (m : Image). IsAmong (entry_refusals m ranges c.args.tree) err.0) is
+    (subst (IsAmong (entry_refusals here ranges c.args.tree)) (sym err.2)
+    (among_right (wrong here ranges c.args.tree) _ c.in_err-first.field-0.0
+    (root_refused (found here ranges c.args.tree) told.0 first.0 i c.in_err-first.field-0.0 (ap (λ (t : Tree). found here ranges t) (sym tree) ∙ first.1) bad))))
+
+pub returns-in_err-first-clause-kept : goal.returns-in_err-first-clause-kept
+returns-in_err-first-clause-kept g c = g.met.S.BlockSource.kept_trans _ _ _ c.loop-walker.invariant.kept c.advance.ensures.kept
 
 pub returns-clause-ok : goal.returns-clause-ok
 returns-clause-ok g c = λ tells image is.
@@ -86,7 +94,8 @@ returns-clause-ok g c = λ tells image is.
     let end = rw c.if-branch.false at (c.in_ok-advance.ensures.comes tells here same told.0 told.1) in
     let all : told.0 ≡ found here ranges c.args.tree = end.1.all ∙ ap (λ (t : Tree). found here ranges t) before.tree in
     subst (λ (m : Image). entry_refusals m ranges c.args.tree ≡ []) is
-    (none_both (wrong here ranges c.args.tree) _ (subst (λ (tree : Tree). wrong here ranges tree ≡ []) before.tree end.1.sound) (ap index_refusals (sym all) ∙ told.3))
+    (none_both (wrong here ranges c.args.tree) _ (subst (λ (tree : Tree). wrong here ranges tree ≡ []) before.tree end.1.sound)
+    (subst (λ (items : List TreeItem). root_refusals items ≡ []) all (none_both (index_refusals told.0) (twice_refusals (namings told.0)) told.3 (none_twice (namings told.0) told.4.once))))
 
 pub returns-clause-entry : goal.returns-clause-entry
 returns-clause-entry g c = λ tells image is.

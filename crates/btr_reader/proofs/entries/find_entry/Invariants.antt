@@ -1,8 +1,9 @@
 use Rattle.std.proofs.Common.{◌≡◌, List, [], false, IsTrue}
 use Rattle.btr_walk.specs.Events.{TreeItem}
 use Rattle.btr_walk.specs.Walks.{Walks, fuel}
-use Rattle.btr_reader.specs.Image.{entry_named, is_called, index_refusals}
+use Rattle.btr_reader.specs.Image.{entry_named, is_called, is_root_directory, index_refusals}
 use Rattle.btr_names.specs.Links.{namings}
+use Rattle.btr_names.specs.Passes.{HasSeen}
 use Rattle.btr_reader.proofs.entries.find_entry.Given as goal
 
 abbrev pub invariant-loop-walker : goal.invariant-loop-walker
@@ -11,7 +12,7 @@ invariant-loop-walker g l = record {
   same : g.S.BlockSource.faults l.src ≡ g.S.BlockSource.faults l.fn.src;
   tree : l.walker.tree ≡ l.fn.tree;
   fresh : l.walker.spent ≡ false;
-  walks : IsTrue g.S.BlockSource.tells → (given : List TreeItem) × Walks l.walker (g.S.BlockSource.blocks l.fn.src) l.ranges given × (l.first ≡ entry_named (is_called l.name) (namings given)) × (index_refusals given ≡ []);
+  walks : IsTrue g.S.BlockSource.tells → (given : List TreeItem) × Walks l.walker (g.S.BlockSource.blocks l.fn.src) l.ranges given × (l.first ≡ entry_named (is_called l.name) (namings given)) × (index_refusals given ≡ []) × HasSeen is_root_directory l.seen (namings given);
 }
 
 abbrev pub decreases-loop-walker : goal.decreases-loop-walker
