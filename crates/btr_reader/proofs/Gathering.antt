@@ -10,7 +10,7 @@ use Rattle.btr_walk.specs.declared.map.MapRange.{MapRange}
 use Rattle.btr_walk.specs.Map.{place}
 use Rattle.btr_walk.specs.Events.{TreeItem}
 use Rattle.btr_files.proofs.ExtentLists.{none_right, first, second, end_grows, covers_at, past_end, before_start}
-use Rattle.btr_reader.specs.declared.image_map.Piece.{Piece}
+use Rattle.btr_reader.specs.declared.piece.Piece.{Piece}
 use Rattle.btr_files.specs.Extents.{is_hole, covers, range_is_aligned, is_aligned, end_after, covered_after, refusals_at, extents_refusals, extents_end}
 use Rattle.btr_reader.specs.Image.{content_block, block_from, file_block}
 use Rattle.btr_reader.specs.Pieces.{holds_block, block_in, or_else, pieces_place, range_piece, range_pieces, pieces_of}

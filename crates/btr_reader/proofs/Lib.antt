@@ -15,11 +15,13 @@ pub mod NotedRoots
 pub mod OneExtent
 pub mod OneRows
 pub mod Opens
+pub mod Ordered
 pub mod PartsRead
 pub mod RootNames
 pub mod RowContents
 pub mod RowMade
 pub mod Rowed
 pub mod SameItems
+pub mod Searching
 pub mod Stages
 pub mod Supers

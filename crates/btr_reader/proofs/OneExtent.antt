@@ -9,7 +9,7 @@ use Rattle.btr_walk.specs.declared.map.MapRange.{MapRange}
 use Rattle.btr_walk.specs.Events.{TreeItem}
 use Rattle.btr_walk.proofs.Events.{none_both}
 use Rattle.btr_reader.specs.declared.gathered.Gathered.{Gathered}
-use Rattle.btr_reader.specs.declared.image_map.Piece.{Piece}
+use Rattle.btr_reader.specs.declared.piece.Piece.{Piece}
 use Rattle.btr_files.specs.Extents.{is_extent_of, extents_of, extent_length, covered_by, end_after, covered_after, has_form, extent_refusals, refusals_at, extents_refusals, extents_end, extents_covered}
 use Rattle.btr_reader.specs.Image.{content_is_inline, is_inline}
 use Rattle.btr_reader.specs.Opening.{IsAmong}

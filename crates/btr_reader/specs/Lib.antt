@@ -4,6 +4,7 @@ pub mod Roots
 pub mod Rows
 pub mod Made
 pub mod Image
+pub mod Ascending
 pub mod Pieces
 pub mod Reading
 pub mod Volume

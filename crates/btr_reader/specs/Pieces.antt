@@ -1,5 +1,5 @@
 -- The saved image as a list of pieces.
-use Rattle.std.specs.Prelude.{◌≡◌, ℕ, ◌+◌, ◌-◌, ◌*◌, ◌/◌, nat_lt, nat_le, Bool, ◌&&◌, if◌then◌else◌, List, [], ◌∷◌, Option, Some, None}
+use Rattle.std.specs.Prelude.{◌≡◌, ℕ, ◌+◌, ◌-◌, ◌*◌, ◌/◌, ◌≤◌, All, nat_lt, nat_le, Bool, ◌&&◌, if◌then◌else◌, List, [], ◌∷◌, Option, Some, None}
 use Rattle.std.specs.List.{list_any}
 use Rattle.std.specs.Option.{option_map}
 use Rattle.btr_keys.specs.FileExtent.{ContentValue, Inline, Regular, Prealloc, file_extent_of}
@@ -7,8 +7,9 @@ use Rattle.btr_keys.specs.declared.file_extent.DiskRange.{DiskRange}
 use Rattle.btr_walk.specs.declared.map.MapRange.{MapRange}
 use Rattle.btr_walk.specs.Map.{place}
 use Rattle.btr_walk.specs.Events.{TreeItem}
-use Rattle.btr_reader.specs.declared.image_map.Piece.{Piece}
+use Rattle.btr_reader.specs.declared.piece.Piece.{Piece}
 use Rattle.btr_reader.specs.declared.image_map.ImageMap.{ImageMap}
+use Rattle.btr_reader.specs.Ascending.{AreApart}
 use Rattle.btr_reader.specs.declared.gathered.Gathered.{Gathered}
 use Rattle.btr_files.specs.Extents.{is_hole, extents_end, extents_covered, extents_refusals}
 use Rattle.btr_reader.specs.Image.{ImageFile, is_inline, file_block, image_place}
@@ -45,6 +46,11 @@ pieces_of offset (Prealloc r) = []
 -- one of the extents is inline
 abbrev pub any_inline : List TreeItem → Bool
 any_inline extents = list_any (λ e. is_inline (file_extent_of e.body)) extents
+
+-- what is gathered is in order: the pieces ascend, and each ends at the end of what was reached, or before
+pub record IsInOrder (g : Gathered) : Type 0 where
+  pub apart : AreApart g.pieces.items
+  pub reached : All (λ p. 4096 * (p.first + p.count) ≤ g.reach.end) g.pieces.items
 
 -- what was gathered of these extents
 pub record Gathers (ranges : List MapRange) (extents : List TreeItem) (g : Gathered) : Type 0 where

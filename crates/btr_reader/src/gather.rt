@@ -1,4 +1,4 @@
-ghost use Rattle.std.specs.Prelude.{◌≡◌, ◌≤◌, ◌<◌, ◌+◌, ◌^◌, ◌++◌, ◌∷◌, ◌||◌, [], List, IfErr, IfOk, IfSome, OnOk, IsTrue};
+ghost use Rattle.std.specs.Prelude.{◌≡◌, true, ◌≤◌, ◌<◌, ◌+◌, ◌^◌, ◌++◌, ◌∷◌, ◌||◌, [], List, IfErr, IfOk, IfSome, OnOk, IsTrue};
 ghost use Rattle.outside.specs.Fault.{HasCauseOf};
 ghost use Rattle.outside.specs.History.{Image};
 ghost use Rattle.btr_keys.specs.FileExtent.{content_value};
@@ -6,14 +6,14 @@ ghost use Rattle.btr_node.specs.NodeSize.{IsNodeSize};
 ghost use Rattle.btr_walk.specs.declared.map.MapRange.{MapRange as RangeOf};
 ghost use Rattle.btr_walk.specs.Events.{TreeItem};
 ghost use Rattle.btr_walk.specs.Walks.{LieOn, found, wrong};
-ghost use Rattle.btr_files.specs.Extents.{extent_length, covered_by, is_extent_key, extents_of, extents_refusals};
+ghost use Rattle.btr_files.specs.Extents.{extent_length, covered_by, is_aligned, is_extent_key, extents_of, extents_refusals};
 ghost use Rattle.btr_reader.specs.Image.{content_is_inline};
 ghost use Rattle.btr_names.specs.Refuses.{IsNoFault};
 ghost use Rattle.btr_reader.specs.Opening.{IsAmong, NamesNoLogTree};
-ghost use Rattle.btr_reader.specs.Pieces.{range_pieces, pieces_of, Gathers};
+ghost use Rattle.btr_reader.specs.Pieces.{range_pieces, pieces_of, Gathers, IsInOrder};
 
 use crate::gathered::Gathered;
-use crate::image_map::Piece;
+use crate::piece::Piece;
 use btr_files::{Reach, check_extent, covered_by, extent_length, is_hole};
 use btr_keys::{DiskRange, ExtentContent, FileExtent, Key};
 use btr_walk::{MapRange, Tree, TreeWalker};
@@ -72,7 +72,11 @@ fn push_content(
 
 /// Adds an extent at byte `offset` of the file.
 fn add_extent(g: &mut Gathered, offset: u64, content: &ExtentContent<'_>) -> Result<(), Memory>
-    requires { g.old.reach.covered < 2 ^ 59 }
+    requires few { g.old.reach.covered < 2 ^ 59 }
+    requires behind { g.old.reach.end ≤ offset }
+    requires aligned { is_aligned offset (content_value content.now) ≡ true }
+    requires order { IsInOrder g.old }
+    ensures order { OnOk result (IsInOrder g.new) }
     ensures end { OnOk result (g.new.reach.end ≡ offset + extent_length (content_value content.now)) }
     ensures covered { OnOk result (g.new.reach.covered ≡ g.old.reach.covered + covered_by (content_value content.now)) }
     ensures inline { OnOk result (g.new.inline ≡ (g.old.inline || content_is_inline (content_value content.now))) }
@@ -96,7 +100,9 @@ fn gather_item(
     body: &[u8],
     leaf: u64,
 ) -> Result<(), BtrAnswer>
-    requires { g.old.reach.covered < 2 ^ 59 }
+    requires few { g.old.reach.covered < 2 ^ 59 }
+    requires order { IsInOrder g.old }
+    ensures order { OnOk result (IsInOrder g.new) }
     ensures few { OnOk result (g.new.reach.covered < 2 ^ 59) }
     ensures ok { (i : TreeItem) (given : List TreeItem) → i.key ≡ key.now → i.body ≡ body.now → i.leaf ≡ leaf → Gathers ranges.now (extents_of given inode) g.old
         → OnOk result (Gathers ranges.now (extents_of (given ++ i ∷ []) inode) g.new) }
@@ -128,6 +134,7 @@ fn gather_item(
 fn nothing(alloc: Global) -> Gathered
     ensures gathers { (ranges : List RangeOf) → Gathers ranges [] result }
     ensures none { result.reach.covered ≡ 0 }
+    ensures order { IsInOrder result }
 {
     Gathered {
         reach: Reach { end: 0, covered: 0 },
@@ -150,6 +157,7 @@ pub fn gather_extents<S: BlockSource>(
     ensures kept { S.kept src.old src.new }
     ensures cause { HasCauseOf BtrAnswer.Fault (S.faults src.old) (S.faults src.new) result }
     ensures known { IfErr result NamesNoLogTree }
+    ensures order { IfOk result IsInOrder }
     ensures gathered { IsTrue S.tells → (image : Image) → S.blocks src.old ≡ image → IfOk result (Gathers ranges.now (extents_of (found image ranges.now tree) inode)) }
     ensures err { IsTrue S.tells → (image : Image) → S.blocks src.old ≡ image →
         IfErr result (IsAmong (wrong image ranges.now tree ++ extents_refusals ranges.now 0 0 (extents_of (found image ranges.now tree) inode))) }

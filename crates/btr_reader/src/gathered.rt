@@ -1,4 +1,4 @@
-use crate::image_map::Piece;
+use crate::piece::Piece;
 use btr_files::Reach;
 
 /// What is gathered of the extents of a file, one after the other.

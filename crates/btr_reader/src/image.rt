@@ -10,7 +10,7 @@ ghost use Rattle.btr_reader.specs.Image.{is_file, tree_number, inode_number, fil
 ghost use Rattle.btr_names.specs.Inodes.{inode_item, TellsInode};
 ghost use Rattle.btr_names.specs.Refuses.{IsNoFault};
 ghost use Rattle.btr_reader.specs.Opening.{NamesNoLogTree};
-ghost use Rattle.btr_reader.specs.Pieces.{Gathers, MapsImage};
+ghost use Rattle.btr_reader.specs.Pieces.{Gathers, IsInOrder, MapsImage};
 ghost use Rattle.btr_reader.specs.Reading.{IsWalkable, FindsTree, FindsFile, ReadsImage};
 ghost use Rattle.btr_reader.specs.Roots.{root_item, TellsRoot, HasRoots};
 ghost use Rattle.btr_reader.specs.Volume.{IsVolumeOn};
@@ -137,6 +137,7 @@ fn map_of(
     device: u64,
 ) -> Result<Option<ImageMap>, Memory>
     requires inside { LieOn device ranges.now }
+    requires order { IsInOrder gathered }
     ensures map { (extents : List TreeItem) → is_file own.now.mode ≡ true → Gathers ranges.now extents gathered
         → IfOk result (λ o. MapsImage ranges.now o (file_if_image extents (Some own.now))) }
     ensures device { IfOk result (λ o. IfSome o (λ m. m.device ≡ device)) }

@@ -1,8 +1,11 @@
-ghost use Rattle.std.specs.Prelude.{◌≡◌, ◌<◌, IfSome};
+ghost use Rattle.std.specs.Prelude.{◌≡◌, ◌<◌, ◌≤◌, true, false, leb, length, IfSome};
+ghost use Rattle.std.specs.List.Sorted.{IsPartitionPoint};
 ghost use Rattle.btr_walk.specs.Walks.{LieOn};
+ghost use Rattle.btr_reader.specs.Ascending.{AreApart};
 ghost use Rattle.btr_reader.specs.Pieces.{holds_block, block_in, pieces_place, map_place};
 
-use crate::image_map::{ImageMap, Piece};
+use crate::image_map::ImageMap;
+use crate::piece::Piece;
 use btr_walk::{MapRange, place};
 use vol_block::BlockNo;
 
@@ -32,18 +35,28 @@ impl Piece {
     }
 }
 
-/// The block of the device that holds block `b` of a file with these pieces.
+/// How many of the pieces begin at block `b` of the file or before.
+fn begun(pieces: &[Piece], b: u64) -> usize
+    requires { AreApart pieces.now }
+    ensures within { result ≤ length pieces.now }
+    ensures parts { IsPartitionPoint (λ p. leb p.first b ≡ true) (λ p. leb p.first b ≡ false) pieces.now result }
+{
+    pieces.partition_point(|piece| piece.first <= b)
+}
+
+/// The block of the device that holds block `b` of a file with these pieces. Only the last one that begins there or before
+/// can hold it.
 fn pieces_place(ranges: &[MapRange], pieces: &[Piece], device: u64, b: u64) -> Option<BlockNo>
-    requires { LieOn device ranges.now }
+    requires inside { LieOn device ranges.now }
+    requires apart { AreApart pieces.now }
     ensures place { result ≡ pieces_place ranges.now pieces.now b }
     ensures inside { IfSome result (λ n. n < device) }
 {
-    for piece in pieces {
-        if let Some(block) = piece.place(ranges, device, b) {
-            return Some(block);
-        }
+    let begun = begun(pieces, b);
+    if begun == 0 {
+        return None;
     }
-    None
+    pieces[begun - 1].place(ranges, device, b)
 }
 
 impl ImageMap {

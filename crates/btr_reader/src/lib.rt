@@ -14,6 +14,7 @@ mod inodes;
 mod laws;
 mod listing;
 mod open;
+mod piece;
 mod placed;
 mod refused;
 mod roots;
@@ -23,11 +24,12 @@ mod volume;
 
 pub use chunk::ChunkAt;
 pub use entries::find_entry;
-pub use image_map::{ImageMap, Piece};
+pub use image_map::ImageMap;
 pub use inodes::find_inode;
 pub use laws::{
     arrays_read_back, btrfs_rows_are_one, items_decide_btrfs_rows, opened_maps_are_apart,
     opened_maps_are_in_blocks,
 };
+pub use piece::Piece;
 pub use roots::{RootFound, RootItems};
 pub use volume::Btrfs;

@@ -24,6 +24,7 @@ loop-walker-init g c = record {
   tree = c.in_ok-walker.ensures.tree;
   fresh = c.in_ok-walker.ensures.fresh;
   few = subst (λ n. n < 2 ^ 59) (sym c.nothing-g.ensures.none) (omega arith);
+  order = c.nothing-g.ensures.order;
   walks = λ tells. ([], c.in_ok-walker.ensures.walks _ _, c.nothing-g.ensures.gathers _);
 }
 
@@ -50,6 +51,7 @@ loop-walker-preserved g c =
       tree = c.advance.ensures.tree ∙ before.tree;
       fresh = c.in_ok-advance.ensures.spent;
       few = c.in-Ok.ensures.few;
+      order = c.in-Ok.ensures.order;
       walks = λ tells.
           let told = before.walks tells in
           let same = g.met.S.BlockSource.kept_blocks c.args.src.now c.loop-walker.src tells before.kept in
