@@ -1,5 +1,5 @@
 -- What is gathered, with one more item.
-use Rattle.std.proofs.Common.{◌≡◌, ◌⊎◌, inl, inr, ℕ, ◌≤◌, ◌<◌, ◌==◌, eqb, nat_eq, Bool, true, false, ◌&&◌, if◌then◌else◌, is_some, List, [], ◌∷◌, ◌++◌, length, replicate, map, Contains, Option, Some, None, refl, sym, ◌∙◌, ap, subst, arith}
+use Rattle.std.proofs.Common.{◌≡◌, inl, inr, ℕ, ◌≤◌, ◌<◌, ◌==◌, nat_eq, Bool, true, false, ◌&&◌, if◌then◌else◌, is_some, List, [], ◌∷◌, ◌++◌, length, replicate, map, Contains, Option, Some, None, refl, sym, ◌∙◌, ap, subst, arith}
 use Rattle.std.specs.List.{range_with_len}
 use Rattle.std.proofs.lemmas.Bool.{eqb-true}
 use Rattle.std.proofs.lemmas.Bool.Decides.{nat_tests}
@@ -15,14 +15,14 @@ use Rattle.btr_walk.specs.declared.map.MapRange.{MapRange}
 use Rattle.btr_walk.specs.declared.tree.Tree.{Tree}
 use Rattle.btr_walk.specs.Events.{TreeItem}
 use Rattle.btr_walk.specs.Walks.{Blames, found, wrong}
-use Rattle.btr_files.specs.Extents.{is_extent_of, extents_of, extents_refusals, extents_end, extents_covered, file_byte, file_bytes}
+use Rattle.btr_files.specs.Extents.{is_extent_of, extents_of, extents_refusals, file_byte, file_bytes}
 use Rattle.btr_files.specs.States.{MarksExtents}
 use Rattle.btr_files.proofs.ExtentLists.{extents_of-one, extents_of-other, extents_refusals-append}
-use Rattle.btr_contents.specs.declared.content.Content.{Content}
+use Rattle.fs_rows.specs.declared.content.Content.{Content}
 use Rattle.btr_contents.specs.declared.hand.Hand.{Hand}
 use Rattle.btr_contents.specs.declared.wanted.Wanted.{Wanted}
-use Rattle.btr_contents.specs.Contents.{content_of, content_in, TellsContent, HasContents, BreaksExtents, RefusesExtents, RefusesContents}
-use Rattle.btr_contents.specs.Gathering.{item_wanted, is_in_hand, HoldsHand, AllBefore, HandAt, HasGathered}
+use Rattle.btr_contents.specs.Contents.{content_of, content_in, TellsContent, HasContents, RefusesExtents, RefusesContents}
+use Rattle.btr_contents.specs.Gathering.{item_wanted, HoldsHand, AllBefore, HandAt, HasGathered}
 
 -- a content by its parts
 abbrev made : ℕ → List ℕ → List ℕ → Content

@@ -17,7 +17,7 @@ use Rattle.path_list.specs.declared.node.NodeId.{NodeId}
 use Rattle.fs_rows.specs.Mark.{mark_of_bytes}
 use Rattle.fs_rows.specs.declared.row.Kind.{Kind}
 use Rattle.fs_rows.specs.declared.row.Kind.TheVariants.{Directory, File, Symlink, Character, Block, Fifo, Socket, Subvolume}
-use Rattle.btr_contents.specs.declared.content.Content.{Content}
+use Rattle.fs_rows.specs.declared.content.Content.{Content}
 use Rattle.btr_contents.specs.declared.wanted.Wanted.{Wanted}
 
 -- Of which inodes contents are kept: of files, and of symlinks whose target Linux allows (at most 4095 bytes).

@@ -8,7 +8,7 @@ use Rattle.btr_walk.specs.Events.{TreeItem}
 use Rattle.btr_walk.specs.Walks.{last_after}
 use Rattle.btr_files.specs.Extents.{extents_of}
 use Rattle.btr_files.specs.States.{MarksExtents}
-use Rattle.btr_contents.specs.declared.content.Content.{Content}
+use Rattle.fs_rows.specs.declared.content.Content.{Content}
 use Rattle.btr_contents.specs.declared.hand.Hand.{Hand}
 use Rattle.btr_contents.specs.declared.wanted.Wanted.{Wanted}
 use Rattle.btr_contents.specs.Contents.{TellsContent}

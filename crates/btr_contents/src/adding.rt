@@ -11,12 +11,13 @@ ghost use Rattle.btr_contents.specs.Contents.{content_in, RefusesExtents};
 ghost use Rattle.btr_contents.specs.Gathering.{HoldsHand};
 ghost use Rattle.btr_contents.specs.declared.wanted.Wanted.{Wanted as WantedOf};
 
-use crate::content::{Content, file_content, link_content};
+use crate::content::{file_content, link_content};
 use crate::hand::Hand;
 use crate::wanted::Wanted;
 use btr_files::ExtentMarker;
 use btr_keys::Key;
 use btr_walk::MapRange;
+use fs_rows::Content;
 use outside::{BlockSource, BtrAnswer, Memory};
 use std::alloc::Global;
 

@@ -7,20 +7,9 @@ ghost use Rattle.btr_files.specs.States.{MarksExtents};
 ghost use Rattle.btr_contents.specs.Contents.{content_of};
 
 use btr_files::ExtentMarker;
-use fs_rows::Name;
+use fs_rows::{Content, Name};
 use outside::Memory;
 use std::alloc::Global;
-
-/// What is kept of the bytes of a file or a symlink.
-#[derive(Drop)]
-pub struct Content {
-    /// How many bytes it has.
-    pub length: u64,
-    /// The mark of a file; zeros of a symlink.
-    pub mark: [u8; 32],
-    /// The target of a symlink; empty of a file.
-    pub target: Name,
-}
 
 /// The content of a file of `size` bytes, whose extents the marker was given.
 pub fn file_content(alloc: Global, marker: ExtentMarker, size: u64) -> Result<Content, Memory>

@@ -7,10 +7,9 @@ ghost use Rattle.btr_walk.specs.Events.{TreeItem};
 ghost use Rattle.btr_contents.specs.Contents.{HasContents, content_in};
 ghost use Rattle.btr_contents.specs.declared.wanted.Wanted.{Wanted as WantedOf};
 
-use crate::content::Content;
 use crate::hand::Hand;
 use crate::wanted::Wanted;
-use fs_rows::Name;
+use fs_rows::{Content, Name};
 use indexmap::IndexMap;
 use outside::Memory;
 use std::alloc::Global;

@@ -11,11 +11,11 @@ ghost use Rattle.btr_contents.specs.Contents.{content_in, HasContents, RefusesEx
 ghost use Rattle.btr_contents.specs.Gathering.{item_wanted, HoldsHand, HasGathered};
 ghost use Rattle.btr_contents.specs.declared.wanted.Wanted.{Wanted as WantedOf};
 
-use crate::content::Content;
 use crate::hand::Hand;
 use crate::wanted::Wanted;
 use btr_keys::Key;
 use btr_walk::MapRange;
+use fs_rows::Content;
 use indexmap::IndexMap;
 use outside::{BlockSource, BtrAnswer, Memory};
 use std::alloc::Global;

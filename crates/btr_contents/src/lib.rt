@@ -12,6 +12,5 @@ mod hand;
 mod reading;
 mod wanted;
 
-pub use content::Content;
 pub use contents::Contents;
 pub use wanted::{Wanted, wanted_inode};

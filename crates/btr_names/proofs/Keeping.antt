@@ -18,7 +18,8 @@ use Rattle.btr_names.specs.declared.inodes.InodeFound.{InodeFound}
 use Rattle.btr_names.specs.declared.naming.Naming.{Naming}
 use Rattle.btr_names.specs.declared.naming.OffForm.{OffForm}
 use Rattle.btr_names.specs.declared.table.Names.{Names}
-use Rattle.btr_names.specs.Inodes.{inode_item, kind_of_mode, is_directory}
+use Rattle.btr_names.specs.Inodes.{inode_item, kind_of_mode}
+use Rattle.fs_rows.specs.Kinds.{is_directory}
 use Rattle.btr_names.specs.Links.{namings, followed, is_followed, is_name, names_inode, names_tree, IsNamed}
 use Rattle.btr_names.specs.Passes.{fits_size, is_good, IsGoodNode, inode_rule, tree_rule, target_rule, entry_rule, IsGoodEntry, DifferInName, leads_down, LeadApart}
 use Rattle.btr_names.specs.Rules.{AreIn, IsOpen, KeepsNames, no_root_directory, root_is_none, bad_inode, bad_mode, long_target, bad_index, bad_name, twice, bad_location, no_inode, no_tree, directory_twice, root_named}

@@ -12,7 +12,7 @@ use Rattle.fs_rows.specs.Rows.{NameList}
 use Rattle.path_list.specs.declared.link.Link.{Link}
 use Rattle.path_list.specs.declared.node.NodeId.{NodeId}
 use Rattle.path_list.specs.Links.{AreNamedOnce, Leads as LinksLead}
-use Rattle.path_list.proofs.Lists.{in_map, in_filter}
+use Rattle.path_list.proofs.Lists.{in_map, in_filter, from_map, from_filter}
 use Rattle.btr_names.specs.declared.naming.Naming.{Naming}
 use Rattle.btr_names.specs.declared.table.Names.{Names}
 use Rattle.btr_names.specs.Inodes.{IsDirectory}
@@ -22,7 +22,6 @@ use Rattle.btr_names.specs.Rules.{IsOpen, KeepsNames, bad_location, root_named}
 use Rattle.btr_names.specs.Steps.{inode_node, tree_node, node_of, target_node, AreNamed, is_open, is_link, link_of, links_of}
 use Rattle.btr_names.specs.Table.{HasNoted, is_dir}
 use Rattle.btr_names.specs.TreeLinks.{AreTreeLinks}
-use Rattle.btr_names.proofs.Members.{from_map, from_filter}
 use Rattle.btr_names.proofs.Reaching.{followed_from, followed_to, open_from, open_to}
 
 -- pairs of what is made of the elements, and of those that pass

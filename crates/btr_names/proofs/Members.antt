@@ -2,20 +2,12 @@
 use Rattle.std.proofs.Common.{◌≡◌, ℕ, ◌+◌, ◌<◌, ◌≤◌, Bool, true, false, cond, append_assoc, List, [], ◌∷◌, ◌++◌, map, filter, length, get_or, take, drop, Contains, AllPairs, ⊎_elim, refl, sym, ap, subst, ◌∙◌, arith}
 use Rattle.std.proofs.lemmas.Bool.{cases_lt}
 use Rattle.std.proofs.lemmas.List.{get_or_default, take-append-drop, take_more, map-append}
-use Rattle.std.proofs.lemmas.List.Elements.{All-filter, All-contains_itself, filter_passes, filter-append}
+use Rattle.std.proofs.lemmas.List.Elements.{filter-append}
 use Rattle.std.proofs.Math.Seq.{get_or-append_seam}
 use Rattle.std.proofs.Math.ListN.{get_or-append}
 use Rattle.std.proofs.lemmas.List.{length-append}
-use Rattle.path_list.proofs.Lists.{at_head, in_tail, head_or_tail, in_filter}
+use Rattle.path_list.proofs.Lists.{in_filter}
 use Rattle.btr_names.specs.Rules.{AreIn}
-
-pub from_map : {X Y : Type 0} (f : X → Y) (xs : List X) (y : Y) → Contains (map f xs) y → (x : X) × Contains xs x × (f x ≡ y)
-from_map f [] y h = absurd (omega (arith, h.1))
-from_map f (x ∷ xs) y h = ⊎_elim (λ own. (x, at_head x xs, own)) (λ later. let r = from_map f xs y later in (r.0, in_tail x xs r.0 r.1, r.2)) (head_or_tail (f x) (map f xs) y h)
-
-pub from_filter : {X : Type 0} (p : X → Bool) (xs : List X) (x : X) → Contains (filter p xs) x → Contains xs x × (p x ≡ true)
-from_filter p xs x h =
-    (subst (Contains xs) h.2 (All-filter p (Contains xs) xs (All-contains_itself xs) h.0 x h.1), subst (λ y. p y ≡ true) h.2 (filter_passes p xs h.0 x h.1))
 
 -- two that pass are two among those that pass
 pub filter_in : {X : Type 0} (p : X → Bool) (xs : List X) (x y : X) → p x ≡ true → p y ≡ true → AreIn xs x y → AreIn (filter p xs) x y

@@ -5,14 +5,13 @@ use Rattle.btr_walk.specs.Events.{TreeItem}
 use Rattle.path_list.specs.declared.link.Link.{Link}
 use Rattle.path_list.specs.declared.node.NodeId.{NodeId}
 use Rattle.path_list.specs.Reached.{IsReachedBy, IsReached, AreReached}
-use Rattle.path_list.proofs.Lists.{in_map, in_filter}
+use Rattle.path_list.proofs.Lists.{in_map, in_filter, from_map, from_filter}
 use Rattle.btr_names.specs.declared.naming.Naming.{Naming}
 use Rattle.btr_names.specs.declared.table.Names.{Names}
 use Rattle.btr_names.specs.Links.{namings, followed, is_followed, names_inode, IsNamed, root, entry}
 use Rattle.btr_names.specs.Rules.{IsOpen}
 use Rattle.btr_names.specs.Steps.{inode_node, is_step, step_of, AreNamed, is_open}
 use Rattle.btr_names.specs.Table.{HasNoted, is_dir}
-use Rattle.btr_names.proofs.Members.{from_map, from_filter}
 use Rattle.btr_names.proofs.Told.{dir_from, dir_to}
 
 module _ (t : Names) (items : List TreeItem) (noted : HasNoted t items) where

@@ -19,7 +19,8 @@ use Rattle.btr_names.specs.declared.inodes.InodeFound.{InodeFound}
 use Rattle.btr_names.specs.declared.naming.Naming.{Naming}
 use Rattle.btr_names.specs.declared.naming.OffForm.{OffForm}
 use Rattle.btr_names.specs.declared.table.Names.{Names}
-use Rattle.btr_names.specs.Inodes.{inode_item, inode_on, kind_of_mode, is_symlink}
+use Rattle.btr_names.specs.Inodes.{inode_item, inode_on, kind_of_mode}
+use Rattle.fs_rows.specs.Kinds.{is_symlink}
 use Rattle.btr_names.specs.Links.{namings, is_followed, is_index, index_entry, is_name, names_inode, names_tree, IsNamed, root}
 use Rattle.btr_names.specs.Passes.{BlamesRoot, root_absent, root_off, root_other, fits_size, is_good, is_good_item, BlamesForm, inode_rule, tree_rule, target_rule, BlamesEntry, leads_down}
 use Rattle.btr_names.specs.Rules.{AreIn, IsOpen, BreaksNames, no_root_directory, root_is_none, bad_inode, bad_mode, long_target, bad_index, bad_name, twice, bad_location, no_inode, no_tree, directory_twice, root_named}

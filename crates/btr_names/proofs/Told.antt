@@ -8,7 +8,8 @@ use Rattle.fs_rows.specs.declared.row.Kind.{Kind}
 use Rattle.fs_rows.specs.declared.row.Kind.TheVariants.{Directory, File, Symlink, Character, Block, Fifo, Socket, Subvolume}
 use Rattle.btr_names.specs.declared.inodes.InodeFound.{InodeFound}
 use Rattle.btr_names.specs.declared.table.Names.{Names}
-use Rattle.btr_names.specs.Inodes.{inode_item, inode_on, kind_of_mode, is_directory, is_symlink, IsDirectory, TellsInode}
+use Rattle.btr_names.specs.Inodes.{inode_item, inode_on, kind_of_mode, IsDirectory, TellsInode}
+use Rattle.fs_rows.specs.Kinds.{is_directory, is_symlink}
 use Rattle.btr_names.specs.Table.{told, kind_found, kind_told, is_dir, HasNoted}
 
 abbrev kind_in : Option Inode → Option Kind

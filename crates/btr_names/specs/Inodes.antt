@@ -1,10 +1,10 @@
 -- The inodes of a file tree, and what they are.
-use Rattle.std.specs.Prelude.{◌≡◌, ℕ, ◌/◌, ◌%◌, ◌==◌, Bool, true, false, ◌&&◌, if◌then◌else◌, List, [], ◌∷◌, Option, Some, None}
+use Rattle.std.specs.Prelude.{◌≡◌, ℕ, ◌/◌, ◌%◌, ◌==◌, Bool, ◌&&◌, if◌then◌else◌, List, [], ◌∷◌, Option, Some, None}
 use Rattle.std.specs.Option.{option_and_then}
 use Rattle.btr_keys.specs.Inode.{inode_of}
 use Rattle.btr_keys.specs.declared.inode.Inode.{Inode}
 use Rattle.fs_rows.specs.declared.row.Kind.{Kind}
-use Rattle.fs_rows.specs.declared.row.Kind.TheVariants.{Directory, File, Symlink, Character, Block, Fifo, Socket, Subvolume}
+use Rattle.fs_rows.specs.declared.row.Kind.TheVariants.{Directory, File, Symlink, Character, Block, Fifo, Socket}
 use Rattle.btr_walk.specs.Events.{TreeItem}
 use Rattle.btr_names.specs.declared.inodes.InodeFound.{InodeFound}
 
@@ -27,26 +27,6 @@ kind_of_mode mode =
     else (if type == 6 then Some Block
     else (if type == 1 then Some Fifo
     else (if type == 12 then Some Socket else None))))))
-
-abbrev pub is_symlink : Kind → Bool
-is_symlink Symlink = true
-is_symlink Directory = false
-is_symlink File = false
-is_symlink Character = false
-is_symlink Block = false
-is_symlink Fifo = false
-is_symlink Socket = false
-is_symlink Subvolume = false
-
-abbrev pub is_directory : Kind → Bool
-is_directory Directory = true
-is_directory File = false
-is_directory Symlink = false
-is_directory Character = false
-is_directory Block = false
-is_directory Fifo = false
-is_directory Socket = false
-is_directory Subvolume = false
 
 -- the inode with this number, where its item is there and on its grammar
 abbrev pub inode_on : List TreeItem → ℕ → Option Inode

@@ -18,7 +18,8 @@ use Rattle.btr_names.specs.declared.naming.Naming.{Naming}
 use Rattle.btr_names.specs.declared.naming.OffForm.{OffForm}
 use Rattle.btr_names.specs.declared.seen.NameIn.{NameIn}
 use Rattle.btr_names.specs.declared.table.Names.{Names}
-use Rattle.btr_names.specs.Inodes.{kind_of_mode, is_directory, is_symlink}
+use Rattle.btr_names.specs.Inodes.{kind_of_mode}
+use Rattle.fs_rows.specs.Kinds.{is_directory, is_symlink}
 use Rattle.btr_names.specs.Links.{is_name, is_followed, names_inode, names_tree}
 use Rattle.btr_names.specs.Rules.{AreIn}
 use Rattle.btr_names.specs.Steps.{is_open, is_link}

@@ -8,7 +8,8 @@ use Rattle.fs_rows.specs.declared.row.Kind.{Kind}
 use Rattle.btr_names.specs.declared.inodes.InodeFound.{InodeFound}
 use Rattle.btr_names.specs.declared.naming.OffForm.{OffForm}
 use Rattle.btr_names.specs.declared.table.Names.{Names}
-use Rattle.btr_names.specs.Inodes.{inode_item, kind_of_mode, is_directory, TellsInode}
+use Rattle.btr_names.specs.Inodes.{inode_item, kind_of_mode, TellsInode}
+use Rattle.fs_rows.specs.Kinds.{is_directory}
 use Rattle.btr_names.specs.Links.{is_index, index_entry, namings}
 
 -- the directory index that an item is, if its body is off the grammar

@@ -9,7 +9,7 @@ ghost use Rattle.btr_names.specs.Steps.{is_open};
 ghost use Rattle.btr_names.specs.Table.{is_dir};
 
 use crate::Names;
-use crate::inodes::{InodeFound, is_directory, is_symlink, kind_of_mode};
+use crate::inodes::{InodeFound, kind_of_mode};
 use crate::links::{ROOT, is_open};
 use crate::naming::OffForm;
 use crate::table::kind_found;
@@ -40,7 +40,7 @@ pub fn check_root(names: &Names, root: u64) -> Result<(), BtrRefusal>
     match kind_found(&found) {
         None => Err(bad(found.leaf, BtrRule::Body)),
         Some(kind) => {
-            if is_directory(kind) {
+            if kind.is_directory() {
                 Ok(())
             } else {
                 Err(bad(root, BtrRule::NoInode))
@@ -105,7 +105,7 @@ fn is_good(inode: &Inode) -> bool
 fn fits_size(size: u64, kind: Kind) -> bool
     ensures { result ≡ fits_size size kind }
 {
-    !(is_symlink(kind) && size > LONGEST_TARGET)
+    !(kind.is_symlink() && size > LONGEST_TARGET)
 }
 
 /// Whether each directory index of a named directory is on its grammar.

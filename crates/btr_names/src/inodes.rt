@@ -1,5 +1,5 @@
 ghost use Rattle.std.specs.Prelude.{◌≡◌};
-ghost use Rattle.btr_names.specs.Inodes.{kind_of_mode, is_directory, is_symlink};
+ghost use Rattle.btr_names.specs.Inodes.{kind_of_mode};
 
 use btr_keys::Inode;
 use fs_rows::Kind;
@@ -25,16 +25,4 @@ pub fn kind_of_mode(mode: u32) -> Option<Kind>
         12 => Some(Kind::Socket),
         _ => None,
     }
-}
-
-pub fn is_directory(kind: Kind) -> bool
-    ensures { result ≡ is_directory kind }
-{
-    matches!(kind, Kind::Directory)
-}
-
-pub fn is_symlink(kind: Kind) -> bool
-    ensures { result ≡ is_symlink kind }
-{
-    matches!(kind, Kind::Symlink)
 }

@@ -11,7 +11,7 @@ use outside::Memory;
 use path_list::{Link, NodeId};
 use std::alloc::Global;
 
-/// The root directory.
+/// The inode of a file tree's root directory.
 pub const ROOT: u64 = 256;
 
 /// The name under which the root directory has the saved image's tree.

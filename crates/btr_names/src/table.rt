@@ -7,7 +7,7 @@ ghost use Rattle.btr_names.specs.Links.{naming_of, own_naming};
 ghost use Rattle.btr_names.specs.Table.{AreNoted, HasNoted, own_off_form, told, kind_told, kind_found, is_dir};
 
 use crate::entry::index_entry;
-use crate::inodes::{InodeFound, is_directory, kind_of_mode};
+use crate::inodes::{InodeFound, kind_of_mode};
 use crate::naming::{Naming, OffForm};
 use btr_keys::{DirEntry, Inode, Key};
 use fs_rows::{Kind, Name};
@@ -89,7 +89,7 @@ impl Names {
         ensures { result ≡ is_dir self.now ino }
     {
         match self.kind(ino) {
-            Some(kind) => is_directory(kind),
+            Some(kind) => kind.is_directory(),
             None => false,
         }
     }

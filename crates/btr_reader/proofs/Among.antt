@@ -2,15 +2,10 @@
 use Rattle.std.proofs.Common.{◌≡◌, ◌≤◌, ℕ, Result, Err, List, [], ◌∷◌, ◌++◌, sym, ◌∙◌, ap, subst, arith}
 use Rattle.std.proofs.lemmas.List.Elements.{Contains-append_left, Contains-append_right}
 use Rattle.outside.specs.Fault.{HasCauseOf, Rose}
-use Rattle.outside.specs.History.{Image}
 use Rattle.outside.specs.declared.answer.BtrAnswer.{BtrAnswer}
 use Rattle.outside.specs.declared.answer.BtrAnswer.TheVariants.{Refused, Fault, Memory}
 use Rattle.outside.specs.declared.refusal.BtrRefusal.{BtrRefusal}
-use Rattle.btr_walk.specs.declared.map.MapRange.{MapRange}
-use Rattle.btr_walk.specs.declared.walker.TreeWalker.{TreeWalker}
-use Rattle.btr_walk.specs.Events.{TreeItem, items_in_events}
-use Rattle.btr_walk.specs.Walks.{Walks, Blames, found, rest}
-use Rattle.btr_walk.proofs.Events.{items_in-append}
+use Rattle.btr_walk.specs.Walks.{Blames}
 use Rattle.btr_reader.specs.Opening.{IsAmong, or_later}
 
 pub among_left : (xs ys : List BtrRefusal) (e : BtrAnswer) → IsAmong xs e → IsAmong (xs ++ ys) e
@@ -42,13 +37,6 @@ among_later xs ys e none h = subst (λ (z : List BtrRefusal). IsAmong (or_later 
 
 pub none_later : (xs ys : List BtrRefusal) → xs ≡ [] → ys ≡ [] → or_later xs ys ≡ []
 none_later xs ys a b = ap (λ (z : List BtrRefusal). or_later z ys) a ∙ b
-
--- what was given are the first items of the tree
-pub given_first : (w : TreeWalker) (image : Image) (ranges : List MapRange) (given : List TreeItem) → Walks w image ranges given → (later : List TreeItem) × (found image ranges w.tree ≡ given ++ later)
-given_first w image ranges given k = (
-  items_in_events (rest image ranges w),
-  ap items_in_events (sym k.whole) ∙ (items_in-append k.done (rest image ranges w) ∙ ap (λ (z : List TreeItem). z ++ items_in_events (rest image ranges w)) k.items),
-)
 
 abbrev err_of : {T : Type 0} → BtrAnswer → Result T BtrAnswer
 err_of e = Err e

@@ -16,7 +16,7 @@ use Rattle.btr_names.specs.Inodes.{inode_on, kind_of_mode, HasKind}
 use Rattle.btr_names.specs.Links.{IsNamed}
 use Rattle.btr_names.specs.Rules.{KeepsNames}
 use Rattle.btr_names.specs.Steps.{inode_node, AreNamed}
-use Rattle.btr_contents.specs.declared.content.Content.{Content}
+use Rattle.fs_rows.specs.declared.content.Content.{Content}
 use Rattle.btr_contents.specs.declared.wanted.Wanted.{Wanted}
 use Rattle.btr_contents.specs.Contents as kept
 use Rattle.btr_contents.specs.Contents.{wanted_by, wanted_inode, wanted_at, TellsContent, HasContents}

@@ -5,7 +5,6 @@ pub mod Array
 pub mod ArrayBack
 pub mod Bridging
 pub mod EntryItems
-pub mod FirstPlaces
 pub mod Gathering
 pub mod Known
 pub mod MapApart

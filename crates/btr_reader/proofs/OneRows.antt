@@ -19,7 +19,8 @@ use Rattle.btr_names.specs.Inodes.{kind_of_mode, IsDirectory}
 use Rattle.btr_names.specs.Links.{namings, followed, is_followed, IsNamed, root, entry, Target, inode, tree, Names, Leads}
 use Rattle.btr_names.specs.Roots.{has_root}
 use Rattle.btr_names.specs.Rules.{AreIn, IsOpen, KeepsNames, twice}
-use Rattle.btr_names.proofs.Members.{from_filter, with_rest}
+use Rattle.btr_names.proofs.Members.{with_rest}
+use Rattle.path_list.proofs.Lists.{from_filter}
 use Rattle.btr_reader.specs.Laws.{BtrfsRowsAreOne}
 use Rattle.btr_reader.specs.Made.{row_by, bytes_at}
 use Rattle.btr_reader.specs.Opening.{tree_of}

@@ -8,12 +8,13 @@ use Rattle.btr_walk.specs.declared.map.MapRange.{MapRange}
 use Rattle.btr_walk.specs.Events.{TreeItem}
 use Rattle.btr_files.specs.Extents.{file_bytes}
 use Rattle.btr_names.specs.Inodes.{kind_of_mode}
-use Rattle.btr_contents.specs.declared.content.Content.{Content}
+use Rattle.fs_rows.specs.declared.content.Content.{Content}
 use Rattle.btr_contents.specs.declared.wanted.Wanted.{Wanted}
 use Rattle.btr_contents.specs.Contents.{wanted_by, wanted_inode, content_of, content_in}
 use Rattle.fs_rows.specs.declared.row.Kind.{Kind}
 use Rattle.fs_rows.specs.declared.row.Kind.TheVariants.{Directory, File, Symlink, Character, Block, Fifo, Socket, Subvolume}
-use Rattle.btr_reader.specs.Made.{IsContent, bytes_at}
+use Rattle.btr_reader.specs.Made.{bytes_at}
+use Rattle.fs_rows.specs.Content.{IsContent}
 
 no_some : {X : Type 0} (x : X) → None ≡ Some x → ⊥
 no_some x is = cc is

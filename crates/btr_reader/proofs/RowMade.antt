@@ -15,16 +15,16 @@ use Rattle.fs_rows.specs.declared.row.Kind.TheVariants.{File, Symlink}
 use Rattle.fs_rows.specs.declared.row.Row.{Row}
 use Rattle.path_list.specs.declared.link.PathTo.{PathTo}
 use Rattle.path_list.specs.declared.node.NodeId.{NodeId}
-use Rattle.path_list.specs.Paths.{ArePaths}
+use Rattle.path_list.specs.Paths.{ArePaths, first_path}
 use Rattle.btr_names.specs.declared.table.Names.{Names}
 use Rattle.btr_names.specs.Inodes.{inode_on, kind_of_mode}
 use Rattle.btr_names.specs.Links.{IsNamed, Target, inode, tree, Leads}
 use Rattle.btr_names.specs.Steps.{inode_node, node_of, links_of}
-use Rattle.btr_contents.specs.declared.content.Content.{Content}
+use Rattle.fs_rows.specs.declared.content.Content.{Content}
 use Rattle.btr_contents.specs.Contents.{wanted_inode, wanted_at}
-use Rattle.btr_reader.specs.Made.{IsReadTree, bytes_at, first_path, kind_by, made_inode, made_row, no_inode, own_at, row_by}
+use Rattle.btr_reader.specs.Made.{IsReadTree, bytes_at, kind_by, made_inode, made_row, no_inode, own_at, row_by}
 use Rattle.btr_reader.specs.Rows.{subvolume_row}
-use Rattle.btr_reader.proofs.FirstPlaces.{first_before}
+use Rattle.path_list.proofs.FirstPlaces.{first_before}
 use Rattle.btr_reader.proofs.Known.{IsKnown, own_on, is_known, not_long, leads_named}
 
 no_some : {X : Type 0} (x : X) → None ≡ Some x → ⊥

@@ -14,20 +14,20 @@ use Rattle.path_list.specs.declared.link.Link.{Link}
 use Rattle.path_list.specs.declared.link.PathTo.{PathTo}
 use Rattle.path_list.specs.declared.node.NodeId.{NodeId}
 use Rattle.path_list.specs.Links.{AreNamedOnce}
-use Rattle.path_list.specs.Paths.{ArePaths, leads_to}
+use Rattle.path_list.specs.Paths.{ArePaths, leads_to, first_path}
 use Rattle.path_list.proofs.Counts.{count_map}
-use Rattle.path_list.proofs.Lists.{in_map}
+use Rattle.path_list.proofs.Lists.{in_map, from_map}
 use Rattle.path_list.proofs.Nodes.{same_node-true}
-use Rattle.btr_names.specs.Inodes.{inode_on, kind_of_mode, is_directory}
+use Rattle.btr_names.specs.Inodes.{inode_on, kind_of_mode}
+use Rattle.fs_rows.specs.Kinds.{is_directory}
 use Rattle.btr_names.specs.Links.{Target, inode, tree, Leads}
 use Rattle.btr_names.specs.Rules.{KeepsNames}
 use Rattle.btr_names.specs.Steps.{inode_node, tree_node, node_of}
 use Rattle.btr_names.specs.TreeLinks.{AreTreeLinks}
-use Rattle.btr_names.proofs.Members.{from_map}
-use Rattle.btr_reader.specs.Made.{row_by, bytes_at, first_path, made_inode, made_row}
+use Rattle.btr_reader.specs.Made.{row_by, bytes_at, made_inode, made_row}
 use Rattle.btr_reader.specs.Rows.{IsLeastPath, IsInodeRow, IsTreeRow, IsRowOf, AreRows, subvolume_row, top}
 use Rattle.btr_reader.proofs.Known.{own_on, is_known, leads_named}
-use Rattle.btr_reader.proofs.FirstPlaces.{both, count_among, same_names, one_place, first_within, first_in, first_leads, is_least, same_first}
+use Rattle.path_list.proofs.FirstPlaces.{both_ways, count_among, same_names, one_place, first_within, first_in, first_leads, is_least, same_first}
 use Rattle.btr_reader.proofs.RowMade.{path_is, tree_is, inode_is}
 
 -- a node of an inode is no other tree
@@ -77,7 +77,7 @@ module _ (links : List Link) (root : NodeId) (list : List PathTo) (are : ArePath
   same_least : (p q : PathTo) → Contains list p → Contains list q → is_inode p ≡ true → (b : Bool) → is_inode q ≡ b
       → leads_to p.target q ≡ is_same_path (if b then first_path list q else q.path) (first_path list p)
   same_least p q among other own true is = same_first links root list are p q among other
-  same_least p q among other own false is = both (leads_to p.target q) (is_same_path q.path (first_path list p)) there back
+  same_least p q among other own false is = both_ways (leads_to p.target q) (is_same_path q.path (first_path list p)) there back
     where
       apart : q.target ≡ p.target → ⊥
       apart to = true≢false (sym own ∙ (ap (λ (n : NodeId). n.space == 0) (sym to) ∙ is))

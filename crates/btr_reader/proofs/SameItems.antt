@@ -18,7 +18,8 @@ use Rattle.btr_names.specs.declared.naming.Naming.{Naming}
 use Rattle.btr_names.specs.Inodes.{is_inode_of, inode_item, inode_on, IsDirectory}
 use Rattle.btr_names.specs.Links.{is_index, index_entry, naming_at, own_naming, namings, is_followed, followed, IsNamed, root, entry, Target, inode, tree, Names, Leads}
 use Rattle.btr_reader.specs.Laws.{unplaced, SameExtents, ItemsDecideBtrfsRows}
-use Rattle.btr_reader.specs.Rows.{top, has_bytes, IsRowOf, AreRows}
+use Rattle.btr_reader.specs.Rows.{top, IsRowOf, AreRows}
+use Rattle.fs_rows.specs.Kinds.{has_bytes}
 
 -- what rows need of two trees, each over a disk and a map
 record Agree (image : Image) (ranges : List MapRange) (items : List TreeItem) (other : Image) (elsewhere : List MapRange) (others : List TreeItem) : Type 0 where

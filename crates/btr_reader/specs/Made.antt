@@ -1,5 +1,5 @@
 -- The row that is made for each path of a file tree.
-use Rattle.std.specs.Prelude.{◌≡◌, ◌≢◌, ◌⊎◌, ℕ, ◌/◌, ◌%◌, ◌^◌, ◌==◌, pos, not, Bool, ◌&&◌, List, [], Option, unwrap_or, slice_index_or, if◌then◌else◌}
+use Rattle.std.specs.Prelude.{◌≡◌, ◌≢◌, ◌⊎◌, ℕ, ◌/◌, ◌%◌, ◌^◌, ◌==◌, pos, not, Bool, ◌&&◌, List, [], Option, unwrap_or, if◌then◌else◌}
 use Rattle.outside.specs.History.{Image}
 use Rattle.outside.specs.declared.answer.BtrAnswer.{BtrAnswer}
 use Rattle.outside.specs.declared.answer.BtrAnswer.TheVariants.{Refused, Fault, Memory}
@@ -8,21 +8,23 @@ use Rattle.btr_super.specs.declared.superblock.Super.{Super}
 use Rattle.btr_keys.specs.declared.inode.Inode.{Inode}
 use Rattle.btr_walk.specs.declared.map.MapRange.{MapRange}
 use Rattle.btr_walk.specs.Events.{TreeItem}
-use Rattle.fs_rows.specs.Rows.{NameList, WholeRow, length_by, mark_by, target_by}
+use Rattle.fs_rows.specs.Rows.{NameList, WholeRow}
 use Rattle.fs_rows.specs.declared.row.Kind.{Kind}
 use Rattle.fs_rows.specs.declared.row.Kind.TheVariants.{File}
 use Rattle.path_list.specs.declared.link.PathTo.{PathTo}
 use Rattle.path_list.specs.declared.node.NodeId.{NodeId}
-use Rattle.btr_contents.specs.declared.content.Content.{Content}
+use Rattle.fs_rows.specs.declared.content.Content.{Content}
 use Rattle.btr_contents.specs.Contents.{wanted_at, HasContents}
 use Rattle.btr_names.specs.declared.table.Names.{Names}
-use Rattle.btr_names.specs.Inodes.{inode_on, kind_of_mode, is_directory, is_symlink}
+use Rattle.btr_names.specs.Inodes.{inode_on, kind_of_mode}
+use Rattle.fs_rows.specs.Kinds.{is_directory, is_symlink, is_device, has_bytes}
 use Rattle.btr_names.specs.Rules.{KeepsNames, BreaksNames}
 use Rattle.btr_names.specs.Steps.{AreNamed, links_of}
 use Rattle.btr_names.specs.Table.{HasNoted}
 use Rattle.btr_names.specs.TreeLinks.{AreTreeLinks}
 use Rattle.btr_files.specs.Extents.{file_bytes}
-use Rattle.btr_reader.specs.Rows.{time_of, is_device, has_bytes, has_flag, subvolume_row, IsTreeRefusal}
+use Rattle.path_list.specs.Paths.{first_path}
+use Rattle.btr_reader.specs.Rows.{time_of, has_flag, subvolume_row, IsTreeRefusal}
 
 -- the row of an inode at a path
 abbrev pub row_by : Inode → Kind → NameList → NameList → ℕ → List ℕ → WholeRow
@@ -80,10 +82,6 @@ own_at items ino = unwrap_or (inode_on items ino) no_inode
 abbrev pub kind_by : Inode → Kind
 kind_by own = unwrap_or (kind_of_mode own.mode) File
 
--- the first path of the list to the same object
-abbrev pub first_path : List PathTo → PathTo → NameList
-first_path list p = (slice_index_or list p.least p).path
-
 -- the row of a path of the list to an inode
 abbrev pub made_inode : Image → List MapRange → List TreeItem → List PathTo → PathTo → WholeRow
 made_inode image ranges items list p =
@@ -107,12 +105,6 @@ pub record IsReadTree (names : Names) (named : NodeId → Bool) (told : ℕ → 
   pub keeps : KeepsNames has_root items root
   pub links : AreTreeLinks items (links_of names named)
   pub contents : HasContents (wanted_at named items) image ranges items told
-
--- what a row has of these bytes
-pub record IsContent (kind : Kind) (bytes : List ℕ) (length : ℕ) (mark target : List ℕ) : Type 0 where
-  pub is_length : length ≡ length_by kind bytes
-  pub is_mark : mark ≡ mark_by kind bytes
-  pub is_target : target ≡ target_by kind bytes
 
 -- A log tree is answered before all else; without one it is something that is wrong with the tree, or a call failed.
 abbrev pub RefusesRows : Image → Super → List MapRange → BtrAnswer → Type 0

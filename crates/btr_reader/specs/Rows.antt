@@ -14,12 +14,12 @@ use Rattle.btr_walk.specs.declared.tree.Pointer.{Pointer}
 use Rattle.btr_walk.specs.Events.{TreeItem}
 use Rattle.btr_walk.specs.Walks.{found, wrong}
 use Rattle.fs_rows.specs.Rows.{NameList, WholeRow, AscendsByPath, path_cmp, name_count}
-use Rattle.fs_rows.specs.declared.row.Kind.{Kind}
-use Rattle.fs_rows.specs.declared.row.Kind.TheVariants.{Directory, File, Symlink, Character, Block, Fifo, Socket, Subvolume}
+use Rattle.fs_rows.specs.declared.row.Kind.TheVariants.{File, Symlink, Subvolume}
 use Rattle.fs_rows.specs.declared.row.Time.{Time}
 use Rattle.btr_reader.specs.Opening.{tree_of, root_tree}
 use Rattle.btr_reader.specs.Roots.{root_item, pointer_of}
-use Rattle.btr_names.specs.Inodes.{inode_on, kind_of_mode, is_symlink, is_directory, HasKind}
+use Rattle.btr_names.specs.Inodes.{inode_on, kind_of_mode, HasKind}
+use Rattle.fs_rows.specs.Kinds.{is_device, has_bytes, is_symlink, is_directory}
 use Rattle.btr_names.specs.Links.{IsNamed, Target, inode, tree, Leads}
 use Rattle.btr_names.specs.Roots.{has_root}
 use Rattle.btr_names.specs.Rules.{BreaksNames}
@@ -27,26 +27,6 @@ use Rattle.btr_files.specs.Extents.{extents_of, file_bytes, extents_refusals}
 
 abbrev pub time_of : Stamp → Time
 time_of s = record { sec = s.sec; nsec = s.nsec }
-
-abbrev pub is_device : Kind → Bool
-is_device Character = true
-is_device Block = true
-is_device Directory = false
-is_device File = false
-is_device Symlink = false
-is_device Fifo = false
-is_device Socket = false
-is_device Subvolume = false
-
-abbrev pub has_bytes : Kind → Bool
-has_bytes File = true
-has_bytes Symlink = true
-has_bytes Directory = false
-has_bytes Character = false
-has_bytes Block = false
-has_bytes Fifo = false
-has_bytes Socket = false
-has_bytes Subvolume = false
 
 abbrev pub has_flag : Inode → ℕ → Bool
 has_flag i b = bit_at i.flags b == 1

@@ -1,6 +1,6 @@
-ghost use Rattle.std.specs.Prelude.{◌≡◌, ◌≤◌, ◌++◌, [], IsTrue, IfOk, IfErr, OnOk};
+ghost use Rattle.std.specs.Prelude.{◌≡◌, ◌≤◌, ◌++◌, [], IfOk, IfErr, OnOk};
 ghost use Rattle.outside.specs.Fault.{HasCauseOf};
-ghost use Rattle.outside.specs.History.{Image};
+ghost use Rattle.outside.specs.History.{OverTold};
 ghost use Rattle.btr_node.specs.NodeSize.{IsNodeSize};
 ghost use Rattle.btr_walk.specs.Walks.{LieOn, found, wrong};
 ghost use Rattle.btr_reader.specs.Chunks.{chunk_in, with_chunk, with_items, chunk_item_refusals, items_refusals};
@@ -70,12 +70,9 @@ pub fn read_chunks<S: BlockSource>(
     ensures cause { HasCauseOf BtrAnswer.Fault (S.faults src.old) (S.faults src.new) result }
     ensures known { IfErr result NamesNoLogTree }
     ensures inside { IfOk result (λ ranges. LieOn device ranges.items) }
-    ensures ok { IsTrue S.tells → (image : Image) → S.blocks src.old ≡ image →
-        OnOk result (wrong image first.now tree ++ items_refusals device boot.now first.now (found image first.now tree) ≡ []) }
-    ensures map { IsTrue S.tells → (image : Image) → S.blocks src.old ≡ image →
-        IfOk result (λ ranges. ranges.items ≡ with_items boot.now first.now (found image first.now tree)) }
-    ensures err { IsTrue S.tells → (image : Image) → S.blocks src.old ≡ image →
-        IfErr result (IsAmong (wrong image first.now tree ++ items_refusals device boot.now first.now (found image first.now tree))) }
+    ensures ok { OverTold S.tells (S.blocks src.old) (λ image. OnOk result (wrong image first.now tree ++ items_refusals device boot.now first.now (found image first.now tree) ≡ [])) }
+    ensures map { OverTold S.tells (S.blocks src.old) (λ image. IfOk result (λ ranges. ranges.items ≡ with_items boot.now first.now (found image first.now tree))) }
+    ensures err { OverTold S.tells (S.blocks src.old) (λ image. IfErr result (IsAmong (wrong image first.now tree ++ items_refusals device boot.now first.now (found image first.now tree)))) }
 {
     let mut ranges = copy_of(alloc, first)?;
     let mut walker = TreeWalker::new(alloc, tree)?;

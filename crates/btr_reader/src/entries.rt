@@ -14,7 +14,7 @@ ghost use Rattle.btr_reader.specs.Opening.{IsAmong, NamesNoLogTree};
 use crate::refused::refused;
 use btr_keys::{DirEntry, Key};
 use btr_names::{
-    NameIn, Naming, index_entry, is_name, names_inode, names_tree, naming_of, see_name,
+    NameIn, Naming, ROOT, index_entry, is_name, names_inode, names_tree, naming_of, see_name,
 };
 use btr_walk::{MapRange, Tree, TreeWalker};
 use indexmap::IndexSet;
@@ -23,9 +23,6 @@ use std::alloc::Global;
 
 /// The kind in the key of a directory index.
 const INDEX_KIND: u8 = 96;
-
-/// The inode of a file tree's root directory.
-const ROOT_DIRECTORY: u64 = 256;
 
 /// The location of an entry that is called so, unless one came before.
 fn first_called(first: Option<Key>, name: &[u8], entry: &DirEntry<'_>) -> Option<Key>
@@ -82,7 +79,7 @@ fn seek_entry(
     ensures known { IfErr result NamesNoLogTree }
     ensures cause { IfErr result IsNoFault }
 {
-    if key.kind != INDEX_KIND || key.objectid != ROOT_DIRECTORY {
+    if key.kind != INDEX_KIND || key.objectid != ROOT {
         return Ok(first);
     }
     let entry = match index_entry(body) {

@@ -1,6 +1,6 @@
-ghost use Rattle.std.specs.Prelude.{◌≡◌, true, ◌≤◌, ◌<◌, ◌+◌, ◌^◌, ◌++◌, ◌∷◌, ◌||◌, [], List, IfErr, IfOk, IfSome, OnOk, IsTrue};
+ghost use Rattle.std.specs.Prelude.{◌≡◌, true, ◌≤◌, ◌<◌, ◌+◌, ◌^◌, ◌++◌, ◌∷◌, ◌||◌, [], List, IfErr, IfOk, IfSome, OnOk};
 ghost use Rattle.outside.specs.Fault.{HasCauseOf};
-ghost use Rattle.outside.specs.History.{Image};
+ghost use Rattle.outside.specs.History.{OverTold};
 ghost use Rattle.btr_keys.specs.FileExtent.{content_value};
 ghost use Rattle.btr_node.specs.NodeSize.{IsNodeSize};
 ghost use Rattle.btr_walk.specs.declared.map.MapRange.{MapRange as RangeOf};
@@ -158,9 +158,8 @@ pub fn gather_extents<S: BlockSource>(
     ensures cause { HasCauseOf BtrAnswer.Fault (S.faults src.old) (S.faults src.new) result }
     ensures known { IfErr result NamesNoLogTree }
     ensures order { IfOk result IsInOrder }
-    ensures gathered { IsTrue S.tells → (image : Image) → S.blocks src.old ≡ image → IfOk result (Gathers ranges.now (extents_of (found image ranges.now tree) inode)) }
-    ensures err { IsTrue S.tells → (image : Image) → S.blocks src.old ≡ image →
-        IfErr result (IsAmong (wrong image ranges.now tree ++ extents_refusals ranges.now 0 0 (extents_of (found image ranges.now tree) inode))) }
+    ensures gathered { OverTold S.tells (S.blocks src.old) (λ image. IfOk result (Gathers ranges.now (extents_of (found image ranges.now tree) inode))) }
+    ensures err { OverTold S.tells (S.blocks src.old) (λ image. IfErr result (IsAmong (wrong image ranges.now tree ++ extents_refusals ranges.now 0 0 (extents_of (found image ranges.now tree) inode)))) }
 {
     let mut g = nothing(alloc);
     let mut walker = TreeWalker::new(alloc, tree)?;

@@ -1,7 +1,7 @@
-ghost use Rattle.std.specs.Prelude.{◌≡◌, ◌≢◌, ◌≤◌, ◌∷◌, [], Option, Some, None, Err, true, IsTrue, IfOk, IfErr, IfSome, List};
+ghost use Rattle.std.specs.Prelude.{◌≡◌, ◌≢◌, ◌≤◌, ◌∷◌, [], Option, Some, None, Err, true, IfOk, IfErr, IfSome, List};
 ghost use Rattle.std.specs.Option.{option_and_then};
 ghost use Rattle.outside.specs.Fault.{HasCauseOf};
-ghost use Rattle.outside.specs.History.{Image};
+ghost use Rattle.outside.specs.History.{OverTold};
 ghost use Rattle.outside.specs.declared.refusal.BtrRefusal.TheVariants.{BadBtrfs};
 ghost use Rattle.outside.specs.declared.rule.BtrRule.TheVariants.{SuperField};
 ghost use Rattle.btr_walk.specs.Events.{TreeItem};
@@ -178,8 +178,8 @@ impl Btrfs {
         ensures cause { HasCauseOf BtrAnswer.Fault (S.faults src.old) (S.faults src.new) result }
         ensures known { IfErr result NamesNoLogTree }
         ensures device { IfOk result (λ o. IfSome o (λ m. m.device ≡ self.now.device)) }
-        ensures reads { IsTrue S.tells → (image : Image) → S.blocks src.old ≡ image → (items : List TreeItem) → found image self.now.ranges.items tree ≡ items → wrong image self.now.ranges.items tree ≡ [] →
-            ReadsImage self.now.ranges.items (image_at items inode (inode_item items inode)) (file_refusals self.now.ranges.items items inode (inode_item items inode)) result }
+        ensures reads { OverTold S.tells (S.blocks src.old) (λ image. (items : List TreeItem) → found image self.now.ranges.items tree ≡ items → wrong image self.now.ranges.items tree ≡ [] →
+            ReadsImage self.now.ranges.items (image_at items inode (inode_item items inode)) (file_refusals self.now.ranges.items items inode (inode_item items inode)) result) }
     {
         let ranges = self.ranges.as_slice();
         let item = match find_inode(alloc, src, tree, ranges, inode) {
@@ -213,9 +213,9 @@ impl Btrfs {
         ensures cause { HasCauseOf BtrAnswer.Fault (S.faults src.old) (S.faults src.new) result }
         ensures known { IfErr result NamesNoLogTree }
         ensures device { IfOk result (λ o. IfSome o (λ m. m.device ≡ self.now.device)) }
-        ensures reads { IsTrue S.tells → (image : Image) → S.blocks src.old ≡ image → (root : Option TreeItem) → root_item number (roots_on image self.now.sup self.now.ranges.items) ≡ root →
+        ensures reads { OverTold S.tells (S.blocks src.old) (λ image. (root : Option TreeItem) → root_item number (roots_on image self.now.sup self.now.ranges.items) ≡ root →
             HasRoots self.now.roots (roots_on image self.now.sup self.now.ranges.items) →
-            ReadsImage self.now.ranges.items (image_below image self.now.sup self.now.ranges.items number root) (refusals_below image self.now.sup self.now.ranges.items number root) result }
+            ReadsImage self.now.ranges.items (image_below image self.now.sup self.now.ranges.items number root) (refusals_below image self.now.sup self.now.ranges.items number root) result) }
     {
         let tree = match self.find_tree(number) {
             Ok(Some(tree)) => tree,
@@ -244,8 +244,8 @@ impl Btrfs {
         ensures cause { HasCauseOf BtrAnswer.Fault (S.faults src.old) (S.faults src.new) result }
         ensures known { IfErr result NamesNoLogTree }
         ensures device { IfOk result (λ o. IfSome o (λ m. m.device ≡ self.now.device)) }
-        ensures reads { IsTrue S.tells → (image : Image) → S.blocks src.old ≡ image → HasRoots self.now.roots (roots_on image self.now.sup self.now.ranges.items) →
-            ReadsImage self.now.ranges.items (saved_image image self.now.sup self.now.ranges.items) (image_refusals image self.now.sup self.now.ranges.items) result }
+        ensures reads { OverTold S.tells (S.blocks src.old) (λ image. HasRoots self.now.roots (roots_on image self.now.sup self.now.ranges.items) →
+            ReadsImage self.now.ranges.items (saved_image image self.now.sup self.now.ranges.items) (image_refusals image self.now.sup self.now.ranges.items) result) }
     {
         let tree = match self.find_tree(FILE_TREE) {
             Ok(Some(tree)) => tree,
@@ -283,8 +283,8 @@ impl Btrfs {
         ensures device { IfOk result (λ o. IfSome o (λ m. m.device ≡ S.size src.old)) }
         // A source with another number of blocks is no source of this volume.
         ensures resized { S.size src.old ≢ self.now.device → result ≡ Err (BtrAnswer.Refused (BadBtrfs 65536 SuperField)) }
-        ensures reads { IsTrue S.tells → (image : Image) → S.blocks src.old ≡ image → IsVolumeOn image self.now →
-            ReadsImage self.now.ranges.items (saved_image image self.now.sup self.now.ranges.items) (image_refusals image self.now.sup self.now.ranges.items) result }
+        ensures reads { OverTold S.tells (S.blocks src.old) (λ image. IsVolumeOn image self.now →
+            ReadsImage self.now.ranges.items (saved_image image self.now.sup self.now.ranges.items) (image_refusals image self.now.sup self.now.ranges.items) result) }
     {
         if src.len() != self.device {
             return Err(refused(65536, BtrRule::SuperField));

@@ -1,6 +1,6 @@
-ghost use Rattle.std.specs.Prelude.{◌≡◌, ◌≤◌, [], Option, if◌then◌else◌, Some, None, IsTrue, IfOk, IfErr, OnOk};
+ghost use Rattle.std.specs.Prelude.{◌≡◌, ◌≤◌, [], Option, if◌then◌else◌, Some, None, IfOk, IfErr, OnOk};
 ghost use Rattle.outside.specs.Fault.{HasCauseOf};
-ghost use Rattle.outside.specs.History.{Image};
+ghost use Rattle.outside.specs.History.{OverTold};
 ghost use Rattle.btr_node.specs.NodeSize.{IsNodeSize};
 ghost use Rattle.btr_walk.specs.Events.{TreeItem};
 ghost use Rattle.btr_walk.specs.Walks.{LieOn, found, wrong};
@@ -53,9 +53,9 @@ pub fn find_inode<S: BlockSource>(
     ensures kept { S.kept src.old src.new }
     ensures cause { HasCauseOf BtrAnswer.Fault (S.faults src.old) (S.faults src.new) result }
     ensures known { IfErr result NamesNoLogTree }
-    ensures inode { IsTrue S.tells → (image : Image) → S.blocks src.old ≡ image → IfOk result (λ o. TellsInode o (inode_item (found image ranges.now tree) number)) }
-    ensures ok { IsTrue S.tells → (image : Image) → S.blocks src.old ≡ image → OnOk result (wrong image ranges.now tree ≡ []) }
-    ensures err { IsTrue S.tells → (image : Image) → S.blocks src.old ≡ image → IfErr result (IsAmong (wrong image ranges.now tree)) }
+    ensures inode { OverTold S.tells (S.blocks src.old) (λ image. IfOk result (λ o. TellsInode o (inode_item (found image ranges.now tree) number))) }
+    ensures ok { OverTold S.tells (S.blocks src.old) (λ image. OnOk result (wrong image ranges.now tree ≡ [])) }
+    ensures err { OverTold S.tells (S.blocks src.old) (λ image. IfErr result (IsAmong (wrong image ranges.now tree))) }
 {
     let mut first = None;
     let mut walker = TreeWalker::new(alloc, tree)?;

@@ -1,6 +1,6 @@
-ghost use Rattle.std.specs.Prelude.{◌≡◌, ◌≤◌, [], Ok, Some, length, take, map, IsTrue, IfOk, IfErr, OnOk};
+ghost use Rattle.std.specs.Prelude.{◌≡◌, ◌≤◌, [], Ok, Some, length, take, map, IfOk, IfErr, OnOk};
 ghost use Rattle.outside.specs.Fault.{HasCauseOf};
-ghost use Rattle.outside.specs.History.{Image, OverTold, block_at};
+ghost use Rattle.outside.specs.History.{OverTold, block_at};
 ghost use Rattle.btr_super.specs.Rules.{super_of, NamesNoLog};
 ghost use Rattle.btr_walk.specs.Walks.{LieOn};
 ghost use Rattle.btr_reader.specs.Chunks.{range_of};
@@ -90,8 +90,8 @@ fn read_super<S: BlockSource>(src: &mut S, device: u64) -> Result<Super, BtrAnsw
     ensures cause { HasCauseOf BtrAnswer.Fault (S.faults src.old) (S.faults src.new) result }
     ensures bounds { IfOk result IsInBounds }
     ensures known { IfErr result NamesNoLogTree }
-    ensures ok { IsTrue S.tells → (image : Image) → S.blocks src.old ≡ image → IfOk result (λ s. super_on image ≡ Ok s) }
-    ensures err { IsTrue S.tells → (image : Image) → S.blocks src.old ≡ image → IfErr result (IsSuperAnswer (super_on image)) }
+    ensures ok { OverTold S.tells (S.blocks src.old) (λ image. IfOk result (λ s. super_on image ≡ Ok s)) }
+    ensures err { OverTold S.tells (S.blocks src.old) (λ image. IfErr result (IsSuperAnswer (super_on image))) }
 {
     if device <= SUPER_PLACE {
         return Err(BtrAnswer::Refused(BtrRefusal::BadBtrfs {

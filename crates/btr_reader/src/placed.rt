@@ -15,21 +15,19 @@ ghost use Rattle.btr_names.specs.Inodes.{kind_of_mode};
 ghost use Rattle.btr_names.specs.Steps.{inode_node, links_of};
 ghost use Rattle.btr_contents.specs.Contents.{wanted_inode, HasContents};
 ghost use Rattle.btr_contents.specs.declared.wanted.Wanted.{Wanted as WantedOf};
-ghost use Rattle.btr_reader.specs.Made.{IsContent, IsMemory, IsReadTree, bytes_at, made_row};
+ghost use Rattle.btr_reader.specs.Made.{IsMemory, IsReadTree, bytes_at, made_row};
+ghost use Rattle.fs_rows.specs.Content.{IsContent};
 ghost use Rattle.btr_names.specs.Refuses.{IsNoFault};
 
 use crate::refused::refused;
-use crate::row::{Spot, copy_path, inode_row, no_content, tree_row};
-use btr_contents::{Content, Contents, wanted_inode};
+use crate::row::{inode_row, tree_row};
+use btr_contents::{Contents, wanted_inode};
 use btr_keys::Inode;
-use btr_names::{Names, kind_of_mode};
-use fs_rows::{Row, Rows};
+use btr_names::{Names, ROOT, kind_of_mode};
+use fs_rows::{Content, Row, Rows, Spot, copy_path, no_content};
 use outside::{BtrAnswer, BtrRule, Memory};
 use path_list::PathTo;
 use std::alloc::Global;
-
-/// The root directory.
-const ROOT: u64 = 256;
 
 /// The row at a path, behind those of the paths before it.
 pub fn row_at(

@@ -1,25 +1,14 @@
-ghost use Rattle.std.specs.Prelude.{◌≡◌, ◌<◌, ◌/◌, ◌%◌, ◌^◌, List, [], ℕ, replicate, IfOk, if◌then◌else◌};
+ghost use Rattle.std.specs.Prelude.{◌≡◌, ◌<◌, ◌/◌, ◌%◌, ◌^◌, List, ℕ, IfOk, if◌then◌else◌};
 ghost use Rattle.fs_rows.specs.Rows.{row_of};
-ghost use Rattle.btr_names.specs.Inodes.{is_directory, is_symlink};
-ghost use Rattle.btr_reader.specs.Made.{row_by, IsContent};
-ghost use Rattle.btr_reader.specs.Rows.{has_flag, is_device, time_of, subvolume_row};
+ghost use Rattle.fs_rows.specs.Kinds.{is_device};
+ghost use Rattle.btr_reader.specs.Made.{row_by};
+ghost use Rattle.fs_rows.specs.Content.{IsContent};
+ghost use Rattle.btr_reader.specs.Rows.{has_flag, time_of, subvolume_row};
 
-use btr_contents::Content;
 use btr_keys::{Inode, Stamp};
-use fs_rows::{Kind, Name, Path, Row, Time};
+use fs_rows::{Content, Kind, Name, Path, Row, Spot, Time, copy_path};
 use outside::Memory;
 use std::alloc::Global;
-
-/// Where a row stands.
-#[derive(Drop)]
-pub struct Spot {
-    /// The path.
-    pub path: Path,
-    /// The least path of the same inode.
-    pub least: Path,
-    /// How many paths the inode has.
-    pub names: u64,
-}
 
 /// The row of an inode.
 pub fn inode_row(spot: Spot, own: &Inode, kind: Kind, content: Content) -> Row
@@ -35,14 +24,14 @@ pub fn inode_row(spot: Spot, own: &Inode, kind: Kind, content: Content) -> Row
         mtime: time_of(&own.mtime),
         ctime: time_of(&own.ctime),
         sync: has_flag(own, 5),
-        immutable: !is_symlink(kind) && has_flag(own, 6),
-        append: !is_symlink(kind) && has_flag(own, 7),
+        immutable: !kind.is_symlink() && has_flag(own, 6),
+        append: !kind.is_symlink() && has_flag(own, 7),
         nodump: has_flag(own, 8),
         noatime: has_flag(own, 9),
         major: major_of(kind, own.rdev),
         minor: minor_of(kind, own.rdev),
         least: spot.least,
-        names: names_of(kind, spot.names),
+        names: kind.told_names(spot.names),
         length: content.length,
         mark: content.mark,
         target: content.target,
@@ -99,64 +88,16 @@ fn has_flag(own: &Inode, b: u32) -> bool
 fn major_of(kind: Kind, rdev: u64) -> u64
     ensures { result ≡ (if is_device kind then rdev / 2 ^ 20 else 0) }
 {
-    if is_device(kind) { rdev >> 20 } else { 0 }
+    if kind.is_device() { rdev >> 20 } else { 0 }
 }
 
 /// The minor number of a device.
 fn minor_of(kind: Kind, rdev: u64) -> u64
     ensures { result ≡ (if is_device kind then rdev % 2 ^ 20 else 0) }
 {
-    if is_device(kind) { rdev % (1 << 20) } else { 0 }
-}
-
-/// How many names a row tells of; none of a directory.
-fn names_of(kind: Kind, names: u64) -> u64
-    ensures { result ≡ (if is_directory kind then 0 else names) }
-{
-    match kind {
-        Kind::Directory => 0,
-        Kind::File
-        | Kind::Symlink
-        | Kind::Character
-        | Kind::Block
-        | Kind::Fifo
-        | Kind::Socket
-        | Kind::Subvolume => names,
+    if kind.is_device() {
+        rdev % (1 << 20)
+    } else {
+        0
     }
-}
-
-fn is_device(kind: Kind) -> bool
-    ensures { result ≡ is_device kind }
-{
-    matches!(kind, Kind::Character | Kind::Block)
-}
-
-fn is_symlink(kind: Kind) -> bool
-    ensures { result ≡ is_symlink kind }
-{
-    matches!(kind, Kind::Symlink)
-}
-
-/// What a row has of an inode that is neither a file nor a symlink.
-pub fn no_content(alloc: Global) -> Result<Content, Memory>
-    ensures length { IfOk result (λ content. content.length ≡ 0) }
-    ensures mark { IfOk result (λ content. content.mark ≡ replicate 32 0) }
-    ensures target { IfOk result (λ content. content.target ≡ []) }
-{
-    Ok(Content {
-        length: 0,
-        mark: [0; 32],
-        target: Name::new(alloc, b"")?,
-    })
-}
-
-/// A copy of a path.
-pub fn copy_path(alloc: Global, path: &Path) -> Result<Path, Memory>
-    ensures { IfOk result (λ copy. copy ≡ path.now) }
-{
-    let mut copy = Path::new(alloc);
-    for i in 0..path.len() {
-        copy.add(Name::new(alloc, path.get(i).bytes())?)?;
-    }
-    Ok(copy)
 }

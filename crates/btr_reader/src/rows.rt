@@ -1,7 +1,7 @@
-ghost use Rattle.std.specs.Prelude.{◌≡◌, ◌≢◌, ◌≤◌, ℕ, Bool, List, map, Some, Err, nat_eq, IsTrue, IfErr, IfOk};
+ghost use Rattle.std.specs.Prelude.{◌≡◌, ◌≢◌, ◌≤◌, ℕ, Bool, List, map, Some, Err, nat_eq, IfErr, IfOk};
 ghost use Rattle.std.specs.Result.{MatchResult};
 ghost use Rattle.outside.specs.Fault.{HasCauseOf};
-ghost use Rattle.outside.specs.History.{Image};
+ghost use Rattle.outside.specs.History.{Image, OverTold};
 ghost use Rattle.outside.specs.declared.refusal.BtrRefusal.TheVariants.{BadBtrfs, LogPending};
 ghost use Rattle.outside.specs.declared.rule.BtrRule.TheVariants.{SuperField};
 ghost use Rattle.btr_walk.specs.declared.map.MapRange.{MapRange as RangeOf};
@@ -27,7 +27,7 @@ use crate::placed::row_at;
 use crate::refused::refused;
 use crate::volume::Btrfs;
 use btr_contents::Contents;
-use btr_names::{Names, inode_node};
+use btr_names::{Names, ROOT, inode_node};
 use btr_walk::Tree;
 use fs_rows::Rows;
 use indexmap::IndexSet;
@@ -37,9 +37,6 @@ use std::alloc::Global;
 
 /// The number of the file tree.
 const FILE_TREE: u64 = 5;
-
-/// The root directory.
-const ROOT: u64 = 256;
 
 impl Btrfs {
     /// The rows of the file tree, number 5: one for each path, ascending. The entry of the saved image is no part of it.
@@ -54,9 +51,9 @@ impl Btrfs {
         // Over any source: a log tree first, and then another number of blocks.
         ensures logged { self.now.sup.log_root ≢ 0 → result ≡ Err (BtrAnswer.Refused (LogPending self.now.sup.log_root)) }
         ensures resized { self.now.sup.log_root ≡ 0 → S.size src.old ≢ self.now.device → result ≡ Err (BtrAnswer.Refused (BadBtrfs 65536 SuperField)) }
-        ensures rows { IsTrue S.tells → (image : Image) → S.blocks src.old ≡ image → IsVolumeOn image self.now →
+        ensures rows { OverTold S.tells (S.blocks src.old) (λ image. IsVolumeOn image self.now →
             MatchResult result (λ rows. (self.now.sup.log_root ≡ 0) × ((whole : List WholeRow) × AreBtrfsRows image self.now.sup self.now.ranges.items whole × (rows ≡ map row_of whole)))
-            (RefusesRows image self.now.sup self.now.ranges.items) }
+            (RefusesRows image self.now.sup self.now.ranges.items)) }
     {
         if self.sup.log_root != 0 {
             return Err(BtrAnswer::Refused(BtrRefusal::LogPending {
@@ -106,9 +103,9 @@ impl Btrfs {
         requires walkable { IsWalkable tree }
         ensures kept { S.kept src.old src.new }
         ensures cause { HasCauseOf BtrAnswer.Fault (S.faults src.old) (S.faults src.new) result }
-        ensures rows { IsTrue S.tells → (image : Image) → S.blocks src.old ≡ image → AreInBlocks self.now.ranges.items → HasRoots self.now.roots (roots_on image self.now.sup self.now.ranges.items) →
+        ensures rows { OverTold S.tells (S.blocks src.old) (λ image. AreInBlocks self.now.ranges.items → HasRoots self.now.roots (roots_on image self.now.sup self.now.ranges.items) →
             (i : TreeItem) (p : PointerOf) → root_item 5 (roots_on image self.now.sup self.now.ranges.items) ≡ Some i → pointer_of i.body ≡ Some p → tree ≡ tree_of self.now.sup 5 p →
-            MatchResult result (λ rows. (whole : List WholeRow) × AreBtrfsRows image self.now.sup self.now.ranges.items whole × (rows ≡ map row_of whole)) (RefusesTree image self.now.sup self.now.ranges.items) }
+            MatchResult result (λ rows. (whole : List WholeRow) × AreBtrfsRows image self.now.sup self.now.ranges.items whole × (rows ≡ map row_of whole)) (RefusesTree image self.now.sup self.now.ranges.items)) }
     {
         let ranges = self.ranges.as_slice();
         let names = Names::read(alloc, src, tree, ranges)?;

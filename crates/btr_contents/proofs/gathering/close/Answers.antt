@@ -1,6 +1,6 @@
 use Rattle.std.proofs.Common.{◌≡◌, ℕ, nat_eq, Some, OnOk, if◌then◌else◌, subst}
 use Rattle.indexmap.specs.IndexMap.{get}
-use Rattle.btr_contents.specs.declared.content.Content.{Content}
+use Rattle.fs_rows.specs.declared.content.Content.{Content}
 use Rattle.btr_contents.proofs.gathering.close.Goals as goal
 
 pub returns : goal.returns

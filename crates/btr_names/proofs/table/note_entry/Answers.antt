@@ -1,4 +1,4 @@
-use Rattle.std.proofs.Common.{List, [], ◌∷◌, ◌++◌, ap, ◌∙◌}
+use Rattle.std.proofs.Common.{[], ◌∷◌, ◌++◌, ap, ◌∙◌}
 use Rattle.btr_names.specs.declared.naming.Naming.{Naming}
 use Rattle.btr_names.proofs.table.note_entry.Goals as goal
 

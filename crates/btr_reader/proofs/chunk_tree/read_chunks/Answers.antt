@@ -11,7 +11,8 @@ use Rattle.btr_reader.specs.declared.chunk.ChunkAt.{ChunkAt}
 use Rattle.btr_reader.specs.Chunks.{items_refusals, with_items}
 use Rattle.btr_reader.specs.Opening.{IsAmong}
 use Rattle.btr_reader.proofs.Adding.{item_added, item_right, item_refused}
-use Rattle.btr_reader.proofs.Among.{blames_among, among_left, among_right, given_first}
+use Rattle.btr_reader.proofs.Among.{blames_among, among_left, among_right}
+use Rattle.btr_contents.proofs.Orders.{given_first}
 use Rattle.btr_reader.proofs.chunk_tree.read_chunks.Goals as goal
 
 -- what is wrong with the chunk tree and its items

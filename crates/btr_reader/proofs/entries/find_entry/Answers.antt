@@ -10,7 +10,8 @@ use Rattle.btr_reader.specs.Image.{first_key, entry_named, is_called, is_root_di
 use Rattle.btr_names.specs.Links.{own_naming, namings}
 use Rattle.btr_names.proofs.Seeing.{none_seen}
 use Rattle.btr_reader.specs.Opening.{IsAmong}
-use Rattle.btr_reader.proofs.Among.{blames_among, among_left, among_right, given_first}
+use Rattle.btr_reader.proofs.Among.{blames_among, among_left, among_right}
+use Rattle.btr_contents.proofs.Orders.{given_first}
 use Rattle.btr_reader.proofs.EntryItems.{entry_push, index_right}
 use Rattle.btr_reader.proofs.RootNames.{none_twice, root_refused}
 use Rattle.btr_reader.proofs.entries.find_entry.Goals as goal

@@ -10,7 +10,7 @@ use Rattle.btr_names.specs.Passes.{HasSeen}
 use Rattle.btr_reader.specs.Image.{is_root_directory}
 use Rattle.btr_reader.specs.Opening.{IsAmong}
 use Rattle.btr_reader.proofs.RootNames.{passed_over, right_entry, in_root, with_entry, refused_entry}
-use Rattle.btr_reader.proofs.entries.seek_entry.Goals.{then-key-ne-INDEX_KIND-via-then-key-ne-INDEX_KIND, then-key-ne-INDEX_KIND-via-else-key-ne-INDEX_KIND+then-key-ne-ROOT_DIRECTORY}
+use Rattle.btr_reader.proofs.entries.seek_entry.Goals.{then-key-ne-INDEX_KIND-via-then-key-ne-INDEX_KIND, then-key-ne-INDEX_KIND-via-else-key-ne-INDEX_KIND+then-key-ne-ROOT}
 use Rattle.btr_reader.proofs.entries.seek_entry.Goals as goal
 
 pub returns-then-key-ne-INDEX_KIND-clause-seen : goal.returns-then-key-ne-INDEX_KIND-clause-seen
@@ -18,9 +18,9 @@ returns-then-key-ne-INDEX_KIND-clause-seen c = λ i given key body leaf has.
     let k : Key = c.args.key.now in
     let other : ((k.kind == 96) && (k.objectid == 256)) ≡ false = elim c.then-key-ne-INDEX_KIND.branch [
       | then-key-ne-INDEX_KIND-via-then-key-ne-INDEX_KIND w ↦ let kind : (k.kind == 96) ≡ false = grind (arith, nat_tests, w.if-key-ne-INDEX_KIND.true) in ap (λ (b : Bool). b && (k.objectid == 256)) kind
-      | then-key-ne-INDEX_KIND-via-else-key-ne-INDEX_KIND+then-key-ne-ROOT_DIRECTORY w ↦
+      | then-key-ne-INDEX_KIND-via-else-key-ne-INDEX_KIND+then-key-ne-ROOT w ↦
           let kind : (k.kind == 96) ≡ true = grind (arith, nat_tests, w.if-key-ne-INDEX_KIND.false) in
-          let dir : (k.objectid == 256) ≡ false = grind (arith, nat_tests, w.if-key-ne-ROOT_DIRECTORY.true) in
+          let dir : (k.objectid == 256) ≡ false = grind (arith, nat_tests, w.if-key-ne-ROOT.true) in
           ap (λ (b : Bool). b && (k.objectid == 256)) kind ∙ dir
     ] in
     passed_over c.args.seen.now given i (ap (λ (q : Key). (q.kind == 96) && (q.objectid == 256)) key ∙ other) has
@@ -31,7 +31,7 @@ returns-in_err-see_entry-clause-err c = λ i given key body leaf has.
     let e : DirEntryValue = dir_entry_value c.in-Some.entry in
     let n : Naming = c.in_ok-naming.naming in
     let kind : (k.kind == 96) ≡ true = grind (arith, nat_tests, c.if-key-ne-INDEX_KIND.false) in
-    let dir : (k.objectid == 256) ≡ true = grind (arith, nat_tests, c.if-key-ne-ROOT_DIRECTORY.false) in
+    let dir : (k.objectid == 256) ≡ true = grind (arith, nat_tests, c.if-key-ne-ROOT.false) in
     let index : is_index i ≡ true = ap (λ (q : Key). q.kind == 96) key ∙ kind in
     let root : is_root_directory i.key.objectid ≡ true = ap (λ (q : Key). q.objectid == 256) key ∙ dir in
     let is : index_entry i.body ≡ Some e = ap index_entry body ∙ (sym c.index_entry.ensures ∙ ap (option_map dir_entry_value) c.in-Some.is) in
@@ -46,7 +46,7 @@ returns-clause-seen c = λ i given key body leaf has.
     let e : DirEntryValue = dir_entry_value c.in-Some.entry in
     let n : Naming = c.in_ok-naming.naming in
     let kind : (k.kind == 96) ≡ true = grind (arith, nat_tests, c.if-key-ne-INDEX_KIND.false) in
-    let dir : (k.objectid == 256) ≡ true = grind (arith, nat_tests, c.if-key-ne-ROOT_DIRECTORY.false) in
+    let dir : (k.objectid == 256) ≡ true = grind (arith, nat_tests, c.if-key-ne-ROOT.false) in
     let index : is_index i ≡ true = ap (λ (q : Key). q.kind == 96) key ∙ kind in
     let root : is_root_directory i.key.objectid ≡ true = ap (λ (q : Key). q.objectid == 256) key ∙ dir in
     let is : index_entry i.body ≡ Some e = ap index_entry body ∙ (sym c.index_entry.ensures ∙ ap (option_map dir_entry_value) c.in-Some.is) in
@@ -60,7 +60,7 @@ returns-clause-ok c = λ i key body leaf.
     let e : DirEntryValue = dir_entry_value c.in-Some.entry in
     let n : Naming = c.in_ok-naming.naming in
     let kind : (k.kind == 96) ≡ true = grind (arith, nat_tests, c.if-key-ne-INDEX_KIND.false) in
-    let dir : (k.objectid == 256) ≡ true = grind (arith, nat_tests, c.if-key-ne-ROOT_DIRECTORY.false) in
+    let dir : (k.objectid == 256) ≡ true = grind (arith, nat_tests, c.if-key-ne-ROOT.false) in
     let index : is_index i ≡ true = ap (λ (q : Key). q.kind == 96) key ∙ kind in
     let root : is_root_directory i.key.objectid ≡ true = ap (λ (q : Key). q.objectid == 256) key ∙ dir in
     let is : index_entry i.body ≡ Some e = ap index_entry body ∙ (sym c.index_entry.ensures ∙ ap (option_map dir_entry_value) c.in-Some.is) in

@@ -9,7 +9,8 @@ use Rattle.btr_walk.specs.Walks.{Blames, found, wrong}
 use Rattle.btr_files.specs.Extents.{extents_of, extents_refusals}
 use Rattle.btr_reader.specs.Opening.{IsAmong}
 use Rattle.btr_reader.specs.Pieces.{Gathers}
-use Rattle.btr_reader.proofs.Among.{blames_among, among_left, among_right, given_first}
+use Rattle.btr_reader.proofs.Among.{blames_among, among_left, among_right}
+use Rattle.btr_contents.proofs.Orders.{given_first}
 use Rattle.btr_reader.proofs.OneExtent.{extents_first}
 use Rattle.btr_reader.proofs.gather.gather_extents.Goals as goal
 

@@ -1,5 +1,5 @@
 use Rattle.std.proofs.Common.{◌≡◌, IfOk, sym, subst}
-use Rattle.btr_contents.specs.declared.content.Content.{Content}
+use Rattle.fs_rows.specs.declared.content.Content.{Content}
 use Rattle.btr_contents.specs.Contents.{TellsContent}
 use Rattle.btr_contents.proofs.contents.Contents.content.Goals as goal
 

@@ -1,4 +1,4 @@
-use Rattle.std.proofs.Common.{ℕ, Option, nat_eq, Some, subst}
+use Rattle.std.proofs.Common.{Option, nat_eq, subst}
 use Rattle.indexmap.specs.IndexMap.{get}
 use Rattle.btr_contents.specs.declared.hand.Hand.{Hand}
 use Rattle.btr_contents.specs.Gathering.{HasGathered}

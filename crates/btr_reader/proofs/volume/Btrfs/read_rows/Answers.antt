@@ -9,7 +9,7 @@ use Rattle.btr_walk.specs.Walks.{LieOn, found, wrong}
 use Rattle.btr_files.specs.Blocks.{AreInBlocks}
 use Rattle.btr_names.specs.Roots.{has_root}
 use Rattle.btr_names.specs.Table.{HasNoted}
-use Rattle.btr_contents.specs.declared.content.Content.{Content}
+use Rattle.fs_rows.specs.declared.content.Content.{Content}
 use Rattle.btr_contents.specs.Contents.{wanted_at, HasContents}
 use Rattle.btr_reader.specs.Made.{IsChecked, RefusesChecked, RefusesTree}
 use Rattle.btr_reader.specs.Opening.{tree_of}
