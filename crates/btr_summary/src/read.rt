@@ -58,14 +58,8 @@ impl Summary {
         ensures complete { OverTold S.tells (S.blocks src.old) (λ image. block.now.bytes ≡ block_at image 16 → IsReadable image SavedImage
             → S.faults src.new ≡ S.faults src.old → S.faults src.old < 2 ^ 64 - 1 → IfErr result (λ e. e ≡ BtrAnswer.Memory)) }
     {
-        let volume = match Btrfs::open_by(alloc, src, block) {
-            Ok(volume) => volume,
-            Err(e) => return Err(e),
-        };
-        let map = match volume.image_map(alloc, src) {
-            Ok(map) => map,
-            Err(e) => return Err(e),
-        };
+        let volume = Btrfs::open_by(alloc, src, block)?;
+        let map = volume.image_map(alloc, src)?;
         Ok(summary_with(volume.sup(), length_of(&map)))
     }
 }
