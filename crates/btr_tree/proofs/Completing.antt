@@ -8,7 +8,7 @@ use Rattle.btr_node.specs.NodeSize.{IsNodeSize}
 use Rattle.btr_node.specs.declared.child.Child.{Child}
 use Rattle.btr_walk.specs.Laws.{LeavesGiveItems, SubtreesAreTrees}
 use Rattle.btr_tree.specs.Building.{Made, AreSlots, begun_at, with_node, ReadsBack}
-use Rattle.btr_tree.specs.Builder.{Building, pushed, leaf_closed, IsInHand, IsNextSlot, Stands}
+use Rattle.btr_tree.specs.Builder.{Building, pushed, leaf_closed, IsInHand, IsNextSlot, Standing}
 use Rattle.btr_tree.specs.Counting.{tree_nodes, nodes_above}
 use Rattle.btr_tree.specs.Packing.{capacity, leaves, tree_levels}
 use Rattle.btr_tree.specs.Roots.{IsForest, IsClimbed, IsCompleted, IsRoot, HasNodes, lengths_of}
@@ -17,7 +17,7 @@ use Rattle.btr_tree.proofs.Climbing.{extended_then}
 use Rattle.btr_tree.proofs.Leaves.{leaf_roots, leaves_first, empty_met, leaf_count, packed_count, packed_same, empty_nodes, empty_root, extended_node}
 use Rattle.btr_tree.proofs.Standing.{next_is}
 
-module _ (law : LeavesGiveItems) (b : Building) (child : Child) (so_far : Stands b) (hand : IsInHand b child) (read : ReadsBack b.made.draft (node_bytes b.made.draft)) where
+module _ (law : LeavesGiveItems) (b : Building) (child : Child) (so_far : Standing b) (hand : IsInHand b child) (read : ReadsBack b.made.draft (node_bytes b.made.draft)) where
   abbrev closed : Building
   closed = leaf_closed b child
 

@@ -21,7 +21,7 @@ use Rattle.btr_walk.specs.Node.{want, child_pointer}
 use Rattle.btr_walk.specs.declared.tree.Form.{Form}
 use Rattle.btr_walk.specs.declared.tree.Pointer.{Pointer}
 use Rattle.btr_tree.specs.Building.{Made, AreSlots, slot, pointer_to, begun_at, with_node, ReadsBack}
-use Rattle.btr_tree.specs.Builder.{Building, pushed, first_key, child_of, children_of, IsInHand, IsNextSlot, Stands, item_size}
+use Rattle.btr_tree.specs.Builder.{Building, pushed, first_key, child_of, children_of, IsInHand, IsNextSlot, Standing, item_size}
 use Rattle.btr_tree.specs.Counting.{tree_nodes}
 use Rattle.btr_tree.specs.Packing.{packed_from, packed, weight, capacity, level_sizes, leaves, tree_levels}
 use Rattle.btr_tree.specs.Roots.{HasRoots, IsExtended, IsRoot, HasNodes, AreFirst, nodes_below, pointers_to, level_pointers, lengths_of}
@@ -92,7 +92,7 @@ first_met image form owner generation bare (a ∷ slots) (l ∷ lists) few =
     ∙ ap (λ ps. pointer_to generation 0 a ∷ ps) (first_met image form owner generation bare slots lists (omega arith))
 
 -- once the last leaf is made
-module _ (law : LeavesGiveItems) (b : Building) (child : Child) (so_far : Stands b) (hand : IsInHand b child) (read : ReadsBack b.made.draft (node_bytes b.made.draft)) where
+module _ (law : LeavesGiveItems) (b : Building) (child : Child) (so_far : Standing b) (hand : IsInHand b child) (read : ReadsBack b.made.draft (node_bytes b.made.draft)) where
   abbrev m : Made
   m = with_node b.made (node_bytes b.made.draft)
 

@@ -1,5 +1,5 @@
 -- A tree by two maps that agree on its nodes.
-use Rattle.std.proofs.Common.{◌≡◌, ℕ, zero, suc, ◌+◌, ◌-◌, ◌*◌, ◌/◌, ◌%◌, ◌^◌, ◌<◌, ◌≤◌, leb, ltb, eqb, Bool, true, ◌&&◌, List, [], ◌∷◌, ◌++◌, if◌then◌else◌, map, Some, None, Option, refl, sym, ◌∙◌, ap, subst, arith}
+use Rattle.std.proofs.Common.{◌≡◌, ℕ, zero, suc, ◌+◌, ◌-◌, ◌*◌, ◌/◌, ◌%◌, ◌^◌, ◌<◌, leb, ltb, eqb, Bool, true, ◌&&◌, List, [], ◌∷◌, ◌++◌, if◌then◌else◌, map, Some, None, Option, refl, sym, ◌∙◌, ap, subst, arith}
 use Rattle.std.specs.Prelude.{is_some}
 use Rattle.std.specs.List.{All, flat_map}
 use Rattle.std.proofs.lemmas.Bool.{and_from, le-leb, lt-ltb}
@@ -17,10 +17,10 @@ use Rattle.btr_walk.specs.declared.map.MapRange.{MapRange}
 use Rattle.btr_walk.specs.Map.{place, holds, identity, are_mapped, is_mapped, block_of_place, blocks_at, node_at}
 use Rattle.btr_walk.specs.Node.{want, content_damages, node_damages}
 use Rattle.btr_walk.specs.Events.{Event, node, leaf_events, unless_damaged, node_events, nodes_in, tree_events, may_be_bare, items_in_events}
-use Rattle.btr_walk.specs.Tree.{pointer_damages, at_address, node_faults, order_damages, when_sound, bare_item, tree_items}
+use Rattle.btr_walk.specs.Tree.{pointer_damages, at_address, node_faults, order_damages, when_sound, bare_item}
 use Rattle.btr_walk.proofs.Events.{nodes_in-append}
 use Rattle.btr_walk.proofs.Subtrees.{to}
-use Rattle.btr_tree.specs.Laws.{GivesItself, IsSameBy, MapsAgree}
+use Rattle.btr_tree.specs.Laws.{GivesItself, MapsAgree}
 
 all_first : {X : Type 0} (P : X → Type 0) (xs ys : List X) → All P (xs ++ ys) → All P xs
 all_first P [] ys all = All-nil P

@@ -1,10 +1,10 @@
 -- The nodes that a walk meets.
-use Rattle.std.proofs.Common.{◌≡◌, ℕ, zero, suc, ◌+◌, ◌<◌, ◌≤◌, eqb, Bool, List, [], ◌∷◌, ◌++◌, length, map, take, drop, refl, sym, ◌∙◌, ap, subst, arith, append_assoc}
+use Rattle.std.proofs.Common.{◌≡◌, ℕ, suc, ◌+◌, Bool, List, [], ◌∷◌, ◌++◌, length, map, refl, sym, ◌∙◌, ap, subst, arith, append_assoc}
 use Rattle.std.specs.List.{flat_map, sum}
 use Rattle.std.specs.List.Sorted.{IsPermutation}
 use Rattle.std.proofs.lemmas.List.{append-nil, map-append}
 use Rattle.std.proofs.lemmas.List.Concat.{flat_map-append}
-use Rattle.std.proofs.lemmas.List.Sorted.{IsPermutation-refl, IsPermutation-trans, IsPermutation-append_left, IsPermutation-append_right, IsPermutation-append_comm}
+use Rattle.std.proofs.lemmas.List.Sorted.{IsPermutation-append_left, IsPermutation-append_right, IsPermutation-append_comm}
 use Rattle.std.proofs.lemmas.List.Sums.{sum_by-cons}
 use Rattle.outside.specs.History.{Image}
 use Rattle.outside.specs.declared.refusal.BtrRefusal.{BtrRefusal}
@@ -17,7 +17,7 @@ use Rattle.btr_walk.specs.declared.tree.Pointer.{Pointer}
 use Rattle.btr_walk.specs.Map.{identity, node_at}
 use Rattle.btr_walk.specs.Node.{child_pointer, node_damages}
 use Rattle.btr_walk.specs.Events.{Event, leaf_events, unless_damaged, node_events, nodes_in, pointer_events}
-use Rattle.btr_walk.specs.Tree.{at_address, pointer_damages}
+use Rattle.btr_walk.specs.Tree.{at_address}
 use Rattle.btr_walk.specs.Laws.{IsSubtree}
 use Rattle.btr_walk.proofs.Events.{nodes_in-append, leaf_nodes}
 use Rattle.btr_tree.specs.Building.{Made, pointer_to}

@@ -1,16 +1,17 @@
 -- Nodes on a disk.
-use Rattle.std.proofs.Common.{◌≡◌, ◌≢◌, ℕ, zero, suc, ◌+◌, ◌-◌, ◌*◌, ◌/◌, ◌%◌, ◌^◌, ◌<◌, ◌≤◌, leb, ltb, true, List, [], ◌++◌, length, take, drop, set, get_or, Some, refl, sym, ◌∙◌, ap, subst, arith, ⊎_elim, get_or-set_same, get_or-set_other}
+use Rattle.std.proofs.Common.{◌≡◌, ◌≢◌, ℕ, zero, suc, ◌+◌, ◌-◌, ◌*◌, ◌/◌, ◌%◌, ◌^◌, ◌<◌, ◌≤◌, leb, ltb, true, List, [], ◌∷◌, ◌++◌, length, take, drop, set, get_or, Some, refl, sym, ◌∙◌, ap, subst, arith, ⊎_elim, get_or-set_same, get_or-set_other}
 use Rattle.std.proofs.Math.Nat.{mul-suc}
 use Rattle.std.proofs.lemmas.Bool.{cases_eq, and_from, le-leb, lt-ltb}
 use Rattle.std.proofs.lemmas.List.{take-append-drop, drop-drop, nil_from_length, length-drop}
-use Rattle.std.specs.List.{slice_get}
+use Rattle.std.specs.List.{All, slice_get}
+use Rattle.std.proofs.lemmas.List.Elements.{All-head, All-tail}
 use Rattle.std.proofs.lemmas.Nat.{mul-le}
 use Rattle.std.proofs.lemmas.List.{length-take, get_or-take}
 use Rattle.std.proofs.lemmas.Option.{get_or_from_slice_get, slice_get_within}
 use Rattle.outside.specs.History.{Image, block_at}
 use Rattle.btr_node.specs.NodeSize.{IsNodeSize}
 use Rattle.btr_walk.specs.Map.{place, holds, identity, block_of_place, blocks_at, node_at}
-use Rattle.btr_tree.specs.Building.{pieces_of, AreSlots, slot}
+use Rattle.btr_tree.specs.Building.{pieces_of, AreSlots, slot, nodes_on}
 use Rattle.btr_tree.specs.Writing.{IsInNode, IsInSlots, HoldBytes}
 
 -- one block more holds its bytes
@@ -157,3 +158,22 @@ part_long n k count bytes long inside =
 pub part_is : (n k count : ℕ) (bytes : List ℕ) → k < count → get_or (pieces_of n count bytes) k [] ≡ node_part n k bytes
 part_is n k count bytes inside =
     let size : n ≡ n * k + n - n * k = omega arith in pieces_of-at n count k bytes inside ∙ ap (λ (s : ℕ). take s (drop (n * k) bytes)) size
+
+-- A node depends on its own blocks alone.
+node_same : (image other : Image) (n a : ℕ) → IsNodeSize n → a % n ≡ 0 → a < 2 ^ 64 → ((b : ℕ) → IsInNode n a b → block_at other b ≡ block_at image b) → node_at other identity n a ≡ node_at image identity n a
+unfolding node_at
+node_same image other n a size aligned small same =
+    let there : IsPlaced n a = placed n a size aligned small in blocks_same (n / 4096) a image other there.within (λ j h. same (a / 4096 + j) (omega arith, omega arith))
+
+-- So do the nodes at the first slots.
+pub nodes_same : (image other : Image) (size n : ℕ) (slots : List ℕ) → IsNodeSize size → All (λ a. a % size ≡ 0) slots → All (λ a. a < 2 ^ 64) slots
+    → ((b : ℕ) → IsInSlots size (take n slots) b → block_at other b ≡ block_at image b) → nodes_on other size slots n ≡ nodes_on image size slots n
+nodes_same image other size zero slots right aligned small same = refl
+nodes_same image other size (suc n) [] right aligned small same = refl
+nodes_same image other size (suc n) (a ∷ slots) right aligned small same =
+    let here : node_at other identity size a ≡ node_at image identity size a =
+    node_same image other size a right (All-head (λ b. b % size ≡ 0) a slots aligned) (All-head (λ b. b < 2 ^ 64) a slots small) (λ b inside. same b (0, a, omega arith, refl, inside)) in
+    let rest : nodes_on other size slots n ≡ nodes_on image size slots n =
+    nodes_same image other size n slots right (All-tail (λ b. b % size ≡ 0) a slots aligned) (All-tail (λ b. b < 2 ^ 64) a slots small)
+    (λ b found. same b (suc found.0, found.1, omega (arith, found.2), found.3, found.4)) in
+    ap (λ x. x ∷ nodes_on other size slots n) here ∙ ap (λ xs. node_at image identity size a ∷ xs) rest

@@ -1,5 +1,5 @@
 -- What holds of a builder, one item on.
-use Rattle.std.proofs.Common.{◌≡◌, ℕ, ◌+◌, ◌<◌, ◌≤◌, false, List, [], ◌∷◌, ◌++◌, length, map, get_or, Some, None, refl, sym, ◌∙◌, ap, subst, arith, append_assoc, ⊎_elim}
+use Rattle.std.proofs.Common.{◌≡◌, ℕ, ◌+◌, ◌<◌, ◌≤◌, false, List, [], ◌∷◌, ◌++◌, length, map, get_or, Bool, Option, Some, None, refl, sym, ◌∙◌, ap, subst, arith, append_assoc, ⊎_elim}
 use Rattle.std.specs.Prelude.{All, MatchOption}
 use Rattle.std.specs.List.{flat_map, sum_by}
 use Rattle.std.proofs.lemmas.Bool.{cases_lt}
@@ -16,8 +16,8 @@ use Rattle.btr_node.specs.Order.{Ascends, ascends}
 use Rattle.btr_node.specs.declared.child.Child.{Child}
 use Rattle.btr_node.specs.declared.expect.Expect.{Expect}
 use Rattle.btr_node.proofs.Ascending.{second_ascends}
-use Rattle.btr_tree.specs.Building.{Made, AreSlots, slot, expected_at, with_node, with_item, ReadsBack, IsFresh}
-use Rattle.btr_tree.specs.Builder.{Building, pushed, first_key, child_of, children_of, leaf_closed, leaf_begun, IsNextSlot, item_size, IsInHand, IsIdle, Stands, leaves_of}
+use Rattle.btr_tree.specs.Building.{Made, whole, AreSlots, slot, expected_at, with_node, with_item, ReadsBack, IsFresh}
+use Rattle.btr_tree.specs.Builder.{Building, pushed, first_key, child_of, children_of, leaf_closed, leaf_begun, IsNextSlot, item_size, IsInHand, IsIdle, Standing, leaves_of}
 use Rattle.btr_tree.specs.Packing.{capacity, packed}
 use Rattle.btr_tree.proofs.Groups.{packed-fits, packed-none, one_more_fits, one_more_next, ends_in}
 
@@ -51,8 +51,8 @@ pub next_is : (m : Made) (a : ℕ) → IsNextSlot m a → (slot m.slots (length 
 next_is m a h = (get_or_from_slice_get m.slots (length m.nodes) a 0 h, slice_get_within m.slots (length m.nodes) a h)
 
 -- a first leaf is begun
-pub stands_first : (b : Building) (a : ℕ) (key : Key) (body : List ℕ) → Stands b → IsIdle b → IsNextSlot b.made a
-    → Ascends (keys_of (pushed b ++ (key, body) ∷ [])) → length body + 126 ≤ b.made.form.nodesize → Stands (leaf_begun b a key body)
+pub stands_first : (b : Building) (a : ℕ) (key : Key) (body : List ℕ) → Standing b → IsIdle b → IsNextSlot b.made a
+    → Ascends (keys_of (pushed b ++ (key, body) ∷ [])) → length body + 126 ≤ b.made.form.nodesize → Standing (leaf_begun b a key body)
 stands_first b a key body so_far idle at order small =
     let next = next_is b.made a at in
     let new : Building = leaf_begun b a key body in
@@ -80,7 +80,7 @@ stands_first b a key body so_far idle at order small =
     }
 
 -- the leaf in hand is made
-module _ (b : Building) (child : Child) (so_far : Stands b) (hand : IsInHand b child) (read : ReadsBack b.made.draft (node_bytes b.made.draft)) where
+module _ (b : Building) (child : Child) (so_far : Standing b) (hand : IsInHand b child) (read : ReadsBack b.made.draft (node_bytes b.made.draft)) where
   abbrev pub bytes : List ℕ
   bytes = node_bytes b.made.draft
 
@@ -120,7 +120,7 @@ module _ (b : Building) (child : Child) (so_far : Stands b) (hand : IsInHand b c
 
   -- and the next one is begun
   pub stands_next : (a : ℕ) (key : Key) (body : List ℕ) → IsNextSlot (with_node b.made bytes) a → Ascends (keys_of (pushed b ++ (key, body) ∷ []))
-      → room b.made.draft < 25 + length body → Stands (leaf_begun (leaf_closed b child) a key body)
+      → room b.made.draft < 25 + length body → Standing (leaf_begun (leaf_closed b child) a key body)
   stands_next a key body at order full =
       let next = next_is (with_node b.made bytes) a at in
       let new : Building = leaf_begun (leaf_closed b child) a key body in
@@ -148,7 +148,7 @@ module _ (b : Building) (child : Child) (so_far : Stands b) (hand : IsInHand b c
         order = ap (λ items. ascends (keys_of items)) here ∙ order;
       }
 
-pub leaves_next : (b : Building) (key : Key) (body : List ℕ) → Stands b → b.made.draft.children ≡ [] → b.made.draft.nodesize ≡ b.made.form.nodesize → room b.made.draft < 25 + length body
+pub leaves_next : (b : Building) (key : Key) (body : List ℕ) → Standing b → b.made.draft.children ≡ [] → b.made.draft.nodesize ≡ b.made.form.nodesize → room b.made.draft < 25 + length body
     → leaves_of b.made.form.nodesize (pushed b ++ (key, body) ∷ []) ≡ length b.made.nodes + 2
 leaves_next b key body so_far no_children size full =
     let done : List (List Item) = map items_in b.made.nodes in
@@ -164,8 +164,8 @@ first_same [] item some = absurd (omega arith)
 first_same (i ∷ items) item some = refl
 
 -- an item goes into the leaf in hand
-pub stands_fits : (b : Building) (child : Child) (key : Key) (body : List ℕ) → Stands b → IsInHand b child → b.hand ≡ Some child → Ascends (keys_of (pushed b ++ (key, body) ∷ []))
-    → 25 + length body ≤ room b.made.draft → Stands (record b { made = with_item b.made key body })
+pub stands_fits : (b : Building) (child : Child) (key : Key) (body : List ℕ) → Standing b → IsInHand b child → b.hand ≡ Some child → Ascends (keys_of (pushed b ++ (key, body) ∷ []))
+    → 25 + length body ≤ room b.made.draft → Standing (record b { made = with_item b.made key body })
 stands_fits b child key body so_far hand is order fits =
     let items : List Item = b.made.draft.items in
     let new : Building = record b { made = with_item b.made key body } in
@@ -196,7 +196,7 @@ stands_fits b child key body so_far hand is order fits =
 
 -- nothing was pushed
 pub stands_new : (m : Made) (form : Form) (owner generation : ℕ) (chunk_tree slots : List ℕ) → IsNodeSize form.nodesize → AreSlots form.nodesize slots
-    → IsFresh form owner generation chunk_tree slots m → Stands (record { made = m; children = []; hand = None; spent = false; done = false })
+    → IsFresh form owner generation chunk_tree slots m → Standing (record { made = m; children = []; hand = None; spent = false; done = false })
 stands_new m form owner generation chunk_tree slots size right fresh = record {
   nodesize = subst (λ (f : Form). IsNodeSize f.nodesize) (sym fresh.form_is) size;
   slots = subst (λ (f : Form). AreSlots f.nodesize m.slots) (sym fresh.form_is) (subst (AreSlots form.nodesize) (sym fresh.slots_are) right);
@@ -212,3 +212,44 @@ stands_new m form owner generation chunk_tree slots size right fresh = record {
     none : (slots : List ℕ) → children_of m.generation slots [] ≡ []
     none [] = refl
     none (a ∷ slots) = refl
+
+-- the same with no node in place of those that were written
+pub fresh_whole : (m : Made) (form : Form) (owner generation : ℕ) (chunk_tree slots : List ℕ) (front : List (List ℕ)) → front ≡ [] → IsFresh form owner generation chunk_tree slots m
+    → IsFresh form owner generation chunk_tree slots (whole m front)
+fresh_whole m form owner generation chunk_tree slots front none fresh = record {
+  form_is = fresh.form_is;
+  owner_is = fresh.owner_is;
+  generation_is = fresh.generation_is;
+  chunk_tree_is = fresh.chunk_tree_is;
+  slots_are = fresh.slots_are;
+  none_written = refl;
+  no_nodes = ap (λ ns. ns ++ m.nodes) none ∙ fresh.no_nodes;
+  idle = fresh.idle;
+  no_items = fresh.no_items;
+}
+
+-- that a call answered an error, or that the tree is finished, is nothing of it
+pub standing_spent : (b : Building) (spent done : Bool) → Standing b → Standing (record b { spent = spent; done = done })
+standing_spent b spent done s = record {
+  nodesize = s.nodesize;
+  slots = s.slots;
+  few = s.few;
+  hand = by_hand b.hand s.hand;
+  leaves = s.leaves;
+  full = s.full;
+  children = s.children;
+  packing = s.packing;
+  order = s.order;
+}
+  where
+    by_hand : (hand : Option Child) → MatchOption hand (IsIdle b) (IsInHand b) → MatchOption hand (IsIdle (record b { spent = spent; done = done })) (IsInHand (record b { spent = spent; done = done }))
+    by_hand None idle = record { no_nodes = idle.no_nodes; no_items = idle.no_items }
+    by_hand (Some child) hand = record {
+      started = hand.started;
+      want_is = hand.want_is;
+      size = hand.size;
+      no_children = hand.no_children;
+      slot_left = hand.slot_left;
+      some = hand.some;
+      child_is = hand.child_is;
+    }

@@ -11,7 +11,7 @@ use Rattle.btr_node.specs.Order.{Ascends}
 use Rattle.btr_node.specs.declared.child.Child.{Child}
 use Rattle.btr_walk.specs.Map.{identity}
 use Rattle.btr_walk.specs.Tree.{tree_items}
-use Rattle.btr_tree.specs.Building.{Made, AreSlots, slot, pointer_to, expected_at, begun_at, with_node, with_item}
+use Rattle.btr_tree.specs.Building.{Made, AreSlots, slot, taken, whole, nodes_on, pointer_to, expected_at, begun_at, with_node, with_item}
 use Rattle.btr_tree.specs.Packing.{capacity, packed}
 
 -- the nodes, and of the level that is being made the children that its nodes are for the level above
@@ -60,6 +60,10 @@ leaf_begun b address key body =
 abbrev pub IsNextSlot : Made → ℕ → Type 0
 IsNextSlot m address = slice_get m.slots (length m.nodes) ≡ Some address
 
+-- the slot that is taken next
+abbrev pub IsNextTaken : Made → ℕ → Type 0
+IsNextTaken m address = slice_get m.slots (taken m) ≡ Some address
+
 -- the bytes that an item takes in a leaf
 abbrev pub item_size : Item → ℕ
 item_size item = 25 + length item.1
@@ -79,9 +83,9 @@ pub record IsIdle (b : Building) : Type 0 where
   pub no_nodes : b.made.nodes ≡ []
   pub no_items : b.made.draft.items ≡ []
 
--- What holds of a builder after each push: each leaf that was made is on the grammar of its slot, the children are those
+-- What holds of all that was made after each push: each leaf that was made is on the grammar of its slot, the children are those
 -- of the leaves, the leaves and the one in hand are those that packing the items in order gives, and keys ascend over all.
-pub record Stands (b : Building) : Type 0 where
+pub record Standing (b : Building) : Type 0 where
   pub nodesize : IsNodeSize b.made.form.nodesize
   pub slots : AreSlots b.made.form.nodesize b.made.slots
   pub few : length b.made.nodes ≤ length b.made.slots
@@ -91,6 +95,44 @@ pub record Stands (b : Building) : Type 0 where
   pub children : b.children ≡ children_of b.made.generation b.made.slots (map items_in b.made.nodes)
   pub packing : packed item_size (capacity b.made.form.nodesize) (pushed b) ≡ map items_in b.made.nodes ++ b.made.draft.items ∷ []
   pub order : Ascends (keys_of (pushed b))
+
+-- all that was made, where the nodes that were written are these
+abbrev pub all_made : Building → List (List ℕ) → Building
+all_made b front = record b { made = whole b.made front }
+
+-- The builder holds the last of these items, and the first ones are in nodes that were written.
+pub record Holds (b : Building) (items : List Item) : Type 0 where
+  pub front : List (List ℕ)
+  pub count : length front ≡ b.made.written
+  pub standing : Standing (all_made b front)
+  pub pushed_is : pushed (all_made b front) ≡ items
+
+-- The builder is ready for the next item, whatever a disk tells.
+abbrev pub IsReady : Building → Type 0
+IsReady b = (items : List Item) × Holds b items
+
+-- the nodes that were written, as a disk has them
+abbrev pub told_nodes : Building → Image → List (List ℕ)
+told_nodes b image = nodes_on image b.made.form.nodesize b.made.slots b.made.written
+
+-- The items that were pushed: those in the nodes that were written, as the disk has them, and those that the builder holds.
+-- No block is read but those of the slots of these nodes.
+abbrev pub pushed_on : Building → Image → List Item
+pushed_on b image = pushed (all_made b (told_nodes b image))
+
+-- The builder stands, with the nodes that were written as the disk has them.
+abbrev pub Stands : Building → Image → Type 0
+Stands b image = Standing (all_made b (told_nodes b image))
+
+-- an item was put behind those that were pushed
+pub record IsPushed (old new : Building) (item : Item) : Type 0 where
+  pub standing : Standing new
+  pub pushed_is : pushed new ≡ pushed old ++ item ∷ []
+
+-- The item was put, and no node was written.
+pub record HasPut (old new : Building) (item : Item) : Type 0 where
+  pub same_written : new.made.written ≡ old.made.written
+  pub put : (front : List (List ℕ)) → length front ≡ old.made.written → Standing (all_made old front) → IsPushed (all_made old front) (all_made new front) item
 
 -- the tree and its slots stay
 pub record IsSameTree (old new : Building) : Type 0 where

@@ -1,5 +1,5 @@
 -- A tree that is being written: the nodes that were made, and the one in hand.
-use Rattle.std.specs.Prelude.{◌≡◌, ◌≢◌, ℕ, zero, suc, ◌*◌, ◌%◌, ◌^◌, ◌≤◌, ◌<◌, false, List, [], ◌∷◌, ◌++◌, length, take, drop, slice_index_or, Some}
+use Rattle.std.specs.Prelude.{◌≡◌, ◌≢◌, ℕ, zero, suc, ◌+◌, ◌*◌, ◌%◌, ◌^◌, ◌≤◌, ◌<◌, false, List, [], ◌∷◌, ◌++◌, length, map, take, drop, slice_index_or, Some, Bool, IsTrue}
 use Rattle.std.specs.List.{slice_get}
 use Rattle.std.specs.List.{All, AllPairs}
 use Rattle.outside.specs.History.{Image}
@@ -20,7 +20,8 @@ abbrev pub pieces_of : ℕ → ℕ → List ℕ → List (List ℕ)
 pieces_of size zero bytes = []
 pieces_of size (suc n) bytes = take size bytes ∷ pieces_of size n (drop size bytes)
 
--- What is made of a tree: its nodes in the order of their slots, and the node in hand. A slot is the address of a node.
+-- What is made of a tree: its nodes in the order of their slots, and the node in hand. A slot is the address of a node. The
+-- first nodes may have been written; then those behind them are held.
 pub record Made : Type 0 where
   pub form : Form
   pub owner : ℕ
@@ -28,8 +29,24 @@ pub record Made : Type 0 where
   -- the identifier of the chunk tree
   pub chunk_tree : List ℕ
   pub slots : List ℕ
+  -- how many nodes were written
+  pub written : ℕ
   pub nodes : List (List ℕ)
   pub draft : Draft
+
+-- how many slots are taken
+abbrev pub taken : Made → ℕ
+taken m = m.written + length m.nodes
+
+-- all that was made, where the nodes that were written are these
+abbrev pub whole : Made → List (List ℕ) → Made
+whole m front = record m { written = 0; nodes = front ++ m.nodes }
+
+-- no slot that was taken is given back
+pub record IsLater (old new : Made) : Type 0 where
+  pub form : new.form ≡ old.form
+  pub slots : new.slots ≡ old.slots
+  pub grown : taken old ≤ taken new
 
 -- the pointer to a node that a tree of this generation has
 abbrev pub pointer_to : ℕ → ℕ → ℕ → Pointer
@@ -62,12 +79,31 @@ pub record AreSlots (nodesize : ℕ) (slots : List ℕ) : Type 0 where
 abbrev pub StandAt : Image → ℕ → List ℕ → List (List ℕ) → Type 0
 StandAt image nodesize slots nodes = (i : ℕ) → i < length nodes → node_at image identity nodesize (slot slots i) ≡ slice_index_or nodes i []
 
--- what the fields keep: a whole number of nodes, each with a slot
-pub record IsStock (nodesize writersize count : ℕ) (bytes slots : List ℕ) : Type 0 where
+-- the nodes at the first n slots, as a disk has them
+abbrev pub nodes_on : Image → ℕ → List ℕ → ℕ → List (List ℕ)
+nodes_on image nodesize slots n = map (λ a. node_at image identity nodesize a) (take n slots)
+
+-- Nodes may be written from one moment to the next. Where the nodes that were written before stand on a disk that tells, as
+-- it was, those that are written now stand on it as it is.
+pub record HasBack (tells : Bool) (before after : Image) (old new : Made) (R : Made → Made → Type 0) (front : List (List ℕ)) : Type 0 where
+  pub back : List (List ℕ)
+  pub count : length back ≡ new.written
+  pub stands : IsTrue tells → StandAt before old.form.nodesize old.slots front → StandAt after new.form.nodesize new.slots back
+  pub now : R (whole old front) (whole new back)
+
+-- this holds between all that was made before and all that is made now, whatever the nodes are that were written before
+abbrev pub Goes : Bool → Image → Image → Made → Made → (Made → Made → Type 0) → Type 0
+Goes tells before after old new R = (front : List (List ℕ)) → length front ≡ old.written → HasBack tells before after old new R front
+
+-- What the fields keep: at most 16 nodes are held, each has a slot, and there is room for 16.
+pub record IsStock (nodesize writersize written held room : ℕ) (bytes slots : List ℕ) : Type 0 where
   pub size : IsNodeSize nodesize
   pub same : writersize ≡ nodesize
-  pub whole : length bytes ≡ nodesize * count
-  pub few : count ≤ length slots
+  pub whole : length bytes ≡ nodesize * held
+  pub few : written + held ≤ length slots
+  pub small : length slots < 2 ^ 64
+  pub batch : held ≤ 16
+  pub room_is : 16 * nodesize ≤ room
 
 -- nothing is made yet
 pub record IsFresh (form : Form) (owner generation : ℕ) (chunk_tree slots : List ℕ) (m : Made) : Type 0 where
@@ -76,6 +112,7 @@ pub record IsFresh (form : Form) (owner generation : ℕ) (chunk_tree slots : Li
   pub generation_is : m.generation ≡ generation
   pub chunk_tree_is : m.chunk_tree ≡ chunk_tree
   pub slots_are : m.slots ≡ slots
+  pub none_written : m.written ≡ 0
   pub no_nodes : m.nodes ≡ []
   pub idle : m.draft.started ≡ false
   pub no_items : m.draft.items ≡ []
@@ -102,13 +139,21 @@ filled m level address children =
       draft = record (started_for m.form.nodesize (expected_at m level address) m.chunk_tree) { children = children };
     }
 
--- A node of this level was made at the next slot, with these children, and it is this child of the level above.
-pub record IsParent (old : Made) (level : ℕ) (part : List Child) (child : Child) (new : Made) : Type 0 where
+-- the nodes that are held were written
+abbrev pub flushed : Made → Made
+flushed m = record m { written = taken m; nodes = [] }
+
+-- A node of this level was made at slot n, with these children, and it is this child of the level above.
+pub record IsParentAt (n : ℕ) (old : Made) (level : ℕ) (part : List Child) (child : Child) (new : Made) : Type 0 where
   pub address : ℕ
   pub bytes : List ℕ
   pub draft : Draft
-  pub next : slice_get old.slots (length old.nodes) ≡ Some address
+  pub next : slice_get old.slots n ≡ Some address
   pub is : new ≡ record old { nodes = old.nodes ++ bytes ∷ []; draft = draft }
   pub inner : IsInner (expected_at old level address) bytes
   pub links : children_in bytes ≡ part
   pub child_is : child ≡ record { key = (slice_index_or part 0 child).key; address = address; generation = old.generation }
+
+-- the same at the next slot, where no node was written
+abbrev pub IsParent : Made → ℕ → List Child → Child → Made → Type 0
+IsParent old level part child new = IsParentAt (length old.nodes) old level part child new

@@ -1,7 +1,7 @@
 -- What packing is, and what keeps a tree that is written.
-use Rattle.std.specs.Prelude.{◌≡◌, ℕ, ◌+◌, ◌*◌, ◌/◌, ◌^◌, ◌≤◌, ◌<◌, List, [], ◌∷◌, ◌++◌, Some, length, slice_index, slice_index_or}
+use Rattle.std.specs.Prelude.{◌≡◌, ℕ, ◌+◌, ◌*◌, ◌/◌, ◌^◌, ◌≤◌, ◌<◌, List, [], ◌∷◌, ◌++◌, Some, length, take, slice_index, slice_index_or}
 use Rattle.std.specs.List.{All, concat}
-use Rattle.outside.specs.History.{Image}
+use Rattle.outside.specs.History.{Image, block_at}
 use Rattle.btr_node.specs.NodeSize.{IsNodeSize}
 use Rattle.btr_walk.specs.declared.map.MapRange.{MapRange}
 use Rattle.btr_walk.specs.declared.tree.Form.{Form}
@@ -9,8 +9,10 @@ use Rattle.btr_walk.specs.declared.tree.Pointer.{Pointer}
 use Rattle.btr_walk.specs.Events.{tree_events, nodes_in}
 use Rattle.btr_walk.specs.Map.{place, identity}
 use Rattle.btr_walk.specs.Tree.{tree_items}
+use Rattle.btr_tree.specs.Builder.{Building, Stands, pushed_on}
 use Rattle.btr_tree.specs.Counting.{bytes_of, tree_nodes}
 use Rattle.btr_tree.specs.Packing.{weight, packed}
+use Rattle.btr_tree.specs.Writing.{IsInSlots}
 
 -- The groups are the lengths in their order. Each fits, no group but the first is empty, and the first of each later group
 -- had no room in the one before it.
@@ -46,3 +48,11 @@ MapsAgree =
     (image : Image) (ranges : List MapRange) (form : Form) (root : Pointer) (owner : ℕ)
     → All (λ p. GivesItself ranges form.nodesize p.address) (nodes_in (tree_events image identity form root owner))
     → IsSameBy image ranges identity form root owner
+
+-- Whether a builder stands on a disk, and which items were pushed, depends on no block but those of the slots that were
+-- taken.
+abbrev pub StandsBySlots : Type 0
+StandsBySlots =
+    (b : Building) (image other : Image)
+    → ((n : ℕ) → IsInSlots b.made.form.nodesize (take b.made.written b.made.slots) n → block_at other n ≡ block_at image n)
+    → Stands b image → Stands b other × (pushed_on b other ≡ pushed_on b image)

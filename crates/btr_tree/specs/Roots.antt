@@ -15,8 +15,8 @@ use Rattle.btr_walk.specs.Node.{child_pointer}
 use Rattle.btr_walk.specs.Tree.{tree_items}
 use Rattle.btr_walk.specs.Events.{nodes_in, pointer_events, tree_events}
 use Rattle.btr_walk.specs.declared.tree.Pointer.{Pointer}
-use Rattle.btr_tree.specs.Building.{Made, StandAt, pointer_to}
-use Rattle.btr_tree.specs.Builder.{Building, pushed, first_key}
+use Rattle.btr_tree.specs.Building.{Made, StandAt, taken, whole, pointer_to}
+use Rattle.btr_tree.specs.Builder.{Building, pushed, first_key, IsSameTree}
 use Rattle.btr_tree.specs.Counting.{tree_nodes}
 use Rattle.btr_tree.specs.Packing.{fan_out, leaves as leaves_by, tree_levels}
 use Rattle.btr_tree.specs.declared.climb.Root.{Root}
@@ -118,3 +118,17 @@ abbrev pub MeetsNodes : Image → Made → ℕ → ℕ → List Item → Type 0
 MeetsNodes image m address level items =
     IsPermutation (nodes_in (tree_events image identity m.form (pointer_to m.generation level address) m.owner))
     (level_pointers m.generation 0 0 m.slots (tree_levels m.form.nodesize (length (leaves_by m.form.nodesize (lengths_of items)))))
+
+-- The leaves were made, which are these children, with some nodes in place of those that were written.
+pub record HasForest (m : Made) (leaves : List Child) : Type 0 where
+  pub front : List (List ℕ)
+  pub count : length front ≡ m.written
+  pub forest : IsForest (whole m front) 0 leaves
+
+-- The tree of these items was written: its nodes are as many as packing the items gives.
+pub record IsFinished (old new : Building) (root : Root) (items : List Item) : Type 0 where
+  pub same : IsSameTree old new
+  pub few : taken new.made ≤ length new.made.slots
+  pub count : taken new.made ≡ tree_nodes old.made.form.nodesize (lengths_of items)
+  pub nodes_are : root.nodes ≡ taken new.made
+  pub all_written : new.made.nodes ≡ []

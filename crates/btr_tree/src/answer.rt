@@ -26,6 +26,17 @@ impl From<DeviceFault> for TreeAnswer {
     }
 }
 
+impl From<NoMemory> for TreeAnswer {
+    ghost use Rattle.std.specs.Prelude.{◌≡◌};
+    ghost use Rattle.btr_tree.specs.declared.answer.TreeAnswer.TheVariants.{Memory};
+
+    ghost from_gives = { λ _ e. e ≡ Memory };
+
+    fn from(_: NoMemory) -> Self {
+        TreeAnswer::Memory
+    }
+}
+
 /// Why a node was not made.
 #[derive(Clone, Copy, Debug, PartialEq, Eq)]
 pub enum NodeAnswer {

@@ -1,15 +1,15 @@
-ghost use Rattle.std.specs.Prelude.{◌≡◌, ◌≤◌, ◌<◌, ◌+◌, ◌*◌, ◌↔◌, ◌++◌, ◌∷◌, [], Some, All, Err, IsErr, IsOk, ℕ, length, take, drop, true, false, IfOk, OnOk, IsTrue};
+ghost use Rattle.std.specs.Prelude.{◌≡◌, ◌≤◌, ◌<◌, ◌+◌, ◌*◌, ◌↔◌, ◌++◌, ◌∷◌, [], List, Some, All, Err, IsErr, IsOk, ℕ, length, take, drop, true, false, None, IfOk, IfSome, OnOk, IsTrue};
 ghost use Rattle.outside.specs.Fault.{HasCauseOf};
-ghost use Rattle.outside.specs.History.{reads, WritesOnly};
+ghost use Rattle.outside.specs.History.{Image, reads, WritesOnly};
 ghost use Rattle.btr_tree.specs.Writing.{IsInSlots};
 ghost use Rattle.btr_node.specs.Draft.{node_bytes};
-ghost use Rattle.btr_node.specs.Leaf.{keys_of};
+ghost use Rattle.btr_node.specs.Leaf.{Item, keys_of};
 ghost use Rattle.btr_node.specs.NodeSize.{IsNodeSize};
 ghost use Rattle.btr_node.specs.Order.{Ascends};
-ghost use Rattle.btr_tree.specs.Building.{AreSlots, IsFresh, StandAt, ReadsBack};
+ghost use Rattle.btr_tree.specs.Building.{AreSlots, IsFresh, IsLater, Goes, taken, whole, ReadsBack};
 ghost use Rattle.btr_tree.specs.Counting.{nodes_above, tree_nodes};
-ghost use Rattle.btr_tree.specs.Roots.{IsForest, IsClimbed, IsCompleted, MeetsNodes, lengths_of};
-ghost use Rattle.btr_tree.specs.Builder.{pushed, leaf_closed, leaf_begun, IsNextSlot, Stands, IsSameTree, HasTree, leaves_of};
+ghost use Rattle.btr_tree.specs.Roots.{HasForest, IsClimbed, IsCompleted, IsFinished, MeetsNodes, lengths_of};
+ghost use Rattle.btr_tree.specs.Builder.{pushed, pushed_on, Standing, Stands, Holds, IsReady, HasPut, IsPushed, all_made, leaf_closed, leaf_begun, IsNextTaken, IsSameTree, HasTree, leaves_of};
 
 use crate::answer::NodeAnswer;
 use crate::climb::{Root, climb};
@@ -29,7 +29,8 @@ use vol_block::Ids;
 const ITEM_SIZE: usize = 25;
 
 /// Writes a tree: items go into leaves in the order of their keys, each leaf as full as the next item lets it be, and the
-/// levels above are made in the end. The nodes take slots in that order.
+/// levels above are made in the end. The nodes take slots in that order. At most 16 nodes are held until they are written,
+/// and of each level one child for each node of the level below.
 #[derive(Drop)]
 pub struct TreeBuilder {
     nodes: Nodes,
@@ -65,8 +66,9 @@ impl TreeBuilder {
         requires size { IsNodeSize nodesize }
         requires slots { AreSlots nodesize slots }
         ensures fresh { IfOk result (λ b. IsFresh (record { fsid = ids.fsid; nodesize = nodesize; sums = sums }) owner generation ids.chunk_tree slots b.made) }
-        ensures stands { IfOk result Stands }
-        ensures pushed { IfOk result (λ b. pushed b ≡ []) }
+        ensures ready { IfOk result (λ b. Holds b []) }
+        ensures stands { IfOk result (λ b. (image : Image) → Stands b image) }
+        ensures pushed { IfOk result (λ b. (image : Image) → pushed_on b image ≡ []) }
         ensures open { IfOk result (λ b. b.spent ≡ false) }
         ensures begins { IfOk result (λ b. b.done ≡ false) }
     {
@@ -91,59 +93,64 @@ impl TreeBuilder {
         self.spent
     }
 
-    /// Appends an item, whose key is above those before. A body has at most 126 bytes less than a node.
+    /// Appends an item, whose key is above those before. A body has at most 126 bytes less than a node. The nodes that are held
+    /// are written before it where they are 16.
     ///
-    /// OutOfSlots comes only where the leaves of all items would be more than the slots.
+    /// OutOfSlots comes only where the leaves of all items would be more than the slots, and Ok only where they are not. At any
+    /// answer only slots that were taken may have been written.
     pub fn push<D: Disk>(&mut self, disk: &mut D, key: Key, body: &[u8]) -> Result<(), TreeAnswer>
         requires unspent { self.old.spent ≡ false }
         requires going { self.old.done ≡ false }
-        requires stands { Stands self.old }
-        requires order { Ascends (keys_of (pushed self.old ++ (key, body.now) ∷ [])) }
+        requires stands { IsTrue D.tells → Stands self.old (reads (D.history disk.old)) }
+        requires ready { IsReady self.old }
+        requires order { Ascends (keys_of self.old.made.draft.items ++ key ∷ []) }
         requires small { length body.now + 126 ≤ self.old.made.form.nodesize }
         requires open { D.opened disk.old ≡ Some Access.Write }
         requires in_range { All (λ a. a + self.old.made.form.nodesize ≤ 4096 * D.size disk.old) self.old.made.slots }
-        ensures stands { OnOk result (Stands self.new) }
-        ensures pushed { OnOk result (pushed self.new ≡ pushed self.old ++ (key, body.now) ∷ []) }
+        ensures stands { IsTrue D.tells → OnOk result (Stands self.new (reads (D.history disk.new))) }
+        ensures pushed { IsTrue D.tells → OnOk result (pushed_on self.new (reads (D.history disk.new)) ≡ pushed_on self.old (reads (D.history disk.old)) ++ (key, body.now) ∷ []) }
+        ensures holds { (items : List Item) → Holds self.old items → OnOk result (Holds self.new (items ++ (key, body.now) ∷ [])) }
         ensures same { OnOk result (IsSameTree self.old self.new) }
         ensures spent { IsTrue self.new.spent ↔ IsErr result }
         ensures going { self.new.done ≡ false }
-        ensures out { result ≡ Err TreeAnswer.OutOfSlots
-            → length self.old.made.slots < leaves_of self.old.made.form.nodesize (pushed self.old ++ (key, body.now) ∷ []) }
+        ensures out { (items : List Item) → Holds self.old items → result ≡ Err TreeAnswer.OutOfSlots
+            → length self.old.made.slots < leaves_of self.old.made.form.nodesize (items ++ (key, body.now) ∷ []) }
+        ensures fits { (items : List Item) → Holds self.old items
+            → OnOk result (leaves_of self.old.made.form.nodesize (items ++ (key, body.now) ∷ []) ≤ length self.old.made.slots) }
         ensures open { D.opened disk.new ≡ D.opened disk.old }
         ensures size { D.size disk.new ≡ D.size disk.old }
-        ensures only { IsTrue D.tells → WritesOnly (λ b _. IsInSlots self.old.made.form.nodesize self.old.made.slots b) (D.history disk.old) (D.history disk.new) }
+        ensures borrow { D.borrow disk.new ≡ D.borrow disk.old }
+        ensures only { IsTrue D.tells → WritesOnly (λ b _. IsInSlots self.old.made.form.nodesize (take (taken self.new.made) self.old.made.slots) b) (D.history disk.old) (D.history disk.new) }
         ensures cause { HasCauseOf TreeAnswer.Fault (D.faults disk.old) (D.faults disk.new) result }
     {
-        let result = self.put(key, body);
+        let result = self.push_item(disk, key, body);
         self.spent = result.is_err();
-        match result {
-            Ok(()) => Ok(()),
-            Err(e) => Err(e.into()),
-        }
+        result
     }
 
-    /// Makes the last leaf and the levels above, and writes all nodes to their slots. The root reads as the tree of the items
-    /// that were pushed.
+    /// Makes the last leaf and the levels above, and writes all nodes that were not written to their slots. The root reads as
+    /// the tree of the items that were pushed.
     ///
-    /// OutOfSlots comes only where the tree has more nodes than there are slots. At any answer only slots that were taken may
-    /// have been written.
+    /// OutOfSlots comes only where the tree has more nodes than there are slots, and Ok only where it has not. At any answer
+    /// only slots that were taken may have been written.
     pub fn finish<D: Disk>(&mut self, disk: &mut D) -> Result<Root, TreeAnswer>
         requires unspent { self.old.spent ≡ false }
         requires going { self.old.done ≡ false }
-        requires stands { Stands self.old }
+        requires stands { IsTrue D.tells → Stands self.old (reads (D.history disk.old)) }
+        requires ready { IsReady self.old }
         requires open { D.opened disk.old ≡ Some Access.Write }
         requires in_range { All (λ a. a + self.old.made.form.nodesize ≤ 4096 * D.size disk.old) self.old.made.slots }
-        ensures tree { IsTrue D.tells → IfOk result (λ root. HasTree (reads (D.history disk.new)) self.old.made root.address root.level (pushed self.old)) }
-        ensures nodes { IsTrue D.tells → IfOk result (λ root. MeetsNodes (reads (D.history disk.new)) self.old.made root.address root.level (pushed self.old)) }
-        ensures completed { IfOk result (IsCompleted self.old self.new) }
-        ensures stand { IsTrue D.tells → OnOk result (StandAt (reads (D.history disk.new)) self.new.made.form.nodesize self.new.made.slots self.new.made.nodes) }
+        ensures tree { IsTrue D.tells → IfOk result (λ root. HasTree (reads (D.history disk.new)) self.old.made root.address root.level (pushed_on self.old (reads (D.history disk.old)))) }
+        ensures nodes { IsTrue D.tells → IfOk result (λ root. MeetsNodes (reads (D.history disk.new)) self.old.made root.address root.level (pushed_on self.old (reads (D.history disk.old)))) }
+        ensures finished { (items : List Item) → Holds self.old items → IfOk result (λ root. IsFinished self.old self.new root items) }
         ensures spent { IsTrue self.new.spent ↔ IsErr result }
         ensures done { IsTrue self.new.done ↔ IsOk result }
-        ensures out { result ≡ Err TreeAnswer.OutOfSlots
-            → length self.old.made.slots < tree_nodes self.old.made.form.nodesize (lengths_of (pushed self.old)) }
+        ensures out { (items : List Item) → Holds self.old items → result ≡ Err TreeAnswer.OutOfSlots
+            → length self.old.made.slots < tree_nodes self.old.made.form.nodesize (lengths_of items) }
         ensures open { D.opened disk.new ≡ D.opened disk.old }
         ensures size { D.size disk.new ≡ D.size disk.old }
-        ensures only { IsTrue D.tells → WritesOnly (λ b _. IsInSlots self.old.made.form.nodesize (take (length self.new.made.nodes) self.old.made.slots) b) (D.history disk.old) (D.history disk.new) }
+        ensures borrow { D.borrow disk.new ≡ D.borrow disk.old }
+        ensures only { IsTrue D.tells → WritesOnly (λ b _. IsInSlots self.old.made.form.nodesize (take (taken self.new.made) self.old.made.slots) b) (D.history disk.old) (D.history disk.new) }
         ensures cause { HasCauseOf TreeAnswer.Fault (D.faults disk.old) (D.faults disk.new) result }
     {
         let result = self.write_tree(disk);
@@ -155,46 +162,74 @@ impl TreeBuilder {
     /// The slots that no node took, in order.
     pub fn rest(self) -> Slots
         requires { self.done ≡ true }
-        ensures { result ≡ drop (length self.made.nodes) self.made.slots }
+        ensures { result ≡ drop (taken self.made) self.made.slots }
     {
         self.nodes.rest()
     }
 
-    /// Makes what is left of the tree, and writes it.
-    fn write_tree<D: Disk>(&mut self, disk: &mut D) -> Result<Root, TreeAnswer>
-        requires stands { Stands self.old }
+    /// Puts an item, and before it writes the nodes that are held where they are 16.
+    fn push_item<D: Disk>(&mut self, disk: &mut D, key: Key, body: &[u8]) -> Result<(), TreeAnswer>
+        requires stands { IsTrue D.tells → Stands self.old (reads (D.history disk.old)) }
+        requires ready { IsReady self.old }
+        requires order { Ascends (keys_of self.old.made.draft.items ++ key ∷ []) }
+        requires small { length body.now + 126 ≤ self.old.made.form.nodesize }
         requires open { D.opened disk.old ≡ Some Access.Write }
         requires in_range { All (λ a. a + self.old.made.form.nodesize ≤ 4096 * D.size disk.old) self.old.made.slots }
-        ensures tree { IsTrue D.tells → IfOk result (λ root. HasTree (reads (D.history disk.new)) self.old.made root.address root.level (pushed self.old)) }
-        ensures nodes { IsTrue D.tells → IfOk result (λ root. MeetsNodes (reads (D.history disk.new)) self.old.made root.address root.level (pushed self.old)) }
-        ensures completed { IfOk result (IsCompleted self.old self.new) }
-        ensures stand { IsTrue D.tells → OnOk result (StandAt (reads (D.history disk.new)) self.new.made.form.nodesize self.new.made.slots self.new.made.nodes) }
-        ensures out { result ≡ Err TreeAnswer.OutOfSlots
-            → length self.old.made.slots < tree_nodes self.old.made.form.nodesize (lengths_of (pushed self.old)) }
+        ensures stands { IsTrue D.tells → OnOk result (Stands self.new (reads (D.history disk.new))) }
+        ensures pushed { IsTrue D.tells → OnOk result (pushed_on self.new (reads (D.history disk.new)) ≡ pushed_on self.old (reads (D.history disk.old)) ++ (key, body.now) ∷ []) }
+        ensures holds { (items : List Item) → Holds self.old items → OnOk result (Holds self.new (items ++ (key, body.now) ∷ [])) }
+        ensures same { OnOk result (IsSameTree self.old self.new) }
+        ensures done { self.new.done ≡ self.old.done }
+        ensures out { (items : List Item) → Holds self.old items → result ≡ Err TreeAnswer.OutOfSlots
+            → length self.old.made.slots < leaves_of self.old.made.form.nodesize (items ++ (key, body.now) ∷ []) }
+        ensures fits { (items : List Item) → Holds self.old items
+            → OnOk result (leaves_of self.old.made.form.nodesize (items ++ (key, body.now) ∷ []) ≤ length self.old.made.slots) }
         ensures open { D.opened disk.new ≡ D.opened disk.old }
         ensures size { D.size disk.new ≡ D.size disk.old }
-        ensures only { IsTrue D.tells → WritesOnly (λ b _. IsInSlots self.old.made.form.nodesize (take (length self.new.made.nodes) self.old.made.slots) b) (D.history disk.old) (D.history disk.new) }
+        ensures borrow { D.borrow disk.new ≡ D.borrow disk.old }
+        ensures only { IsTrue D.tells → WritesOnly (λ b _. IsInSlots self.old.made.form.nodesize (take (taken self.new.made) self.old.made.slots) b) (D.history disk.old) (D.history disk.new) }
         ensures cause { HasCauseOf TreeAnswer.Fault (D.faults disk.old) (D.faults disk.new) result }
     {
-        let root = match self.complete() {
-            Ok(root) => root,
-            Err(e) => return Err(e.into()),
-        };
-        self.nodes.write(disk)?;
+        self.nodes.make_room(disk)?;
+        self.put(key, body)?;
+        Ok(())
+    }
+
+    /// Makes what is left of the tree, and writes it.
+    fn write_tree<D: Disk>(&mut self, disk: &mut D) -> Result<Root, TreeAnswer>
+        requires stands { IsTrue D.tells → Stands self.old (reads (D.history disk.old)) }
+        requires ready { IsReady self.old }
+        requires open { D.opened disk.old ≡ Some Access.Write }
+        requires in_range { All (λ a. a + self.old.made.form.nodesize ≤ 4096 * D.size disk.old) self.old.made.slots }
+        ensures tree { IsTrue D.tells → IfOk result (λ root. HasTree (reads (D.history disk.new)) self.old.made root.address root.level (pushed_on self.old (reads (D.history disk.old)))) }
+        ensures nodes { IsTrue D.tells → IfOk result (λ root. MeetsNodes (reads (D.history disk.new)) self.old.made root.address root.level (pushed_on self.old (reads (D.history disk.old)))) }
+        ensures finished { (items : List Item) → Holds self.old items → IfOk result (λ root. IsFinished self.old self.new root items) }
+        ensures out { (items : List Item) → Holds self.old items → result ≡ Err TreeAnswer.OutOfSlots
+            → length self.old.made.slots < tree_nodes self.old.made.form.nodesize (lengths_of items) }
+        ensures open { D.opened disk.new ≡ D.opened disk.old }
+        ensures size { D.size disk.new ≡ D.size disk.old }
+        ensures borrow { D.borrow disk.new ≡ D.borrow disk.old }
+        ensures only { IsTrue D.tells → WritesOnly (λ b _. IsInSlots self.old.made.form.nodesize (take (taken self.new.made) self.old.made.slots) b) (D.history disk.old) (D.history disk.new) }
+        ensures cause { HasCauseOf TreeAnswer.Fault (D.faults disk.old) (D.faults disk.new) result }
+    {
+        self.nodes.make_room(disk)?;
+        let root = self.complete(disk)?;
+        self.nodes.flush(disk)?;
         Ok(root)
     }
 
     /// Puts an item into the leaf in hand, or the next one where that has no room for it.
     fn put(&mut self, key: Key, body: &[u8]) -> Result<(), NodeAnswer>
-        requires stands { Stands self.old }
-        requires order { Ascends (keys_of (pushed self.old ++ (key, body.now) ∷ [])) }
+        requires ready { IsReady self.old }
+        requires order { Ascends (keys_of self.old.made.draft.items ++ key ∷ []) }
         requires small { length body.now + 126 ≤ self.old.made.form.nodesize }
-        ensures stands { OnOk result (Stands self.new) }
-        ensures pushed { OnOk result (pushed self.new ≡ pushed self.old ++ (key, body.now) ∷ []) }
+        requires batch { length self.old.made.nodes < 16 }
+        ensures put { OnOk result (HasPut self.old self.new (key, body.now)) }
         ensures same { OnOk result (IsSameTree self.old self.new) }
         ensures done { self.new.done ≡ self.old.done }
-        ensures out { result ≡ Err NodeAnswer.OutOfSlots
-            → length self.old.made.slots < leaves_of self.old.made.form.nodesize (pushed self.old ++ (key, body.now) ∷ []) }
+        ensures later { IsLater self.old.made self.new.made }
+        ensures out { (items : List Item) → Holds self.old items → result ≡ Err NodeAnswer.OutOfSlots
+            → length self.old.made.slots < leaves_of self.old.made.form.nodesize (items ++ (key, body.now) ∷ []) }
     {
         let Some(child) = self.hand else {
             return self.put_first(key, body);
@@ -208,53 +243,77 @@ impl TreeBuilder {
     }
 
     /// Makes the last leaf, and the levels above the leaves.
-    fn complete(&mut self) -> Result<Root, NodeAnswer>
-        requires { Stands self.old }
-        ensures done { IfOk result (IsCompleted self.old self.new) }
-        ensures out { result ≡ Err NodeAnswer.OutOfSlots
-            → length self.old.made.slots < tree_nodes self.old.made.form.nodesize (lengths_of (pushed self.old)) }
+    fn complete<D: Disk>(&mut self, disk: &mut D) -> Result<Root, TreeAnswer>
+        requires ready { IsReady self.old }
+        requires batch { length self.old.made.nodes < 16 }
+        requires open { D.opened disk.old ≡ Some Access.Write }
+        requires in_range { All (λ a. a + self.old.made.form.nodesize ≤ 4096 * D.size disk.old) self.old.made.slots }
+        ensures completed { IfOk result (λ root. Goes D.tells (reads (D.history disk.old)) (reads (D.history disk.new)) self.old.made self.new.made
+            (λ m n. Standing (record self.old { made = m }) → IsCompleted (record self.old { made = m }) (record self.new { made = n }) root)) }
+        ensures later { IsLater self.old.made self.new.made }
+        ensures out { (items : List Item) → Holds self.old items → result ≡ Err TreeAnswer.OutOfSlots
+            → length self.old.made.slots < tree_nodes self.old.made.form.nodesize (lengths_of items) }
+        ensures open { D.opened disk.new ≡ D.opened disk.old }
+        ensures size { D.size disk.new ≡ D.size disk.old }
+        ensures borrow { D.borrow disk.new ≡ D.borrow disk.old }
+        ensures only { IsTrue D.tells → WritesOnly (λ b _. IsInSlots self.old.made.form.nodesize (take (taken self.new.made) self.old.made.slots) b) (D.history disk.old) (D.history disk.new) }
+        ensures cause { HasCauseOf TreeAnswer.Fault (D.faults disk.old) (D.faults disk.new) result }
     {
         leaves_give_items();
         let Some(child) = self.hand else {
-            return self.complete_empty();
+            return match self.complete_empty() {
+                Some(root) => Ok(root),
+                None => Err(TreeAnswer::OutOfSlots),
+            };
         };
         self.close_leaf(child)?;
-        self.complete_levels()
+        self.complete_levels(disk)
     }
 
     /// Makes the levels above the leaves that were made.
-    fn complete_levels(&mut self) -> Result<Root, NodeAnswer>
+    fn complete_levels<D: Disk>(&mut self, disk: &mut D) -> Result<Root, TreeAnswer>
         requires size { IsNodeSize self.old.made.form.nodesize }
         requires slots { AreSlots self.old.made.form.nodesize self.old.made.slots }
-        requires few { length self.old.made.nodes ≤ length self.old.made.slots }
+        requires few { taken self.old.made ≤ length self.old.made.slots }
         requires some { 1 ≤ length self.old.children }
-        requires made { length self.old.made.nodes ≡ length self.old.children }
-        requires forest { IsForest self.old.made 0 self.old.children }
-        ensures climbed { IfOk result (IsClimbed self.old.made self.old.children self.new.made) }
-        ensures out { result ≡ Err NodeAnswer.OutOfSlots → length self.old.made.slots < nodes_above self.old.made.form.nodesize (length self.old.children) }
+        requires made { taken self.old.made ≡ length self.old.children }
+        requires forest { HasForest self.old.made self.old.children }
+        requires open { D.opened disk.old ≡ Some Access.Write }
+        requires in_range { All (λ a. a + self.old.made.form.nodesize ≤ 4096 * D.size disk.old) self.old.made.slots }
+        ensures climbed { IfOk result (λ root. Goes D.tells (reads (D.history disk.old)) (reads (D.history disk.new)) self.old.made self.new.made (λ m n. IsClimbed m self.old.children n root)) }
+        ensures later { IsLater self.old.made self.new.made }
+        ensures out { result ≡ Err TreeAnswer.OutOfSlots → length self.old.made.slots < nodes_above self.old.made.form.nodesize (length self.old.children) }
+        ensures open { D.opened disk.new ≡ D.opened disk.old }
+        ensures size { D.size disk.new ≡ D.size disk.old }
+        ensures borrow { D.borrow disk.new ≡ D.borrow disk.old }
+        ensures only { IsTrue D.tells → WritesOnly (λ b _. IsInSlots self.old.made.form.nodesize (take (taken self.new.made) self.old.made.slots) b) (D.history disk.old) (D.history disk.new) }
+        ensures cause { HasCauseOf TreeAnswer.Fault (D.faults disk.old) (D.faults disk.new) result }
     {
         let alloc = *self.children.allocator();
         let leaves = replace(&mut self.children, Vec::new(alloc));
-        climb(alloc, &mut self.nodes, leaves)
+        climb(alloc, disk, &mut self.nodes, leaves)
     }
 
-    /// Makes the one leaf of a tree without items.
-    fn complete_empty(&mut self) -> Result<Root, NodeAnswer>
+    /// Makes the one leaf of a tree without items. None exactly where no slot is left.
+    fn complete_empty(&mut self) -> Option<Root>
         requires size { IsNodeSize self.old.made.form.nodesize }
         requires slots { AreSlots self.old.made.form.nodesize self.old.made.slots }
-        requires none { self.old.made.nodes ≡ [] }
+        requires batch { length self.old.made.nodes < 16 }
+        requires none { (self.old.made.nodes ≡ []) × (self.old.made.written ≡ 0) }
         requires no_items { self.old.made.draft.items ≡ [] }
-        ensures done { IfOk result (IsCompleted self.old self.new) }
-        ensures out { result ≡ Err NodeAnswer.OutOfSlots → length self.old.made.slots < 1 }
+        ensures done { IfSome result (λ root. IsCompleted (all_made self.old []) (all_made self.new []) root) }
+        ensures later { IsLater self.old.made self.new.made }
+        ensures same_written { self.new.made.written ≡ self.old.made.written }
+        ensures out { result ≡ None → length self.old.made.slots < 1 }
     {
         let Some(address) = self.nodes.next_slot() else {
-            return Err(NodeAnswer::OutOfSlots);
+            return None;
         };
         self.nodes.begin(0, address);
-        self.nodes.seal()?;
+        self.nodes.seal();
         leaves_give_items();
         subtrees_are_trees();
-        Ok(Root {
+        Some(Root {
             address,
             level: 0,
             nodes: self.nodes.len() as u64,
@@ -265,12 +324,14 @@ impl TreeBuilder {
     fn close_leaf(&mut self, child: Child) -> Result<(), Memory>
         requires started { IsTrue self.old.made.draft.started }
         requires leaf { self.old.made.draft.want.level ≡ 0 }
-        requires slot { length self.old.made.nodes < length self.old.made.slots }
+        requires slot { taken self.old.made < length self.old.made.slots }
+        requires batch { length self.old.made.nodes < 16 }
         ensures ok { OnOk result (self.new ≡ leaf_closed self.old child) }
         ensures done { self.new.done ≡ self.old.done }
-        ensures read { OnOk result (ReadsBack self.old.made.draft (node_bytes self.old.made.draft)) }
+        ensures later { IsLater self.old.made self.new.made }
+        ensures read { ReadsBack self.old.made.draft (node_bytes self.old.made.draft) }
     {
-        self.nodes.seal()?;
+        self.nodes.seal();
         self.children.push(child)?;
         Ok(())
     }
@@ -278,9 +339,10 @@ impl TreeBuilder {
     /// Begins a leaf with this item at the next slot.
     fn put_first(&mut self, key: Key, body: &[u8]) -> Result<(), NodeAnswer>
         requires small { length body.now + 126 ≤ self.old.made.form.nodesize }
-        ensures begun { OnOk result ((a : ℕ) × IsNextSlot self.old.made a × (self.new ≡ leaf_begun self.old a key body.now)) }
+        ensures begun { OnOk result ((a : ℕ) × IsNextTaken self.old.made a × (self.new ≡ leaf_begun self.old a key body.now)) }
         ensures done { self.new.done ≡ self.old.done }
-        ensures out { result ≡ Err NodeAnswer.OutOfSlots → length self.old.made.slots ≤ length self.old.made.nodes }
+        ensures later { IsLater self.old.made self.new.made }
+        ensures out { result ≡ Err NodeAnswer.OutOfSlots → length self.old.made.slots ≤ taken self.old.made }
     {
         let Some(address) = self.nodes.next_slot() else {
             return Err(NodeAnswer::OutOfSlots);

@@ -1,17 +1,19 @@
-ghost use Rattle.std.specs.Prelude.{◌≡◌, ◌≤◌, ◌<◌, ◌+◌, ◌^◌, List, Err, length, IfOk};
+ghost use Rattle.std.specs.Prelude.{◌≡◌, ◌≤◌, ◌<◌, ◌+◌, ◌*◌, ◌^◌, List, Some, Err, All, length, take, IfOk, IsTrue};
 ghost use Rattle.std.specs.List.{sum};
-ghost use Rattle.btr_node.specs.Leaf.{Item, keys_of};
+ghost use Rattle.outside.specs.Fault.{HasCauseOf};
+ghost use Rattle.outside.specs.History.{reads, WritesOnly};
 ghost use Rattle.btr_node.specs.NodeSize.{IsNodeSize};
-ghost use Rattle.btr_node.specs.Order.{Ascends};
-ghost use Rattle.btr_tree.specs.Building.{AreSlots};
+ghost use Rattle.btr_tree.specs.Building.{AreSlots, IsLater, Goes, taken};
 ghost use Rattle.btr_tree.specs.Packing.{tree_levels};
-ghost use Rattle.btr_tree.specs.Roots.{HasRoots, IsClimbed, IsForest, IsRoot};
+ghost use Rattle.btr_tree.specs.Roots.{IsClimbed, HasForest};
+ghost use Rattle.btr_tree.specs.Writing.{IsInSlots};
 
-use crate::answer::NodeAnswer;
+use crate::answer::TreeAnswer;
 use crate::nodes::Nodes;
 use crate::parents::raise;
 use btr_node::Child;
 use btr_walk::subtrees_are_trees;
+use outside::{Access, Disk};
 use std::alloc::Global;
 
 /// The root of a tree that was written.
@@ -25,25 +27,35 @@ pub struct Root {
     pub nodes: u64,
 }
 
-/// Makes the levels above the leaves, which are these children, up to the root.
-pub fn climb(alloc: Global, nodes: &mut Nodes, leaves: Vec<Child>) -> Result<Root, NodeAnswer>
+/// Makes the levels above the leaves, which are these children, up to the root. Nodes are written where 16 are held.
+pub fn climb<D: Disk>(
+    alloc: Global,
+    disk: &mut D,
+    nodes: &mut Nodes,
+    leaves: Vec<Child>,
+) -> Result<Root, TreeAnswer>
     requires size { IsNodeSize nodes.old.form.nodesize }
     requires slots { AreSlots nodes.old.form.nodesize nodes.old.slots }
-    requires few { length nodes.old.nodes ≤ length nodes.old.slots }
+    requires few { taken nodes.old ≤ length nodes.old.slots }
     requires some { 1 ≤ length leaves.items }
-    requires made { length nodes.old.nodes ≡ length leaves.items }
-    requires forest { IsForest nodes.old 0 leaves.items }
-    ensures climbed { IfOk result (IsClimbed nodes.old leaves.items nodes.new) }
-    ensures out { result ≡ Err NodeAnswer.OutOfSlots → length nodes.old.slots < sum (tree_levels nodes.old.form.nodesize (length leaves.items)) }
+    requires made { taken nodes.old ≡ length leaves.items }
+    requires forest { HasForest nodes.old leaves.items }
+    requires open { D.opened disk.old ≡ Some Access.Write }
+    requires in_range { All (λ a. a + nodes.old.form.nodesize ≤ 4096 * D.size disk.old) nodes.old.slots }
+    ensures open { D.opened disk.new ≡ D.opened disk.old }
+    ensures size { D.size disk.new ≡ D.size disk.old }
+    ensures borrow { D.borrow disk.new ≡ D.borrow disk.old }
+    ensures climbed { IfOk result (λ root. Goes D.tells (reads (D.history disk.old)) (reads (D.history disk.new)) nodes.old nodes.new (λ m n. IsClimbed m leaves.items n root)) }
+    ensures later { IsLater nodes.old nodes.new }
+    ensures out { result ≡ Err TreeAnswer.OutOfSlots → length nodes.old.slots < sum (tree_levels nodes.old.form.nodesize (length leaves.items)) }
+    ensures only { IsTrue D.tells → WritesOnly (λ b _. IsInSlots nodes.old.form.nodesize (take (taken nodes.new) nodes.old.slots) b) (D.history disk.old) (D.history disk.new) }
+    ensures cause { HasCauseOf TreeAnswer.Fault (D.faults disk.old) (D.faults disk.new) result }
 {
     let mut children = leaves;
     let mut level: u8 = 0;
     while children.len() > 1 {
         let above = level + 1;
-        children = match raise(alloc, nodes, children.as_slice(), above) {
-            Ok(parents) => parents,
-            Err(e) => return Err(e),
-        };
+        children = raise(alloc, disk, nodes, children.as_slice(), above)?;
         level = above;
     }
     subtrees_are_trees();

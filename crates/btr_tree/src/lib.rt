@@ -23,7 +23,7 @@ pub use bound::node_bound;
 pub use builder::TreeBuilder;
 pub use climb::Root;
 pub use counter::Counter;
-pub use laws::{maps_agree, nodes_never_fall, packing_is_full};
+pub use laws::{maps_agree, nodes_never_fall, packing_is_full, stands_by_slots};
 pub use slots::Slots;
 
 #[cfg(test)]

@@ -1,4 +1,4 @@
-ghost use Rattle.std.specs.Prelude.{◌≡◌, ◌≤◌, ◌<◌, ◌+◌, ◌*◌, ◌^◌, ◌++◌, ◌∷◌, [], Some, All, length, take, drop, slice_get, IfOk, OnOk, OnErr, IsTrue};
+ghost use Rattle.std.specs.Prelude.{◌≡◌, ◌≤◌, ◌<◌, ◌+◌, ◌*◌, ◌^◌, ◌++◌, ◌∷◌, [], ℕ, List, Some, All, length, take, drop, slice_get, vec_capacity, IfOk, OnOk, IsTrue};
 ghost use Rattle.outside.specs.Fault.{HasCause};
 ghost use Rattle.outside.specs.History.{reads, WritesOnly};
 ghost use Rattle.btr_tree.specs.Writing.{IsInSlots};
@@ -7,7 +7,7 @@ ghost use Rattle.btr_node.specs.Inner.{first_keys};
 ghost use Rattle.btr_node.specs.Leaf.{keys_of};
 ghost use Rattle.btr_node.specs.NodeSize.{IsNodeSize};
 ghost use Rattle.btr_node.specs.Order.{Ascends};
-ghost use Rattle.btr_tree.specs.Building.{IsFresh, begun_at, with_node, with_item, with_child, ReadsBack, AreSlots, StandAt};
+ghost use Rattle.btr_tree.specs.Building.{IsFresh, begun_at, with_node, with_item, with_child, flushed, taken, Goes, IsLater, ReadsBack, AreSlots, StandAt};
 ghost use Rattle.btr_tree.specs.Packing.{fan_out};
 
 use crate::Slots;
@@ -21,7 +21,11 @@ use outside::{Access, Disk, Fault, Memory};
 use std::alloc::Global;
 use std::marker::Model;
 
-/// The nodes of a tree that were made, and the one in hand.
+/// How many nodes are held at most before they are written.
+const BATCH: usize = 16;
+
+/// The nodes of a tree that were made, of which the last ones are held and those before them were written, and the one in
+/// hand.
 #[derive(Drop)]
 pub struct Nodes {
     form: Form,
@@ -31,10 +35,12 @@ pub struct Nodes {
     slots: Slots,
     writer: NodeWriter,
     bytes: Vec<u8>,
-    count: usize,
+    written: usize,
+    held: usize,
 }
 
 impl Model for Nodes {
+    ghost use Rattle.std.specs.Prelude.{vec_capacity};
     ghost use Rattle.btr_tree.specs.Building.{Made, IsStock, pieces_of};
 
     ghost Value = { Made };
@@ -45,15 +51,16 @@ impl Model for Nodes {
       generation = n.generation;
       chunk_tree = n.chunk_tree;
       slots = n.slots;
-      nodes = pieces_of n.form.nodesize n.count n.bytes.items;
+      written = n.written;
+      nodes = pieces_of n.form.nodesize n.held n.bytes.items;
       draft = n.writer;
     } };
 
-    ghost invariant = { λ n. IsStock n.form.nodesize n.writer.nodesize n.count n.bytes.items n.slots };
+    ghost invariant = { λ n. IsStock n.form.nodesize n.writer.nodesize n.written n.held (vec_capacity n.bytes) n.bytes.items n.slots };
 }
 
 impl Nodes {
-    /// No node yet, of a tree with this number and generation.
+    /// No node yet, of a tree with this number and generation. It takes the memory for the nodes that are held.
     pub fn new(
         alloc: Global,
         form: Form,
@@ -65,6 +72,7 @@ impl Nodes {
         requires { IsNodeSize form.nodesize }
         ensures { IfOk result (IsFresh form owner generation chunk_tree slots) }
     {
+        let _slots = slots.len();
         Ok(Nodes {
             form,
             owner,
@@ -72,24 +80,26 @@ impl Nodes {
             chunk_tree,
             slots,
             writer: NodeWriter::new(alloc, form.nodesize)?,
-            bytes: Vec::new(alloc),
-            count: 0,
+            bytes: Vec::with_capacity(alloc, BATCH * form.nodesize as usize)?,
+            written: 0,
+            held: 0,
         })
     }
 
     /// How many nodes were made.
     pub fn len(&self) -> usize
-        ensures { result ≡ length self.now.nodes }
+        ensures { result ≡ taken self.now }
     {
-        self.count
+        self.written + self.held
     }
 
     /// The slot of the next node, if one is left.
     pub fn next_slot(&self) -> Option<u64>
-        ensures { result ≡ slice_get self.now.slots (length self.now.nodes) }
+        ensures { result ≡ slice_get self.now.slots (taken self.now) }
     {
-        if self.count < self.slots.len() {
-            Some(self.slots.get(self.count))
+        let next = self.len();
+        if next < self.slots.len() {
+            Some(self.slots.get(next))
         } else {
             None
         }
@@ -155,56 +165,110 @@ impl Nodes {
         let _ = self.writer.push_child(child);
     }
 
-    /// Makes the node in hand. The node in hand stays as it is.
-    pub fn seal(&mut self) -> Result<(), Memory>
+    /// Makes the node in hand, which is then held. The node in hand stays as it is.
+    pub fn seal(&mut self)
         requires started { IsTrue self.old.draft.started }
         requires children { 1 ≤ self.old.draft.want.level → 1 ≤ length self.old.draft.children }
-        requires slot { length self.old.nodes < length self.old.slots }
-        ensures ok { OnOk result (self.new ≡ with_node self.old (node_bytes self.old.draft)) }
-        ensures err { OnErr result (self.new ≡ self.old) }
-        ensures read { OnOk result (ReadsBack self.old.draft (node_bytes self.old.draft)) }
+        requires slot { taken self.old < length self.old.slots }
+        requires batch { length self.old.nodes < 16 }
+        ensures made { self.new ≡ with_node self.old (node_bytes self.old.draft) }
+        ensures read { ReadsBack self.old.draft (node_bytes self.old.draft) }
     {
-        append_node(&mut self.bytes, &mut self.writer)?;
-        self.count += 1;
-        Ok(())
+        append_node(&mut self.bytes, &mut self.writer);
+        self.held += 1;
     }
 
     /// The slots that no node took, in order.
     pub fn rest(self) -> Slots
-        ensures { result ≡ drop (length self.nodes) self.slots }
+        ensures { result ≡ drop (taken self) self.slots }
     {
-        self.slots.without_first(self.count)
+        self.slots.without_first(self.written + self.held)
     }
 
-    /// Writes the nodes to their slots.
-    pub fn write<D: Disk>(&self, disk: &mut D) -> Result<(), Fault>
+    /// Writes the nodes that are held, where no more may be held.
+    pub fn make_room<D: Disk>(&mut self, disk: &mut D) -> Result<(), Fault>
+        requires open { D.opened disk.old ≡ Some Access.Write }
+        requires slots { AreSlots self.old.form.nodesize self.old.slots }
+        requires in_range { All (λ a. a + self.old.form.nodesize ≤ 4096 * D.size disk.old) self.old.slots }
+        ensures open { D.opened disk.new ≡ D.opened disk.old }
+        ensures size { D.size disk.new ≡ D.size disk.old }
+        ensures borrow { D.borrow disk.new ≡ D.borrow disk.old }
+        ensures room { OnOk result (length self.new.nodes < 16) }
+        ensures later { IsLater self.old self.new }
+        ensures goes { OnOk result (Goes D.tells (reads (D.history disk.old)) (reads (D.history disk.new)) self.old self.new (λ m n. n ≡ m)) }
+        ensures only { IsTrue D.tells → WritesOnly (λ b _. IsInSlots self.old.form.nodesize (take (taken self.new) self.old.slots) b) (D.history disk.old) (D.history disk.new) }
+        ensures cause { HasCause (D.faults disk.old) (D.faults disk.new) result }
+    {
+        if self.held < BATCH {
+            return Ok(());
+        }
+        self.flush(disk)
+    }
+
+    /// Writes the nodes that are held to their slots.
+    pub fn flush<D: Disk>(&mut self, disk: &mut D) -> Result<(), Fault>
+        requires open { D.opened disk.old ≡ Some Access.Write }
+        requires slots { AreSlots self.old.form.nodesize self.old.slots }
+        requires in_range { All (λ a. a + self.old.form.nodesize ≤ 4096 * D.size disk.old) self.old.slots }
+        ensures open { D.opened disk.new ≡ D.opened disk.old }
+        ensures size { D.size disk.new ≡ D.size disk.old }
+        ensures borrow { D.borrow disk.new ≡ D.borrow disk.old }
+        ensures flushed { OnOk result (self.new ≡ flushed self.old) }
+        ensures later { IsLater self.old self.new }
+        ensures goes { OnOk result (Goes D.tells (reads (D.history disk.old)) (reads (D.history disk.new)) self.old self.new (λ m n. n ≡ m)) }
+        ensures only { IsTrue D.tells → WritesOnly (λ b _. IsInSlots self.old.form.nodesize (take (taken self.new) self.old.slots) b) (D.history disk.old) (D.history disk.new) }
+        ensures cause { HasCause (D.faults disk.old) (D.faults disk.new) result }
+    {
+        self.write(disk)?;
+        self.let_go();
+        Ok(())
+    }
+
+    /// Lets the nodes that are held go, which were written.
+    fn let_go(&mut self)
+        ensures { self.new ≡ flushed self.old }
+    {
+        self.written += self.held;
+        self.held = 0;
+        self.bytes.clear();
+    }
+
+    /// Writes the nodes that are held to their slots, and keeps them.
+    fn write<D: Disk>(&self, disk: &mut D) -> Result<(), Fault>
         requires open { D.opened disk.old ≡ Some Access.Write }
         requires slots { AreSlots self.now.form.nodesize self.now.slots }
         requires in_range { All (λ a. a + self.now.form.nodesize ≤ 4096 * D.size disk.old) self.now.slots }
         ensures open { D.opened disk.new ≡ D.opened disk.old }
         ensures size { D.size disk.new ≡ D.size disk.old }
-        ensures only { IsTrue D.tells → WritesOnly (λ b _. IsInSlots self.now.form.nodesize (take (length self.now.nodes) self.now.slots) b) (D.history disk.old) (D.history disk.new) }
-        ensures written { IsTrue D.tells → OnOk result (StandAt (reads (D.history disk.new)) self.now.form.nodesize self.now.slots self.now.nodes) }
+        ensures borrow { D.borrow disk.new ≡ D.borrow disk.old }
+        ensures only { IsTrue D.tells → WritesOnly (λ b _. IsInSlots self.now.form.nodesize (take (taken self.now) self.now.slots) b) (D.history disk.old) (D.history disk.new) }
+        ensures written { IsTrue D.tells → OnOk result ((front : List (List ℕ)) → length front ≡ self.now.written
+            → StandAt (reads (D.history disk.old)) self.now.form.nodesize self.now.slots front
+            → StandAt (reads (D.history disk.new)) self.now.form.nodesize self.now.slots (front ++ self.now.nodes)) }
         ensures cause { HasCause (D.faults disk.old) (D.faults disk.new) result }
     {
         let size = self.form.nodesize as usize;
-        for k in 0..self.count {
+        for k in 0..self.held {
             let at = size * k;
-            write_node(disk, self.slots.get(k), &self.bytes[at..at + size])?;
+            write_node(
+                disk,
+                self.slots.get(self.written + k),
+                &self.bytes[at..at + size],
+            )?;
         }
         Ok(())
     }
 }
 
-/// Appends the bytes of the node in hand. Without memory they are not appended.
-fn append_node(bytes: &mut Vec<u8>, writer: &mut NodeWriter) -> Result<(), Memory>
+/// Appends the bytes of the node in hand, for which there is room.
+fn append_node(bytes: &mut Vec<u8>, writer: &mut NodeWriter)
     requires started { IsTrue writer.old.started }
     requires children { 1 ≤ writer.old.want.level → 1 ≤ length writer.old.children }
-    ensures ok { OnOk result (bytes.new.items ≡ bytes.old.items ++ node_bytes writer.old) }
-    ensures err { OnErr result (bytes.new.items ≡ bytes.old.items) }
+    requires room { length bytes.old.items + writer.old.nodesize ≤ vec_capacity bytes.old }
+    ensures appended { bytes.new.items ≡ bytes.old.items ++ node_bytes writer.old }
+    ensures room { vec_capacity bytes.old ≤ vec_capacity bytes.new }
     ensures read { ReadsBack writer.old (node_bytes writer.old) }
     ensures same { writer.new ≡ writer.old }
 {
-    bytes.extend_from_slice(writer.finish())?;
-    Ok(())
+    let _ = bytes.extend_from_slice(writer.finish());
 }

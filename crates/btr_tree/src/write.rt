@@ -16,6 +16,7 @@ pub fn write_node<D: Disk>(disk: &mut D, address: u64, bytes: &[u8]) -> Result<(
     requires in_range { address + length bytes.now ≤ 4096 * D.size disk.old }
     ensures open { D.opened disk.new ≡ D.opened disk.old }
     ensures size { D.size disk.new ≡ D.size disk.old }
+    ensures borrow { D.borrow disk.new ≡ D.borrow disk.old }
     ensures only { IsTrue D.tells → WritesOnly (λ b _. IsInNode (length bytes.now) address b) (D.history disk.old) (D.history disk.new) }
     ensures written { IsTrue D.tells → OnOk result (HoldBytes (reads (D.history disk.new)) (address / 4096) (length bytes.now / 4096) bytes.now) }
     ensures cause { HasCause (D.faults disk.old) (D.faults disk.new) result }

@@ -1,9 +1,20 @@
-use Rattle.std.proofs.Common.{length}
+use Rattle.std.proofs.Common.{◌≡◌, length, take, IsTrue}
+use Rattle.outside.specs.History.{reads, WritesOnly}
+use Rattle.btr_tree.specs.Building.{Goes, IsLater, taken}
+use Rattle.btr_tree.specs.Writing.{IsInSlots}
 use Rattle.btr_tree.proofs.Climbing.{IsClimbing}
 use Rattle.btr_tree.proofs.climb.climb.Given as goal
 
 abbrev pub invariant-loop-alloc : goal.invariant-loop-alloc
-invariant-loop-alloc l = IsClimbing l.initial.nodes l.nodes l.initial.children.items l.children.items l.level
+invariant-loop-alloc g l = record {
+  open_ : g.D.Disk.opened l.disk ≡ g.D.Disk.opened l.initial.disk;
+  size : g.D.BlockSource.size l.disk ≡ g.D.BlockSource.size l.initial.disk;
+  borrow : g.D.Disk.borrow l.disk ≡ g.D.Disk.borrow l.initial.disk;
+  same : g.D.BlockSource.faults l.disk ≡ g.D.BlockSource.faults l.initial.disk;
+  later : IsLater l.initial.nodes l.nodes;
+  only : IsTrue g.D.BlockSource.tells → WritesOnly (λ b _. IsInSlots l.initial.nodes.form.nodesize (take (taken l.nodes) l.initial.nodes.slots) b) (g.D.Disk.history l.initial.disk) (g.D.Disk.history l.disk);
+  goes : Goes g.D.BlockSource.tells (reads (g.D.Disk.history l.initial.disk)) (reads (g.D.Disk.history l.disk)) l.initial.nodes l.nodes (λ m n. IsClimbing m n l.initial.children.items l.children.items l.level);
+}
 
 abbrev pub decreases-loop-alloc : goal.decreases-loop-alloc
-decreases-loop-alloc l = length l.children.items
+decreases-loop-alloc g l = length l.children.items

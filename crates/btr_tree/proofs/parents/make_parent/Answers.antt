@@ -3,7 +3,7 @@ use Rattle.std.proofs.lemmas.Option.{slice_get_within}
 use Rattle.btr_node.specs.Inner.{first_keys}
 use Rattle.btr_node.specs.Order.{ascends}
 use Rattle.btr_node.specs.declared.child.Child.{Child}
-use Rattle.btr_tree.specs.Building.{Made}
+use Rattle.btr_tree.specs.Building.{Made, taken}
 use Rattle.btr_tree.proofs.Raising.{front_ascends}
 use Rattle.btr_tree.proofs.parents.make_parent.Goals as goal
 
@@ -17,5 +17,5 @@ put_child-requires-clause-order c =
 
 pub seal-requires-clause-slot : goal.seal-requires-clause-slot
 seal-requires-clause-slot c =
-    let inside = slice_get_within c.args.nodes.now.slots (length c.args.nodes.now.nodes) c.in-Some.address (sym c.next_slot.ensures ∙ c.in-Some.is) in
-    omega (arith, inside, ap (λ (m : Made). length m.nodes) c.loop-child.invariant, ap (λ (m : Made). length m.slots) c.loop-child.invariant)
+    let inside = slice_get_within c.args.nodes.now.slots (taken c.args.nodes.now) c.in-Some.address (sym c.next_slot.ensures ∙ c.in-Some.is) in
+    omega (arith, inside, ap (λ (m : Made). length m.nodes) c.loop-child.invariant, ap (λ (m : Made). m.written) c.loop-child.invariant, ap (λ (m : Made). length m.slots) c.loop-child.invariant)

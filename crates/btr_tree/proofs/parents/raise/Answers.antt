@@ -1,45 +1,77 @@
-use Rattle.std.proofs.Common.{◌≡◌, ℕ, ◌+◌, ◌-◌, ◌≤◌, List, Vec, Global, Result, Err, length, take, drop, min, sym, ap, subst, refl, arith, length-take, length-drop}
+use Rattle.std.proofs.Common.{◌≡◌, ℕ, ◌+◌, ◌-◌, ◌≤◌, List, Err, length, take, drop, min, ◌∙◌, ap, refl, arith, length-take, length-drop}
+use Rattle.outside.specs.History.{reads}
+use Rattle.outside.proofs.Crash.{writes_none}
 use Rattle.btr_node.specs.declared.child.Child.{Child}
-use Rattle.btr_tree.specs.Building.{Made}
-use Rattle.btr_tree.specs.declared.answer.NodeAnswer.TheVariants.{OutOfSlots}
+use Rattle.btr_tree.specs.Building.{taken}
 use Rattle.btr_tree.specs.Packing.{fan_out}
+use Rattle.btr_tree.specs.Writing.{IsInSlots}
+use Rattle.btr_tree.proofs.Answering.{answer_back}
+use Rattle.btr_tree.proofs.Fronts.{later_none, later_then, taken_then, taken_more}
 use Rattle.btr_tree.proofs.Raising.{part_ascends}
-use Rattle.btr_tree.proofs.RaisingLoop.{IsRaising, raising_begins, raising_goes_on, raising_ends, raising_short}
+use Rattle.btr_tree.proofs.RaisingFronts.{raise_begins, raise_goes_on, raise_ends, raise_short}
 use Rattle.btr_tree.proofs.parents.raise.Goals as goal
 
 pub loop-start-init : goal.loop-start-init
-loop-start-init c =
-    subst (λ cs. IsRaising c.args.nodes.now c.args.children.now c.args.level c.args.nodes.now cs 0) (sym c.new-parents.ensures.items)
-    (raising_begins c.args.nodes.now c.args.children.now c.args.level (omega (arith, c.fan_out-fan_out.ensures.wide, c.fan_out-fan_out.ensures.exact)) c.requires.few)
+loop-start-init g c = record {
+  open_ = refl;
+  size = refl;
+  borrow = refl;
+  same = refl;
+  later = later_none c.args.nodes.now;
+  only = λ tells. writes_none (λ b _. IsInSlots c.args.nodes.now.form.nodesize (take (taken c.args.nodes.now) c.args.nodes.now.slots) b) (g.D.Disk.history c.args.disk.now);
+  goes =
+      raise_begins g.D.BlockSource.tells (reads (g.D.Disk.history c.args.disk.now)) c.args.nodes.now c.args.children.now c.new-parents.result.items c.args.level
+      (omega (arith, c.fan_out-fan_out.ensures.wide, c.fan_out-fan_out.ensures.exact)) c.requires.few c.new-parents.ensures.items;
+}
 
-pub make_parent-requires-clause-order : goal.make_parent-requires-clause-order
-make_parent-requires-clause-order c = part_ascends c.args.children.now c.loop-start.start (c.min-end.result - c.loop-start.start) c.requires.order
+pub returns-in_err-make_room-clause-only : goal.returns-in_err-make_room-clause-only
+returns-in_err-make_room-clause-only g c = λ tells.
+    taken_then c.args.nodes.now c.loop-start.nodes c.make_room.new.self (g.D.Disk.history c.args.disk.now) (g.D.Disk.history c.loop-start.disk) (g.D.Disk.history c.make_room.new.disk)
+    c.loop-start.invariant.later c.make_room.ensures.later (c.loop-start.invariant.only tells) (c.make_room.ensures.only tells)
 
-abbrev err_of : {E : Type 0} (T : Type 0) → E → Result T E
-err_of T e = Err e
+pub add_parent-requires-clause-order : goal.add_parent-requires-clause-order
+add_parent-requires-clause-order g c = part_ascends c.args.children.now c.loop-start.start (c.min-end.result - c.loop-start.start) c.requires.order
 
-err_is : {T U E : Type 0} (e d : E) → err_of T e ≡ err_of T d → err_of U e ≡ err_of U d
-err_is {U = U} e d h = let same : e ≡ d = cc in ap (err_of U) same
+pub returns-in_err-add_parent-clause-out : goal.returns-in_err-add_parent-clause-out
+returns-in_err-add_parent-clause-out g c = λ is.
+    raise_short g.D.BlockSource.tells (reads (g.D.Disk.history c.args.disk.now)) (reads (g.D.Disk.history c.loop-start.disk)) (reads (g.D.Disk.history c.make_room.new.disk))
+    c.args.nodes.now c.loop-start.nodes c.make_room.new.self c.args.children.now c.loop-start.parents.items c.args.level c.loop-start.start
+    (omega (arith, c.fan_out-fan_out.ensures.wide, c.fan_out-fan_out.ensures.exact)) c.loop-start.invariant.goes c.in_ok-make_room.ensures.goes (omega (arith, c.loop-start-test.true))
+    (c.in_err-add_parent.ensures.out (ap (λ a. Err a) (answer_back c.from_residual-in_err-add_parent.result c.in_err-add_parent.field-0.0 c.from_residual-in_err-add_parent.ensures.1 is)))
 
-pub returns-in-Err-clause-out : goal.returns-in-Err-clause-out
-returns-in-Err-clause-out c = λ is.
-    raising_short c.args.nodes.now c.loop-start.nodes c.args.children.now c.loop-start.parents.items c.args.level c.loop-start.start
-    (omega (arith, c.fan_out-fan_out.ensures.wide, c.fan_out-fan_out.ensures.exact)) c.loop-start.invariant (omega (arith, c.loop-start-test.true)) (c.in-Err.ensures.out (err_is {T = Vec Child Global} {U = Child} c.in-Err.e OutOfSlots is))
+pub returns-in_err-add_parent-clause-only : goal.returns-in_err-add_parent-clause-only
+returns-in_err-add_parent-clause-only g c = λ tells.
+    taken_more c.args.nodes.now c.make_room.new.self c.add_parent.new.nodes (g.D.Disk.history c.args.disk.now) (g.D.Disk.history c.make_room.new.disk) c.add_parent.ensures.later
+    (taken_then c.args.nodes.now c.loop-start.nodes c.make_room.new.self (g.D.Disk.history c.args.disk.now) (g.D.Disk.history c.loop-start.disk) (g.D.Disk.history c.make_room.new.disk)
+    c.loop-start.invariant.later c.make_room.ensures.later (c.loop-start.invariant.only tells) (c.make_room.ensures.only tells))
 
 pub loop-start-preserved : goal.loop-start-preserved
-loop-start-preserved c =
-    let old : Made = c.args.nodes.now in
+loop-start-preserved g c =
+    let before = c.loop-start.invariant in
     let start : ℕ = c.loop-start.start in
     let end : ℕ = c.min-end.result in
     let part : List Child = take (end - start) (drop start c.args.children.now) in
-    let end_is : end ≡ min (length c.args.children.now) (start + fan_out old.form.nodesize) = omega (arith, c.min-end.ensures, c.fan_out-fan_out.ensures.exact) in
+    let end_is : end ≡ min (length c.args.children.now) (start + fan_out c.args.nodes.now.form.nodesize) = omega (arith, c.min-end.ensures, c.fan_out-fan_out.ensures.exact) in
     let some : 1 ≤ end - start = omega (arith, c.min-end.ensures, c.loop-start-test.true, c.fan_out-fan_out.ensures.wide) in
     let long : length part ≡ end - start = omega (arith, length-take (end - start) (drop start c.args.children.now), length-drop start c.args.children.now, c.min-end.ensures, c.loop-start-test.true) in
-    subst (λ cs. IsRaising old c.args.children.now c.args.level c.make_parent.new.nodes cs end) (sym c.in_ok-add_child.ensures)
-    (raising_goes_on c.children_give_items.ensures old c.loop-start.nodes c.make_parent.new.nodes c.args.children.now c.loop-start.parents.items part c.args.level start end c.in-Ok.parent
-    c.requires.size c.requires.slots c.loop-start.invariant (omega (arith, c.loop-start-test.true)) end_is some refl long c.in-Ok.ensures.made)
+    record {
+      open_ = c.make_room.ensures.open ∙ before.open_;
+      size = c.make_room.ensures.size ∙ before.size;
+      borrow = c.make_room.ensures.borrow ∙ before.borrow;
+      same = c.in_ok-make_room.ensures.cause.kept ∙ before.same;
+      later = later_then c.args.nodes.now c.make_room.new.self c.add_parent.new.nodes (later_then c.args.nodes.now c.loop-start.nodes c.make_room.new.self before.later c.make_room.ensures.later) c.add_parent.ensures.later;
+      only = λ tells.
+          taken_more c.args.nodes.now c.make_room.new.self c.add_parent.new.nodes (g.D.Disk.history c.args.disk.now) (g.D.Disk.history c.make_room.new.disk) c.add_parent.ensures.later
+          (taken_then c.args.nodes.now c.loop-start.nodes c.make_room.new.self (g.D.Disk.history c.args.disk.now) (g.D.Disk.history c.loop-start.disk) (g.D.Disk.history c.make_room.new.disk)
+          before.later c.make_room.ensures.later (before.only tells) (c.make_room.ensures.only tells));
+      goes =
+          raise_goes_on c.children_give_items.ensures g.D.BlockSource.tells (reads (g.D.Disk.history c.args.disk.now)) (reads (g.D.Disk.history c.loop-start.disk)) (reads (g.D.Disk.history c.make_room.new.disk))
+          c.args.nodes.now c.loop-start.nodes c.make_room.new.self c.add_parent.new.nodes c.args.children.now c.loop-start.parents.items c.add_parent.new.parents.items part c.args.level start end
+          c.in_ok-add_parent.ensures.made.0 c.requires.size c.requires.slots before.goes c.in_ok-make_room.ensures.goes (omega (arith, c.loop-start-test.true)) end_is some refl long
+          c.in_ok-add_parent.ensures.made.1 c.in_ok-add_parent.ensures.made.2;
+    }
 
 pub returns-clause-raised : goal.returns-clause-raised
-returns-clause-raised c =
-    raising_ends c.args.nodes.now c.loop-start.nodes c.args.children.now c.loop-start.parents.items c.args.level c.loop-start.start
-    (omega (arith, c.fan_out-fan_out.ensures.wide, c.fan_out-fan_out.ensures.exact)) c.loop-start.invariant (omega (arith, c.loop-start-test.false))
+returns-clause-raised g c =
+    raise_ends g.D.BlockSource.tells (reads (g.D.Disk.history c.args.disk.now)) (reads (g.D.Disk.history c.loop-start.disk)) c.args.nodes.now c.loop-start.nodes c.args.children.now c.loop-start.parents.items
+    c.args.level c.loop-start.start (omega (arith, c.fan_out-fan_out.ensures.wide, c.fan_out-fan_out.ensures.exact)) c.loop-start.invariant.goes (omega (arith, c.loop-start-test.false))

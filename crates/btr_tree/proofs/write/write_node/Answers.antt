@@ -16,6 +16,7 @@ loop-j-preserved g c =
     record {
       open_ = c.write.ensures.open ∙ before.open_;
       size = c.write.ensures.size ∙ before.size;
+      borrow = c.write.ensures.borrow ∙ before.borrow;
       same = c.in_ok-write.ensures.cause.kept ∙ before.same;
       only = λ tells.
           writes_then (λ b _. IsInNode (length c.args.bytes.now) c.args.address b) _ _ _ (before.only tells)

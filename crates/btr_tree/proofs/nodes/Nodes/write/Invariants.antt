@@ -1,7 +1,7 @@
-use Rattle.std.proofs.Common.{◌≡◌, ℕ, ◌<◌, [], length, take, get_or, IsTrue}
+use Rattle.std.proofs.Common.{◌≡◌, ℕ, ◌+◌, ◌<◌, List, [], ◌++◌, length, take, get_or, IsTrue}
 use Rattle.outside.specs.History.{reads, WritesOnly}
 use Rattle.btr_walk.specs.Map.{identity, node_at}
-use Rattle.btr_tree.specs.Building.{slot}
+use Rattle.btr_tree.specs.Building.{StandAt, slot, taken}
 use Rattle.btr_tree.specs.Writing.{IsInSlots}
 use Rattle.btr_tree.proofs.nodes.Nodes.write.Given as goal
 
@@ -9,8 +9,10 @@ abbrev pub invariant-loop-k : goal.invariant-loop-k
 invariant-loop-k g l = record {
   open_ : g.D.Disk.opened l.disk ≡ g.D.Disk.opened l.initial.disk;
   size : g.D.BlockSource.size l.disk ≡ g.D.BlockSource.size l.initial.disk;
+  borrow : g.D.Disk.borrow l.disk ≡ g.D.Disk.borrow l.initial.disk;
   same : g.D.BlockSource.faults l.disk ≡ g.D.BlockSource.faults l.initial.disk;
-  only : IsTrue g.D.BlockSource.tells → WritesOnly (λ b _. IsInSlots l.self.form.nodesize (take (length l.self.nodes) l.self.slots) b) (g.D.Disk.history l.initial.disk) (g.D.Disk.history l.disk);
+  only : IsTrue g.D.BlockSource.tells → WritesOnly (λ b _. IsInSlots l.self.form.nodesize (take (taken l.self) l.self.slots) b) (g.D.Disk.history l.initial.disk) (g.D.Disk.history l.disk);
   written : IsTrue g.D.BlockSource.tells
-      → (i : ℕ) → i < l.k → node_at (reads (g.D.Disk.history l.disk)) identity l.self.form.nodesize (slot l.self.slots i) ≡ get_or l.self.nodes i [];
+      → (front : List (List ℕ)) → length front ≡ l.self.written → StandAt (reads (g.D.Disk.history l.initial.disk)) l.self.form.nodesize l.self.slots front
+      → (i : ℕ) → i < l.self.written + l.k → node_at (reads (g.D.Disk.history l.disk)) identity l.self.form.nodesize (slot l.self.slots i) ≡ get_or (front ++ l.self.nodes) i [];
 }

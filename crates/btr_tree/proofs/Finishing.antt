@@ -1,0 +1,69 @@
+-- A tree is written whole.
+use Rattle.std.proofs.Common.{◌≡◌, ℕ, Bool, List, [], ◌++◌, length, IsTrue, sym, ◌∙◌, ap, subst, arith}
+use Rattle.std.proofs.lemmas.List.{append-nil}
+use Rattle.std.specs.List.Sorted.{IsPermutation}
+use Rattle.outside.specs.History.{Image}
+use Rattle.btr_node.specs.Leaf.{Item}
+use Rattle.btr_walk.specs.Events.{nodes_in, tree_events}
+use Rattle.btr_walk.specs.Map.{identity}
+use Rattle.btr_tree.specs.Building.{Made, StandAt, Goes, HasBack, pointer_to, taken, whole}
+use Rattle.btr_tree.specs.Builder.{Building, Standing, Holds, pushed, all_made, HasTree}
+use Rattle.btr_tree.specs.Counting.{tree_nodes}
+use Rattle.btr_tree.specs.Packing.{leaves as leaves_by, tree_levels}
+use Rattle.btr_tree.specs.Roots.{IsCompleted, IsFinished, MeetsNodes, level_pointers, lengths_of}
+use Rattle.btr_tree.specs.declared.climb.Root.{Root}
+use Rattle.btr_tree.proofs.Going.{HasFront, goes_then}
+use Rattle.btr_tree.proofs.RaisingFronts.{whole_count}
+
+-- the tree of what is held was made
+abbrev pub Makes : Building → Building → Root → Made → Made → Type 0
+Makes b new root m n = Standing (record b { made = m }) → IsCompleted (record b { made = m }) (record new { made = n }) root
+
+pub makes_goes : (tells : Bool) (first second third last : Image) (b new : Building) (mid final : Made) (root : Root) → Goes tells first second b.made mid (λ m n. n ≡ m)
+    → Goes tells second third mid new.made (Makes b new root) → Goes tells third last new.made final (λ m n. n ≡ m) → Goes tells first last b.made final (Makes b new root)
+makes_goes tells first second third last b new mid final root room made flush =
+    goes_then tells first third last b.made new.made final (Makes b new root) (λ m n. n ≡ m) (Makes b new root) (λ m n o make same. subst (λ (x : Made). Makes b new root m x) (sym same) make)
+    (goes_then tells first second third b.made mid new.made (λ m n. n ≡ m) (Makes b new root) (Makes b new root) (λ m n o same make. subst (λ (x : Made). Makes b new root x o) same make) room made) flush
+
+module _ (tells : Bool) (first last : Image) (b new : Building) (final : Made) (root : Root) (goes : Goes tells first last b.made final (Makes b new root)) (none : final.nodes ≡ []) where
+  abbrev there : (items : List Item) → (h : Holds b items) → HasBack tells first last b.made final (Makes b new root) h.front
+  there items h = goes h.front h.count
+
+  done : (items : List Item) → (h : Holds b items) → IsCompleted (all_made b h.front) (record new { made = whole final (there items h).back }) root
+  done items h = (there items h).now h.standing
+
+  pub finished : (items : List Item) → Holds b items → IsFinished b (record new { made = final }) root items
+  finished items h =
+      let d : IsCompleted (all_made b h.front) (record new { made = whole final (there items h).back }) root = done items h in
+      let count : taken final ≡ length (whole final (there items h).back).nodes = whole_count final (there items h).back (there items h).count in
+      record {
+        same = record {
+          form = ap (λ (m : Made). m.form) d.extended.is;
+          owner = ap (λ (m : Made). m.owner) d.extended.is;
+          generation = ap (λ (m : Made). m.generation) d.extended.is;
+          slots = ap (λ (m : Made). m.slots) d.extended.is;
+        };
+        few = omega (arith, count, d.few);
+        count = count ∙ (d.count ∙ ap (λ is. tree_nodes b.made.form.nodesize (lengths_of is)) h.pushed_is);
+        nodes_are = d.nodes_are ∙ sym count;
+        all_written = none;
+      }
+
+  -- all nodes stand on the disk
+  all_stand : IsTrue tells → (items : List Item) → (f : HasFront b first items) → StandAt last final.form.nodesize final.slots ((there items f.holds).back ++ final.nodes)
+  all_stand told items f =
+      subst (StandAt last final.form.nodesize final.slots) (sym (ap (λ ns. (there items f.holds).back ++ ns) none ∙ append-nil (there items f.holds).back)) ((there items f.holds).stands told f.stand)
+
+  pub finished_tree : IsTrue tells → (items : List Item) → HasFront b first items → HasTree last b.made root.address root.level items
+  finished_tree told items f =
+      let d : IsCompleted (all_made b f.holds.front) (record new { made = whole final (there items f.holds).back }) root = done items f.holds in
+      subst (λ is. HasTree last b.made root.address root.level is) f.holds.pushed_is
+      (subst (λ (m : Made). HasTree last m root.address root.level (pushed (all_made b f.holds.front))) d.extended.is (d.root_is last (all_stand told items f)))
+
+  pub finished_nodes : IsTrue tells → (items : List Item) → HasFront b first items → MeetsNodes last b.made root.address root.level items
+  finished_nodes told items f =
+      let d : IsCompleted (all_made b f.holds.front) (record new { made = whole final (there items f.holds).back }) root = done items f.holds in
+      let sizes : List ℕ = tree_levels b.made.form.nodesize (length (leaves_by b.made.form.nodesize (lengths_of (pushed (all_made b f.holds.front))))) in
+      subst (λ is. MeetsNodes last b.made root.address root.level is) f.holds.pushed_is
+      (subst (λ (m : Made). IsPermutation (nodes_in (tree_events last identity m.form (pointer_to m.generation root.level root.address) m.owner)) (level_pointers m.generation 0 0 m.slots sizes)) d.extended.is
+      (d.nodes last (all_stand told items f)))

@@ -1,0 +1,18 @@
+use Rattle.std.proofs.Common.{ℕ, ◌+◌, [], sym, ◌∙◌, ap}
+use Rattle.btr_tree.specs.Building.{Made, flushed}
+use Rattle.btr_tree.proofs.PiecesOf.{length-pieces_of}
+use Rattle.btr_tree.proofs.nodes.Nodes.let_go.Goals as goal
+
+pub returns : goal.returns
+returns c =
+    let made : ℕ → Made = λ held. record {
+      form = c.self.inside.form;
+      owner = c.self.inside.owner;
+      generation = c.self.inside.generation;
+      chunk_tree = c.self.inside.chunk_tree;
+      slots = c.self.inside.slots;
+      written = c.self.inside.written + held;
+      nodes = [];
+      draft = c.self.inside.writer;
+    } in
+    ap made (sym (length-pieces_of c.self.inside.form.nodesize c.self.inside.held c.self.inside.bytes.items)) ∙ ap flushed c.self.view_is

@@ -1,0 +1,8 @@
+use Rattle.std.proofs.Common.{length, ap, arith}
+use Rattle.btr_tree.specs.Building.{Made}
+use Rattle.btr_tree.proofs.PiecesOf.{length-pieces_of}
+use Rattle.btr_tree.proofs.nodes.Nodes.make_room.Goals as goal
+
+pub returns-then-self-lt-BATCH-clause-room : goal.returns-then-self-lt-BATCH-clause-room
+returns-then-self-lt-BATCH-clause-room g c =
+    omega (arith, c.if-self-lt-BATCH.true, length-pieces_of c.self.inside.form.nodesize c.self.inside.held c.self.inside.bytes.items, ap (λ (m : Made). length m.nodes) c.self.view_is)
