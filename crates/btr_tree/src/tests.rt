@@ -1,7 +1,7 @@
 ghost use Rattle.std.specs.Prelude.{◌≡◌, ◌≤◌, ◌+◌};
 ghost use Rattle.btr_node.specs.NodeSize.{IsNodeSize};
 
-use crate::{Counter, Slots, TreeAnswer, TreeBuilder, node_bound};
+use crate::{Counter, Root, Slots, TreeAnswer, TreeBuilder, node_bound};
 use btr_keys::Key;
 use csum_kinds::SumKind;
 use outside::{Access, Disk};
@@ -79,5 +79,27 @@ fn no_slot_for_a_leaf(rt: HostRuntime) -> Result<(), Fail> {
     assert_eq!(rt; pushed, Err(TreeAnswer::OutOfSlots));
     assert!(rt; tree.spent());
     assert_eq!(rt; disk.writes(), 0);
+    Ok(())
+}
+
+#[test]
+fn one_leaf(rt: HostRuntime) -> Result<(), Fail> {
+    let mut disk = MemDisk::new(rt.alloc(), 32)?;
+    disk.open("", Access::Write)?;
+    let mut slots = Slots::new(rt.alloc());
+    slots.add(65536)?;
+    let mut tree = TreeBuilder::new(rt.alloc(), 5, 1, slots, IDS, 4096, SumKind::Crc32c)?;
+    if tree.push(&mut disk, key(256), b"body").is_ok() {
+        let root = tree.finish(&mut disk);
+        assert_eq!(rt;
+            root,
+            Ok(Root {
+                address: 65536,
+                level: 0,
+                nodes: 1
+            })
+        );
+    }
+    assert_eq!(rt; disk.writes(), 1);
     Ok(())
 }
