@@ -1,9 +1,10 @@
 //! The trees that are written, and how many nodes they take.
 //!
 //! A [`TreeBuilder`] is given [`Slots`] for nodes, takes the items of a tree in the order of their keys by
-//! [`TreeBuilder::push`], and writes the tree by [`TreeBuilder::finish`], whose answer is the [`Root`]. A [`Counter`] takes
-//! the lengths of a tree's items and says how many nodes the tree has. [`node_bound`] bounds that number by the sum of the
-//! items' bytes alone.
+//! [`TreeBuilder::push`], which writes nodes on the way, and writes the rest by [`TreeBuilder::finish`], whose answer is the
+//! [`Root`]. Between two calls others may write blocks that are in no slot that was taken ([`stands_by_slots`]). A
+//! [`Counter`] takes the lengths of a tree's items and says how many nodes the tree has. [`node_bound`] bounds that number
+//! by the sum of the items' bytes alone.
 #![tactic(auto)]
 
 mod answer;
