@@ -239,6 +239,8 @@ linux_volumes() {
         else
             same "inspect of the volume $name" "0||$(expected_super packed)" "$status|$err|$(head -8 "$work/.out")"
             same "used blocks of the volume $name" 'adds up' "$(used_adds_up)"
+            # the lines that another program counted
+            same "all lines of inspect of the volume $name" "$(cat "$top/tests/volumes/$name.inspect")" "$out"
         fi
         if [ -e "${packed%.img.zst}.rows" ]; then listed "$name" packed "${packed%.img.zst}.rows"; else
             run list packed

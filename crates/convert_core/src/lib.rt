@@ -1,0 +1,8 @@
+//! The conversion of a ReiserFS volume to Btrfs.
+//!
+//! [`Survey::read`] says what a conversion would count and need, and [`Survey::of`] says it of a volume that is open already.
+#![tactic(auto)]
+
+mod survey;
+
+pub use survey::Survey;

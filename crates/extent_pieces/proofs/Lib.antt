@@ -1,0 +1,13 @@
+pub mod Copying
+pub mod Dividing
+pub mod Ending
+pub mod Filtering
+pub mod Gathering
+pub mod Joining
+pub mod Maximal
+pub mod Owners
+pub mod Owning
+pub mod Placing
+pub mod Reserving
+pub mod Tailing
+pub mod Telling
