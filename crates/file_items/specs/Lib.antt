@@ -1,0 +1,9 @@
+pub mod Groups
+pub mod Names
+pub mod Inodes
+pub mod Extents
+pub mod Tree
+pub mod Small
+pub mod Pieces
+pub mod Stream
+pub mod Laws
