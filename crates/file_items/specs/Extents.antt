@@ -1,30 +1,34 @@
 -- The file extents of a file tree, for the pieces of a volume.
-use Rattle.std.specs.Prelude.{ℕ, ◌+◌, ◌*◌, ◌==◌, nat_le, Bool, true, false, ◌&&◌, Option, Some, None, is_some, List, [], ◌∷◌, length, map, filter, sum_by, if◌then◌else◌}
+use Rattle.std.specs.Prelude.{ℕ, ◌*◌, ◌==◌, nat_le, Bool, true, false, ◌&&◌, Option, Some, None, is_some, List, length, map, filter, sum_by}
 use Rattle.std.specs.Option.{option_map_or}
-use Rattle.outside.specs.History.{Image}
 use Rattle.btr_keys.specs.FileExtent.{FileExtentValue, Inline, Regular, file_extent_bytes}
 use Rattle.btr_keys.specs.Key.{make_key}
 use Rattle.btr_node.specs.Leaf.{Item}
 use Rattle.fs_rows.specs.declared.row.Kind.{Kind}
 use Rattle.fs_rows.specs.declared.row.Kind.TheVariants.{Directory, File, Symlink, Character, Block, Fifo, Socket, Subvolume}
-use Rattle.reiser_files.specs.Bytes.{file_bytes, named_block}
-use Rattle.reiser_files.specs.Runs.{is_held}
+use Rattle.reiser_files.specs.declared.map.RunFrom.{RunFrom}
+use Rattle.reiser_files.specs.declared.map.RunFrom.TheVariants.{Disk, Tail}
+use Rattle.reiser_files.specs.Runs.{block_from}
 use Rattle.reiser_walk.specs.Items.{Item as ReiserItem}
-use Rattle.unit_plan.specs.declared.options.Options.{Options}
 use Rattle.unit_plan.specs.declared.piece.Piece.{Piece}
 use Rattle.file_items.specs.Groups.{ascending}
 
--- A file is inline where that is asked for, it has 1 to 2048 bytes, no block holds any of them and a direct item holds
--- some. A symlink always is.
-abbrev pub is_inline : Options → List ReiserItem → ℕ → Kind → Bool
-is_inline options items size File = options.inline && (nat_le 1 size && (nat_le size 2048 && ((named_block items 0 == 0) && is_held items size 0)))
-is_inline options items size Symlink = true
-is_inline options items size Directory = false
-is_inline options items size Character = false
-is_inline options items size Block = false
-is_inline options items size Fifo = false
-is_inline options items size Socket = false
-is_inline options items size Subvolume = false
+-- the block lies in direct items
+abbrev pub is_tail : Option RunFrom → Bool
+is_tail None = false
+is_tail (Some (Disk block)) = false
+is_tail (Some Tail) = true
+
+-- A file of at most 2048 bytes is inline where that is asked for and its block lies in direct items. A symlink always is.
+abbrev pub is_inline : Bool → List ReiserItem → ℕ → Kind → Bool
+is_inline inline items size File = inline && (nat_le size 2048 && is_tail (block_from items size 0))
+is_inline inline items size Symlink = true
+is_inline inline items size Directory = false
+is_inline inline items size Character = false
+is_inline inline items size Block = false
+is_inline inline items size Fifo = false
+is_inline inline items size Socket = false
+is_inline inline items size Subvolume = false
 
 -- the extent that holds these bytes itself
 abbrev pub inline_extent : List ℕ → FileExtentValue

@@ -2,10 +2,10 @@
 use Rattle.std.specs.Prelude.{ℕ, ◌+◌, ◌*◌, ◌^◌, pos, Bool, not, ◌&&◌, if◌then◌else◌}
 use Rattle.btr_keys.specs.declared.inode.Inode.{Inode}
 use Rattle.btr_keys.specs.declared.stamp.Stamp.{Stamp}
+use Rattle.fs_rows.specs.Kinds.{is_device, is_file, is_symlink}
 use Rattle.fs_rows.specs.declared.row.Kind.{Kind}
 use Rattle.reiser_objects.specs.declared.stat.ObjectStat.{ObjectStat}
-use Rattle.reiser_objects.specs.Kinds.{is_file, is_symlink}
-use Rattle.reiser_volume.specs.Rows.{flag, is_device, major_of, minor_of}
+use Rattle.reiser_volume.specs.Rows.{flag, major_of, minor_of}
 
 abbrev pub stamp_of : ℕ → Stamp
 stamp_of sec = record { sec = pos sec; nsec = 0 }

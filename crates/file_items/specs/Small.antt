@@ -14,6 +14,10 @@ use Rattle.file_items.specs.Names.{root_ref, entry_to, entry_items, Indexed, let
 abbrev pub image_name : List ℕ
 image_name = codes "image"
 
+-- the entry of its root directory
+abbrev pub image_entries : List Indexed
+image_entries = (2, entry_to 257 File image_name) ∷ []
+
 -- a root directory made at a time, of mode 040755, with these entries
 abbrev pub root_items : ℕ → List Indexed → List Item
 root_items now list = (make_key 256 1 0, inode_bytes (inode_made now 0x41ED (2 * letters list) 0 0)) ∷ root_ref ∷ entry_items 256 list
@@ -26,10 +30,15 @@ relocation_items now = root_items now []
 abbrev pub image_flags : Bool → ℕ
 image_flags datasum = if datasum then 4 else 5
 
--- The tree of the saved image of a volume of so many blocks: a root directory with the file `image`, inode 257, whose
--- extents are the pieces that hold blocks of the volume, each from the block on that it holds.
+-- The tree of the saved image of a volume of so many blocks, up to its extents: a root directory with the file `image`,
+-- inode 257, of so many bytes of extents.
+unfoldable pub image_head : ℕ → ℕ → Bool → ℕ → List Item
+image_head blocks nbytes datasum now =
+    root_items now image_entries
+    ++ ((make_key 257 1 0, inode_bytes (inode_made now 0x8100 (4096 * blocks) nbytes (image_flags datasum)))
+    ∷ ((make_key 257 12 256, inode_ref_bytes (record { index = 2; name = image_name })) ∷ []))
+
+-- The whole of it: an extent for each piece that holds blocks of the volume, from the block on that it holds.
 unfoldable pub image_items : ℕ → List Piece → Bool → ℕ → List Item
 image_items blocks pieces datasum now =
-    root_items now ((2, entry_to 257 File image_name) ∷ [])
-    ++ ((make_key 257 1 0, inode_bytes (inode_made now 0x8100 (4096 * blocks) (piece_bytes (pieces_of_volume pieces)) (image_flags datasum)))
-    ∷ ((make_key 257 12 256, inode_ref_bytes (record { index = 2; name = image_name })) ∷ extents_at 257 source_block (pieces_of_volume pieces)))
+    image_head blocks (piece_bytes (pieces_of_volume pieces)) datasum now ++ extents_at 257 source_block (pieces_of_volume pieces)

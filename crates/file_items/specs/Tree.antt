@@ -1,5 +1,5 @@
 -- The items of the file tree, number 5: one object after the other.
-use Rattle.std.specs.Prelude.{ℕ, ◌*◌, Bool, not, List, [], ◌∷◌, ◌++◌, filter, count_by, if◌then◌else◌}
+use Rattle.std.specs.Prelude.{ℕ, ◌*◌, Bool, List, [], ◌∷◌, ◌++◌, count_by, if◌then◌else◌}
 use Rattle.std.specs.List.{flat_map}
 use Rattle.indexmap.specs.IndexMap.{keys}
 use Rattle.outside.specs.History.{Image}
@@ -7,6 +7,7 @@ use Rattle.btr_keys.specs.Inode.{inode_bytes}
 use Rattle.btr_keys.specs.Key.{make_key}
 use Rattle.btr_keys.specs.declared.inode.Inode.{Inode}
 use Rattle.btr_node.specs.Leaf.{Item}
+use Rattle.fs_rows.specs.Kinds.{is_directory}
 use Rattle.fs_rows.specs.declared.row.Kind.{Kind}
 use Rattle.fs_rows.specs.declared.row.Kind.TheVariants.{Directory, File, Symlink, Character, Block, Fifo, Socket, Subvolume}
 use Rattle.reiser_files.specs.Bytes.{file_bytes}
@@ -15,20 +16,20 @@ use Rattle.reiser_objects.specs.declared.key.ObjectKey.{ObjectKey}
 use Rattle.reiser_objects.specs.declared.naming.Naming.{Naming}
 use Rattle.reiser_objects.specs.declared.stat.ObjectStat.{ObjectStat}
 use Rattle.reiser_objects.specs.Keys.{root, same_key, items_of}
-use Rattle.reiser_objects.specs.Kinds.{is_directory}
 use Rattle.reiser_volume.specs.Made.{stat_at, kind_by}
 use Rattle.reiser_volume.specs.Opened.{links_in}
-use Rattle.reiser_volume.specs.Volume.{volume_items, superblock}
+use Rattle.reiser_volume.specs.Volume.{volume_items}
 use Rattle.reiser_volume.specs.declared.volume.Volume.{Volume}
 use Rattle.reiser_walk.specs.Items.{Item as ReiserItem}
-use Rattle.unit_plan.specs.declared.options.Options.{Options}
 use Rattle.unit_plan.specs.declared.piece.Piece.{Piece}
+use Rattle.file_items.specs.Order.{by_inode}
 use Rattle.file_items.specs.Names.{inode_refs, extrefs, root_ref, indexed_in, letters, entry_items}
 use Rattle.file_items.specs.Extents.{is_inline, inline_extent, extent_item, pieces_of, file_block, piece_bytes, extents_at}
 use Rattle.file_items.specs.Inodes.{inode_from}
 
 -- What the tree is made from: the blocks of the volume with the superblock's flags and the items of its tree, the named
--- objects by their keys, the links in the order of the items, the pieces, and the options.
+-- objects by their keys, the links in the order of the items, the pieces, and whether small files are inline and data has
+-- checksums.
 pub record Source : Type 0 where
   pub image : Image
   pub flags : ℕ
@@ -36,23 +37,21 @@ pub record Source : Type 0 where
   pub keys : List ObjectKey
   pub links : List Naming
   pub pieces : List Piece
-  pub options : Options
+  pub inline : Bool
+  pub datasum : Bool
 
 -- an opened volume
-abbrev pub source_of : Volume → List Piece → Options → Image → Source
-source_of volume pieces options image = record {
+abbrev pub source_of : Volume → List Piece → Bool → Bool → Image → Source
+source_of volume pieces inline datasum image = record {
   image = image;
   flags = volume.sup.flags;
   items = volume_items image;
   keys = keys volume.named;
   links = links_in volume;
   pieces = pieces;
-  options = options;
+  inline = inline;
+  datasum = datasum;
 }
-
--- the named objects by their inodes: the root, and the others by their keys
-abbrev pub by_inode : List ObjectKey → List ObjectKey
-by_inode keys = root ∷ filter (λ key. not (same_key key root)) keys
 
 abbrev pub number_of : Source → ObjectKey → ℕ
 number_of s key = inode_of s.keys key
@@ -68,7 +67,7 @@ size_in s key = (stat_in s key).fields.size
 
 -- an inline file or symlink
 abbrev pub inline_in : Source → ObjectKey → Bool
-inline_in s key = is_inline s.options (items_of key s.items) (size_in s key) (kind_in s key)
+inline_in s key = is_inline s.inline (items_of key s.items) (size_in s key) (kind_in s key)
 
 -- Twice the bytes of all names of a directory, the bytes of a file or of a target, else 0.
 abbrev pub size_by : Source → ObjectKey → Kind → ℕ
@@ -91,7 +90,7 @@ link_count s key = if is_directory (kind_in s key) then 1 else count_by (λ n. s
 
 unfoldable pub inode_in : Source → ObjectKey → Inode
 inode_in s key =
-    inode_from s.options.datasum s.flags (stat_in s key) (kind_in s key) (size_by s key (kind_in s key)) (bytes_by s key) (link_count s key)
+    inode_from s.datasum s.flags (stat_in s key) (kind_in s key) (size_by s key (kind_in s key)) (bytes_by s key) (link_count s key)
 
 -- the names of an object as its references tell them
 unfoldable pub name_items : Source → ObjectKey → List Item

@@ -1,7 +1,20 @@
+ghost use Rattle.std.specs.Prelude.{◌≡◌, ◌<◌, ◌*◌, ◌++◌, length, OnOk};
+ghost use Rattle.indexmap.specs.IndexMap.{keys};
+ghost use Rattle.outside.specs.History.{Image};
+ghost use Rattle.btr_keys.specs.DirEntry.{dir_entry_value};
+ghost use Rattle.reiser_names.specs.Names.{inode_of};
+ghost use Rattle.reiser_objects.specs.declared.key.ObjectKey.{ObjectKey as KeyOf};
+ghost use Rattle.reiser_volume.specs.Made.{stat_at, kind_by};
+ghost use Rattle.reiser_volume.specs.Opened.{IsOpened, links_in};
+ghost use Rattle.reiser_volume.specs.Volume.{IsAccepted, volume_items};
+ghost use Rattle.file_items.specs.Known.{FitsIndex, IsKnown, IsAt};
+ghost use Rattle.file_items.specs.Names.{entry_kind, entry_items, indexed_in, letters, saved_entry};
+
 use crate::item_list::ItemList;
-use crate::link_index::{LinkIndex, Spot, index_at};
+use crate::link_index::{LinkIndex, index_at};
 use crate::numbers::Numbers;
 use crate::records::{put_entry, short};
+use crate::spot::Spot;
 use btr_keys::{DirEntry, Key};
 use castagnoli::name_hash;
 use fs_rows::Kind;
@@ -47,7 +60,11 @@ impl Directory {
         links: &LinkIndex,
         numbers: Numbers,
         place: usize,
-    ) -> Result<(), Memory> {
+    ) -> Result<(), Memory>
+        requires { FitsIndex links.now volume.now }
+        ensures { (image : Image) → IsKnown volume.now links.now numbers image → (key : KeyOf) → IsAt volume.now place key
+            → OnOk result (items.new ≡ items.old ++ entry_items (inode_of (keys volume.now.named) key) (indexed_in (λ k. kind_by (stat_at (volume_items image) k)) (keys volume.now.named) (links_in volume.now) key)) }
+    {
         let spots = links.names_in(place);
         let saved = numbers.is_root(place);
         let ino = numbers.inode(place);
@@ -146,7 +163,9 @@ fn entry_of(volume: &Volume, numbers: Numbers, link: Option<usize>) -> DirEntry<
 }
 
 /// The root's entry for the tree of the saved image.
-fn saved_entry() -> DirEntry<'static> {
+fn saved_entry() -> DirEntry<'static>
+    ensures { dir_entry_value result ≡ saved_entry }
+{
     let location = Key {
         objectid: 256,
         kind: 132,
@@ -156,7 +175,9 @@ fn saved_entry() -> DirEntry<'static> {
 }
 
 /// An entry of a new tree.
-pub fn new_entry<'a>(location: Key, kind: Kind, name: &'a [u8]) -> DirEntry<'a> {
+pub fn new_entry<'a>(location: Key, kind: Kind, name: &'a [u8]) -> DirEntry<'a>
+    ensures { dir_entry_value result ≡ record { location = location; transid = 1; data_length = 0; kind = entry_kind kind; name = name.now } }
+{
     DirEntry {
         location,
         transid: 1,
@@ -167,7 +188,9 @@ pub fn new_entry<'a>(location: Key, kind: Kind, name: &'a [u8]) -> DirEntry<'a> 
 }
 
 /// The kind in a directory's entry; Linux has a subvolume as a directory.
-fn entry_kind(kind: Kind) -> u8 {
+fn entry_kind(kind: Kind) -> u8
+    ensures { result ≡ entry_kind kind }
+{
     match kind {
         Kind::File => 1,
         Kind::Directory | Kind::Subvolume => 2,
@@ -180,12 +203,21 @@ fn entry_kind(kind: Kind) -> u8 {
 }
 
 /// The kind of the object at a place, which each named object has.
-pub fn kind_at(volume: &Volume, place: usize) -> Kind {
+pub fn kind_at(volume: &Volume, place: usize) -> Kind
+    ensures { (image : Image) → IsAccepted image → IsOpened volume.now image → (key : KeyOf) → IsAt volume.now place key → result ≡ kind_by (stat_at (volume_items image) key) }
+{
+    if place >= volume.count() {
+        return Kind::File;
+    }
     kind_of_mode(volume.stat(place).fields.mode).unwrap_or(Kind::File)
 }
 
 /// Twice the bytes of the names of the directory at a place: the size of its inode.
-pub fn size_of(volume: &Volume, links: &LinkIndex, numbers: Numbers, place: usize) -> u64 {
+pub fn size_of(volume: &Volume, links: &LinkIndex, numbers: Numbers, place: usize) -> u64
+    requires { FitsIndex links.now volume.now }
+    ensures { (image : Image) → IsKnown volume.now links.now numbers image → (key : KeyOf) → IsAt volume.now place key
+        → result ≡ 2 * letters (indexed_in (λ k. kind_by (stat_at (volume_items image) k)) (keys volume.now.named) (links_in volume.now) key) }
+{
     let mut size = if numbers.is_root(place) {
         2 * SAVED.len() as u64
     } else {

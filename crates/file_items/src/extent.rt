@@ -1,4 +1,6 @@
 // File extents.
+ghost use Rattle.std.specs.Prelude.{◌≡◌, ◌≤◌, ◌<◌, ◌*◌, ◌+◌, ◌^◌, ◌++◌, ◌∷◌, [], length, OnOk};
+ghost use Rattle.file_items.specs.Extents.{extent_item, regular_extent, inline_extent};
 
 use crate::item_list::ItemList;
 use crate::records::put_extent;
@@ -6,59 +8,72 @@ use btr_keys::{DiskRange, ExtentContent, FileExtent, Key};
 use outside::Memory;
 use vol_block::BlockNo;
 
-/// Appends the extent of `count` blocks of the volume from `place` on, as blocks of a file from `block` on.
-pub fn add_extent(
-    items: &mut ItemList,
-    body: &mut Vec<u8>,
-    ino: u64,
-    block: u64,
-    place: BlockNo,
-    count: u64,
-) -> Result<(), Memory> {
-    let bytes = count.saturating_mul(4096);
+/// Where an extent lies, in blocks.
+#[derive(Clone, Copy)]
+pub struct Extent {
+    /// The first block of the file.
+    pub block: u64,
+    /// The first block of the volume.
+    pub place: BlockNo,
+    /// How many there are.
+    pub count: u64,
+}
+
+/// Appends an extent of blocks of the volume to the items of an inode. Each number of bytes stays at the last one of 64 bits.
+pub fn add_extent(items: &mut ItemList, ino: u64, extent: Extent) -> Result<(), Memory>
+    ensures { extent.block < 2 ^ 52 → extent.place < 2 ^ 52 → extent.count < 2 ^ 52
+        → OnOk result (items.new ≡ items.old ++ extent_item ino extent.block (regular_extent extent.place extent.count) ∷ []) }
+{
+    let bytes = extent.count.saturating_mul(4096);
     let range = DiskRange {
-        disk_bytenr: place.saturating_mul(4096),
+        disk_bytenr: extent.place.saturating_mul(4096),
         disk_num_bytes: bytes,
         offset: 0,
         num_bytes: bytes,
     };
-    let at = block.saturating_mul(4096);
-    add(items, body, ino, at, bytes, ExtentContent::Regular(range))
+    let item = new_extent(bytes, ExtentContent::Regular(range));
+    let mut body = [0; 53];
+    item.write(&mut body);
+    items.add(extent_key(ino, extent.block.saturating_mul(4096)), &body)
 }
 
-/// Appends the extent that holds the bytes of a file itself.
+/// Appends the extent that holds the bytes of a file itself, at most 4096.
 pub fn add_inline(
     items: &mut ItemList,
     body: &mut Vec<u8>,
     ino: u64,
     bytes: &[u8],
-) -> Result<(), Memory> {
-    let content = ExtentContent::Inline(bytes);
-    add(items, body, ino, 0, bytes.len() as u64, content)
+) -> Result<(), Memory>
+    requires { length bytes.now ≤ 4096 }
+    ensures { OnOk result (items.new ≡ items.old ++ extent_item ino 0 (inline_extent bytes.now) ∷ []) }
+{
+    let item = new_extent(bytes.len() as u64, ExtentContent::Inline(bytes));
+    body.clear();
+    put_extent(body, &item)?;
+    items.add(extent_key(ino, 0), body)
 }
 
-fn add(
-    items: &mut ItemList,
-    body: &mut Vec<u8>,
-    ino: u64,
-    offset: u64,
-    ram_bytes: u64,
-    content: ExtentContent<'_>,
-) -> Result<(), Memory> {
-    let extent = FileExtent {
+/// An extent of a new tree.
+fn new_extent<'a>(ram_bytes: u64, content: ExtentContent<'a>) -> FileExtent<'a>
+    ensures { result ≡ record { generation = 1; ram_bytes = ram_bytes; compression = 0; encryption = 0; other = 0; content = content } }
+{
+    FileExtent {
         generation: 1,
         ram_bytes,
         compression: 0,
         encryption: 0,
         other: 0,
         content,
-    };
-    body.clear();
-    put_extent(body, &extent)?;
-    let key = Key {
+    }
+}
+
+/// The key of the extent from a byte of the file on.
+fn extent_key(ino: u64, offset: u64) -> Key
+    ensures { result ≡ record { objectid = ino; kind = 108; offset = offset } }
+{
+    Key {
         objectid: ino,
         kind: 108,
         offset,
-    };
-    items.add(key, body)
+    }
 }

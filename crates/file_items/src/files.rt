@@ -1,6 +1,6 @@
 use crate::copies::Copies;
 use crate::directory::{Directory, kind_at, size_of};
-use crate::extent::{add_extent, add_inline};
+use crate::extent::{Extent, add_extent, add_inline};
 use crate::inode::{Sizes, inode_from};
 use crate::item_list::ItemList;
 use crate::link_index::LinkIndex;
@@ -144,7 +144,12 @@ impl FileTree {
         } else {
             self.file.done += piece.count;
         }
-        add_extent(items, &mut self.body, ino, block, piece.place, piece.count)?;
+        let extent = Extent {
+            block,
+            place: piece.place,
+            count: piece.count,
+        };
+        add_extent(items, ino, extent)?;
         Ok(())
     }
 

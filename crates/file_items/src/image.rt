@@ -1,7 +1,6 @@
-use crate::extent::add_extent;
+use crate::extent::{Extent, add_extent};
 use crate::item_list::ItemList;
 use outside::Memory;
-use std::alloc::Global;
 use unit_plan::{Piece, PieceList};
 
 /// The extents of the saved image that are still to come: kept and copied pieces, by the blocks of the volume that they hold.
@@ -11,17 +10,12 @@ use unit_plan::{Piece, PieceList};
 pub struct ImageExtents {
     kept: usize,
     copied: usize,
-    body: Vec<u8>,
 }
 
 impl ImageExtents {
     /// All of them.
-    pub fn new(alloc: Global) -> ImageExtents {
-        ImageExtents {
-            kept: 0,
-            copied: 0,
-            body: Vec::new(alloc),
-        }
+    pub fn new() -> ImageExtents {
+        ImageExtents { kept: 0, copied: 0 }
     }
 
     /// Appends the next extent to a list of items. Whether there is one.
@@ -54,8 +48,12 @@ impl ImageExtents {
                 }
             }
         };
-        let block = source(&piece);
-        add_extent(items, &mut self.body, 257, block, piece.place, piece.count)?;
+        let extent = Extent {
+            block: source(&piece),
+            place: piece.place,
+            count: piece.count,
+        };
+        add_extent(items, 257, extent)?;
         Ok(true)
     }
 }

@@ -1,3 +1,7 @@
+ghost use Rattle.std.specs.Prelude.{◌≡◌, ◌<◌};
+ghost use Rattle.reiser_volume.specs.Rows.{flag};
+ghost use Rattle.file_items.specs.Inodes.{stamp_of, bit_if, inode_flags, device_number, new_inode, inode_from};
+
 use btr_keys::{Inode, Stamp};
 use fs_rows::Kind;
 use reiser_objects::ObjectStat;
@@ -15,30 +19,37 @@ pub struct Sizes {
 
 /// The inode of an object of this kind, on a volume with these flags in the superblock. Where data has no checksums, an inode
 /// of a file says so.
-pub fn inode_from(datasum: bool, flags: u32, stat: &ObjectStat, kind: Kind, sizes: Sizes) -> Inode {
+pub fn inode_from(datasum: bool, flags: u32, stat: &ObjectStat, kind: Kind, sizes: Sizes) -> Inode
+    ensures { result ≡ inode_from datasum flags stat.now kind sizes.size sizes.nbytes sizes.nlink }
+{
     let fields = stat.fields;
     Inode {
+        size: sizes.size,
+        nbytes: sizes.nbytes,
+        nlink: sizes.nlink,
         uid: fields.uid,
         gid: fields.gid,
         mode: fields.mode as u32,
-        rdev: device_number(fields.rdev, kind),
+        rdev: device_number(stat, kind),
         flags: inode_flags(datasum, flags, stat, kind),
         atime: stamp_of(fields.atime),
         ctime: stamp_of(fields.ctime),
         mtime: stamp_of(fields.mtime),
-        ..new_inode(sizes)
+        ..new_inode()
     }
 }
 
 /// What each inode of a new tree has.
-pub fn new_inode(sizes: Sizes) -> Inode {
+pub fn new_inode() -> Inode
+    ensures { result ≡ new_inode }
+{
     Inode {
         generation: 1,
         transid: 1,
-        size: sizes.size,
-        nbytes: sizes.nbytes,
+        size: 0,
+        nbytes: 0,
         block_group: 0,
-        nlink: sizes.nlink,
+        nlink: 1,
         uid: 0,
         gid: 0,
         mode: 0,
@@ -53,42 +64,53 @@ pub fn new_inode(sizes: Sizes) -> Inode {
 }
 
 /// These seconds since the start of 1970.
-fn stamp_of(sec: u32) -> Stamp {
+fn stamp_of(sec: u32) -> Stamp
+    ensures { result ≡ stamp_of sec }
+{
     Stamp {
         sec: sec as i64,
         nsec: 0,
     }
 }
 
-/// The number of a device, as Btrfs has it.
-fn device_number(rdev: u32, kind: Kind) -> u64 {
-    match kind {
-        Kind::Character | Kind::Block => {
-            let major = (rdev / 256 % 4096) as u64;
-            let minor = (rdev % 256) as u64 + 256 * (rdev >> 20) as u64;
-            (major << 20) + minor
-        }
-        Kind::Directory
-        | Kind::File
-        | Kind::Symlink
-        | Kind::Fifo
-        | Kind::Socket
-        | Kind::Subvolume => 0,
+/// The number of a device, as Btrfs has it: major · 2^20 + minor. Other objects have none.
+fn device_number(stat: &ObjectStat, kind: Kind) -> u64
+    ensures { result ≡ device_number stat.now kind }
+{
+    if kind.is_device() {
+        let number = stat.fields.rdev;
+        let major = (number / 256 % 4096) as u64;
+        let minor = (number % 256 + 256 * (number >> 20)) as u64;
+        major * (1 << 20) + minor
+    } else {
+        0
     }
 }
 
 /// The flags of an inode: what the attributes say, and whether data has no checksums.
-fn inode_flags(datasum: bool, flags: u32, stat: &ObjectStat, kind: Kind) -> u64 {
-    let attribute = |b: u32| flags & 1 == 1 && !stat.old_form && (stat.fields.attrs >> b) & 1 == 1;
-    let symlink = kind == Kind::Symlink;
-    bit_if(kind == Kind::File && !datasum, 0)
-        + bit_if(attribute(3), 5)
-        + bit_if(!symlink && attribute(4), 6)
-        + bit_if(!symlink && attribute(5), 7)
-        + bit_if(attribute(6), 8)
-        + bit_if(attribute(7), 9)
+fn inode_flags(datasum: bool, flags: u32, stat: &ObjectStat, kind: Kind) -> u64
+    ensures { result ≡ inode_flags datasum flags stat.now kind }
+{
+    bit_if(kind.is_file() && !datasum, 0)
+        + (bit_if(flag(flags, stat, 3), 5)
+            + (bit_if(!kind.is_symlink() && flag(flags, stat, 4), 6)
+                + (bit_if(!kind.is_symlink() && flag(flags, stat, 5), 7)
+                    + (bit_if(flag(flags, stat, 6), 8) + bit_if(flag(flags, stat, 7), 9)))))
 }
 
-fn bit_if(test: bool, bit: u32) -> u64 {
+/// A bit of an inode's flags, if it is set.
+fn bit_if(test: bool, bit: u32) -> u64
+    requires { bit < 10 }
+    ensures value { result ≡ bit_if test bit }
+    ensures small { result < 1024 }
+{
     if test { 1 << bit } else { 0 }
+}
+
+/// Bit `b` of the attributes, which only count where the superblock's flag 1 is set and the stat data has version 1.
+fn flag(flags: u32, stat: &ObjectStat, b: u32) -> bool
+    requires { b < 16 }
+    ensures { result ≡ flag flags stat.now b }
+{
+    flags & 1 == 1 && !stat.old_form && (stat.fields.attrs >> b) & 1 == 1
 }

@@ -58,7 +58,7 @@ impl Items {
     ) -> Result<Items, Memory> {
         let nbytes = image_bytes(pieces);
         let head = image_head(alloc, volume.sup().blocks, nbytes, options.datasum, now)?;
-        Ok(Items::with(head, Rest::Image(ImageExtents::new(alloc))))
+        Ok(Items::with(head, Rest::Image(ImageExtents::new())))
     }
 
     /// The items of the relocation tree; `now` is as for the image.

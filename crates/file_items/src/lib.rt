@@ -18,5 +18,6 @@ mod names;
 mod numbers;
 mod records;
 mod small;
+mod spot;
 
 pub use items::Items;

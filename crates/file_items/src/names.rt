@@ -1,3 +1,11 @@
+ghost use Rattle.std.specs.Prelude.{◌≡◌, ◌≢◌, ◌<◌, ◌≤◌, ◌++◌, length, OnOk};
+ghost use Rattle.indexmap.specs.IndexMap.{keys};
+ghost use Rattle.outside.specs.History.{Image};
+ghost use Rattle.reiser_objects.specs.declared.key.ObjectKey.{ObjectKey as KeyOf};
+ghost use Rattle.reiser_volume.specs.Opened.{links_in};
+ghost use Rattle.file_items.specs.Known.{FitsIndex, IsKnown, IsAt};
+ghost use Rattle.file_items.specs.Names.{inode_refs, extrefs};
+
 use crate::item_list::ItemList;
 use crate::link_index::LinkIndex;
 use crate::numbers::Numbers;
@@ -51,7 +59,11 @@ impl Names {
         links: &LinkIndex,
         numbers: Numbers,
         place: usize,
-    ) -> Result<(), Memory> {
+    ) -> Result<(), Memory>
+        requires { FitsIndex links.now volume.now }
+        ensures { (image : Image) → IsKnown volume.now links.now numbers image → (key : KeyOf) → IsAt volume.now place key
+            → OnOk result (items.new ≡ items.old ++ (inode_refs (keys volume.now.named) (links_in volume.now) key ++ extrefs (keys volume.now.named) (links_in volume.now) key)) }
+    {
         self.gather(volume, links, numbers, place)?;
         let ino = numbers.inode(place);
         self.add_refs(items, volume, ino)?;

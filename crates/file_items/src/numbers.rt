@@ -1,3 +1,10 @@
+ghost use Rattle.std.specs.Prelude.{◌≡◌, ◌<◌, ℕ, List, length, slice_get, Some, Contains};
+ghost use Rattle.indexmap.specs.IndexMap.{keys};
+ghost use Rattle.reiser_objects.specs.declared.key.ObjectKey.{ObjectKey as KeyOf};
+ghost use Rattle.reiser_objects.specs.Keys.{root, same_key};
+ghost use Rattle.reiser_names.specs.Names.{inode_of};
+ghost use Rattle.file_items.specs.Order.{by_inode, AreNumbered};
+
 use reiser_objects::ROOT;
 use reiser_volume::Volume;
 
@@ -5,19 +12,23 @@ use reiser_volume::Volume;
 #[derive(Clone, Copy, Debug)]
 pub struct Numbers {
     /// The place of the root.
-    root: usize,
+    pub root: usize,
 }
 
 impl Numbers {
     /// Those of a volume.
-    pub fn new(volume: &Volume) -> Numbers {
+    pub fn new(volume: &Volume) -> Numbers
+        ensures { Contains (keys volume.now.named) root → slice_get (keys volume.now.named) result.root ≡ Some root }
+    {
         Numbers {
             root: volume.index_of(ROOT).unwrap_or(0),
         }
     }
 
     /// The inode of the object at a place.
-    pub fn inode(self, place: usize) -> u64 {
+    pub fn inode(self, place: usize) -> u64
+        ensures { (all : List KeyOf) (key : KeyOf) → AreNumbered self.root all → slice_get all place ≡ Some key → result ≡ inode_of all key }
+    {
         if place == self.root {
             return 256;
         }
@@ -26,7 +37,10 @@ impl Numbers {
     }
 
     /// The place of the object that is inode number `n`, counted from 0 for the root.
-    pub fn place(self, n: usize) -> usize {
+    pub fn place(self, n: usize) -> usize
+        ensures place { (all : List KeyOf) → AreNumbered self.root all → n < length all → slice_get all result ≡ slice_get (by_inode all) n }
+        ensures within { (count : ℕ) → self.root < count → n < count → result < count }
+    {
         if n == 0 {
             self.root
         } else if n <= self.root {
@@ -37,7 +51,9 @@ impl Numbers {
     }
 
     /// Whether the object at a place is the root.
-    pub fn is_root(self, place: usize) -> bool {
+    pub fn is_root(self, place: usize) -> bool
+        ensures { (all : List KeyOf) (key : KeyOf) → AreNumbered self.root all → slice_get all place ≡ Some key → result ≡ same_key key root }
+    {
         place == self.root
     }
 }
