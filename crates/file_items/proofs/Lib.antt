@@ -1,0 +1,5 @@
+pub mod Attributes
+pub mod Bodies
+pub mod Grouping
+pub mod Numbered
+pub mod Under

@@ -1,5 +1,5 @@
 -- Elements of a list by a number.
-use Rattle.std.specs.Prelude.{◌≡◌, ◌<◌, ℕ, ◌==◌, nat_lt, List, [], ◌∷◌, filter, if◌then◌else◌, AllPairs, Contains}
+use Rattle.std.specs.Prelude.{◌≡◌, ◌<◌, ℕ, ◌==◌, nat_lt, List, [], ◌∷◌, filter, if◌then◌else◌, length, All, AllPairs}
 use Rattle.std.specs.List.{flat_map}
 
 -- one element more, before those of its number
@@ -17,9 +17,13 @@ grouped number (x ∷ xs) = in_group (number x) x (grouped number xs)
 abbrev pub ascending : {A : Type 0} → (A → ℕ) → List A → List A
 ascending number xs = flat_map (λ g. g.1) (grouped number xs)
 
--- What groups are: a group for each number that an element has, and no other, and in it the elements of that number.
+-- the elements of a number in groups
+abbrev pub of_number : {A : Type 0} → ℕ → List (ℕ × List A) → List A
+of_number n [] = []
+of_number n (g ∷ groups) = if n == g.0 then g.1 else of_number n groups
+
+-- What groups are: they ascend, the elements of each number are those of the list in its order, and no group is empty.
 pub record AreGroups {A : Type 0} (number : A → ℕ) (xs : List A) (groups : List (ℕ × List A)) : Type 0 where
   pub ascend : AllPairs (λ g h. g.0 < h.0) groups
-  pub each : (g : ℕ × List A) → Contains groups g → g.1 ≡ filter (λ x. number x == g.0) xs
-  pub some : (g : ℕ × List A) → Contains groups g → (x : A) × Contains xs x × (number x ≡ g.0)
-  pub whole : (x : A) → Contains xs x → (g : ℕ × List A) × Contains groups g × (g.0 ≡ number x)
+  pub each : (n : ℕ) → of_number n groups ≡ filter (λ x. number x == n) xs
+  pub some : All (λ g. 0 < length g.1) groups

@@ -10,19 +10,19 @@ use Rattle.reiser_volume.specs.Rows.{flag, major_of, minor_of}
 abbrev pub stamp_of : ℕ → Stamp
 stamp_of sec = record { sec = pos sec; nsec = 0 }
 
-abbrev pub bit_if : Bool → ℕ → ℕ
-bit_if test bit = if test then 2 ^ bit else 0
+abbrev pub if_set : Bool → ℕ → ℕ
+if_set test bit = if test then bit else 0
 
--- Flags: bit 0 for data without checksums, and 5 to 9 for sync, immutable, append, nodump and noatime. Immutable and append
--- mean nothing on a symlink.
+-- Flags: 0x1 for data without checksums, 0x20 sync, 0x40 immutable, 0x80 append, 0x100 nodump and 0x200 noatime. Immutable and
+-- append mean nothing on a symlink.
 abbrev pub inode_flags : Bool → ℕ → ObjectStat → Kind → ℕ
 inode_flags datasum flags stat kind =
-    bit_if (is_file kind && not datasum) 0
-    + (bit_if (flag flags stat 3) 5
-    + (bit_if (not (is_symlink kind) && flag flags stat 4) 6
-    + (bit_if (not (is_symlink kind) && flag flags stat 5) 7
-    + (bit_if (flag flags stat 6) 8
-    + bit_if (flag flags stat 7) 9))))
+    if_set (is_file kind && not datasum) 0x1
+    + (if_set (flag flags stat 3) 0x20
+    + (if_set (not (is_symlink kind) && flag flags stat 4) 0x40
+    + (if_set (not (is_symlink kind) && flag flags stat 5) 0x80
+    + (if_set (flag flags stat 6) 0x100
+    + if_set (flag flags stat 7) 0x200))))
 
 -- the number of a device, as Btrfs has it
 abbrev pub device_number : ObjectStat → Kind → ℕ

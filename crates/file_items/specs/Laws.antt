@@ -1,5 +1,5 @@
 -- What holds of the items of a file tree.
-use Rattle.std.specs.Prelude.{◌≡◌, ◌≤◌, ◌↔◌, ℕ, ◌-◌, List, length, map, All, Contains, Bool, Some, true}
+use Rattle.std.specs.Prelude.{◌≡◌, ◌≤◌, ◌<◌, ◌↔◌, ℕ, ◌-◌, ◌^◌, List, length, map, All, Contains, Bool, Some, true}
 use Rattle.outside.specs.History.{Image}
 use Rattle.btr_files.specs.Extents.{file_bytes as file_bytes_of_tree, extents_of, extents_refusals}
 use Rattle.btr_names.specs.Inodes.{inode_on}
@@ -17,21 +17,23 @@ use Rattle.object_files.specs.Laws.{SameUsed}
 use Rattle.reiser_files.specs.Bytes.{file_bytes}
 use Rattle.reiser_objects.specs.declared.key.ObjectKey.{ObjectKey}
 use Rattle.reiser_objects.specs.Keys.{root, items_of}
+use Rattle.reiser_objects.specs.declared.stat.ObjectStat.{ObjectStat}
 use Rattle.reiser_volume.specs.Opened.{IsOpened}
 use Rattle.reiser_volume.specs.Rows.{Leads, HasStat}
 use Rattle.reiser_volume.specs.Volume.{IsAccepted, AreRowsOf, superblock, used_of}
 use Rattle.reiser_volume.specs.declared.volume.Volume.{Volume}
 use Rattle.unit_plan.specs.declared.piece.Piece.{Piece}
 use Rattle.file_items.specs.Groups.{AreGroups, grouped}
+use Rattle.file_items.specs.Inodes.{inode_from}
 use Rattle.file_items.specs.Pieces.{ArePlaced, HoldFiles, StandAt}
 use Rattle.file_items.specs.Small.{image_items, relocation_items}
 use Rattle.file_items.specs.Stream.{ahead}
 use Rattle.file_items.specs.Tree.{Source, source_of, tree_items, number_of, kind_in, size_in, stat_in, inode_in}
 use Rattle.file_items.specs.declared.items.Items.{Items}
 
--- grouping gives groups
-abbrev pub GroupsAreGroups : Type 1
-GroupsAreGroups = {A : Type 0} (number : A → ℕ) (xs : List A) → AreGroups number xs (grouped number xs)
+-- Grouping gives groups; so it is of any list.
+abbrev pub GroupsAreGroups : Type 0
+GroupsAreGroups = (number : Piece → ℕ) (pieces : List Piece) → AreGroups number pieces (grouped number pieces)
 
 -- What a file tree is made from, with the pieces of an accepted volume.
 pub record IsSource (volume : Volume) (s : Source) : Type 0 where
@@ -99,3 +101,10 @@ AheadByUsedBlocks =
     (stream : Items) (volume : Volume) (pieces : List Piece) (image other : Image)
     → IsAccepted image → IsOpened volume image → SameUsed (used_of image) image other → (superblock image).blocks ≤ length other
     → ahead stream volume pieces other ≡ ahead stream volume pieces image
+
+-- An inode that is made from stat data says of a row of its kind what these say.
+abbrev pub InodesTellStat : Type 0
+InodesTellStat =
+    (datasum : Bool) (flags : ℕ) (stat : ObjectStat) (size nbytes nlink : ℕ) (row : WholeRow)
+    → stat.fields.mode < 2 ^ 16 → stat.fields.rdev < 2 ^ 32
+    → HasStat flags stat row ↔ HasInode (inode_from datasum flags stat row.kind size nbytes nlink) row

@@ -8,6 +8,7 @@ pub mod Tree
 pub mod Small
 pub mod Pieces
 pub mod Spots
+pub mod Copies
 pub mod Known
 pub mod Stream
 pub mod Laws

@@ -12,18 +12,18 @@ use Rattle.reiser_objects.specs.declared.key.ObjectKey.{ObjectKey}
 use Rattle.reiser_objects.specs.Keys.{items_of}
 use Rattle.reiser_volume.specs.declared.volume.Volume.{Volume}
 use Rattle.unit_plan.specs.declared.piece.Piece.{Piece}
-use Rattle.file_items.specs.declared.copies.Copies.{Copies}
 use Rattle.file_items.specs.declared.files.FileInHand.{FileInHand}
 use Rattle.file_items.specs.declared.files.FileTree.{FileTree}
 use Rattle.file_items.specs.declared.image.ImageExtents.{ImageExtents}
 use Rattle.file_items.specs.declared.items.Items.{Items}
 use Rattle.file_items.specs.declared.items.Rest.{Rest}
 use Rattle.file_items.specs.declared.items.Rest.TheVariants as rest
+use Rattle.file_items.specs.Copies.{AreCopies}
 use Rattle.file_items.specs.Extents.{file_block, pieces_of, source_block, extents_at}
 use Rattle.file_items.specs.Groups.{ascending}
 use Rattle.file_items.specs.Known.{FitsIndex, IsKnown}
 use Rattle.file_items.specs.Order.{by_inode}
-use Rattle.file_items.specs.Pieces.{is_kept, is_copied, is_made, HasExtents}
+use Rattle.file_items.specs.Pieces.{is_kept, is_copied, is_made, HasExtents, HoldFiles}
 use Rattle.file_items.specs.Tree.{Source, source_of, object_items, number_of, size_in}
 
 -- no run of a file
@@ -61,10 +61,6 @@ rest_ahead (rest.Files files) volume pieces image = tree_ahead files volume piec
 -- The items that are still to come.
 abbrev pub ahead : Items → Volume → List Piece → Image → List Item
 ahead items volume pieces image = drop items.given items.list ++ rest_ahead items.rest volume pieces image
-
--- the numbers of the copied pieces
-abbrev pub AreCopies : List Piece → Copies → Type 0
-AreCopies pieces copies = map (slice_get pieces) copies.numbers.items ≡ map (λ p. Some p) (filter is_copied pieces)
 
 -- The stream of the file tree is of this volume and these pieces.
 pub record FitsTree (f : FileTree) (volume : Volume) (pieces : List Piece) : Type 0 where
@@ -110,9 +106,28 @@ pub record Fits (items : Items) (volume : Volume) (pieces : List Piece) : Type 0
 pub record FitsBlocks (items : Items) (volume : Volume) (pieces : List Piece) (image : Image) : Type 0 where
   pub rest_fits : FitsRestBlocks items.rest volume pieces image
 
+-- The pieces hold the files of the volume, where the stream is that of the file tree.
+abbrev pub HoldsFilesBy : Rest → Volume → List Piece → Image → Type 0
+HoldsFilesBy rest.Nothing volume pieces image = Unit {0}
+HoldsFilesBy (rest.Image extents) volume pieces image = Unit {0}
+HoldsFilesBy (rest.Files files) volume pieces image = HoldFiles (source_of volume pieces files.inline files.datasum image)
+
+abbrev pub HoldsFiles : Items → Volume → List Piece → Image → Type 0
+HoldsFiles items volume pieces image = HoldsFilesBy items.rest volume pieces image
+
+-- an item stands
+pub record HasItem (items : Items) : Type 0 where
+  pub some : 0 < items.given
+  pub within : items.given ≤ length items.list
+
 -- an item is the one that stands
 abbrev pub Stands : Items → Item → Type 0
 Stands items item = (n : ℕ) × (items.given ≡ n + 1) × (slice_get items.list n ≡ Some item)
+
+-- some items that were still to come were appended to a list, or there are none more
+abbrev pub AddsSome : Bool → List Item → List Item → List Item → List Item → Type 0
+AddsSome true before after old new = (item : Item) × (items : List Item) × (new ≡ old ++ item ∷ items) × (before ≡ item ∷ (items ++ after))
+AddsSome false before after old new = (before ≡ []) × (after ≡ []) × (new ≡ old)
 
 -- one more item came and stands, or there is none more
 abbrev pub Comes : Bool → Items → Items → Volume → List Piece → Image → Type 0

@@ -1,5 +1,10 @@
 // The pieces of a volume by what they hold.
 
+ghost use Rattle.std.specs.Prelude.{◌≡◌, ◌≤◌, ◌<◌, ℕ, true, length, take, drop, All, AllPairs, Contains, Some, IfOk, IfSome, IfNone};
+ghost use Rattle.std.specs.Option.{MatchOption};
+ghost use Rattle.unit_plan.specs.declared.piece.Piece.{Piece as PieceOf};
+ghost use Rattle.file_items.specs.Pieces.{ArePlaced, is_copied, is_kept};
+
 use outside::Memory;
 use std::alloc::Global;
 use unit_plan::{Piece, PieceList};
@@ -12,8 +17,12 @@ pub struct Copies {
 }
 
 impl Copies {
+    ghost use Rattle.file_items.specs.Copies.{AreCopies};
+
     /// Those of some pieces.
-    pub fn find<P: PieceList>(alloc: Global, pieces: &P) -> Result<Copies, Memory> {
+    pub fn find<P: PieceList>(alloc: Global, pieces: &P) -> Result<Copies, Memory>
+        ensures { IfOk result (AreCopies (P.pieces pieces.now)) }
+    {
         let mut numbers = Vec::new(alloc);
         for i in 0..pieces.len() {
             if is_copy(pieces.get(i)) {
@@ -24,7 +33,11 @@ impl Copies {
     }
 
     /// The piece that begins with this block of the volume, kept or copied.
-    pub fn holder<P: PieceList>(&self, pieces: &P, block: BlockNo) -> Option<Piece> {
+    pub fn holder<P: PieceList>(&self, pieces: &P, block: BlockNo) -> Option<Piece>
+        requires copies { AreCopies (P.pieces pieces.now) self.now }
+        ensures { (blocks : ℕ) → ArePlaced blocks (P.pieces pieces.now)
+            → MatchOption result ((p : PieceOf) → Contains (P.pieces pieces.now) p → ¬ (p.from ≡ Some block)) (λ p. Contains (P.pieces pieces.now) p × (p.from ≡ Some block)) }
+    {
         match kept_at(pieces, block) {
             Some(piece) => Some(piece),
             None => self.copy_of(pieces, block),
@@ -32,7 +45,10 @@ impl Copies {
     }
 
     /// The copied piece that holds this block.
-    fn copy_of<P: PieceList>(&self, pieces: &P, block: BlockNo) -> Option<Piece> {
+    fn copy_of<P: PieceList>(&self, pieces: &P, block: BlockNo) -> Option<Piece>
+        requires copies { AreCopies (P.pieces pieces.now) self.now }
+        ensures { MatchOption result ((p : PieceOf) → Contains (P.pieces pieces.now) p → is_copied p ≡ true → ¬ (p.from ≡ Some block)) (λ p. Contains (P.pieces pieces.now) p × (p.from ≡ Some block)) }
+    {
         for i in &self.numbers {
             let piece = *pieces.get(*i);
             if piece.from == Some(block) {
@@ -44,7 +60,9 @@ impl Copies {
 }
 
 /// Whether a piece holds blocks of the volume in another place.
-fn is_copy(piece: &Piece) -> bool {
+fn is_copy(piece: &Piece) -> bool
+    ensures { result ≡ is_copied piece.now }
+{
     match piece.from {
         Some(block) => block != piece.place,
         None => false,
@@ -52,7 +70,10 @@ fn is_copy(piece: &Piece) -> bool {
 }
 
 /// The piece that lies from this block on, and holds it.
-fn kept_at<P: PieceList>(pieces: &P, block: BlockNo) -> Option<Piece> {
+fn kept_at<P: PieceList>(pieces: &P, block: BlockNo) -> Option<Piece>
+    ensures found { IfSome result (λ p. Contains (P.pieces pieces.now) p × (p.from ≡ Some block)) }
+    ensures none { (blocks : ℕ) → ArePlaced blocks (P.pieces pieces.now) → IfNone result ((p : PieceOf) → Contains (P.pieces pieces.now) p → is_kept p ≡ true → ¬ (p.from ≡ Some block)) }
+{
     let i = first_from(pieces, block);
     if i >= pieces.len() {
         return None;
@@ -66,7 +87,11 @@ fn kept_at<P: PieceList>(pieces: &P, block: BlockNo) -> Option<Piece> {
 }
 
 /// The number of the first piece that lies at this block or behind it, by a binary search.
-fn first_from<P: PieceList>(pieces: &P, block: BlockNo) -> usize {
+fn first_from<P: PieceList>(pieces: &P, block: BlockNo) -> usize
+    ensures within { result ≤ length (P.pieces pieces.now) }
+    ensures parts { AllPairs (λ p q. p.place < q.place) (P.pieces pieces.now)
+        → All (λ p. p.place < block) (take result (P.pieces pieces.now)) × All (λ p. block ≤ p.place) (drop result (P.pieces pieces.now)) }
+{
     let mut low = 0;
     let mut high = pieces.len();
     while low < high {

@@ -1,5 +1,6 @@
 // File extents.
 ghost use Rattle.std.specs.Prelude.{◌≡◌, ◌≤◌, ◌<◌, ◌*◌, ◌+◌, ◌^◌, ◌++◌, ◌∷◌, [], length, OnOk};
+ghost use Rattle.btr_keys.specs.FileExtent.{content_value, file_extent_value};
 ghost use Rattle.file_items.specs.Extents.{extent_item, regular_extent, inline_extent};
 
 use crate::item_list::ItemList;
@@ -55,7 +56,7 @@ pub fn add_inline(
 
 /// An extent of a new tree.
 fn new_extent<'a>(ram_bytes: u64, content: ExtentContent<'a>) -> FileExtent<'a>
-    ensures { result ≡ record { generation = 1; ram_bytes = ram_bytes; compression = 0; encryption = 0; other = 0; content = content } }
+    ensures { file_extent_value result ≡ record { generation = 1; ram_bytes = ram_bytes; compression = 0; encryption = 0; other = 0; content = content_value content.entry } }
 {
     FileExtent {
         generation: 1,

@@ -1,3 +1,14 @@
+ghost use Rattle.std.specs.Prelude.{◌≡◌, ◌≤◌, ◌<◌, ℕ, length, IsTrue, IfOk, IfErr};
+ghost use Rattle.std.specs.Result.{MatchResult};
+ghost use Rattle.indexmap.specs.IndexMap.{keys};
+ghost use Rattle.outside.specs.Fault.{HasCauseOf};
+ghost use Rattle.outside.specs.History.{Image};
+ghost use Rattle.object_files.specs.Answers.{IsFileAnswer, IsFaultOrMemory};
+ghost use Rattle.reiser_volume.specs.Opened.{IsOpened};
+ghost use Rattle.reiser_volume.specs.Volume.{IsAccepted, superblock};
+ghost use Rattle.file_items.specs.Pieces.{ArePlaced, HoldFiles};
+ghost use Rattle.file_items.specs.Tree.{source_of, tree_items};
+
 use crate::copies::Copies;
 use crate::directory::{Directory, kind_at, size_of};
 use crate::extent::{Extent, add_extent, add_inline};
@@ -65,13 +76,19 @@ pub struct FileTree {
 }
 
 impl FileTree {
+    ghost use Rattle.file_items.specs.Stream.{AddsSome, tree_ahead, FitsTree, FitsTreeBlocks};
+
     /// All objects of a volume with these pieces.
     pub fn new<P: PieceList>(
         alloc: Global,
         volume: &Volume,
         pieces: &P,
         options: &Options,
-    ) -> Result<FileTree, Memory> {
+    ) -> Result<FileTree, Memory>
+        ensures fits { IfOk result (λ files. FitsTree files volume.now (P.pieces pieces.now)) }
+        ensures fits_blocks { IfOk result (λ files. (image : Image) → IsAccepted image → IsOpened volume.now image → FitsTreeBlocks files volume.now (P.pieces pieces.now) image) }
+        ensures all { IfOk result (λ files. (image : Image) → tree_ahead files volume.now (P.pieces pieces.now) image ≡ tree_items (source_of volume.now (P.pieces pieces.now) options.now.inline options.now.datasum image)) }
+    {
         Ok(FileTree {
             alloc,
             inline: options.inline,
@@ -101,7 +118,16 @@ impl FileTree {
         src: &mut S,
         volume: &Volume,
         pieces: &P,
-    ) -> Result<bool, VolAnswer> {
+    ) -> Result<bool, VolAnswer>
+        requires fits { FitsTree self.old volume.now (P.pieces pieces.now) }
+        ensures kept { S.kept src.old src.new }
+        ensures cause { HasCauseOf VolAnswer.Fault (S.faults src.old) (S.faults src.new) result }
+        ensures answers { IfErr result IsFileAnswer }
+        ensures fits { IfOk result (λ _. FitsTree self.new volume.now (P.pieces pieces.now)) }
+        ensures next { IsTrue S.tells → (image : Image) → S.blocks src.old ≡ image → IsAccepted image → IsOpened volume.now image → ArePlaced (superblock image).blocks (P.pieces pieces.now)
+            → HoldFiles (source_of volume.now (P.pieces pieces.now) self.old.inline self.old.datasum image) → FitsTreeBlocks self.old volume.now (P.pieces pieces.now) image
+            → MatchResult result (λ more. AddsSome more (tree_ahead self.old volume.now (P.pieces pieces.now) image) (tree_ahead self.new volume.now (P.pieces pieces.now) image) items.old items.new × FitsTreeBlocks self.new volume.now (P.pieces pieces.now) image) IsFaultOrMemory }
+    {
         if self.file.run < self.file.map.len() {
             self.add_extent(items, volume, pieces)?;
             return Ok(true);

@@ -1,3 +1,7 @@
+ghost use Rattle.std.specs.Prelude.{◌≡◌, ◌≤◌, ◌<◌, ◌^◌, ℕ, length, IfOk};
+ghost use Rattle.file_items.specs.Extents.{piece_bytes, pieces_of_volume};
+ghost use Rattle.file_items.specs.Pieces.{ArePlaced};
+
 use crate::extent::{Extent, add_extent};
 use crate::item_list::ItemList;
 use outside::Memory;
@@ -13,6 +17,8 @@ pub struct ImageExtents {
 }
 
 impl ImageExtents {
+    ghost use Rattle.file_items.specs.Stream.{AddsSome, image_ahead};
+
     /// All of them.
     pub fn new() -> ImageExtents {
         ImageExtents { kept: 0, copied: 0 }
@@ -23,7 +29,10 @@ impl ImageExtents {
         &mut self,
         items: &mut ItemList,
         pieces: &P,
-    ) -> Result<bool, Memory> {
+    ) -> Result<bool, Memory>
+        ensures { (blocks : ℕ) → blocks < 2 ^ 52 → ArePlaced blocks (P.pieces pieces.now)
+            → IfOk result (λ more. AddsSome more (image_ahead self.old (P.pieces pieces.now)) (image_ahead self.new (P.pieces pieces.now)) items.old items.new) }
+    {
         self.kept = next_of(pieces, self.kept, true);
         self.copied = next_of(pieces, self.copied, false);
         let kept = piece_at(pieces, self.kept);
@@ -59,7 +68,9 @@ impl ImageExtents {
 }
 
 /// The bytes of all pieces that hold blocks of the volume.
-pub fn image_bytes<P: PieceList>(pieces: &P) -> u64 {
+pub fn image_bytes<P: PieceList>(pieces: &P) -> u64
+    ensures { piece_bytes (pieces_of_volume (P.pieces pieces.now)) < 2 ^ 64 → result ≡ piece_bytes (pieces_of_volume (P.pieces pieces.now)) }
+{
     let mut blocks = 0_u64;
     for i in 0..pieces.len() {
         let piece = pieces.get(i);
@@ -76,7 +87,11 @@ fn source(piece: &Piece) -> u64 {
 }
 
 /// The number of the first piece from `i` on that is kept, or copied.
-fn next_of<P: PieceList>(pieces: &P, i: usize, kept: bool) -> usize {
+fn next_of<P: PieceList>(pieces: &P, i: usize, kept: bool) -> usize
+    requires { i ≤ length (P.pieces pieces.now) }
+    ensures within { result ≤ length (P.pieces pieces.now) }
+    ensures behind { i ≤ result }
+{
     let mut next = i;
     while next < pieces.len() && !is_of(pieces.get(next), kept) {
         next += 1;

@@ -1,10 +1,23 @@
-ghost use Rattle.std.specs.Prelude.{◌≡◌, ◌<◌};
+ghost use Rattle.std.specs.Prelude.{◌≡◌, ◌≤◌, ◌<◌};
 ghost use Rattle.reiser_volume.specs.Rows.{flag};
-ghost use Rattle.file_items.specs.Inodes.{stamp_of, bit_if, inode_flags, device_number, new_inode, inode_from};
+ghost use Rattle.file_items.specs.Inodes.{stamp_of, if_set, inode_flags, device_number, new_inode, inode_from};
 
 use btr_keys::{Inode, Stamp};
 use fs_rows::Kind;
 use reiser_objects::ObjectStat;
+
+// Flags of an inode.
+const NO_DATASUM: u64 = 0x1;
+
+const SYNC: u64 = 0x20;
+
+const IMMUTABLE: u64 = 0x40;
+
+const APPEND: u64 = 0x80;
+
+const NODUMP: u64 = 0x100;
+
+const NOATIME: u64 = 0x200;
 
 /// What an inode has that is not in the stat data of its object.
 #[derive(Clone, Copy)]
@@ -91,20 +104,20 @@ fn device_number(stat: &ObjectStat, kind: Kind) -> u64
 fn inode_flags(datasum: bool, flags: u32, stat: &ObjectStat, kind: Kind) -> u64
     ensures { result ≡ inode_flags datasum flags stat.now kind }
 {
-    bit_if(kind.is_file() && !datasum, 0)
-        + (bit_if(flag(flags, stat, 3), 5)
-            + (bit_if(!kind.is_symlink() && flag(flags, stat, 4), 6)
-                + (bit_if(!kind.is_symlink() && flag(flags, stat, 5), 7)
-                    + (bit_if(flag(flags, stat, 6), 8) + bit_if(flag(flags, stat, 7), 9)))))
+    if_set(kind.is_file() && !datasum, NO_DATASUM)
+        + (if_set(flag(flags, stat, 3), SYNC)
+            + (if_set(!kind.is_symlink() && flag(flags, stat, 4), IMMUTABLE)
+                + (if_set(!kind.is_symlink() && flag(flags, stat, 5), APPEND)
+                    + (if_set(flag(flags, stat, 6), NODUMP)
+                        + if_set(flag(flags, stat, 7), NOATIME)))))
 }
 
 /// A bit of an inode's flags, if it is set.
-fn bit_if(test: bool, bit: u32) -> u64
-    requires { bit < 10 }
-    ensures value { result ≡ bit_if test bit }
-    ensures small { result < 1024 }
+fn if_set(test: bool, bit: u64) -> u64
+    ensures value { result ≡ if_set test bit }
+    ensures small { result ≤ bit }
 {
-    if test { 1 << bit } else { 0 }
+    if test { bit } else { 0 }
 }
 
 /// Bit `b` of the attributes, which only count where the superblock's flag 1 is set and the stat data has version 1.

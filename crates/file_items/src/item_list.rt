@@ -8,10 +8,10 @@ use std::marker::Model;
 
 /// The key of an item, and where its body lies among the bytes of all.
 #[derive(Clone, Copy)]
-pub struct Head {
-    pub key: Key,
-    pub start: usize,
-    pub end: usize,
+struct Head {
+    key: Key,
+    start: usize,
+    end: usize,
 }
 
 /// Some items, seen as a list of them. What memory it took it keeps for the next ones.

@@ -13,6 +13,7 @@ mod image;
 mod inode;
 mod item_list;
 mod items;
+mod laws;
 mod link_index;
 mod names;
 mod numbers;
@@ -21,3 +22,4 @@ mod small;
 mod spot;
 
 pub use items::Items;
+pub use laws::{groups_are_groups, inodes_tell_stat};

@@ -13,10 +13,10 @@ use std::alloc::Global;
 /// The links of a volume by the directory that they stand in, and by the object that they name: four words for a link.
 #[derive(Drop)]
 pub struct LinkIndex {
-    pub by_dir: Vec<Spot>,
-    pub by_target: Vec<Spot>,
+    by_dir: Vec<Spot>,
+    by_target: Vec<Spot>,
     /// How many links there are.
-    pub count: usize,
+    count: usize,
     ghost dirs_ascend: { AscendByObject by_dir.items },
     ghost targets_ascend: { AscendByObject by_target.items },
     ghost dirs_below: { AreBelow count by_dir.items },

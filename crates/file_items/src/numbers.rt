@@ -12,7 +12,7 @@ use reiser_volume::Volume;
 #[derive(Clone, Copy, Debug)]
 pub struct Numbers {
     /// The place of the root.
-    pub root: usize,
+    root: usize,
 }
 
 impl Numbers {
@@ -30,10 +30,12 @@ impl Numbers {
         ensures { (all : List KeyOf) (key : KeyOf) → AreNumbered self.root all → slice_get all place ≡ Some key → result ≡ inode_of all key }
     {
         if place == self.root {
-            return 256;
+            256
+        } else if place < self.root {
+            (place as u64).saturating_add(257)
+        } else {
+            (place as u64).saturating_add(256)
         }
-        let before = if place > self.root { place - 1 } else { place };
-        (before as u64).saturating_add(257)
     }
 
     /// The place of the object that is inode number `n`, counted from 0 for the root.

@@ -17,24 +17,24 @@ pub fn short(name: &[u8]) -> &[u8]
 }
 
 /// Appends an inode ref's record.
-pub fn put_inode_ref(body: &mut Vec<u8>, record: &InodeRef<'_>) -> Result<(), Memory>
-    requires { length record.now.name.now < 65536 }
-    ensures { OnOk result (body.new.items ≡ body.old.items ++ inode_ref_bytes (inode_ref_value record.now)) }
+pub fn put_inode_ref(body: &mut Vec<u8>, name: &InodeRef<'_>) -> Result<(), Memory>
+    requires { length name.now.name.now < 65536 }
+    ensures { OnOk result (body.new.items ≡ body.old.items ++ inode_ref_bytes (inode_ref_value name.now)) }
 {
     let at = body.len();
-    body.resize(at + 10 + record.name.len(), 0)?;
-    record.write(&mut body[at..]);
+    body.resize(at + 10 + name.name.len(), 0)?;
+    name.write(&mut body[at..]);
     Ok(())
 }
 
 /// Appends an extref's record.
-pub fn put_extref(body: &mut Vec<u8>, record: &Extref<'_>) -> Result<(), Memory>
-    requires { length record.now.name.now < 65536 }
-    ensures { OnOk result (body.new.items ≡ body.old.items ++ extref_bytes (extref_value record.now)) }
+pub fn put_extref(body: &mut Vec<u8>, name: &Extref<'_>) -> Result<(), Memory>
+    requires { length name.now.name.now < 65536 }
+    ensures { OnOk result (body.new.items ≡ body.old.items ++ extref_bytes (extref_value name.now)) }
 {
     let at = body.len();
-    body.resize(at + 18 + record.name.len(), 0)?;
-    record.write(&mut body[at..]);
+    body.resize(at + 18 + name.name.len(), 0)?;
+    name.write(&mut body[at..]);
     Ok(())
 }
 

@@ -89,6 +89,7 @@ fn add_ref(
 }
 
 /// The items of the relocation tree: an empty root directory.
+#[tactic(auto, unfolding(crate::specs::Small::relocation_items))]
 pub fn relocation_items(alloc: Global, now: u64) -> Result<ItemList, Memory>
     requires { now < 2 ^ 63 }
     ensures { IfOk result (λ items. items ≡ relocation_items now) }
@@ -102,6 +103,7 @@ pub fn relocation_items(alloc: Global, now: u64) -> Result<ItemList, Memory>
 
 /// The items of the tree of the saved image up to the extents: a root directory, and the file of so many blocks with so
 /// many bytes of extents.
+#[tactic(auto, unfolding(crate::specs::Small::image_head))]
 pub fn image_head(
     alloc: Global,
     blocks: u64,
