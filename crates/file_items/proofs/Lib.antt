@@ -2,4 +2,5 @@ pub mod Attributes
 pub mod Bodies
 pub mod Grouping
 pub mod Numbered
+pub mod Searching
 pub mod Under

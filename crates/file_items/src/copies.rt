@@ -79,10 +79,19 @@ fn kept_at<P: PieceList>(pieces: &P, block: BlockNo) -> Option<Piece>
         return None;
     }
     let piece = *pieces.get(i);
-    if piece.place == block && piece.from == Some(block) {
-        Some(piece)
-    } else {
-        None
+    if piece.place != block {
+        return None;
+    }
+    if is_kept(&piece) { Some(piece) } else { None }
+}
+
+/// Whether a piece lies where it lay.
+fn is_kept(piece: &Piece) -> bool
+    ensures { result ≡ is_kept piece.now }
+{
+    match piece.from {
+        Some(block) => block == piece.place,
+        None => false,
     }
 }
 

@@ -178,7 +178,11 @@ impl Names {
 }
 
 /// The end of the run of equal numbers that begins at `first`.
-fn run_end(names: &[NameAt], first: usize) -> usize {
+fn run_end(names: &[NameAt], first: usize) -> usize
+    requires { first < length names.now }
+    ensures some { first < result }
+    ensures within { result ≤ length names.now }
+{
     let number = names[first].number;
     let mut end = first + 1;
     while end < names.len() && names[end].number == number {
