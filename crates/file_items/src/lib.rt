@@ -23,3 +23,6 @@ mod spot;
 
 pub use items::Items;
 pub use laws::{groups_are_groups, inodes_tell_stat};
+
+#[cfg(test)]
+mod tests;
