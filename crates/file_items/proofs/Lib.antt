@@ -1,5 +1,6 @@
 pub mod Attributes
 pub mod Bodies
+pub mod Copied
 pub mod Grouping
 pub mod Numbered
 pub mod Searching

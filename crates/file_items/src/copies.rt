@@ -49,8 +49,8 @@ impl Copies {
         requires copies { AreCopies (P.pieces pieces.now) self.now }
         ensures { MatchOption result ((p : PieceOf) → Contains (P.pieces pieces.now) p → is_copied p ≡ true → ¬ (p.from ≡ Some block)) (λ p. Contains (P.pieces pieces.now) p × (p.from ≡ Some block)) }
     {
-        for i in &self.numbers {
-            let piece = *pieces.get(*i);
+        for i in 0..self.numbers.len() {
+            let piece = *pieces.get(self.numbers[i]);
             if piece.from == Some(block) {
                 return Some(piece);
             }
