@@ -1,4 +1,5 @@
 pub mod Attributes
+pub mod Before
 pub mod Bodies
 pub mod Copied
 pub mod Grouping
