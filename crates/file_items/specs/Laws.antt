@@ -63,7 +63,7 @@ BodiesAreShort = (volume : Volume) (s : Source) → IsSource volume s → All Is
 
 -- Names: the paths of the tree are those of the volume, and lead to the inodes of the same objects.
 pub record HasSamePaths (s : Source) (items : List TreeItem) : Type 0 where
-  pub kept : (path : NameList) (key : ObjectKey) → Leads s.links root path key ↔ TreeLeads items top path (inode (number_of s key))
+  pub kept : (path : NameList) (key : ObjectKey) → Contains s.keys key → Leads s.links root path key ↔ TreeLeads items top path (inode (number_of s key))
   pub only : (path : NameList) (to : Target) → TreeLeads items top path to → (key : ObjectKey) × Contains s.keys key × (to ≡ inode (number_of s key))
 
 abbrev pub NamesAreKept : Type 0
