@@ -43,7 +43,7 @@ impl Volume {
 
     /// How many objects the root reaches by names, itself among them.
     pub fn count(&self) -> usize
-        ensures count { result ≡ length (keys self.now.named) }
+        ensures exact { result ≡ length (keys self.now.named) }
         ensures small { result < 2 ^ 63 }
     {
         self.named.len()
