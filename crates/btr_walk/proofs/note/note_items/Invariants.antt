@@ -1,8 +1,7 @@
 use Rattle.std.proofs.Common.{◌≡◌, List, false, IsTrue}
 use Rattle.btr_walk.specs.Events.{TreeItem}
 use Rattle.btr_walk.specs.Walks.{Walks, fuel}
-use Rattle.btr_names.specs.Table.{HasNoted}
-use Rattle.btr_names.proofs.table.Names.read.Given as goal
+use Rattle.btr_walk.proofs.note.note_items.Given as goal
 
 abbrev pub invariant-loop-walker : goal.invariant-loop-walker
 invariant-loop-walker g l = record {
@@ -10,7 +9,7 @@ invariant-loop-walker g l = record {
   same : g.S.BlockSource.faults l.src ≡ g.S.BlockSource.faults l.fn.src;
   tree : l.walker.tree ≡ l.fn.tree;
   fresh : l.walker.spent ≡ false;
-  walks : IsTrue g.S.BlockSource.tells → (given : List TreeItem) × Walks l.walker (g.S.BlockSource.blocks l.fn.src) l.ranges given × HasNoted l.names given;
+  walks : IsTrue g.S.BlockSource.tells → (given : List TreeItem) × Walks l.walker (g.S.BlockSource.blocks l.fn.src) l.ranges given × g.N.Notes.holds l.fn.notes l.notes given;
 }
 
 abbrev pub decreases-loop-walker : goal.decreases-loop-walker
