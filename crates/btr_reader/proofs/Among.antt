@@ -17,13 +17,13 @@ among_right xs ys (Refused r) h = Contains-append_right xs ys r h
 among_right xs ys Fault h = tt
 among_right xs ys Memory h = tt
 
-none_first : (ys : List BtrRefusal) (e : BtrAnswer) → IsAmong [] e → IsAmong ys e
-none_first ys (Refused r) (k, lt, is) = absurd (omega (arith, lt))
-none_first ys Fault h = tt
-none_first ys Memory h = tt
+pub among_none : (ys : List BtrRefusal) (e : BtrAnswer) → IsAmong [] e → IsAmong ys e
+among_none ys (Refused r) (k, lt, is) = absurd (omega (arith, lt))
+among_none ys Fault h = tt
+among_none ys Memory h = tt
 
 pub among_first : (xs ys : List BtrRefusal) (e : BtrAnswer) → IsAmong xs e → IsAmong (or_later xs ys) e
-among_first [] ys e h = none_first ys e h
+among_first [] ys e h = among_none ys e h
 among_first (x ∷ xs) ys e h = h
 
 pub among_later : (xs ys : List BtrRefusal) (e : BtrAnswer) → xs ≡ [] → IsAmong ys e → IsAmong (or_later xs ys) e
