@@ -1,0 +1,12 @@
+pub mod Contents
+pub mod Extents
+pub mod Gathered
+pub mod Inodes
+pub mod Known
+pub mod Names
+pub mod Orders
+pub mod Sizes
+pub mod Small
+pub mod Spots
+pub mod Stream
+pub mod Tree
