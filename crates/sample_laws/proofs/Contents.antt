@@ -9,7 +9,8 @@ use Rattle.std.proofs.lemmas.List.FromFn.{get_or-map-range_with_len}
 use Rattle.std.proofs.lemmas.List.Elements.{Contains-append_left, Contains-append_right}
 use Rattle.std.proofs.lemmas.List.Sums.{sum_by-take-le}
 use Rattle.outside.specs.History.{Image, block_at}
-use Rattle.reiser_files.specs.Bytes.{first_byte, is_covered, direct_by_kind, direct_byte, pointer_by_kind, named_block, block_byte, bytes_by}
+use Rattle.fs_rows.specs.Bytes.{bytes_by}
+use Rattle.reiser_files.specs.Bytes.{first_byte, is_covered, direct_by_kind, direct_byte, pointer_by_kind, named_block, block_byte}
 use Rattle.reiser_files.specs.Bytes as read
 use Rattle.reiser_items.specs.Pointers.{pointers}
 use Rattle.reiser_make.specs.Inner.{needed}
