@@ -12,32 +12,17 @@ trap 'rm -rf "$work"' EXIT
 "$top/reiserconv" --version >/dev/null
 python3 "$top/bench/files_volume.py" "${1:-350}" "$work/files" "$work/reiserfs"
 
-# measure.py OUTPUT WORDS..: milliseconds and KiB
-cat >"$work/measure.py" <<'PY'
-import os, subprocess, sys
-
-best, held = 1e9, 0
-for _ in range(3):
-    with open(sys.argv[1], "wb") as out:
-        child = subprocess.Popen(sys.argv[2:], stdin=open(os.environ.get("FROM", os.devnull)), stdout=out)
-        _, status, used = os.wait4(child.pid, 0)
-    if status:
-        sys.exit(f"{sys.argv[2]} failed")
-    best, held = min(best, used.ru_utime + used.ru_stime), max(held, used.ru_maxrss)
-print(round(best * 1000), held)
-PY
-
 # listed FORMAT: the times and the memory of `list` on the volume of a format
 listed() {
     local list held rows
-    read -r list held < <(python3 "$work/measure.py" "$work/rows" "$top/crates/reiserconv/out/reiserconv" list "$work/$1")
+    read -r list held < <(python3 "$top/bench/measure.py" "$work/rows" "$top/crates/reiserconv/out/reiserconv" list "$work/$1")
     rows=$(wc -l <"$work/rows")
     printf '%-9s %6s ms, %s.%02d times; %s rows, %s KiB held: %s bytes a row beside 64 MiB\n' "$1" "$list" \
         $((list / sums)) $((list * 100 / sums % 100)) "$rows" "$held" $(((held - 65536) * 1024 / rows))
 }
 
 (cd "$work/files" && find "$PWD" -type f -print0 | sort -z) >"$work/names"
-read -r sums _ < <(FROM=$work/names python3 "$work/measure.py" "$work/sums" xargs -0 sha256sum)
+read -r sums _ < <(FROM=$work/names python3 "$top/bench/measure.py" "$work/sums" xargs -0 sha256sum)
 printf 'sha256sum %6s ms\n' "$sums"
 listed reiserfs
 if command -v mkfs.btrfs >/dev/null; then
