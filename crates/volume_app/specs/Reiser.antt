@@ -1,5 +1,5 @@
 -- What `inspect` tells of a ReiserFS volume and prints of it, and what `list` makes of one.
-use Rattle.std.specs.Prelude.{◌≡◌, ℕ, ◌+◌, Bool, List, [], ◌∷◌, length, map, codes, decimal, nat_eq}
+use Rattle.std.specs.Prelude.{◌≡◌, ℕ, ◌+◌, Bool, true, List, [], ◌∷◌, length, map, codes, decimal, nat_eq}
 use Rattle.std.specs.List.{before_first}
 use Rattle.uuid.specs.Text.{hyphenated_text, lower}
 use Rattle.fs_rows.specs.Rows.{WholeRow, row_of}
