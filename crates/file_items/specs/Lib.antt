@@ -1,0 +1,14 @@
+pub mod Groups
+pub mod Lists
+pub mod Order
+pub mod Names
+pub mod Inodes
+pub mod Extents
+pub mod Tree
+pub mod Small
+pub mod Pieces
+pub mod Spots
+pub mod Copies
+pub mod Known
+pub mod Stream
+pub mod Laws

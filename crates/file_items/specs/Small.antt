@@ -1,0 +1,44 @@
+-- The items of the tree of the saved image, and of the relocation tree.
+use Rattle.std.specs.Prelude.{ℕ, ◌+◌, ◌*◌, List, [], ◌∷◌, ◌++◌, codes, if◌then◌else◌, Bool}
+use Rattle.btr_keys.specs.Inode.{inode_bytes}
+use Rattle.btr_keys.specs.InodeRef.{inode_ref_bytes}
+use Rattle.btr_keys.specs.Key.{make_key}
+use Rattle.btr_node.specs.Leaf.{Item}
+use Rattle.fs_rows.specs.declared.row.Kind.TheVariants.{File}
+use Rattle.unit_plan.specs.declared.piece.Piece.{Piece}
+use Rattle.file_items.specs.Extents.{pieces_of_volume, source_block, piece_bytes, extents_at}
+use Rattle.file_items.specs.Inodes.{inode_made}
+use Rattle.file_items.specs.Names.{root_ref, entry_to, entry_items, Indexed, letters}
+
+-- the name of the image
+abbrev pub image_name : List ℕ
+image_name = codes "image"
+
+-- the entry of its root directory
+abbrev pub image_entries : List Indexed
+image_entries = (2, entry_to 257 File image_name) ∷ []
+
+-- a root directory made at a time, of mode 040755, with these entries
+abbrev pub root_items : ℕ → List Indexed → List Item
+root_items now list = (make_key 256 1 0, inode_bytes (inode_made now 0x41ED (2 * letters list) 0 0)) ∷ root_ref ∷ entry_items 256 list
+
+-- The relocation tree: an empty root directory.
+unfoldable pub relocation_items : ℕ → List Item
+relocation_items now = root_items now []
+
+-- The image is read-only; where data has no checksums, it says so too.
+abbrev pub image_flags : Bool → ℕ
+image_flags datasum = if datasum then 4 else 5
+
+-- The tree of the saved image of a volume of so many blocks, up to its extents: a root directory with the file `image`,
+-- inode 257, of so many bytes of extents.
+unfoldable pub image_head : ℕ → ℕ → Bool → ℕ → List Item
+image_head blocks nbytes datasum now =
+    root_items now image_entries
+    ++ ((make_key 257 1 0, inode_bytes (inode_made now 0x8100 (4096 * blocks) nbytes (image_flags datasum)))
+    ∷ ((make_key 257 12 256, inode_ref_bytes (record { index = 2; name = image_name })) ∷ []))
+
+-- The whole of it: an extent for each piece that holds blocks of the volume, from the block on that it holds.
+unfoldable pub image_items : ℕ → List Piece → Bool → ℕ → List Item
+image_items blocks pieces datasum now =
+    image_head blocks (piece_bytes (pieces_of_volume pieces)) datasum now ++ extents_at 257 source_block (pieces_of_volume pieces)
