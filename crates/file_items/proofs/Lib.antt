@@ -1,8 +1,2 @@
-pub mod Attributes
-pub mod Before
-pub mod Bodies
-pub mod Copied
-pub mod Grouping
-pub mod Numbered
-pub mod Searching
-pub mod Under
+pub mod Linked
+pub mod Ordering

@@ -13,7 +13,7 @@ use Rattle.reiser_names.specs.Names.{inode_of, reference_size, saved_name}
 use Rattle.reiser_objects.specs.declared.key.ObjectKey.{ObjectKey}
 use Rattle.reiser_objects.specs.declared.naming.Naming.{Naming}
 use Rattle.reiser_objects.specs.Keys.{root, same_key}
-use Rattle.file_items.specs.Groups.{grouped, ascending}
+use Rattle.item_list.specs.Groups.{grouped, ascending}
 
 -- A link with the index that it gets in its directory. It is extended where the names of its object in its directory, up
 -- to it, take more than an inode ref holds.
@@ -113,3 +113,22 @@ abbrev pub entry_items : ℕ → List Indexed → List Item
 entry_items ino list =
     map (λ g. (make_key ino 84 g.0, flat_map (λ e. dir_entry_bytes e.1) g.1)) (grouped (λ e. name_hash e.1.name) list)
     ++ map (λ e. (make_key ino 96 e.0, dir_entry_bytes e.1)) list
+
+-- the records of names that the items of an object are made of: under the directories' inodes those of its inode refs, and
+-- those of its extrefs with their hashes
+abbrev pub ref_record : List ObjectKey → ℕ → Entry → Item
+ref_record keys ino e = (make_key ino 12 (parent_of keys e), inode_ref_bytes (inode_ref e))
+
+abbrev pub far_record : List ObjectKey → Entry → Item
+far_record keys e = (make_key (extref_hash (parent_of keys e) e.link.name) 13 (parent_of keys e), extref_bytes (extref keys e))
+
+-- the records of a directory's entries, under their hashes and under their indexes
+abbrev pub hash_record : ℕ → Indexed → Item
+hash_record ino e = (make_key ino 84 (name_hash e.1.name), dir_entry_bytes e.1)
+
+abbrev pub index_record : ℕ → Indexed → Item
+index_record ino e = (make_key ino 96 e.0, dir_entry_bytes e.1)
+
+-- an entry of a directory that a link is
+abbrev pub indexed : (ObjectKey → Kind) → List ObjectKey → Entry → Indexed
+indexed kind keys e = (e.index, entry_to (inode_of keys e.link.target) (kind e.link.target) e.link.name)

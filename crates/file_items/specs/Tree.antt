@@ -10,28 +10,28 @@ use Rattle.btr_node.specs.Leaf.{Item}
 use Rattle.fs_rows.specs.Kinds.{is_directory}
 use Rattle.fs_rows.specs.declared.row.Kind.{Kind}
 use Rattle.fs_rows.specs.declared.row.Kind.TheVariants.{Directory, File, Symlink, Character, Block, Fifo, Socket, Subvolume}
-use Rattle.reiser_files.specs.Bytes.{file_bytes}
+use Rattle.reiser_files.specs.Bytes.{target_bytes}
 use Rattle.reiser_names.specs.Names.{inode_of}
 use Rattle.reiser_objects.specs.declared.key.ObjectKey.{ObjectKey}
 use Rattle.reiser_objects.specs.declared.naming.Naming.{Naming}
 use Rattle.reiser_objects.specs.declared.stat.ObjectStat.{ObjectStat}
 use Rattle.reiser_objects.specs.Keys.{root, same_key, items_of}
+use Rattle.reiser_volume.specs.Inline.{is_inline}
 use Rattle.reiser_volume.specs.Made.{stat_at, kind_by}
 use Rattle.reiser_volume.specs.Opened.{links_in}
 use Rattle.reiser_volume.specs.Volume.{volume_items}
 use Rattle.reiser_volume.specs.declared.volume.Volume.{Volume}
 use Rattle.reiser_walk.specs.Items.{Item as ReiserItem}
 use Rattle.unit_plan.specs.declared.piece.Piece.{Piece}
-use Rattle.file_items.specs.Order.{by_inode}
+use Rattle.reiser_volume.specs.Numbers.{by_inode}
 use Rattle.file_items.specs.Names.{inode_refs, extrefs, root_ref, indexed_in, letters, entry_items}
-use Rattle.file_items.specs.Extents.{is_inline, inline_extent, extent_item, pieces_of, file_block, piece_bytes, extents_at}
+use Rattle.item_list.specs.Extents.{inline_extent, extent_item}
+use Rattle.file_items.specs.Extents.{pieces_of, file_block, piece_bytes, extents_at}
 use Rattle.file_items.specs.Inodes.{inode_from}
 
--- What the tree is made from: the blocks of the volume with the superblock's flags and the items of its tree, the named
--- objects by their keys, the links in the order of the items, the pieces, and whether small files are inline and data has
--- checksums.
+-- What the tree is made from: the superblock's flags and the items of the volume's tree, the named objects by their keys, the
+-- links in the order of the items, the pieces, and whether small files are inline and data has checksums.
 pub record Source : Type 0 where
-  pub image : Image
   pub flags : ℕ
   pub items : List ReiserItem
   pub keys : List ObjectKey
@@ -43,7 +43,6 @@ pub record Source : Type 0 where
 -- an opened volume
 abbrev pub source_of : Volume → List Piece → Bool → Bool → Image → Source
 source_of volume pieces inline datasum image = record {
-  image = image;
   flags = volume.sup.flags;
   items = volume_items image;
   keys = keys volume.named;
@@ -96,11 +95,11 @@ inode_in s key =
 unfoldable pub name_items : Source → ObjectKey → List Item
 name_items s key = if same_key key root then root_ref ∷ [] else inode_refs s.keys s.links key ++ extrefs s.keys s.links key
 
--- the extents of a file or a symlink
+-- The extents of a file or a symlink. An inline one has the bytes that its direct items hold.
 unfoldable pub extent_items : Source → ObjectKey → List Item
 extent_items s key =
     if inline_in s key
-    then extent_item (number_of s key) 0 (inline_extent (file_bytes s.image (items_of key s.items) (size_in s key))) ∷ []
+    then extent_item (number_of s key) 0 (inline_extent (target_bytes (items_of key s.items) (size_in s key))) ∷ []
     else extents_at (number_of s key) file_block (pieces_of s.pieces (number_of s key))
 
 -- what an object holds

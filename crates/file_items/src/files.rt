@@ -1,82 +1,75 @@
-ghost use Rattle.std.specs.Prelude.{◌≡◌, ◌≤◌, ◌<◌, ℕ, length, IsTrue, IfOk, IfErr};
+ghost use Rattle.std.specs.Prelude.{◌≡◌, ◌≤◌, ◌<◌, ◌++◌, ◌^◌, ℕ, filter, length, sum_by, Some, IfOk, IfErr, OnOk, IfSome, if◌then◌else◌};
+ghost use Rattle.std.specs.Option.{option_map_or};
 ghost use Rattle.std.specs.Result.{MatchResult};
-ghost use Rattle.indexmap.specs.IndexMap.{keys};
-ghost use Rattle.outside.specs.Fault.{HasCauseOf};
-ghost use Rattle.outside.specs.History.{Image};
+ghost use Rattle.indexmap.specs.IndexMap.{keys, get};
+ghost use Rattle.fs_rows.specs.Kinds.{is_directory};
+ghost use Rattle.item_list.specs.Spots.{is_under};
 ghost use Rattle.object_files.specs.Answers.{IsFileAnswer, IsFaultOrMemory};
-ghost use Rattle.reiser_volume.specs.Opened.{IsOpened};
-ghost use Rattle.reiser_volume.specs.Volume.{IsAccepted, superblock};
-ghost use Rattle.file_items.specs.Pieces.{ArePlaced, HoldFiles};
-ghost use Rattle.file_items.specs.Tree.{source_of, tree_items};
+ghost use Rattle.outside.specs.Fault.{HasCauseOf};
+ghost use Rattle.outside.specs.History.{Image, OverTold};
+ghost use Rattle.reiser_objects.specs.declared.key.ObjectKey.{ObjectKey as KeyOf};
+ghost use Rattle.reiser_objects.specs.Keys.{same_key, items_of};
+ghost use Rattle.reiser_objects.specs.declared.stat.ObjectStat.{ObjectStat as StatOf};
+ghost use Rattle.reiser_volume.specs.Made.{stat_at, kind_by};
+ghost use Rattle.reiser_volume.specs.Opened.{IsOpened, links_in};
+ghost use Rattle.reiser_volume.specs.Volume.{IsAccepted, superblock, volume_items};
+ghost use Rattle.unit_plan.specs.Pieces.{ArePlaced};
+ghost use Rattle.file_items.specs.Contents.{HoldsInline};
+ghost use Rattle.file_items.specs.Extents.{file_block, piece_bytes, pieces_of};
+ghost use Rattle.file_items.specs.Gathered.{HasEntries};
+ghost use Rattle.file_items.specs.Known.{FitsIndex, IsKnown, IsAt};
+ghost use Rattle.file_items.specs.Names.{indexed_in, letters};
+ghost use Rattle.file_items.specs.Orders.{AreOwners};
+ghost use Rattle.file_items.specs.Tree.{Source, source_of, tree_items, name_items, number_of, kind_in, size_in, size_by};
 
-use crate::copies::Copies;
-use crate::directory::{Directory, kind_at, size_of};
-use crate::extent::{Extent, add_extent, add_inline};
+use crate::contents::inlined;
+use crate::directory::{Directory, kind_at};
 use crate::inode::{Sizes, inode_from};
-use crate::item_list::ItemList;
 use crate::link_index::LinkIndex;
 use crate::names::Names;
-use crate::numbers::Numbers;
+use crate::order::by_owner;
 use crate::small::{add_inode, add_root_ref};
 use fs_rows::Kind;
-use outside::{BlockSource, Memory, Rule, VolAnswer, VolumeRefusal};
-use reiser_files::{FileMap, RunFrom};
-use reiser_volume::Volume;
+use item_list::{Extent, ItemList, Spots, add_extent, add_inline};
+use outside::{BlockSource, Memory, VolAnswer};
+use reiser_volume::{Numbers, Volume};
 use std::alloc::Global;
 use unit_plan::{Options, Piece, PieceList};
 use vol_block::Block;
 
-/// How many bytes an inline file has at most.
-const INLINE_LIMIT: u64 = 2048;
-
-/// How many bytes the target of a symlink has at most.
-const TARGET_LIMIT: u64 = 3900;
-
-/// The file whose extents are given: its inode, and where its blocks lie.
+/// What of a volume and its pieces the file tree is made by: the same as long as its items are given.
 #[derive(Drop)]
-struct FileInHand {
-    ino: u64,
-    map: FileMap,
-    /// The run that is given next.
-    run: usize,
-    /// How many blocks of it were given.
-    done: u64,
-}
-
-/// What an object holds beside its names.
-#[derive(Drop)]
-enum Content {
-    /// The entries of a directory.
-    Entries,
-    /// Bytes of a block, so many, in the tree itself.
-    Inline(Block, usize),
-    /// Blocks of the volume.
-    Blocks(FileMap),
-    /// Nothing.
-    Empty,
-}
-
-/// The objects of the file tree that are still to come, and of the one in hand the extents.
-#[derive(Drop)]
-pub struct FileTree {
+struct Basis {
     alloc: Global,
     inline: bool,
     datasum: bool,
     numbers: Numbers,
     links: LinkIndex,
-    copies: Copies,
+    owners: Spots,
+}
+
+/// The file whose extents are given.
+#[derive(Clone, Copy)]
+struct FileInHand {
+    ino: u64,
+    /// How many of its pieces are still to come, if it has so many.
+    left: usize,
+}
+
+/// The objects of the file tree that are still to come, and of the one in hand the extents.
+#[derive(Drop)]
+pub struct FileTree {
+    basis: Basis,
     names: Names,
     directory: Directory,
     body: Vec<u8>,
     /// How many objects were begun.
     begun: usize,
     file: FileInHand,
-    /// The number of the piece from which on the next tail is.
-    tail: usize,
 }
 
 impl FileTree {
-    ghost use Rattle.file_items.specs.Stream.{AddsSome, tree_ahead, FitsTree, FitsTreeBlocks};
+    ghost use Rattle.file_items.specs.Stream.{AddsSome, AddsExtent, Begins, HasContent, tree_ahead, FitsTree, FitsTreeBlocks};
 
     /// All objects of a volume with these pieces.
     pub fn new<P: PieceList>(
@@ -86,27 +79,24 @@ impl FileTree {
         options: &Options,
     ) -> Result<FileTree, Memory>
         ensures fits { IfOk result (λ files. FitsTree files volume.now (P.pieces pieces.now)) }
-        ensures fits_blocks { IfOk result (λ files. (image : Image) → IsAccepted image → IsOpened volume.now image → FitsTreeBlocks files volume.now (P.pieces pieces.now) image) }
+        ensures fits_blocks { IfOk result (λ files. (image : Image) → IsAccepted image → IsOpened volume.now image → FitsTreeBlocks files volume.now image) }
         ensures all { IfOk result (λ files. (image : Image) → tree_ahead files volume.now (P.pieces pieces.now) image ≡ tree_items (source_of volume.now (P.pieces pieces.now) options.now.inline options.now.datasum image)) }
     {
-        Ok(FileTree {
+        let basis = Basis {
             alloc,
             inline: options.inline,
             datasum: options.datasum,
             numbers: Numbers::new(volume),
             links: LinkIndex::new(alloc, volume)?,
-            copies: Copies::find(alloc, pieces)?,
+            owners: by_owner(alloc, pieces)?,
+        };
+        Ok(FileTree {
+            basis,
             names: Names::new(alloc),
             directory: Directory::new(alloc),
             body: Vec::new(alloc),
             begun: 0,
-            file: FileInHand {
-                ino: 0,
-                map: FileMap::new(alloc),
-                run: 0,
-                done: 0,
-            },
-            tail: 0,
+            file: FileInHand { ino: 0, left: 0 },
         })
     }
 
@@ -123,109 +113,151 @@ impl FileTree {
         ensures kept { S.kept src.old src.new }
         ensures cause { HasCauseOf VolAnswer.Fault (S.faults src.old) (S.faults src.new) result }
         ensures answers { IfErr result IsFileAnswer }
-        ensures fits { IfOk result (λ _. FitsTree self.new volume.now (P.pieces pieces.now)) }
-        ensures next { IsTrue S.tells → (image : Image) → S.blocks src.old ≡ image → IsAccepted image → IsOpened volume.now image → ArePlaced (superblock image).blocks (P.pieces pieces.now)
-            → HoldFiles (source_of volume.now (P.pieces pieces.now) self.old.inline self.old.datasum image) → FitsTreeBlocks self.old volume.now (P.pieces pieces.now) image
-            → MatchResult result (λ more. AddsSome more (tree_ahead self.old volume.now (P.pieces pieces.now) image) (tree_ahead self.new volume.now (P.pieces pieces.now) image) items.old items.new × FitsTreeBlocks self.new volume.now (P.pieces pieces.now) image) IsFaultOrMemory }
+        ensures fits { FitsTree self.new volume.now (P.pieces pieces.now) }
+        ensures next { OverTold S.tells (S.blocks src.old) (λ image. IsAccepted image → IsOpened volume.now image → ArePlaced (superblock image).blocks (P.pieces pieces.now) → FitsTreeBlocks self.old volume.now image
+            → MatchResult result (λ more. AddsSome more (tree_ahead self.old volume.now (P.pieces pieces.now) image) (tree_ahead self.new volume.now (P.pieces pieces.now) image) items.old items.new × FitsTreeBlocks self.new volume.now image) IsFaultOrMemory) }
     {
-        if self.file.run < self.file.map.len() {
-            self.add_extent(items, volume, pieces)?;
+        if self.add_extent(items, pieces)? {
             return Ok(true);
         }
         if self.begun >= volume.count() {
             return Ok(false);
         }
-        let place = self.numbers.place(self.begun);
+        let place = self.basis.numbers.place(self.begun);
         self.begun += 1;
-        self.add_object(items, src, volume, place)?;
+        self.add_object(items, src, volume, pieces, place)?;
         Ok(true)
     }
 
-    /// Appends the next extent of the file in hand.
+    /// Appends the next extent of the file in hand. Whether there is one.
     fn add_extent<P: PieceList>(
         &mut self,
         items: &mut ItemList,
-        volume: &Volume,
         pieces: &P,
-    ) -> Result<(), VolAnswer> {
-        let run = self.file.map.get(self.file.run);
-        let left = run.count.saturating_sub(self.file.done);
-        let block = run.at.saturating_add(self.file.done);
-        let found = match run.from {
-            RunFrom::Disk(first) => self
-                .copies
-                .holder(pieces, first.saturating_add(self.file.done)),
-            RunFrom::Tail => self.next_tail(pieces),
-        };
-        let Some(piece) = found else {
-            return Err(changed(volume));
-        };
+    ) -> Result<bool, Memory>
+        requires owners { AreOwners self.old.basis.owners (P.pieces pieces.now) }
+        ensures basis { self.new.basis ≡ self.old.basis }
+        ensures begun { self.new.begun ≡ self.old.begun }
+        ensures next { (blocks : ℕ) → blocks < 2 ^ 52 → ArePlaced blocks (P.pieces pieces.now) → IfOk result (λ more. AddsExtent more self.old.file self.new.file (P.pieces pieces.now) items.old items.new) }
+    {
+        let spots = self.basis.owners.under(self.file.ino);
+        let left = self.file.left.min(spots.len());
+        if left == 0 {
+            return Ok(false);
+        }
+        let piece = *pieces.get(spots[spots.len() - left].number);
         let ino = self.file.ino;
-        if piece.owner != Some((ino, block)) || piece.count == 0 || piece.count > left {
-            return Err(changed(volume));
-        }
-        if piece.count == left {
-            self.file.run += 1;
-            self.file.done = 0;
-        } else {
-            self.file.done += piece.count;
-        }
-        let extent = Extent {
-            block,
-            place: piece.place,
-            count: piece.count,
-        };
-        add_extent(items, ino, extent)?;
-        Ok(())
+        self.file.left = left - 1;
+        add_extent(items, ino, extent_of(&piece))?;
+        Ok(true)
     }
 
-    /// The next tail. Tails stand by inode and block of the file, as the files are given.
-    fn next_tail<P: PieceList>(&mut self, pieces: &P) -> Option<Piece> {
-        while self.tail < pieces.len() {
-            let piece = *pieces.get(self.tail);
-            self.tail += 1;
-            if piece.from.is_none() {
-                return Some(piece);
-            }
-        }
-        None
-    }
-
-    /// Appends what the object at a place has, and takes its extents in hand.
-    fn add_object<S: BlockSource>(
+    /// Appends what the object at a place has up to its extents, and takes these in hand.
+    fn add_object<S: BlockSource, P: PieceList>(
         &mut self,
         items: &mut ItemList,
         src: &mut S,
         volume: &Volume,
+        pieces: &P,
         place: usize,
-    ) -> Result<(), VolAnswer> {
+    ) -> Result<(), VolAnswer>
+        requires fits { FitsTree self.old volume.now (P.pieces pieces.now) }
+        requires within { place < length (keys volume.now.named) }
+        ensures kept { S.kept src.old src.new }
+        ensures cause { HasCauseOf VolAnswer.Fault (S.faults src.old) (S.faults src.new) result }
+        ensures answers { IfErr result IsFileAnswer }
+        ensures basis { self.new.basis ≡ self.old.basis }
+        ensures begun { self.new.begun ≡ self.old.begun }
+        ensures next { OverTold S.tells (S.blocks src.old) (λ image. IsAccepted image → IsOpened volume.now image → ArePlaced (superblock image).blocks (P.pieces pieces.now) → FitsTreeBlocks self.old volume.now image → (key : KeyOf) → IsAt volume.now place key
+            → MatchResult result (λ _. Begins (source_of volume.now (P.pieces pieces.now) self.old.basis.inline self.old.basis.datasum image) key self.new.file items.old items.new) IsFaultOrMemory) }
+    {
         let kind = kind_at(volume, place);
-        let content = self.content(src, volume, place, kind)?;
-        let ino = self.numbers.inode(place);
-        let sizes = self.sizes(volume, place, kind, &content);
+        let mut block = Block::zero();
+        let held = inlined(
+            self.basis.alloc,
+            src,
+            volume,
+            place,
+            kind,
+            self.basis.inline,
+            &mut block,
+        )?;
+        self.add_told(items, volume, pieces, place, kind, held, &block)?;
+        Ok(())
+    }
+
+    /// The same of an object of this kind, of which so many bytes of a block stay in the tree.
+    fn add_told<P: PieceList>(
+        &mut self,
+        items: &mut ItemList,
+        volume: &Volume,
+        pieces: &P,
+        place: usize,
+        kind: Kind,
+        held: Option<usize>,
+        block: &Block,
+    ) -> Result<(), Memory>
+        requires fits { FitsTree self.old volume.now (P.pieces pieces.now) }
+        requires within { place < length (keys volume.now.named) }
+        requires small { IfSome held (λ n. n ≤ 4096) }
+        ensures basis { self.new.basis ≡ self.old.basis }
+        ensures begun { self.new.begun ≡ self.old.begun }
+        ensures next { (image : Image) → FitsTreeBlocks self.old volume.now image → ArePlaced (superblock image).blocks (P.pieces pieces.now) → (key : KeyOf) → IsAt volume.now place key → kind ≡ kind_by (stat_at (volume_items image) key)
+            → HoldsInline self.old.basis.inline (items_of key (volume_items image)) (stat_at (volume_items image) key).fields.size kind held block.now.bytes
+            → OnOk result (Begins (source_of volume.now (P.pieces pieces.now) self.old.basis.inline self.old.basis.datasum image) key self.new.file items.old items.new) }
+    {
+        let ino = self.basis.numbers.inode(place);
+        self.take_entries(volume, place, ino, kind)?;
+        let sizes = Sizes {
+            size: self.size_of(volume, place, kind),
+            nbytes: self.basis.bytes_of(pieces, ino, held),
+            nlink: self.basis.links_of(place, kind),
+        };
         let stat = volume.stat(place);
-        let inode = inode_from(self.datasum, volume.sup().flags, stat, kind, sizes);
+        let inode = inode_from(self.basis.datasum, volume.sup().flags, stat, kind, sizes);
         add_inode(items, ino, &inode)?;
         self.add_names(items, volume, place)?;
-        match content {
-            Content::Entries => {
-                self.directory
-                    .add_items(items, volume, &self.links, self.numbers, place)?;
-            }
-            Content::Inline(block, length) => {
-                add_inline(items, &mut self.body, ino, &block.bytes[..length])?;
-            }
-            Content::Blocks(map) => {
-                self.file = FileInHand {
-                    ino,
-                    map,
-                    run: 0,
-                    done: 0,
-                };
-            }
-            Content::Empty => {}
+        self.add_content(items, ino, kind, held, block)
+    }
+
+    /// Takes the entries of the object at a place, if it is a directory.
+    fn take_entries(
+        &mut self,
+        volume: &Volume,
+        place: usize,
+        ino: u64,
+        kind: Kind,
+    ) -> Result<(), Memory>
+        requires { FitsIndex self.old.basis.links volume.now }
+        ensures basis { self.new.basis ≡ self.old.basis }
+        ensures begun { self.new.begun ≡ self.old.begun }
+        ensures entries { (image : Image) → IsKnown volume.now self.old.basis.links self.old.basis.numbers image → (key : KeyOf) → IsAt volume.now place key → kind ≡ Kind.Directory
+            → OnOk result (HasEntries ino (indexed_in (λ k. kind_by (stat_at (volume_items image) k)) (keys volume.now.named) (links_in volume.now) key) self.new.directory) }
+    {
+        if kind.is_directory() {
+            self.directory.gather(
+                volume,
+                &self.basis.links,
+                self.basis.numbers,
+                place,
+                ino,
+            )
+        } else {
+            Ok(())
         }
-        Ok(())
+    }
+
+    /// The size of the object of this kind at a place, whose entries were taken if it is a directory.
+    fn size_of(&self, volume: &Volume, place: usize, kind: Kind) -> u64
+        requires { place < length (keys volume.now.named) }
+        ensures { (s : Source) (key : KeyOf) → (kind ≡ Kind.Directory → self.now.directory.letters ≡ letters (indexed_in (kind_in s) s.keys s.links key) × self.now.directory.letters < 2 ^ 62)
+            → (stat_of : StatOf) → get same_key volume.now.named key ≡ Some stat_of → IsAt volume.now place key → size_in s key ≡ stat_of.fields.size → result ≡ size_by s key kind }
+    {
+        match kind {
+            Kind::Directory => self.directory.size(),
+            Kind::File | Kind::Symlink => volume.stat(place).fields.size,
+            Kind::Character | Kind::Block | Kind::Fifo | Kind::Socket | Kind::Subvolume => 0,
+        }
     }
 
     /// Appends the names of the object at a place.
@@ -234,105 +266,102 @@ impl FileTree {
         items: &mut ItemList,
         volume: &Volume,
         place: usize,
-    ) -> Result<(), Memory> {
-        if self.numbers.is_root(place) {
+    ) -> Result<(), Memory>
+        requires { FitsIndex self.old.basis.links volume.now }
+        ensures basis { self.new.basis ≡ self.old.basis }
+        ensures begun { self.new.begun ≡ self.old.begun }
+        ensures directory { self.new.directory ≡ self.old.directory }
+        ensures names { (s : Source) (image : Image) → IsKnown volume.now self.old.basis.links self.old.basis.numbers image → s.keys ≡ keys volume.now.named → s.links ≡ links_in volume.now → (key : KeyOf) → IsAt volume.now place key
+            → OnOk result (items.new ≡ items.old ++ name_items s key) }
+    {
+        if self.basis.numbers.is_root(place) {
             add_root_ref(items, &mut self.body)
         } else {
-            self.names
-                .add_items(items, volume, &self.links, self.numbers, place)
+            self.names.add_items(
+                items,
+                volume,
+                &self.basis.links,
+                self.basis.numbers,
+                place,
+            )
         }
     }
 
-    /// Reads what the object at a place holds.
-    fn content<S: BlockSource>(
-        &self,
-        src: &mut S,
-        volume: &Volume,
-        place: usize,
+    /// Appends what an object holds, or takes its extents in hand.
+    fn add_content(
+        &mut self,
+        items: &mut ItemList,
+        ino: u64,
         kind: Kind,
-    ) -> Result<Content, VolAnswer> {
-        match kind {
-            Kind::Directory => Ok(Content::Entries),
-            Kind::File => self.file_content(src, volume, place),
-            Kind::Symlink => inline_content(src, volume, place),
-            Kind::Character | Kind::Block | Kind::Fifo | Kind::Socket | Kind::Subvolume => {
-                Ok(Content::Empty)
+        held: Option<usize>,
+        block: &Block,
+    ) -> Result<(), Memory>
+        requires small { IfSome held (λ n. n ≤ 4096) }
+        ensures basis { self.new.basis ≡ self.old.basis }
+        ensures begun { self.new.begun ≡ self.old.begun }
+        ensures content { (s : Source) (key : KeyOf) → ino ≡ number_of s key → kind ≡ kind_in s key → (kind ≡ Kind.Directory → HasEntries ino (indexed_in (kind_in s) s.keys s.links key) self.old.directory)
+            → HoldsInline s.inline (items_of key s.items) (size_in s key) kind held block.now.bytes → OnOk result (HasContent s key self.new.file items.old items.new) }
+    {
+        self.file = FileInHand { ino, left: 0 };
+        match (kind, held) {
+            (Kind::Directory, _) => self.directory.add_items(items, ino),
+            (Kind::File | Kind::Symlink, Some(length)) => {
+                add_inline(items, &mut self.body, ino, &block.bytes[..length])
             }
+            (Kind::File | Kind::Symlink, None) => {
+                self.file.left = usize::MAX;
+                Ok(())
+            }
+            _ => Ok(()),
+        }
+    }
+}
+
+impl Basis {
+    /// The bytes of the extents of an inode, of which so many bytes stay in the tree.
+    fn bytes_of<P: PieceList>(&self, pieces: &P, ino: u64, held: Option<usize>) -> u64
+        requires owners { AreOwners self.now.owners (P.pieces pieces.now) }
+        ensures { (blocks : ℕ) → blocks < 2 ^ 52 → ArePlaced blocks (P.pieces pieces.now) → result ≡ option_map_or (λ n. n) held (piece_bytes (pieces_of (P.pieces pieces.now) ino)) }
+    {
+        match held {
+            Some(length) => length as u64,
+            None => self.piece_blocks(pieces, ino).saturating_mul(4096),
         }
     }
 
-    /// The same of a file.
-    fn file_content<S: BlockSource>(
-        &self,
-        src: &mut S,
-        volume: &Volume,
-        place: usize,
-    ) -> Result<Content, VolAnswer> {
-        let map = volume.file_map(self.alloc, src, place)?;
-        if self.inline && volume.stat(place).fields.size <= INLINE_LIMIT && is_tail(&map) {
-            inline_content(src, volume, place)
+    /// The blocks of the pieces of an inode; it stays at the last number of 64 bits.
+    fn piece_blocks<P: PieceList>(&self, pieces: &P, ino: u64) -> u64
+        requires owners { AreOwners self.now.owners (P.pieces pieces.now) }
+        ensures { sum_by (λ p. p.count) (pieces_of (P.pieces pieces.now) ino) < 2 ^ 64 → result ≡ sum_by (λ p. p.count) (pieces_of (P.pieces pieces.now) ino) }
+    {
+        let spots = self.owners.under(ino);
+        let mut blocks = 0_u64;
+        for i in 0..spots.len() {
+            blocks = blocks.saturating_add(pieces.get(spots[i].number).count);
+        }
+        blocks
+    }
+
+    /// How many names the object of this kind at a place has; a directory has one.
+    fn links_of(&self, place: usize, kind: Kind) -> u32
+        ensures { (n : ℕ) → length (filter (is_under place) self.now.links.by_target) ≡ n → n < 2 ^ 32 → result ≡ (if is_directory kind then 1 else n) }
+    {
+        if kind.is_directory() {
+            1
         } else {
-            Ok(Content::Blocks(map))
-        }
-    }
-
-    /// The sizes in the inode of the object at a place.
-    fn sizes(&self, volume: &Volume, place: usize, kind: Kind, content: &Content) -> Sizes {
-        let size = match kind {
-            Kind::Directory => size_of(volume, &self.links, self.numbers, place),
-            Kind::File | Kind::Symlink => volume.stat(place).fields.size,
-            Kind::Character | Kind::Block | Kind::Fifo | Kind::Socket | Kind::Subvolume => 0,
-        };
-        let nbytes = match content {
-            Content::Inline(_, length) => *length as u64,
-            Content::Blocks(map) => bytes_of(map),
-            Content::Entries | Content::Empty => 0,
-        };
-        let nlink = match kind {
-            Kind::Directory => 1,
-            _ => self.links.names_of(place).len().min(u32::MAX as usize) as u32,
-        };
-        Sizes {
-            size,
-            nbytes,
-            nlink,
+            self.links.names_of(place).len().min(u32::MAX as usize) as u32
         }
     }
 }
 
-/// The bytes of an inline file or of a symlink, which stand in direct items.
-fn inline_content<S: BlockSource>(
-    src: &mut S,
-    volume: &Volume,
-    place: usize,
-) -> Result<Content, VolAnswer> {
-    let size = volume.stat(place).fields.size;
-    if size > TARGET_LIMIT {
-        return Err(changed(volume));
+/// Where the extent of an owned piece lies.
+fn extent_of(piece: &Piece) -> Extent
+    ensures { result ≡ record { block = file_block piece.now; place = piece.now.place; count = piece.now.count } }
+{
+    let (_, block) = piece.owner.unwrap_or((0, 0));
+    Extent {
+        block,
+        place: piece.place,
+        count: piece.count,
     }
-    let mut block = Block::zero();
-    volume.tail(src, place, 0, &mut block)?;
-    Ok(Content::Inline(block, size as usize))
-}
-
-/// Whether the blocks of a file of at most one block lie in direct items.
-fn is_tail(map: &FileMap) -> bool {
-    map.len() > 0 && map.get(0).from == RunFrom::Tail
-}
-
-/// The bytes of all blocks of a file that lie anywhere.
-fn bytes_of(map: &FileMap) -> u64 {
-    let mut blocks = 0_u64;
-    for i in 0..map.len() {
-        blocks = blocks.saturating_add(map.get(i).count);
-    }
-    blocks.saturating_mul(4096)
-}
-
-/// What is answered where the volume reads otherwise than when it was opened, or is another one than that of the pieces.
-fn changed(volume: &Volume) -> VolAnswer {
-    VolAnswer::Refused(VolumeRefusal::Damaged {
-        block: volume.sup().root,
-        rule: Rule::Reread,
-    })
 }

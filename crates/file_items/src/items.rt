@@ -1,22 +1,22 @@
-ghost use Rattle.std.specs.Prelude.{◌≡◌, ◌≤◌, ◌<◌, ◌^◌, ◌∷◌, [], false, List, is_err, length, IsTrue, IfOk, IfErr};
+ghost use Rattle.std.specs.Prelude.{◌≡◌, ◌≤◌, ◌<◌, ◌^◌, ◌∷◌, [], false, List, is_err, length, IfOk, IfErr};
 ghost use Rattle.std.specs.Result.{MatchResult};
 ghost use Rattle.outside.specs.Fault.{HasCauseOf};
-ghost use Rattle.outside.specs.History.{Image};
+ghost use Rattle.outside.specs.History.{Image, OverTold};
 ghost use Rattle.btr_node.specs.Leaf.{Item};
 ghost use Rattle.object_files.specs.Answers.{IsFileAnswer, IsFaultOrMemory};
 ghost use Rattle.reiser_volume.specs.Opened.{IsOpened};
 ghost use Rattle.reiser_volume.specs.Volume.{IsAccepted, superblock};
 ghost use Rattle.reiser_volume.specs.declared.volume.Volume.{Volume as VolumeOf};
 ghost use Rattle.unit_plan.specs.declared.piece.Piece.{Piece as PieceOf};
-ghost use Rattle.file_items.specs.Pieces.{ArePlaced};
+ghost use Rattle.unit_plan.specs.Pieces.{ArePlaced};
 ghost use Rattle.file_items.specs.Small.{image_items, relocation_items};
 ghost use Rattle.file_items.specs.Tree.{source_of, tree_items};
 
 use crate::files::FileTree;
-use crate::image::{ImageExtents, image_bytes};
-use crate::item_list::ItemList;
+use crate::image::{ImageExtents, image_blocks};
 use crate::small::{image_head, relocation_items};
 use btr_keys::Key;
+use item_list::ItemList;
 use outside::{BlockSource, Memory, VolAnswer};
 use reiser_volume::Volume;
 use std::alloc::Global;
@@ -48,7 +48,7 @@ pub struct Items {
 }
 
 impl Items {
-    ghost use Rattle.file_items.specs.Stream.{ahead, Fits, FitsBlocks, HoldsFiles, HasItem, Stands, Comes};
+    ghost use Rattle.file_items.specs.Stream.{ahead, Fits, FitsBlocks, HasItem, Stands, Comes};
 
     /// The items of the file tree, number 5, of a volume whose pieces were placed. Nothing in this tree is of the time of the
     /// conversion.
@@ -61,7 +61,7 @@ impl Items {
     ) -> Result<Items, Memory>
         ensures live { IfOk result (λ items. items.spent ≡ false) }
         ensures fits { IfOk result (λ items. Fits items volume.now (P.pieces pieces.now)) }
-        ensures fits_blocks { IfOk result (λ items. (image : Image) → IsAccepted image → IsOpened volume.now image → FitsBlocks items volume.now (P.pieces pieces.now) image) }
+        ensures fits_blocks { IfOk result (λ items. (image : Image) → IsAccepted image → IsOpened volume.now image → FitsBlocks items volume.now image) }
         ensures all { IfOk result (λ items. (image : Image) → ahead items volume.now (P.pieces pieces.now) image ≡ tree_items (source_of volume.now (P.pieces pieces.now) options.now.inline options.now.datasum image)) }
     {
         let files = FileTree::new(alloc, volume, pieces, options)?;
@@ -80,13 +80,14 @@ impl Items {
         requires { now < 2 ^ 63 }
         ensures live { IfOk result (λ items. items.spent ≡ false) }
         ensures fits { IfOk result (λ items. Fits items volume.now (P.pieces pieces.now)) }
-        ensures fits_blocks { IfOk result (λ items. (image : Image) → FitsBlocks items volume.now (P.pieces pieces.now) image) }
+        ensures fits_blocks { IfOk result (λ items. (image : Image) → FitsBlocks items volume.now image) }
         ensures all { volume.now.sup.blocks < 2 ^ 52 → ArePlaced volume.now.sup.blocks (P.pieces pieces.now)
             → IfOk result (λ items. (image : Image) → ahead items volume.now (P.pieces pieces.now) image ≡ image_items volume.now.sup.blocks (P.pieces pieces.now) options.now.datasum now) }
     {
-        let nbytes = image_bytes(pieces);
+        let nbytes = image_blocks(pieces).saturating_mul(4096);
         let head = image_head(alloc, volume.sup().blocks, nbytes, options.datasum, now)?;
-        Ok(Items::with(head, Rest::Image(ImageExtents::new())))
+        let extents = ImageExtents::new(alloc, pieces)?;
+        Ok(Items::with(head, Rest::Image(extents)))
     }
 
     /// The items of the relocation tree; `now` is as for the image.
@@ -94,7 +95,7 @@ impl Items {
         requires { now < 2 ^ 63 }
         ensures live { IfOk result (λ items. items.spent ≡ false) }
         ensures fits { IfOk result (λ items. (volume : VolumeOf) (pieces : List PieceOf) → Fits items volume pieces) }
-        ensures fits_blocks { IfOk result (λ items. (volume : VolumeOf) (pieces : List PieceOf) (image : Image) → FitsBlocks items volume pieces image) }
+        ensures fits_blocks { IfOk result (λ items. (volume : VolumeOf) (image : Image) → FitsBlocks items volume image) }
         ensures all { IfOk result (λ items. (volume : VolumeOf) (pieces : List PieceOf) (image : Image) → ahead items volume pieces image ≡ relocation_items now) }
     {
         let head = relocation_items(alloc, now)?;
@@ -130,9 +131,8 @@ impl Items {
         ensures answers { IfErr result IsFileAnswer }
         ensures spent { self.new.spent ≡ is_err result }
         ensures fits { IfOk result (λ _. Fits self.new volume.now (P.pieces pieces.now)) }
-        ensures next { IsTrue S.tells → (image : Image) → S.blocks src.old ≡ image → IsAccepted image → IsOpened volume.now image → ArePlaced (superblock image).blocks (P.pieces pieces.now)
-            → HoldsFiles self.old volume.now (P.pieces pieces.now) image → FitsBlocks self.old volume.now (P.pieces pieces.now) image
-            → MatchResult result (λ more. Comes more self.old self.new volume.now (P.pieces pieces.now) image) IsFaultOrMemory }
+        ensures next { OverTold S.tells (S.blocks src.old) (λ image. IsAccepted image → IsOpened volume.now image → ArePlaced (superblock image).blocks (P.pieces pieces.now) → FitsBlocks self.old volume.now image
+            → MatchResult result (λ more. Comes more self.old self.new volume.now (P.pieces pieces.now) image) IsFaultOrMemory) }
     {
         let answer = self.step(src, volume, pieces);
         self.spent = answer.is_err();
@@ -152,9 +152,8 @@ impl Items {
         ensures answers { IfErr result IsFileAnswer }
         ensures spent { self.new.spent ≡ self.old.spent }
         ensures fits { IfOk result (λ _. Fits self.new volume.now (P.pieces pieces.now)) }
-        ensures next { IsTrue S.tells → (image : Image) → S.blocks src.old ≡ image → IsAccepted image → IsOpened volume.now image → ArePlaced (superblock image).blocks (P.pieces pieces.now)
-            → HoldsFiles self.old volume.now (P.pieces pieces.now) image → FitsBlocks self.old volume.now (P.pieces pieces.now) image
-            → MatchResult result (λ more. Comes more self.old self.new volume.now (P.pieces pieces.now) image) IsFaultOrMemory }
+        ensures next { OverTold S.tells (S.blocks src.old) (λ image. IsAccepted image → IsOpened volume.now image → ArePlaced (superblock image).blocks (P.pieces pieces.now) → FitsBlocks self.old volume.now image
+            → MatchResult result (λ more. Comes more self.old self.new volume.now (P.pieces pieces.now) image) IsFaultOrMemory) }
     {
         if self.given < self.list.len() {
             self.given += 1;

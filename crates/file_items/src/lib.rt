@@ -2,27 +2,21 @@
 //! the relocation tree.
 //!
 //! [`Items`] gives them one after the other, ascending by key. It holds the items of one object at a time, and of a file
-//! one extent; beside that a few words for each link of the volume.
+//! one extent; beside that a few words for each link of the volume and for each piece.
 #![tactic(auto)]
 
-mod copies;
+mod contents;
 mod directory;
-mod extent;
 mod files;
 mod image;
 mod inode;
-mod item_list;
 mod items;
-mod laws;
 mod link_index;
 mod names;
-mod numbers;
-mod records;
+mod order;
 mod small;
-mod spot;
 
 pub use items::Items;
-pub use laws::{groups_are_groups, inodes_tell_stat};
 
 #[cfg(test)]
 mod tests;

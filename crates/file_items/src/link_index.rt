@@ -1,26 +1,43 @@
-ghost use Rattle.std.specs.Prelude.{◌≡◌, ◌≤◌, ◌<◌, ◌+◌, ◌^◌, true, false, length, filter, count_by, nat_lt, slice_range, IfOk, AllPairs};
-ghost use Rattle.std.specs.List.Sorted.{IsPartitionPoint};
-ghost use Rattle.std.specs.Ordering.{is_lt, is_le, nat_cmp};
+ghost use Rattle.std.specs.Prelude.{◌≡◌, ◌<◌, ◌+◌, ◌^◌, ◌∷◌, ◌++◌, ◌&&◌, [], Bool, Contains, true, length, filter, map, count_by, nat_eq, nat_lt, slice_get, Some, IfOk, OnOk, AllPairs, if◌then◌else◌};
 ghost use Rattle.outside.specs.History.{Image};
+ghost use Rattle.item_list.specs.Spots.{is_under};
+ghost use Rattle.reiser_names.specs.Tally.{tally, capped};
 ghost use Rattle.reiser_volume.specs.Opened.{IsOpened, links_in};
-ghost use Rattle.file_items.specs.Spots.{is_under, AscendByObject, AreBelow};
+ghost use Rattle.reiser_volume.specs.Volume.{IsAccepted};
+ghost use Rattle.file_items.specs.Known.{AreBelow, TellsPlaces};
+ghost use Rattle.file_items.specs.Names.{entries};
+ghost use Rattle.file_items.specs.Sizes.{same_names, AreSizes};
+ghost use Rattle.file_items.specs.declared.link_index.NamesIn.{NamesIn as NamesInOf};
 
-use crate::spot::Spot;
+use indexmap::IndexMap;
+use item_list::{Spot, Spots, count_before};
 use outside::Memory;
 use reiser_volume::Volume;
 use std::alloc::Global;
 
-/// The links of a volume by the directory that they stand in, and by the object that they name: four words for a link.
+/// How many bytes an inode ref has at most in a converted volume.
+const REF_LIMIT: u64 = 3900;
+
+/// The names of one object in one directory, by the places of both.
+#[derive(Clone, Copy, Debug, PartialEq, Eq, Hash)]
+struct NamesIn {
+    dir: usize,
+    object: usize,
+}
+
+/// The links of a volume by the directory that they stand in, and by the object that they name, and whether an inode ref has
+/// room for each: 33 bytes for a link.
 #[derive(Drop)]
 pub struct LinkIndex {
-    by_dir: Vec<Spot>,
-    by_target: Vec<Spot>,
+    by_dir: Spots,
+    by_target: Spots,
+    /// Of each link whether its name is an extended one.
+    extended: Vec<bool>,
     /// How many links there are.
     count: usize,
-    ghost dirs_ascend: { AscendByObject by_dir.items },
-    ghost targets_ascend: { AscendByObject by_target.items },
-    ghost dirs_below: { AreBelow count by_dir.items },
-    ghost targets_below: { AreBelow count by_target.items },
+    ghost dirs_below: { AreBelow count by_dir },
+    ghost targets_below: { AreBelow count by_target },
+    ghost extended_count: { length extended.items ≡ count },
 }
 
 impl LinkIndex {
@@ -29,65 +46,111 @@ impl LinkIndex {
     /// Those of a volume. The time is that of a sort.
     pub fn new(alloc: Global, volume: &Volume) -> Result<LinkIndex, Memory>
         ensures count { IfOk result (λ index. index.count ≡ length (links_in volume.now)) }
-        ensures index { IfOk result (λ index. (image : Image) → IsOpened volume.now image → IsIndexOf volume.now index) }
+        ensures index { IfOk result (λ index. (image : Image) → IsAccepted image → IsOpened volume.now image → IsIndexOf volume.now index) }
     {
         let count = volume.link_count();
-        let mut by_dir = dir_spots(alloc, volume)?;
-        let mut by_target = target_spots(alloc, volume)?;
-        by_dir.sort_by_key(|spot| spot.of)?;
-        by_target.sort_by_key(|spot| spot.of)?;
+        let extended = extended_names(alloc, volume)?;
+        let by_dir = Spots::sorted(dir_spots(alloc, volume)?)?;
+        let by_target = Spots::sorted(target_spots(alloc, volume)?)?;
         Ok(LinkIndex {
             by_dir,
             by_target,
+            extended,
             count,
         })
     }
 
     /// The links that stand in the directory at a place, in the order of the tree.
     pub fn names_in(&self, dir: usize) -> &[Spot]
-        ensures { result.now ≡ filter (is_under dir) self.now.by_dir.items }
+        ensures spots { result.now ≡ filter (is_under dir) self.now.by_dir }
+        ensures below { AreBelow self.now.count result.now }
     {
-        under(&self.by_dir, dir)
+        self.by_dir.under(dir as u64)
     }
 
     /// The links that name the object at a place, in the order of the tree.
     pub fn names_of(&self, object: usize) -> &[Spot]
-        ensures { result.now ≡ filter (is_under object) self.now.by_target.items }
+        ensures spots { result.now ≡ filter (is_under object) self.now.by_target }
+        ensures below { AreBelow self.now.count result.now }
     {
-        under(&self.by_target, object)
+        self.by_target.under(object as u64)
     }
 
     /// The index of a link in the directory at a place, in which it stands.
     pub fn index_in(&self, dir: usize, link: usize) -> u64
-        ensures { AllPairs (λ a b. a.link < b.link) (filter (is_under dir) self.now.by_dir.items)
-            → result ≡ 2 + count_by (λ spot. nat_lt spot.link link) (filter (is_under dir) self.now.by_dir.items) }
+        ensures { AllPairs (λ a b. a.number < b.number) (filter (is_under dir) self.now.by_dir)
+            → result ≡ 2 + count_by (λ spot. nat_lt spot.number link) (filter (is_under dir) self.now.by_dir) }
     {
         index_at(count_before(self.names_in(dir), link))
+    }
+
+    /// Whether the name of a link is an extended one.
+    pub fn is_extended(&self, link: usize) -> bool
+        requires { link < self.now.count }
+        ensures { slice_get self.now.extended.items link ≡ Some result }
+    {
+        self.extended[link]
     }
 }
 
 /// Each link under its directory.
-fn dir_spots(alloc: Global, volume: &Volume) -> Result<Vec<Spot>, Memory> {
+fn dir_spots(alloc: Global, volume: &Volume) -> Result<Vec<Spot>, Memory>
+    ensures below { IfOk result (λ spots. AreBelow (length (links_in volume.now)) spots.items) }
+    ensures places { IfOk result (λ spots. (image : Image) → IsOpened volume.now image → TellsPlaces (λ n. n.dir) volume.now (links_in volume.now) spots.items) }
+{
     let mut spots = Vec::new(alloc);
     for n in 0..volume.link_count() {
         spots.push(Spot {
-            of: volume.link(n).dir,
-            link: n,
+            of: volume.link(n).dir as u64,
+            number: n,
         })?;
     }
     Ok(spots)
 }
 
 /// Each link under the object that it names.
-fn target_spots(alloc: Global, volume: &Volume) -> Result<Vec<Spot>, Memory> {
+fn target_spots(alloc: Global, volume: &Volume) -> Result<Vec<Spot>, Memory>
+    ensures below { IfOk result (λ spots. AreBelow (length (links_in volume.now)) spots.items) }
+    ensures places { IfOk result (λ spots. (image : Image) → IsOpened volume.now image → TellsPlaces (λ n. n.target) volume.now (links_in volume.now) spots.items) }
+{
     let mut spots = Vec::new(alloc);
     for n in 0..volume.link_count() {
         spots.push(Spot {
-            of: volume.link(n).object,
-            link: n,
+            of: volume.link(n).object as u64,
+            number: n,
         })?;
     }
     Ok(spots)
+}
+
+/// Of each link whether the names of its object in its directory, up to it, take more than an inode ref has.
+fn extended_names(alloc: Global, volume: &Volume) -> Result<Vec<bool>, Memory>
+    ensures count { IfOk result (λ extended. length extended.items ≡ length (links_in volume.now)) }
+    ensures extended { IfOk result (λ extended. (image : Image) → IsOpened volume.now image → extended.items ≡ map (λ e. e.extended) (entries (links_in volume.now))) }
+{
+    let mut sizes = IndexMap::new(alloc);
+    let mut extended = Vec::new(alloc);
+    for n in 0..volume.link_count() {
+        let link = volume.link(n);
+        let names = NamesIn {
+            dir: link.dir,
+            object: link.object,
+        };
+        let size = (link.name.len() as u64).saturating_add(10);
+        let size = add_size(&mut sizes, names, size)?;
+        extended.push(size > REF_LIMIT)?;
+    }
+    Ok(extended)
+}
+
+/// Adds to a size, which stays at the last value of 64 bits.
+fn add_size(sizes: &mut IndexMap<NamesIn, u64>, names: NamesIn, size: u64) -> Result<u64, Memory>
+    ensures size { IfOk result (λ now. now ≡ capped (tally same_names sizes.old names + size)) }
+    ensures sizes { OnOk result ((q : NamesInOf) → tally same_names sizes.new q ≡ (if same_names names q then capped (tally same_names sizes.old names + size) else tally same_names sizes.old q)) }
+{
+    let now = sizes.get(&names).copied().unwrap_or(0).saturating_add(size);
+    sizes.insert(names, now)?;
+    Ok(now)
 }
 
 /// The index of the entry behind so many others of its directory. The first two are kept for `.` and `..`.
@@ -95,49 +158,4 @@ pub fn index_at(before: usize) -> u64
     ensures { before < 2 ^ 63 → result ≡ 2 + before }
 {
     (before as u64).saturating_add(2)
-}
-
-/// How many of these links, which ascend, come before one.
-fn count_before(spots: &[Spot], link: usize) -> usize
-    ensures count { AllPairs (λ a b. a.link < b.link) spots.now → result ≡ count_by (λ spot. nat_lt spot.link link) spots.now }
-    ensures small { result < 2 ^ 63 }
-{
-    spots.partition_point(|spot| spot.link < link)
-}
-
-/// The links under one object, out of links that ascend by their objects.
-fn under(spots: &[Spot], place: usize) -> &[Spot]
-    requires { AscendByObject spots.now }
-    ensures { result.now ≡ filter (is_under place) spots.now }
-{
-    let (first, end) = bounds_of(spots, place);
-    &spots[first..end]
-}
-
-/// Where the links under an object begin and end.
-fn bounds_of(spots: &[Spot], place: usize) -> (usize, usize)
-    requires { AscendByObject spots.now }
-    ensures ordered { result.0 ≤ result.1 }
-    ensures within { result.1 ≤ length spots.now }
-    ensures between { slice_range spots.now result.0 result.1 ≡ filter (is_under place) spots.now }
-{
-    (first_of(spots, place), end_of(spots, place))
-}
-
-/// The place of the first link under an object, or where it would stand.
-fn first_of(spots: &[Spot], place: usize) -> usize
-    requires { AscendByObject spots.now }
-    ensures within { result ≤ length spots.now }
-    ensures parts { IsPartitionPoint (λ spot. is_lt (nat_cmp spot.of place) ≡ true) (λ spot. is_lt (nat_cmp spot.of place) ≡ false) spots.now result }
-{
-    spots.partition_point(|spot| spot.of < place)
-}
-
-/// The place behind the last link under an object.
-fn end_of(spots: &[Spot], place: usize) -> usize
-    requires { AscendByObject spots.now }
-    ensures within { result ≤ length spots.now }
-    ensures parts { IsPartitionPoint (λ spot. is_le (nat_cmp spot.of place) ≡ true) (λ spot. is_le (nat_cmp spot.of place) ≡ false) spots.now result }
-{
-    spots.partition_point(|spot| spot.of <= place)
 }

@@ -9,11 +9,11 @@ ghost use Rattle.file_items.specs.Small.{relocation_items, image_head, image_ent
 
 use crate::directory::new_entry;
 use crate::inode::new_inode;
-use crate::item_list::ItemList;
-use crate::records::{put_entry, put_inode_ref};
-use btr_keys::{Inode, InodeRef, Key, Stamp};
+use crate::names::key_of;
+use btr_keys::{Inode, InodeRef, Stamp};
 use castagnoli::name_hash;
 use fs_rows::Kind;
+use item_list::{ItemList, put_dir_entry, put_inode_ref};
 use outside::Memory;
 use std::alloc::Global;
 
@@ -47,16 +47,6 @@ fn made(now: u64, mode: u32, size: u64, nbytes: u64, flags: u64) -> Inode
     }
 }
 
-/// The key of an item.
-fn key_of(objectid: u64, kind: u8, offset: u64) -> Key
-    ensures { result ≡ make_key objectid kind offset }
-{
-    Key {
-        objectid,
-        kind,
-        offset,
-    }
-}
 
 /// Appends an inode.
 pub fn add_inode(items: &mut ItemList, ino: u64, inode: &Inode) -> Result<(), Memory>
@@ -131,7 +121,7 @@ fn add_image_entry(items: &mut ItemList, body: &mut Vec<u8>) -> Result<(), Memor
     ensures { OnOk result (items.new ≡ items.old ++ entry_items 256 image_entries) }
 {
     body.clear();
-    put_entry(body, &new_entry(key_of(257, 1, 0), Kind::File, IMAGE))?;
+    put_dir_entry(body, &new_entry(key_of(257, 1, 0), Kind::File, IMAGE))?;
     items.add(key_of(256, 84, name_hash(IMAGE) as u64), body)?;
     items.add(key_of(256, 96, 2), body)
 }

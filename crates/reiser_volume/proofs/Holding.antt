@@ -14,7 +14,7 @@ use Rattle.reiser_walk.specs.Bodies.{is_save_link}
 use Rattle.reiser_walk.specs.Items.{Item}
 use Rattle.reiser_walk.specs.Tree.{items_of as items_of_tree}
 use Rattle.reiser_files.specs.Bytes.{file_bytes, file_byte}
-use Rattle.reiser_files.proofs.Functions.{length_bytes}
+use Rattle.fs_rows.proofs.Functions.{length_bytes}
 use Rattle.reiser_objects.specs.declared.key.ObjectKey.{ObjectKey}
 use Rattle.reiser_objects.specs.declared.stat.ObjectStat.{ObjectStat}
 use Rattle.reiser_files.specs.Laws.{AreApart}

@@ -5,6 +5,7 @@ use Rattle.std.specs.Int.{bit_at}
 use Rattle.outside.specs.History.{Image}
 use Rattle.fs_rows.specs.Rows.{WholeRow}
 use Rattle.fs_rows.specs.declared.row.Kind.{Kind}
+use Rattle.reiser_super.specs.Superblock.{attrs_cleared_bit}
 use Rattle.reiser_walk.specs.Items.{Item}
 use Rattle.reiser_files.specs.Bytes.{file_bytes}
 use Rattle.reiser_files.proofs.Deciding.{named_decide}
@@ -32,10 +33,10 @@ bytes_from_blocks : (image other : Image) (items : List Item) → SameFileBlocks
 bytes_from_blocks image other items same key stat kind named stated known has =
     named_decide image other (items_of key items) stat.fields.size (λ k low some. same key stat kind k named stated known has low some)
 
-flag_same : (flags others : ℕ) (stat : ObjectStat) (b : ℕ) → bit_at others 0 ≡ bit_at flags 0 → flag flags stat b ≡ flag others stat b
+flag_same : (flags others : ℕ) (stat : ObjectStat) (b : ℕ) → bit_at others attrs_cleared_bit ≡ bit_at flags attrs_cleared_bit → flag flags stat b ≡ flag others stat b
 flag_same flags others stat b same = ap (λ (n : ℕ). (n == 1) && (not stat.old_form && (bit_at stat.fields.attrs b == 1))) (sym same)
 
-module _ (image other : Image) (flags others : ℕ) (items : List Item) (same : bit_at others 0 ≡ bit_at flags 0) (bytes : SameBytes image other items) where
+module _ (image other : Image) (flags others : ℕ) (items : List Item) (same : bit_at others attrs_cleared_bit ≡ bit_at flags attrs_cleared_bit) (bytes : SameBytes image other items) where
   fields_seen : (stat : ObjectStat) (row : WholeRow) → HasStat flags stat row → HasStat others stat row
   fields_seen stat row f = record {
     kind = f.kind;

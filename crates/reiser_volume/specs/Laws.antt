@@ -6,6 +6,7 @@ use Rattle.outside.specs.declared.refusal.VolumeRefusal.{VolumeRefusal}
 use Rattle.fs_rows.specs.Rows.{WholeRow}
 use Rattle.fs_rows.specs.declared.row.Kind.{Kind}
 use Rattle.object_files.specs.Laws.{SameUsed}
+use Rattle.reiser_super.specs.Superblock.{attrs_cleared_bit}
 use Rattle.reiser_walk.specs.Items.{Item}
 use Rattle.reiser_files.specs.Bytes.{named_block}
 use Rattle.reiser_objects.specs.declared.key.ObjectKey.{ObjectKey}
@@ -53,9 +54,9 @@ SameFileBlocks image other items =
     (key : ObjectKey) (stat : ObjectStat) (kind : Kind) (k : ℕ) → IsNamed items key → stat_of_object items key ≡ Some stat → kind_of_mode stat.fields.mode ≡ Some kind → has_bytes kind ≡ true
     → 4096 * k < stat.fields.size → named_block (items_of key items) k ≢ 0 → block_at other (named_block (items_of key items) k) ≡ block_at image (named_block (items_of key items) k)
 
--- All that rows read is the same of both: the superblock's flag 1, the items up to where they lie, and the files' blocks.
+-- All that rows read is the same of both: the superblock's flag for attributes, the items up to where they lie, and the files' blocks.
 pub record ReadsSame (image other : Image) (flags others : ℕ) (items moved : List Item) : Type 0 where
-  pub flagged : bit_at others 0 ≡ bit_at flags 0
+  pub flagged : bit_at others attrs_cleared_bit ≡ bit_at flags attrs_cleared_bit
   pub same : unplaced moved ≡ unplaced items
   pub blocks : SameFileBlocks image other items
 

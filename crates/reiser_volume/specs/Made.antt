@@ -18,7 +18,7 @@ use Rattle.reiser_objects.specs.Names.{IsNamed}
 use Rattle.reiser_volume.specs.declared.row.Known.{Known}
 use Rattle.reiser_volume.specs.declared.volume.Volume.{Volume}
 use Rattle.reiser_volume.specs.Opened.{IsOpened}
-use Rattle.reiser_volume.specs.Rows.{flag, major_of, minor_of, time_of}
+use Rattle.reiser_volume.specs.Rows.{flag, sync_bit, immutable_bit, append_bit, nodump_bit, noatime_bit, major_of, minor_of, time_of}
 use Rattle.reiser_volume.specs.Volume.{IsAccepted, volume_items, superblock}
 use Rattle.reiser_objects.specs.Nodes.{key_at}
 
@@ -33,11 +33,11 @@ row_by flags stat kind path least names bytes = record {
   atime = time_of stat.fields.atime;
   mtime = time_of stat.fields.mtime;
   ctime = time_of stat.fields.ctime;
-  sync = flag flags stat 3;
-  immutable = not (is_symlink kind) && flag flags stat 4;
-  append = not (is_symlink kind) && flag flags stat 5;
-  nodump = flag flags stat 6;
-  noatime = flag flags stat 7;
+  sync = flag flags stat sync_bit;
+  immutable = not (is_symlink kind) && flag flags stat immutable_bit;
+  append = not (is_symlink kind) && flag flags stat append_bit;
+  nodump = flag flags stat nodump_bit;
+  noatime = flag flags stat noatime_bit;
   major = if is_device kind then major_of stat.fields.rdev else 0;
   minor = if is_device kind then minor_of stat.fields.rdev else 0;
   least = least;

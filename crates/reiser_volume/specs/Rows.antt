@@ -3,6 +3,7 @@ use Rattle.std.specs.Prelude.{◌≡◌, ℕ, ◌+◌, ◌*◌, ◌/◌, ◌%◌
 use Rattle.std.specs.Int.{bit_at}
 use Rattle.std.specs.Ordering.{is_le}
 use Rattle.outside.specs.History.{Image}
+use Rattle.reiser_super.specs.Superblock.{attrs_cleared_bit}
 use Rattle.reiser_walk.specs.Items.{Item}
 use Rattle.reiser_files.specs.Bytes.{file_bytes}
 use Rattle.fs_rows.specs.Rows.{NameList, WholeRow, AscendsByPath, path_cmp, name_count}
@@ -32,9 +33,27 @@ major_of number = number / 256 % 4096
 abbrev pub minor_of : ℕ → ℕ
 minor_of number = number % 256 + 256 * (number / 2 ^ 20)
 
--- Bit b of the attributes, which count where the superblock's flag 1 is set and the stat data has version 1.
+-- The bits of the attributes of stat data, by the names of the Linux headers: REISERFS_SYNC_FL is 8, REISERFS_IMMUTABLE_FL
+-- 0x10, REISERFS_APPEND_FL 0x20, REISERFS_NODUMP_FL 0x40 and REISERFS_NOATIME_FL 0x80.
+abbrev pub sync_bit : ℕ
+sync_bit = 3
+
+abbrev pub immutable_bit : ℕ
+immutable_bit = 4
+
+abbrev pub append_bit : ℕ
+append_bit = 5
+
+abbrev pub nodump_bit : ℕ
+nodump_bit = 6
+
+abbrev pub noatime_bit : ℕ
+noatime_bit = 7
+
+-- Bit b of the attributes, which count where the superblock's flag reiserfs_attrs_cleared is set and the stat data has
+-- version 1.
 abbrev pub flag : ℕ → ObjectStat → ℕ → Bool
-flag flags stat b = (bit_at flags 0 == 1) && (not stat.old_form && (bit_at stat.fields.attrs b == 1))
+flag flags stat b = (bit_at flags attrs_cleared_bit == 1) && (not stat.old_form && (bit_at stat.fields.attrs b == 1))
 
 -- what a path's row has from the stat data of its object: all but path, least, names and bytes
 pub record HasStat (flags : ℕ) (stat : ObjectStat) (row : WholeRow) : Type 0 where
@@ -45,12 +64,12 @@ pub record HasStat (flags : ℕ) (stat : ObjectStat) (row : WholeRow) : Type 0 w
   pub atime : row.atime ≡ time_of stat.fields.atime
   pub mtime : row.mtime ≡ time_of stat.fields.mtime
   pub ctime : row.ctime ≡ time_of stat.fields.ctime
-  pub sync : row.sync ≡ flag flags stat 3
+  pub sync : row.sync ≡ flag flags stat sync_bit
   -- of a symlink these two mean nothing
-  pub immutable : row.immutable ≡ (not (is_symlink row.kind) && flag flags stat 4)
-  pub append : row.append ≡ (not (is_symlink row.kind) && flag flags stat 5)
-  pub nodump : row.nodump ≡ flag flags stat 6
-  pub noatime : row.noatime ≡ flag flags stat 7
+  pub immutable : row.immutable ≡ (not (is_symlink row.kind) && flag flags stat immutable_bit)
+  pub append : row.append ≡ (not (is_symlink row.kind) && flag flags stat append_bit)
+  pub nodump : row.nodump ≡ flag flags stat nodump_bit
+  pub noatime : row.noatime ≡ flag flags stat noatime_bit
   pub major : row.major ≡ (if is_device row.kind then major_of stat.fields.rdev else 0)
   pub minor : row.minor ≡ (if is_device row.kind then minor_of stat.fields.rdev else 0)
 

@@ -24,7 +24,7 @@ pub fn rows_are_one()
     ensures { RowsAreOne }
 {}
 
-/// The rows are decided by the superblock's flag 1, by the heads and bodies of the items, and by the blocks of named files
+/// The rows are decided by the superblock's flag for attributes, by the heads and bodies of the items, and by the blocks of named files
 /// below their sizes: not by where the leaves lie.
 pub fn items_decide_rows()
     ensures { ItemsDecideRows }

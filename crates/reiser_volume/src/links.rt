@@ -1,4 +1,4 @@
-ghost use Rattle.std.specs.Prelude.{◌≡◌, ◌<◌, length, slice_get, Some, Contains};
+ghost use Rattle.std.specs.Prelude.{◌≡◌, ◌<◌, ◌^◌, length, slice_get, Some, Contains};
 ghost use Rattle.indexmap.specs.IndexMap.{keys};
 ghost use Rattle.outside.specs.History.{Image};
 ghost use Rattle.reiser_objects.specs.declared.naming.Naming.{Naming as NamingOf};
@@ -21,7 +21,8 @@ pub struct Link<'a> {
 impl Volume {
     /// How many links the volume has: entries of named directories that are not of the root's private directory.
     pub fn link_count(&self) -> usize
-        ensures { result ≡ length (links_in self.now) }
+        ensures exact { result ≡ length (links_in self.now) }
+        ensures small { result < 2 ^ 63 }
     {
         self.links.len()
     }

@@ -8,7 +8,19 @@ ghost use Rattle.reiser_volume.specs.Rows.{flag, major_of, minor_of, time_of};
 use fs_rows::{Content, Kind, Name, Row, Spot, Time};
 use outside::Memory;
 use reiser_objects::ObjectStat;
+use reiser_super::ATTRS_CLEARED;
 use std::alloc::Global;
+
+/// Bits of the attributes of stat data. The names are those of the kernel: `REISERFS_SYNC_FL` is 8.
+const SYNC_BIT: u32 = 3;
+/// `REISERFS_IMMUTABLE_FL`, 0x10.
+const IMMUTABLE_BIT: u32 = 4;
+/// `REISERFS_APPEND_FL`, 0x20.
+const APPEND_BIT: u32 = 5;
+/// `REISERFS_NODUMP_FL`, 0x40.
+const NODUMP_BIT: u32 = 6;
+/// `REISERFS_NOATIME_FL`, 0x80.
+const NOATIME_BIT: u32 = 7;
 
 /// The stat data of an object, and its kind.
 #[derive(Clone, Copy)]
@@ -31,11 +43,11 @@ pub fn make_row(spot: Spot, flags: u32, known: &Known, content: Content) -> Row
         atime: time_of(fields.atime),
         mtime: time_of(fields.mtime),
         ctime: time_of(fields.ctime),
-        sync: flag(flags, &known.stat, 3),
-        immutable: !known.kind.is_symlink() && flag(flags, &known.stat, 4),
-        append: !known.kind.is_symlink() && flag(flags, &known.stat, 5),
-        nodump: flag(flags, &known.stat, 6),
-        noatime: flag(flags, &known.stat, 7),
+        sync: flag(flags, &known.stat, SYNC_BIT),
+        immutable: !known.kind.is_symlink() && flag(flags, &known.stat, IMMUTABLE_BIT),
+        append: !known.kind.is_symlink() && flag(flags, &known.stat, APPEND_BIT),
+        nodump: flag(flags, &known.stat, NODUMP_BIT),
+        noatime: flag(flags, &known.stat, NOATIME_BIT),
         major: major_of(known.kind, fields.rdev),
         minor: minor_of(known.kind, fields.rdev),
         least: spot.least,
@@ -56,12 +68,12 @@ fn time_of(sec: u32) -> Time
     }
 }
 
-/// Bit `b` of the attributes, which only count where the superblock's flag 1 is set and the stat data has version 1.
+/// Bit `b` of the attributes, which only count where the superblock says that they were cleared at first and the stat data has version 1.
 fn flag(flags: u32, stat: &ObjectStat, b: u32) -> bool
     requires { b < 16 }
     ensures { result ≡ flag flags stat.now b }
 {
-    flags & 1 == 1 && !stat.old_form && (stat.fields.attrs >> b) & 1 == 1
+    flags & ATTRS_CLEARED == ATTRS_CLEARED && !stat.old_form && (stat.fields.attrs >> b) & 1 == 1
 }
 
 /// The major number of a device.

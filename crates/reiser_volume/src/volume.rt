@@ -1,4 +1,4 @@
-ghost use Rattle.std.specs.Prelude.{◌≡◌, ◌<◌, length, map, slice_get, Some, Contains};
+ghost use Rattle.std.specs.Prelude.{◌≡◌, ◌<◌, ◌^◌, length, map, slice_get, Some, Contains};
 ghost use Rattle.std.specs.Option.{MatchOption};
 ghost use Rattle.indexmap.specs.IndexMap.{keys, get};
 ghost use Rattle.reiser_objects.specs.declared.key.ObjectKey.{ObjectKey as KeyOf};
@@ -43,7 +43,8 @@ impl Volume {
 
     /// How many objects the root reaches by names, itself among them.
     pub fn count(&self) -> usize
-        ensures { result ≡ length (keys self.now.named) }
+        ensures exact { result ≡ length (keys self.now.named) }
+        ensures small { result < 2 ^ 63 }
     {
         self.named.len()
     }

@@ -1,0 +1,139 @@
+-- The links of a volume by the places of their directories and objects.
+use Rattle.std.proofs.Common.{◌≡◌, ◌≢◌, ◌<◌, ◌≤◌, ℕ, zero, suc, ◌+◌, ◌==◌, Bool, true, false, cond, List, [], ◌∷◌, ◌++◌, length, filter, map, take, get_or, count_by, nat_lt, nat_eq, Some, None, Option, AllPairs, refl, sym, ap, subst, ◌∙◌, true≢false, if◌then◌else◌, append_assoc, ⊎_elim, arith}
+use Rattle.std.specs.Prelude.{slice_get}
+use Rattle.std.proofs.lemmas.Bool.{cases_lt}
+use Rattle.std.proofs.lemmas.Bool.Decides.{nat_tests}
+use Rattle.std.proofs.lemmas.List.{append-nil, map-append, length-take}
+use Rattle.std.proofs.lemmas.List.Elements.{filter-append}
+use Rattle.std.proofs.lemmas.Option.{slice_get_within, get_or_from_slice_get}
+use Rattle.indexmap.specs.IndexMap.{keys}
+use Rattle.item_list.specs.Places.{places_from}
+use Rattle.item_list.specs.Spots.{is_under}
+use Rattle.item_list.specs.declared.spot.Spot.{Spot}
+use Rattle.item_list.proofs.Joining.{take_push}
+use Rattle.item_list.proofs.Placing.{places_push, places_map, places_hold, places_before, places_rise, count_map, pairs_map}
+use Rattle.reiser_objects.specs.declared.key.ObjectKey.{ObjectKey}
+use Rattle.reiser_objects.specs.declared.naming.Naming.{Naming}
+use Rattle.reiser_objects.specs.Keys.{same_key}
+use Rattle.reiser_objects.proofs.Tables.{same_key-true, same_key-self}
+use Rattle.reiser_volume.specs.declared.volume.Volume.{Volume}
+use Rattle.file_items.specs.Known.{TellsPlaces, IsAt}
+use Rattle.file_items.specs.Names.{Entry, entry_behind, entries_behind, entries, names_of, names_in, next_index}
+
+pub unequal : (a b : ObjectKey) → (a ≡ b → ⊥) → same_key a b ≡ false
+unequal a b apart = by (same_key a b) refl
+  where
+    by : (c : Bool) → same_key a b ≡ c → same_key a b ≡ false
+    by true is = absurd (apart (same_key-true a b is))
+    by false is = is
+
+-- places are the same where their keys are
+pub same_places : (all : List ObjectKey) (i j : ℕ) (a b : ObjectKey) → AllPairs (λ (a b : ObjectKey). a ≢ b) all → slice_get all i ≡ Some a → slice_get all j ≡ Some b → (i == j) ≡ same_key a b
+same_places all i j a b once at_i at_j = ⊎_elim (λ less. below i j a b less at_i at_j) (λ more. ⊎_elim (λ less. above less) (λ more_too. level (omega (arith, more, more_too))) (cases_lt j i)) (cases_lt i j)
+  where
+    different : (i j : ℕ) (a b : ObjectKey) → i < j → slice_get all i ≡ Some a → slice_get all j ≡ Some b → a ≡ b → ⊥
+    different i j a b less at_i at_j same = once i j a less (slice_get_within all j b at_j) (get_or_from_slice_get all i a a at_i ∙ (same ∙ sym (get_or_from_slice_get all j a b at_j)))
+
+    lower : (i j : ℕ) → i < j → (i == j) ≡ false
+    lower i j less = grind (arith, nat_tests)
+
+    higher : (i j : ℕ) → j < i → (i == j) ≡ false
+    higher i j less = grind (arith, nat_tests)
+
+    equal : (i : ℕ) → (i == i) ≡ true
+    equal i = grind (arith, nat_tests)
+
+    some_same : (a b : ObjectKey) → Some a ≡ Some b → a ≡ b
+    some_same a b is = cc
+
+    below : (i j : ℕ) (a b : ObjectKey) → i < j → slice_get all i ≡ Some a → slice_get all j ≡ Some b → (i == j) ≡ same_key a b
+    below i j a b less at_i at_j = lower i j less ∙ sym (unequal a b (different i j a b less at_i at_j))
+
+    above : j < i → (i == j) ≡ same_key a b
+    above less = higher i j less ∙ sym (unequal a b (λ same. different j i b a less at_j at_i (sym same)))
+
+    level : i ≡ j → (i == j) ≡ same_key a b
+    level same =
+        let one : a ≡ b = some_same a b (sym at_i ∙ (ap (slice_get all) same ∙ at_j)) in
+        ap (λ (k : ℕ). i == k) (sym same) ∙ (equal i ∙ sym (ap (λ (k : ObjectKey). same_key a k) (sym one) ∙ same_key-self a))
+
+-- one link more under what it stands under
+pub spot_more : (volume : Volume) (key_of : Naming → ObjectKey) (links : List Naming) (spots new : List Spot) (n under : ℕ) (x : Naming) → AllPairs (λ (a b : ObjectKey). a ≢ b) (keys volume.named)
+    → TellsPlaces key_of volume (take n links) spots → slice_get links n ≡ Some x → slice_get (keys volume.named) under ≡ Some (key_of x) → new ≡ spots ++ record { of = under; number = n } ∷ []
+    → TellsPlaces key_of volume (take (n + 1) links) new
+spot_more volume key_of links spots new n under x once before there at new_is = λ place key here.
+    let s : Spot = record { of = under; number = n } in
+    let within = slice_get_within links n x there in
+    let more : take (n + 1) links ≡ take n links ++ x ∷ [] = ap (λ (k : ℕ). take k links) one ∙ (take_push n links x within ∙ ap (λ (m : Naming). take n links ++ m ∷ []) (get_or_from_slice_get links n x x there)) in
+    ap (λ (l : List Spot). map (λ (t : Spot). t.number) (filter (is_under place) l)) new_is
+    ∙ (ap (map (λ (t : Spot). t.number)) (filter-append (is_under place) spots (s ∷ []))
+    ∙ (map-append (λ (t : Spot). t.number) (filter (is_under place) spots) (filter (is_under place) (s ∷ []))
+    ∙ (ap (λ (l : List ℕ). l ++ map (λ (t : Spot). t.number) (filter (is_under place) (s ∷ []))) (before place key here)
+    ∙ (ap (λ (l : List ℕ). places_from (λ m. same_key (key_of m) key) 0 (take n links) ++ l) (own (under == place) (same_key (key_of x) key) (long within) (same_places (keys volume.named) under place (key_of x) key once at here))
+    ∙ (sym (places_push (λ m. same_key (key_of m) key) 0 (take n links) x) ∙ ap (places_from (λ m. same_key (key_of m) key) 0) (sym more))))))
+  where
+    one : n + 1 ≡ suc n
+    one = omega arith
+
+    long : n < length links → n ≡ 0 + length (take n links)
+    long within = let count = length-take n links in omega (arith, count, within)
+
+    own : (a b : Bool) → n ≡ 0 + length (take n links) → a ≡ b → map (λ (t : Spot). t.number) (cond a (record { of = under; number = n } ∷ []) []) ≡ (if b then (0 + length (take n links)) ∷ [] else [])
+    own true b count same = ap (λ (k : ℕ). k ∷ []) count ∙ ap (λ (c : Bool). if c then (0 + length (take n links)) ∷ [] else []) same
+    own false b count same = ap (λ (c : Bool). if c then (0 + length (take n links)) ∷ [] else []) same
+
+-- links as entries, with one more
+pub entries_push : (before ls : List Naming) (n : Naming) → entries_behind before (ls ++ n ∷ []) ≡ entries_behind before ls ++ entry_behind (before ++ ls) n ∷ []
+entries_push before [] n = ap (λ (l : List Naming). entry_behind l n ∷ []) (sym (append-nil before))
+entries_push before (x ∷ ls) n =
+    ap (λ (l : List Entry). entry_behind before x ∷ l) (entries_push (before ++ x ∷ []) ls n ∙ ap (λ (l : List Naming). entries_behind (before ++ x ∷ []) ls ++ entry_behind l n ∷ []) (append_assoc before (x ∷ []) ls))
+
+pub entries_links : (before ls : List Naming) → map (λ (e : Entry). e.link) (entries_behind before ls) ≡ ls
+entries_links before [] = refl
+entries_links before (x ∷ ls) = ap (λ (l : List Naming). x ∷ l) (entries_links (before ++ x ∷ []) ls)
+
+-- an entry is its link's, with the index that it has behind those before it
+pub record IsEntry (before ls : List Naming) (i : ℕ) (e : Entry) : Type 0 where
+  pub link : slice_get ls i ≡ Some e.link
+  pub is : e ≡ entry_behind (before ++ take i ls) e.link
+
+pub entry_at : (before ls : List Naming) (i : ℕ) (e : Entry) → slice_get (entries_behind before ls) i ≡ Some e → IsEntry before ls i e
+entry_at before [] i e there = let never : None ≡ Some e = there in absurd cc
+entry_at before (x ∷ ls) zero e there =
+    let same : entry_behind before x ≡ e = cc in
+    let link : x ≡ e.link = ap (λ (f : Entry). f.link) same in
+    record {
+      link = ap (λ (n : Naming). Some n) link;
+      is = sym same ∙ (ap (λ (l : List Naming). entry_behind l x) (sym (append-nil before)) ∙ ap (entry_behind (before ++ [])) link);
+    }
+entry_at before (x ∷ ls) (suc i) e there =
+    let later = entry_at (before ++ x ∷ []) ls i e there in
+    record { link = later.link; is = later.is ∙ ap (λ (l : List Naming). entry_behind l e.link) (append_assoc before (x ∷ []) (take i ls)) }
+
+map_twice : {A B C : Type 0} (f : B → C) (g : A → B) (xs : List A) → map (λ x. f (g x)) xs ≡ map f (map g xs)
+map_twice f g [] = refl
+map_twice {A} {B} {C} f g (x ∷ xs) = ap (λ (l : List C). f (g x) ∷ l) (map_twice f g xs)
+
+-- what the spots under an object tell of all entries
+pub entries_told : (links : List Naming) (key_of : Naming → ObjectKey) (key : ObjectKey) (spots : List Spot) → map (λ spot. spot.number) spots ≡ places_from (λ n. same_key (key_of n) key) 0 links
+    → map (λ spot. slice_get (entries links) spot.number) spots ≡ map (λ (e : Entry). Some e) (filter (λ e. same_key (key_of e.link) key) (entries links))
+entries_told links key_of key spots places =
+    map_twice (slice_get (entries links)) (λ (spot : Spot). spot.number) spots
+    ∙ (ap (map (slice_get (entries links))) (places ∙ (ap (places_from (λ n. same_key (key_of n) key) 0) (sym (entries_links [] links)) ∙ places_map (λ n. same_key (key_of n) key) (λ (e : Entry). e.link) 0 (entries links)))
+    ∙ places_hold (λ e. same_key (key_of e.link) key) 0 (entries links) (entries links) (λ k. let same : 0 + k ≡ k = omega arith in ap (slice_get (entries links)) same))
+
+-- the spots of a directory ascend
+pub spots_rise : (links : List Naming) (key : ObjectKey) (spots : List Spot) → map (λ spot. spot.number) spots ≡ places_from (λ n. same_key n.dir key) 0 links → AllPairs (λ (a b : Spot). a.number < b.number) spots
+spots_rise links key spots places = pairs_map (λ (spot : Spot). spot.number) spots (subst (λ (l : List ℕ). AllPairs (λ (a b : ℕ). a < b) l) (sym places) (places_rise (λ n. same_key n.dir key) 0 links))
+
+-- how many of them come before a link
+pub spots_before : (links : List Naming) (key : ObjectKey) (spots : List Spot) (m : ℕ) → map (λ spot. spot.number) spots ≡ places_from (λ n. same_key n.dir key) 0 links
+    → 2 + count_by (λ (spot : Spot). nat_lt spot.number m) spots ≡ next_index (take m links) key
+spots_before links key spots m places =
+    ap (λ (k : ℕ). 2 + k) (count_map (λ (k : ℕ). nat_lt k m) (λ (spot : Spot). spot.number) spots ∙ (ap (count_by (λ (k : ℕ). nat_lt k m)) places ∙ before))
+  where
+    zero_in : 0 + m ≡ m
+    zero_in = omega arith
+
+    before : count_by (λ (k : ℕ). nat_lt k m) (places_from (λ n. same_key n.dir key) 0 links) ≡ count_by (λ n. same_key n.dir key) (take m links)
+    before = ap (λ (j : ℕ). count_by (λ (k : ℕ). nat_lt k j) (places_from (λ n. same_key n.dir key) 0 links)) (sym zero_in) ∙ places_before (λ n. same_key n.dir key) 0 m links

@@ -1,0 +1,106 @@
+-- Pieces by the numbers that they stand under.
+use Rattle.std.proofs.Common.{◌≡◌, ◌<◌, ℕ, zero, suc, ◌+◌, ◌*◌, ◌==◌, Bool, true, false, cond, is_some, List, [], ◌∷◌, ◌++◌, length, filter, map, take, get_or, sum_by, Some, None, Option, refl, sym, ap, subst, ◌∙◌, ◌&&◌, arith}
+use Rattle.std.specs.Prelude.{slice_get}
+use Rattle.std.specs.Option.{option_map_or}
+use Rattle.std.proofs.lemmas.List.{map-append, append-nil}
+use Rattle.std.proofs.lemmas.List.Elements.{filter-append}
+use Rattle.std.proofs.lemmas.Option.{slice_get_within, get_or_from_slice_get}
+use Rattle.item_list.specs.Groups.{ascending}
+use Rattle.item_list.specs.Spots.{is_under}
+use Rattle.item_list.specs.declared.spot.Spot.{Spot}
+use Rattle.item_list.proofs.Joining.{take_push}
+use Rattle.item_list.proofs.Sorting.{ascending_filter, ascending_kept}
+use Rattle.item_list.proofs.Runs.{ascending_map}
+use Rattle.unit_plan.specs.declared.piece.Piece.{Piece}
+use Rattle.file_items.specs.Extents.{owner_inode, file_block, by_block, is_owned_by, pieces_of}
+use Rattle.file_items.specs.Orders.{Tells, AreOwners}
+
+map_twice : {A B C : Type 0} (f : B → C) (g : A → B) (xs : List A) → map (λ x. f (g x)) xs ≡ map f (map g xs)
+map_twice f g [] = refl
+map_twice {A} {B} {C} f g (x ∷ xs) = ap (λ (l : List C). f (g x) ∷ l) (map_twice f g xs)
+
+filter_map : {A B : Type 0} (p : B → Bool) (f : A → B) (xs : List A) → filter p (map f xs) ≡ map f (filter (λ x. p (f x)) xs)
+filter_map p f [] = refl
+filter_map {A} {B} p f (x ∷ xs) = by (filter_map p f xs) (p (f x))
+  where
+    by : filter p (map f xs) ≡ map f (filter (λ y. p (f y)) xs) → (b : Bool) → cond b (f x ∷ filter p (map f xs)) (filter p (map f xs)) ≡ map f (cond b (x ∷ filter (λ y. p (f y)) xs) (filter (λ y. p (f y)) xs))
+    by later true = ap (λ (l : List B). f x ∷ l) later
+    by later false = later
+
+pub filter_alike : {A : Type 0} (p q : A → Bool) (xs : List A) → ((x : A) → p x ≡ q x) → filter p xs ≡ filter q xs
+filter_alike p q [] same = refl
+filter_alike {A} p q (x ∷ xs) same = ap (λ (b : Bool). cond b (x ∷ filter p xs) (filter p xs)) (same x) ∙ ap (λ (l : List A). cond (q x) (x ∷ l) l) (filter_alike p q xs same)
+
+filter_twice : {A : Type 0} (p q : A → Bool) (xs : List A) → filter p (filter q xs) ≡ filter (λ x. q x && p x) xs
+filter_twice p q [] = refl
+filter_twice {A} p q (x ∷ xs) = by (filter_twice p q xs) (q x)
+  where
+    by : filter p (filter q xs) ≡ filter (λ y. q y && p y) xs → (b : Bool) → filter p (cond b (x ∷ filter q xs) (filter q xs)) ≡ cond (b && p x) (x ∷ filter (λ y. q y && p y) xs) (filter (λ y. q y && p y) xs)
+    by later true = ap (λ (l : List A). cond (p x) (x ∷ l) l) later
+    by later false = later
+
+module _ (pieces : List Piece) (number : Piece → ℕ) where
+  abbrev seen : Spot → ℕ × Option Piece
+  seen spot = (spot.of, slice_get pieces spot.number)
+
+  abbrev said : Piece → ℕ × Option Piece
+  said p = (number p, Some p)
+
+  -- what the spots tell without their numbers
+  pub tells_there : (spots : List Spot) (told : List Piece) → Tells pieces number spots told → map (λ spot. slice_get pieces spot.number) spots ≡ map (λ (p : Piece). Some p) told
+  tells_there spots told tells = map_twice (λ (e : ℕ × Option Piece). e.1) seen spots ∙ (ap (map (λ (e : ℕ × Option Piece). e.1)) tells ∙ sym (map_twice (λ (e : ℕ × Option Piece). e.1) said told))
+
+  pub tells_sorted : (spots sorted : List Spot) (told : List Piece) → Tells pieces number spots told → sorted ≡ ascending (λ spot. spot.of) spots → Tells pieces number sorted (ascending number told)
+  tells_sorted spots sorted told tells is =
+      ap (map seen) is ∙ (sym (ascending_map (λ (e : ℕ × Option Piece). e.0) seen spots) ∙ (ap (ascending (λ (e : ℕ × Option Piece). e.0)) tells ∙ ascending_map (λ (e : ℕ × Option Piece). e.0) said told))
+
+  pub tells_under : (n : ℕ) (spots : List Spot) (told : List Piece) → Tells pieces number spots told → Tells pieces number (filter (is_under n) spots) (filter (λ p. number p == n) told)
+  tells_under n spots told tells =
+      sym (filter_map (λ (e : ℕ × Option Piece). e.0 == n) seen spots) ∙ (ap (filter (λ (e : ℕ × Option Piece). e.0 == n)) tells ∙ filter_map (λ (e : ℕ × Option Piece). e.0 == n) said told)
+
+  -- one spot more, and one piece more
+  pub tells_push : (spots : List Spot) (told : List Piece) (i : ℕ) (p : Piece) → Tells pieces number spots told → slice_get pieces i ≡ Some p → Tells pieces number (spots ++ record { of = number p; number = i } ∷ []) (told ++ p ∷ [])
+  tells_push spots told i p tells there =
+      map-append seen spots (record { of = number p; number = i } ∷ [])
+      ∙ (ap (λ (l : List (ℕ × Option Piece)). l ++ (number p, slice_get pieces i) ∷ []) tells
+      ∙ (ap (λ (o : Option Piece). map said told ++ (number p, o) ∷ []) there ∙ sym (map-append said told (p ∷ []))))
+
+  part_more : (t : Piece → Bool) (i : ℕ) (p : Piece) → slice_get pieces i ≡ Some p → filter t (take (i + 1) pieces) ≡ filter t (take i pieces) ++ cond (t p) (p ∷ []) []
+  part_more t i p there =
+      ap (filter t) (ap (λ (k : ℕ). take k pieces) one ∙ (take_push i pieces p (slice_get_within pieces i p there) ∙ ap (λ (q : Piece). take i pieces ++ q ∷ []) (get_or_from_slice_get pieces i p p there)))
+      ∙ filter-append t (take i pieces) (p ∷ [])
+    where
+      one : i + 1 ≡ suc i
+      one = omega arith
+
+  pub tells_more : (t : Piece → Bool) (spots new : List Spot) (i under : ℕ) (p : Piece) → Tells pieces number spots (filter t (take i pieces)) → slice_get pieces i ≡ Some p → t p ≡ true → under ≡ number p → new ≡ spots ++ record { of = under; number = i } ∷ []
+      → Tells pieces number new (filter t (take (i + 1) pieces))
+  tells_more t spots new i under p tells there passes under_is new_is =
+      ap (map seen) (new_is ∙ ap (λ (k : ℕ). spots ++ record { of = k; number = i } ∷ []) under_is)
+      ∙ (tells_push spots (filter t (take i pieces)) i p tells there
+      ∙ ap (map said) (ap (λ (b : Bool). filter t (take i pieces) ++ cond b (p ∷ []) []) (sym passes) ∙ sym (part_more t i p there)))
+
+  pub tells_same : (t : Piece → Bool) (spots : List Spot) (i : ℕ) (p : Piece) → Tells pieces number spots (filter t (take i pieces)) → slice_get pieces i ≡ Some p → t p ≡ false → Tells pieces number spots (filter t (take (i + 1) pieces))
+  tells_same t spots i p tells there fails =
+      tells ∙ ap (map said) (sym (part_more t i p there ∙ (ap (λ (b : Bool). filter t (take i pieces) ++ cond b (p ∷ []) []) fails ∙ append-nil (filter t (take i pieces)))))
+
+-- the pieces of an inode among all by their blocks
+owned_test : (ino : ℕ) (p : Piece) → (is_some p.owner && (owner_inode p == ino)) ≡ is_owned_by ino p
+owned_test ino p = by p.owner
+  where
+    by : (o : Option (ℕ × ℕ)) → (is_some o && (option_map_or (λ x. x.0) o 0 == ino)) ≡ option_map_or (λ x. x.0 == ino) o false
+    by None = refl
+    by (Some x) = refl
+
+pub of_inode : (pieces : List Piece) (ino : ℕ) → filter (λ p. owner_inode p == ino) (ascending owner_inode (by_block pieces)) ≡ pieces_of pieces ino
+of_inode pieces ino =
+    ascending_filter owner_inode ino (by_block pieces)
+    ∙ (ascending_kept file_block (λ p. owner_inode p == ino) (filter (λ p. is_some p.owner) pieces)
+    ∙ ap (ascending file_block) (filter_twice (λ p. owner_inode p == ino) (λ p. is_some p.owner) pieces ∙ filter_alike (λ p. is_some p.owner && (owner_inode p == ino)) (is_owned_by ino) pieces (owned_test ino)))
+
+-- the spots of all owned pieces under their inodes
+pub owners_are : (pieces : List Piece) (spots sorted : List Spot) → Tells pieces owner_inode spots (by_block pieces) → sorted ≡ ascending (λ spot. spot.of) spots → AreOwners sorted pieces
+owners_are pieces spots sorted tells is = λ ino.
+    tells_there pieces owner_inode (filter (is_under ino) sorted) (filter (λ p. owner_inode p == ino) (ascending owner_inode (by_block pieces)))
+        (tells_under pieces owner_inode ino sorted (ascending owner_inode (by_block pieces)) (tells_sorted pieces owner_inode spots sorted (by_block pieces) tells is))
+    ∙ ap (map (λ (p : Piece). Some p)) (of_inode pieces ino)

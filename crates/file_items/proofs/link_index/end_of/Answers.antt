@@ -1,8 +1,0 @@
-use Rattle.std.proofs.Common.{is_le, rules}
-use Rattle.std.specs.Ordering.{nat_cmp}
-use Rattle.std.proofs.lemmas.List.Sorted.{IsPartitionPoint-from_clause}
-use Rattle.file_items.proofs.Under.{parted_le}
-use Rattle.file_items.proofs.link_index.end_of.Goals as goal
-
-pub returns-clause-parts : goal.returns-clause-parts
-returns-clause-parts c = IsPartitionPoint-from_clause (λ spot. is_le (nat_cmp spot.of c.args.place)) _ _ c.partition_point.ensures.partitioned (parted_le c.args.spots.now c.args.place c.requires) (λ a r q k. search rules)

@@ -1,0 +1,11 @@
+use Rattle.std.proofs.Common.{take}
+use Rattle.outside.specs.History.{Image}
+use Rattle.reiser_volume.specs.Opened.{IsOpened, links_in}
+use Rattle.file_items.specs.Known.{AreBelow, TellsPlaces}
+use Rattle.file_items.proofs.link_index.target_spots.Given as goal
+
+abbrev pub invariant-loop-n : goal.invariant-loop-n
+invariant-loop-n l = record {
+  below : AreBelow l.n l.spots.items;
+  places : (image : Image) → IsOpened l.volume image → TellsPlaces (λ n. n.target) l.volume (take l.n (links_in l.volume)) l.spots.items;
+}

@@ -1,5 +1,0 @@
-use Rattle.file_items.proofs.Numbered.{root_at}
-use Rattle.file_items.proofs.numbers.Numbers.is_root.Goals as goal
-
-pub returns : goal.returns
-returns c all key numbered there = root_at all c.args.self.root numbered c.args.place key there

@@ -1,0 +1,37 @@
+-- What was gathered of an object, in the order of the links.
+use Rattle.std.specs.Prelude.{◌≡◌, ℕ, ◌+◌, not, List, [], ◌∷◌, ◌++◌, map, filter, length, if◌then◌else◌}
+use Rattle.btr_keys.specs.Key.{make_key}
+use Rattle.btr_node.specs.Leaf.{Item}
+use Rattle.item_list.specs.Groups.{ascending}
+use Rattle.item_list.specs.Lists.{offset_of}
+use Rattle.reiser_names.specs.Tally.{capped}
+use Rattle.reiser_objects.specs.declared.key.ObjectKey.{ObjectKey}
+use Rattle.file_items.specs.Names.{Entry, Indexed, letters, ref_record, far_record, hash_record, index_record}
+use Rattle.file_items.specs.declared.names.Names.{Names}
+use Rattle.file_items.specs.declared.directory.Directory.{Directory}
+
+-- one more name
+pub record HasName (keys : List ObjectKey) (ino : ℕ) (e : Entry) (old new : Names) : Type 0 where
+  pub refs : new.refs ≡ old.refs ++ (if e.extended then [] else ref_record keys ino e ∷ [])
+  pub far : new.far ≡ old.far ++ (if e.extended then far_record keys e ∷ [] else [])
+
+-- these names
+pub record HasNames (keys : List ObjectKey) (ino : ℕ) (es : List Entry) (names : Names) : Type 0 where
+  pub refs : names.refs ≡ map (ref_record keys ino) (filter (λ e. not e.extended) es)
+  pub far : names.far ≡ map (far_record keys) (filter (λ e. e.extended) es)
+
+-- the records of extended names under their hashes, in the order of their directories' inodes
+abbrev pub AreExtrefs : ℕ → List Item → List Item → Type 0
+AreExtrefs ino far extrefs = extrefs ≡ map (λ i. (make_key ino 13 i.0.objectid, i.1)) (ascending offset_of far)
+
+-- one more entry of a directory
+pub record HasEntry (ino : ℕ) (e : Indexed) (old new : Directory) : Type 0 where
+  pub hashed : new.hashed ≡ old.hashed ++ hash_record ino e ∷ []
+  pub indexes : new.indexes ≡ old.indexes ++ index_record ino e ∷ []
+  pub letters_are : new.letters ≡ capped (old.letters + length e.1.name)
+
+-- these entries
+pub record HasEntries (ino : ℕ) (list : List Indexed) (directory : Directory) : Type 0 where
+  pub hashed : directory.hashed ≡ map (hash_record ino) list
+  pub indexes : directory.indexes ≡ map (index_record ino) list
+  pub letters_are : directory.letters ≡ capped (letters list)

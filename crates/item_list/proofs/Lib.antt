@@ -1,0 +1,8 @@
+pub mod Before
+pub mod Bodies
+pub mod Grouping
+pub mod Joining
+pub mod Middle
+pub mod Placing
+pub mod Runs
+pub mod Sorting

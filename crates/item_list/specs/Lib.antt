@@ -1,0 +1,5 @@
+pub mod Extents
+pub mod Groups
+pub mod Lists
+pub mod Places
+pub mod Spots

@@ -1,0 +1,20 @@
+//! Items of a Btrfs tree in memory, and what makes them: records that are appended to a body, records of one number that
+//! become one item, file extents, and numbers of things under numbers.
+#![tactic(auto)]
+
+mod extent;
+mod join;
+mod laws;
+mod list;
+mod records;
+mod spot;
+mod spots;
+mod under;
+
+pub use extent::{Extent, add_extent, add_inline};
+pub use laws::groups_are_groups;
+pub use list::ItemList;
+pub use records::{put_dir_entry, put_extref, put_inode_ref, short};
+pub use spot::Spot;
+pub use spots::Spots;
+pub use under::count_before;

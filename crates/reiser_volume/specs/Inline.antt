@@ -1,0 +1,26 @@
+-- Which files and symlinks have their bytes in the tree of the converted volume.
+use Rattle.std.specs.Prelude.{ℕ, nat_le, Bool, true, false, ◌&&◌, Option, Some, None, List}
+use Rattle.fs_rows.specs.declared.row.Kind.{Kind}
+use Rattle.fs_rows.specs.declared.row.Kind.TheVariants.{Directory, File, Symlink, Character, Block, Fifo, Socket, Subvolume}
+use Rattle.reiser_files.specs.declared.map.RunFrom.{RunFrom}
+use Rattle.reiser_files.specs.declared.map.RunFrom.TheVariants.{Disk, Tail}
+use Rattle.reiser_files.specs.Runs.{block_from}
+use Rattle.reiser_walk.specs.Items.{Item}
+
+-- a block of a file lies in direct items
+abbrev pub is_tail : Option RunFrom → Bool
+is_tail None = false
+is_tail (Some (Disk block)) = false
+is_tail (Some Tail) = true
+
+-- A file of at most 2048 bytes is inline where that is asked for and its only block lies in direct items: so it has at least
+-- one byte. A symlink always is.
+abbrev pub is_inline : Bool → List Item → ℕ → Kind → Bool
+is_inline inline items size File = inline && (nat_le size 2048 && is_tail (block_from items size 0))
+is_inline inline items size Symlink = true
+is_inline inline items size Directory = false
+is_inline inline items size Character = false
+is_inline inline items size Block = false
+is_inline inline items size Fifo = false
+is_inline inline items size Socket = false
+is_inline inline items size Subvolume = false
