@@ -1,6 +1,6 @@
 -- What one more extent makes of the bytes of a file.
 use Rattle.std.proofs.Common.{◌≡◌, ℕ, ◌+◌, ◌-◌, ◌<◌, ◌≤◌, min, Bool, true, false, cond, ltb, if◌then◌else◌, List, [], ◌∷◌, ◌++◌, length, get_or, take, Option, Some, None, refl, sym, ap, ◌∙◌, arith, inl, inr}
-use Rattle.std.proofs.lemmas.Bool.{cond-true, cond-false, lt-ltb, le-ltb, cases_lt}
+use Rattle.std.proofs.lemmas.Bool.{cases_lt}
 use Rattle.std.proofs.lemmas.Bool.Decides.{nat_tests}
 use Rattle.std.proofs.lemmas.List.{append-nil, length-take, get_or-take}
 use Rattle.outside.specs.History.{Image}
@@ -8,16 +8,12 @@ use Rattle.outside.specs.declared.refusal.BtrRefusal.{BtrRefusal}
 use Rattle.btr_keys.specs.FileExtent.{ContentValue, FileExtentValue, file_extent_of}
 use Rattle.btr_walk.specs.declared.map.MapRange.{MapRange}
 use Rattle.btr_walk.specs.Events.{TreeItem}
+use Rattle.fs_rows.proofs.FileMarks.{below_size, past_size}
+use Rattle.fs_rows.specs.Pieces.{Overlays}
 use Rattle.btr_files.specs.Extents.{extent_length, content_byte, covers, byte_from, file_byte, end_after, covered_after, refusals_at, extents_refusals, extents_end}
 use Rattle.btr_files.specs.Bytes.{content}
 use Rattle.btr_files.specs.Parts.{Appends}
 use Rattle.btr_files.proofs.ExtentLists.{none_right, end_grows, covers_at, past_end, before_start}
-
-pub below_size : (f : ℕ → ℕ) (n size : ℕ) → n < size → cond (ltb n size) (f n) 0 ≡ f n
-below_size f n size h = cond-true (ltb n size) (f n) 0 (lt-ltb n size h)
-
-pub past_size : (f : ℕ → ℕ) (n size : ℕ) → size ≤ n → cond (ltb n size) (f n) 0 ≡ 0
-past_size f n size h = cond-false (ltb n size) (f n) 0 (le-ltb n size h)
 
 same_below : (x y n size : ℕ) → x ≡ y → cond (ltb n size) x 0 ≡ cond (ltb n size) y 0
 same_below x y n size is = ap (λ (b : ℕ). cond (ltb n size) b 0) is
@@ -110,20 +106,11 @@ nothing_added at count part f g none over n =
     ]
 
 -- the first bytes of a list as a part
-pub first_part : (at count room : ℕ) (bytes : List ℕ) (f g : ℕ → ℕ) → count ≡ min (length bytes) room → Appends at (min (length bytes) room) (λ j. get_or bytes j 0) f g
-    → Appends at (length (take count bytes)) (λ j. get_or (take count bytes) j 0) f g
-first_part at count room bytes f g is over =
-    let long : length (take count bytes) ≡ min (length bytes) room = length-take count bytes ∙ omega (arith, is) in
+pub first_part : (at room : ℕ) (bytes : List ℕ) (f g : ℕ → ℕ) → Appends at (min (length bytes) room) (λ j. get_or bytes j 0) f g → Overlays at (take room bytes) f g
+first_part at room bytes f g over =
+    let long : length (take room bytes) ≡ min (length bytes) room = length-take room bytes ∙ omega arith in
     record {
+      inside = λ n low high. over.inside n low (omega (arith, high, long)) ∙ sym (get_or-take room bytes (n - at) 0 (omega (arith, low, high, long)));
       below = over.below;
-      inside = λ n low high. over.inside n low (omega (arith, high, long)) ∙ sym (get_or-take count bytes (n - at) 0 (omega (arith, low, high, long, is)));
-      before = over.before;
-      after = λ n h. over.after n (omega (arith, h, long));
+      above = λ n h. over.after n (omega (arith, h, long)) ∙ sym (over.before n (omega (arith, h)));
     }
-
-pub none_added : (at count : ℕ) (part f g : ℕ → ℕ) → count ≡ 0 → Appends at count part f g → (n : ℕ) → f n ≡ g n
-none_added at count part f g none over n =
-    elim (cases_lt n at) as (λ _. f n ≡ g n) [
-      | inl h ↦ sym (over.below n h)
-      | inr from ↦ over.before n from ∙ sym (over.after n (omega (arith, from, none)))
-    ]

@@ -1,11 +1,7 @@
 pub mod Unmapped
 pub mod ExtentLists
-pub mod Functions
-pub mod Messages
-pub mod Holding
 pub mod Contents
 pub mod Places
 pub mod Steps
-pub mod Copies
 pub mod Marks
 pub mod Adding

@@ -6,11 +6,9 @@
 
 mod blocks;
 mod extents;
-mod file;
 mod gathering;
 mod marker;
 mod marking;
-mod pieces;
 
 pub use extents::{Reach, check_extent, covered_by, extent_length, is_hole};
 pub use marker::ExtentMarker;

@@ -1,7 +1,7 @@
 ghost use Rattle.std.specs.Prelude.{◌<◌, ◌^◌};
 
 use crate::extents::Reach;
-use crate::file::FileBytes;
+use fs_rows::FileBytes;
 
 /// Makes the mark of a file, or gathers the target of a symlink, in one pass over the extents of its inode.
 ///

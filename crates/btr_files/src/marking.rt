@@ -5,17 +5,19 @@ ghost use Rattle.btr_keys.specs.FileExtent.{content_value, file_extent_of, file_
 ghost use Rattle.btr_walk.specs.declared.map.MapRange.{MapRange as RangeOf};
 ghost use Rattle.btr_walk.specs.Events.{TreeItem};
 ghost use Rattle.btr_walk.specs.Walks.{Blames, LieOn};
+ghost use Rattle.fs_rows.specs.Held.{HoldsBytes};
 ghost use Rattle.fs_rows.specs.Mark.{mark_of_bytes};
 ghost use Rattle.btr_files.specs.Blocks.{AreInBlocks};
 ghost use Rattle.btr_files.specs.Parts.{Appends};
 ghost use Rattle.btr_files.specs.Extents.{content_byte, covered_by, extents_of, extents_refusals, extent_refusals, extent_length, file_bytes, is_aligned, refusals_at};
-ghost use Rattle.btr_files.specs.States.{HoldsBytes, MarksExtents, ReachSoFar};
+ghost use Rattle.btr_files.specs.States.{MarksExtents, ReachSoFar};
 
 use crate::extents::{Reach, check_extent, covered_by, extent_length};
-use crate::file::FileBytes;
+use crate::gathering::put_content;
 use crate::marker::ExtentMarker;
 use btr_keys::{ExtentContent, FileExtent};
 use btr_walk::MapRange;
+use fs_rows::FileBytes;
 use outside::{BlockSource, BtrAnswer, BtrRefusal, BtrRule, Fault};
 
 /// The extent that a body is, from byte `offset` of a file on, or what is wrong with it behind those before.
@@ -79,7 +81,7 @@ impl ExtentMarker {
             (f g : ℕ → ℕ) → Appends offset (min (extent_length (content_value content.now)) (self.old.file.size - offset)) (content_byte image ranges.now (content_value content.now)) f g →
             4096 * self.old.file.next ≤ offset → HoldsBytes self.old.file f → OnOk result (HoldsBytes self.new.file g)) }
     {
-        self.file.put_content(src, ranges, offset, content)?;
+        put_content(&mut self.file, src, ranges, offset, content)?;
         self.reach = Reach {
             end: offset as u128 + extent_length(content) as u128,
             covered: self.reach.covered + covered_by(content) as u128,

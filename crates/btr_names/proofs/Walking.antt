@@ -7,14 +7,14 @@ use Rattle.outside.specs.declared.answer.BtrAnswer.TheVariants.{Refused, Fault, 
 use Rattle.btr_walk.specs.declared.map.MapRange.{MapRange}
 use Rattle.btr_walk.specs.declared.tree.Tree.{Tree}
 use Rattle.btr_walk.specs.Events.{TreeItem}
-use Rattle.btr_walk.specs.Walks.{Blames, wrong}
+use Rattle.btr_walk.specs.Walks.{IsAmong, wrong}
 use Rattle.btr_names.specs.Read.{BlamesTree}
 use Rattle.btr_names.specs.Roots.{is_root_of, has_root}
 
-pub blames_tree : (image : Image) (ranges : List MapRange) (tree : Tree) (e : BtrAnswer) → Blames (wrong image ranges tree) e → BlamesTree image ranges tree e
-blames_tree image ranges tree (Refused r) h = h
-blames_tree image ranges tree Fault h = tt
-blames_tree image ranges tree Memory h = tt
+pub among_blames : (image : Image) (ranges : List MapRange) (tree : Tree) (e : BtrAnswer) → IsAmong (wrong image ranges tree) e → BlamesTree image ranges tree e
+among_blames image ranges tree (Refused r) h = h
+among_blames image ranges tree Fault h = tt
+among_blames image ranges tree Memory h = tt
 
 pub or_none : (b : Bool) → (b || false) ≡ b
 or_none true = refl

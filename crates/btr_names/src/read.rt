@@ -7,7 +7,7 @@ ghost use Rattle.btr_names.specs.Read.{BlamesTree};
 ghost use Rattle.btr_names.specs.Table.{HasNoted};
 
 use crate::Names;
-use btr_walk::{MapRange, Tree, TreeWalker};
+use btr_walk::{MapRange, Tree, note_items};
 use outside::{BlockSource, BtrAnswer};
 use std::alloc::Global;
 
@@ -29,10 +29,7 @@ impl Names {
         ensures err { OverTold S.tells (S.blocks src.old) (λ image. IfErr result (BlamesTree image ranges.now tree)) }
     {
         let mut names = Names::new(alloc);
-        let mut walker = TreeWalker::new(alloc, tree)?;
-        while walker.advance(src, ranges)? {
-            names.note(alloc, &walker.key(), walker.body(), walker.leaf())?;
-        }
+        note_items(alloc, src, tree, ranges, &mut names)?;
         Ok(names)
     }
 }

@@ -10,6 +10,7 @@ use crate::entry::index_entry;
 use crate::inodes::{InodeFound, kind_of_mode};
 use crate::naming::{Naming, OffForm};
 use btr_keys::{DirEntry, Inode, Key};
+use btr_walk::Notes;
 use fs_rows::{Kind, Name};
 use indexmap::IndexMap;
 use outside::Memory;
@@ -39,23 +40,6 @@ impl Names {
             namings: Vec::new(alloc),
             off_form: Vec::new(alloc),
         }
-    }
-
-    /// Notes one more item of the tree, which stands in a leaf. Items of other kinds are passed over.
-    pub fn note(&mut self, alloc: Global, key: &Key, body: &[u8], leaf: u64) -> Result<(), Memory>
-        ensures { (items : List TreeItem) (i : TreeItem) → i.key ≡ key.now → i.body ≡ body.now → i.leaf ≡ leaf → HasNoted self.old items
-            → OnOk result (HasNoted self.new (items ++ i ∷ [])) }
-    {
-        note_inode(&mut self.inodes, key, body, leaf)?;
-        note_index(
-            &mut self.namings,
-            &mut self.off_form,
-            alloc,
-            key,
-            body,
-            leaf,
-        )?;
-        Ok(())
     }
 
     /// The inode item with this number, if there is one; of several the first.
@@ -92,6 +76,26 @@ impl Names {
             Some(kind) => kind.is_directory(),
             None => false,
         }
+    }
+}
+
+impl Notes for Names {
+    ghost use Rattle.btr_names.specs.Table.{HasNoted};
+
+    ghost holds = { λ begun names items. HasNoted names items };
+
+    /// Notes one more item of the tree. Items of other kinds are passed over.
+    fn note(&mut self, alloc: Global, key: &Key, body: &[u8], leaf: u64) -> Result<(), Memory> {
+        note_inode(&mut self.inodes, key, body, leaf)?;
+        note_index(
+            &mut self.namings,
+            &mut self.off_form,
+            alloc,
+            key,
+            body,
+            leaf,
+        )?;
+        Ok(())
     }
 }
 

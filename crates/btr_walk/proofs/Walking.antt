@@ -4,6 +4,8 @@ use Rattle.std.specs.List.{flat_map}
 use Rattle.std.proofs.lemmas.List.{append-nil, take_all, drop_more, get_or-map, length-map}
 use Rattle.std.proofs.lemmas.List.Elements.{Contains-append_left, Contains-append_right}
 use Rattle.outside.specs.History.{Image}
+use Rattle.outside.specs.declared.answer.BtrAnswer.{BtrAnswer}
+use Rattle.outside.specs.declared.answer.BtrAnswer.TheVariants.{Refused, Fault, Memory}
 use Rattle.outside.specs.declared.refusal.BtrRefusal.{BtrRefusal}
 use Rattle.outside.specs.declared.refusal.BtrRefusal.TheVariants.{BadBtrfs}
 use Rattle.outside.specs.declared.rule.BtrRule.{BtrRule}
@@ -21,7 +23,7 @@ use Rattle.btr_walk.specs.Node.{want, child_pointer, content_damages, node_damag
 use Rattle.btr_walk.specs.Events.{TreeItem, Event, node, item, in_leaf, leaf_events, unless_damaged, node_events, items_in_events, may_be_bare}
 use Rattle.btr_walk.specs.Tree.{at_address, is_above, order_damages}
 use Rattle.btr_walk.specs.Stack.{stack_events}
-use Rattle.btr_walk.specs.Walks.{met, wrong, found, below, met_faults, hand_events, behind, rest, last_after, Walks, IsAt, IsOver, Stands}
+use Rattle.btr_walk.specs.Walks.{met, wrong, found, below, met_faults, hand_events, behind, rest, last_after, Walks, IsAt, IsOver, Stands, Blames, IsAmong}
 use Rattle.btr_walk.proofs.Events.{items_in-append, node_faults-append, last_after-append, order_damages-append, none_both}
 use Rattle.btr_walk.proofs.Stacks.{stack_push, stack_children, turned}
 
@@ -252,3 +254,8 @@ item_taken w v image ranges given i k lt some is high tree pending address bytes
         item = λ other. ap (λ (n : ℕ). get_or (items_in v.bytes.items) n other) (sym here) ∙ (ap (λ (b : List ℕ). get_or (items_in b) w.at.next other) (ap (λ z. z.items) bytes) ∙ is other);
       },
     )
+
+pub blames_among : (refusals : List BtrRefusal) (e : BtrAnswer) → Blames refusals e → IsAmong refusals e
+blames_among refusals (Refused r) h = h
+blames_among refusals Fault h = tt
+blames_among refusals Memory h = tt

@@ -117,6 +117,12 @@ Blames refusals (Refused r) = Contains refusals r
 Blames refusals Fault = Unit {0}
 Blames refusals Memory = ⊥
 
+-- a refusal is one of these
+abbrev pub IsAmong : List BtrRefusal → BtrAnswer → Type 0
+IsAmong refusals (Refused r) = Contains refusals r
+IsAmong refusals Fault = Unit {0}
+IsAmong refusals Memory = Unit {0}
+
 -- a rule of the format is broken, or a call failed
 abbrev pub IsBad : BtrRefusal → Type 0
 IsBad (BadBtrfs address rule) = Unit {0}
@@ -127,6 +133,12 @@ abbrev pub IsBadOrFault : BtrAnswer → Type 0
 IsBadOrFault (Refused r) = IsBad r
 IsBadOrFault Fault = Unit {0}
 IsBadOrFault Memory = ⊥
+
+-- the same, or there was no memory
+abbrev pub IsBadOrFailed : BtrAnswer → Type 0
+IsBadOrFailed (Refused r) = IsBad r
+IsBadOrFailed Fault = Unit {0}
+IsBadOrFailed Memory = Unit {0}
 
 -- at most how many items may still come, whatever the source gives
 abbrev pub fuel : TreeWalker → ℕ

@@ -6,10 +6,12 @@ mod blocks;
 mod laws;
 mod map;
 mod node;
+mod note;
 mod tree;
 mod walker;
 
 pub use laws::{children_give_items, leaves_give_items, nodes_decide, subtrees_are_trees};
 pub use map::{MapRange, is_mapped, place};
+pub use note::{Notes, note_items};
 pub use tree::{Form, Pointer, Tree};
 pub use walker::{Place, TreeWalker};

@@ -27,13 +27,13 @@ not_zeros test bytes failed decides =
     let holds : IsTrue test = decides.1 ((bytes_decides bytes zeros).0 h) in
     contradiction test failed holds)
 
-skipped : (i : ℕ) (bytes : List ℕ) → bytes ≡ zeros → marked_block (i, bytes) ≡ []
+pub skipped : (i : ℕ) (bytes : List ℕ) → bytes ≡ zeros → marked_block (i, bytes) ≡ []
 skipped i bytes is = let h : is_zeros bytes ≡ true = (bytes_decides bytes zeros).1 is in rw h refl
 
 kept : (i : ℕ) (bytes : List ℕ) → is_zeros bytes ≡ false → marked_block (i, bytes) ≡ little_bytes 8 i ++ bytes
 kept i bytes h = rw h refl
 
-message_more : (blocks : List (ℕ × List ℕ)) (block : ℕ × List ℕ) → flat_map marked_block (blocks ++ block ∷ []) ≡ flat_map marked_block blocks ++ marked_block block
+pub message_more : (blocks : List (ℕ × List ℕ)) (block : ℕ × List ℕ) → flat_map marked_block (blocks ++ block ∷ []) ≡ flat_map marked_block blocks ++ marked_block block
 message_more blocks block =
     flat_map-append marked_block blocks (block ∷ []) ∙ ap (λ (z : List ℕ). flat_map marked_block blocks ++ z) (flat_map-cons marked_block block [] ∙ append-nil (marked_block block))
 

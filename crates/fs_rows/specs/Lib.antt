@@ -4,3 +4,6 @@ pub mod Mark
 pub mod Marker
 pub mod Rows
 pub mod Text
+pub mod Bytes
+pub mod Pieces
+pub mod Held

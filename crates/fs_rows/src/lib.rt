@@ -2,22 +2,28 @@
 //!
 //! A caller makes [`Row`]s with their [`Name`]s and [`Path`]s, collects them in [`Rows`], and prints these by
 //! [`write_rows`]. A reader of a volume finds of each object a [`Spot`] and a [`Content`], and what goes by its [`Kind`] is
-//! asked of that. A [`Marker`] takes the blocks of a file and gives its mark.
+//! asked of that. A [`Marker`] takes the blocks of a file and gives its mark; [`FileBytes`] takes its bytes and blocks in
+//! order.
 #![tactic(auto)]
 
 mod content;
+mod file;
+mod gathering;
 mod kind;
 mod line;
 mod mark;
 mod name;
+mod pieces;
 mod place;
 mod row;
 mod rows;
 mod write;
 
 pub use content::{Content, no_content};
+pub use file::FileBytes;
 pub use mark::Marker;
 pub use name::{Name, Path};
+pub use pieces::{block_count, copy_piece, count_below};
 pub use place::{Spot, copy_path};
 pub use row::{Kind, Row, Time};
 pub use rows::Rows;

@@ -25,7 +25,7 @@ use Rattle.reiser_files.specs.Bytes.{AlignedByKind, IsAligned, MayFollow, target
 use Rattle.reiser_files.specs.Laws.{IsOf, IsNoIndirect, AreInOrder, AreApart}
 use Rattle.reiser_files.specs.Pieces.{is_inside, are_inside}
 use Rattle.reiser_files.proofs.Deciding.{apart_follow}
-use Rattle.reiser_files.proofs.Functions.{zero_block}
+use Rattle.fs_rows.proofs.Functions.{zero_block}
 use Rattle.reiser_files.proofs.Ordered.{keys_order}
 use Rattle.reiser_files.proofs.Sorts.{target_is}
 use Rattle.reiser_objects.specs.declared.key.ObjectKey.{ObjectKey}

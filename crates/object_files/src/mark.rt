@@ -47,7 +47,7 @@ fn mark_item<S: BlockSource>(
     ensures kept { S.kept src.old src.new }
     ensures cause { HasCauseOf VolAnswer.Fault (S.faults src.old) (S.faults src.new) result }
     ensures answers { IfErr result IsReadAnswer }
-    ensures size { marker.new.size ≡ marker.old.size }
+    ensures size { marker.new.file.size ≡ marker.old.file.size }
     ensures given { OverTold S.tells (S.blocks src.old) (λ image. (given : List Item) (i : Item) → standing items.now ≡ Some i →
         MayFollow given i → are_inside i.head.kind i.body (S.size src.old) ≡ true → MarksFile marker.old image given →
         MatchResult result (λ _. MarksFile marker.new image (given ++ i ∷ [])) IsFault) }

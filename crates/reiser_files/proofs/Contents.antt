@@ -1,22 +1,18 @@
 -- What one more item makes of the contents of a file.
 use Rattle.std.proofs.Common.{◌≡◌, ◌≢◌, ℕ, ◌+◌, ◌-◌, ◌*◌, ◌/◌, ◌%◌, ◌<◌, ◌≤◌, min, Bool, true, false, cond, eqb, ltb, List, [], ◌∷◌, ◌++◌, length, get_or, take, Option, None, unwrap_or, All, refl, sym, ap, subst, ◌∙◌, arith, inl, inr}
 use Rattle.std.specs.Option.{option_or}
-use Rattle.std.proofs.lemmas.Bool.{cond-true, cond-false, lt-ltb, le-ltb, cases_lt}
+use Rattle.std.proofs.lemmas.Bool.{cases_lt}
 use Rattle.std.proofs.lemmas.List.{get_or-take, length-take}
 use Rattle.outside.specs.History.{Image}
 use Rattle.reiser_node.specs.declared.head.ItemKind.{ItemKind}
 use Rattle.reiser_node.specs.declared.head.ItemKind.TheVariants.{Indirect, Direct}
 use Rattle.reiser_items.specs.Pointers.{pointers}
 use Rattle.reiser_walk.specs.Items.{Item}
+use Rattle.fs_rows.specs.Pieces.{Overlays}
+use Rattle.fs_rows.proofs.FileMarks.{below_size, past_size}
 use Rattle.reiser_files.specs.Bytes.{first_byte, byte_count, direct_by_kind, direct_byte, pointer_by_kind, named_block, block_byte, file_byte, content, EndsBy, AlignedByKind, MayFollow}
-use Rattle.reiser_files.specs.Pieces.{Overlays, OverlaysNamed}
+use Rattle.reiser_files.specs.Pieces.{OverlaysNamed}
 use Rattle.reiser_files.proofs.Items.{covered, no_direct_past, no_direct_before, pointer_is, no_pointer_past, no_pointer_before, direct_none, named_none, direct_more, named_more, same_byte}
-
-pub below_size : (f : ℕ → ℕ) (n size : ℕ) → n < size → cond (ltb n size) (f n) 0 ≡ f n
-below_size f n size h = cond-true (ltb n size) (f n) 0 (lt-ltb n size h)
-
-pub past_size : (f : ℕ → ℕ) (n size : ℕ) → size ≤ n → cond (ltb n size) (f n) 0 ≡ 0
-past_size f n size h = cond-false (ltb n size) (f n) 0 (le-ltb n size h)
 
 same_below : (x y : ℕ) (n size : ℕ) → x ≡ y → cond (ltb n size) x 0 ≡ cond (ltb n size) y 0
 same_below x y n size is = ap (λ (b : ℕ). cond (ltb n size) b 0) is

@@ -5,9 +5,9 @@ use Rattle.std.proofs.lemmas.List.{get_or_at, get_or_append_left, length-append}
 use Rattle.std.proofs.lemmas.List.Elements.{All-from_get_or}
 use Rattle.outside.specs.History.{Image, block_at}
 use Rattle.reiser_walk.specs.Items.{Item}
+use Rattle.fs_rows.proofs.Functions.{same_bytes}
 use Rattle.reiser_files.specs.Bytes.{first_byte, end_of, direct_byte, named_block, block_byte, file_byte, file_bytes, EndsBy, Follows}
 use Rattle.reiser_files.specs.Laws.{SharesByte, AreApart, AreInOrder}
-use Rattle.reiser_files.proofs.Functions.{same_bytes}
 
 -- the bytes are the same where the named blocks are
 pub named_decide : (image other : Image) (items : List Item) (size : ℕ)

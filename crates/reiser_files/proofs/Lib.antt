@@ -1,13 +1,8 @@
-pub mod Functions
-pub mod Messages
-pub mod Gathering
 pub mod Items
 pub mod Contents
 pub mod Steps
-pub mod Copies
 pub mod Pointing
 pub mod Adding
-pub mod Marks
 pub mod Joining
 pub mod Placing
 pub mod Mapped

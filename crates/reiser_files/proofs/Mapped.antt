@@ -5,16 +5,15 @@ use Rattle.std.proofs.lemmas.Bool.{cases_lt, cases_eq, cond-false, ne_eqb}
 use Rattle.reiser_node.specs.declared.head.ItemKind.TheVariants.{Indirect, Direct}
 use Rattle.reiser_items.specs.Pointers.{pointers}
 use Rattle.reiser_walk.specs.Items.{Item}
+use Rattle.fs_rows.proofs.Joined.{joined_at, joined_below, joined_above, joined_on, joined_end}
 use Rattle.reiser_files.specs.declared.map.RunFrom.{RunFrom}
 use Rattle.reiser_files.specs.declared.map.RunFrom.TheVariants.{Disk}
 use Rattle.reiser_files.specs.declared.mapper.FileMapper.{FileMapper}
 use Rattle.reiser_files.specs.Bytes.{first_byte, byte_count, end_of, EndsBy, MayFollow}
-use Rattle.reiser_files.specs.Pieces.{joined_at}
 use Rattle.reiser_files.specs.Parts.{OverlaysTail, OverlaysDisks}
 use Rattle.reiser_files.specs.Runs.{block_from, disk_or_hole}
 use Rattle.reiser_files.specs.States.{HoldsRuns, MapsFile}
 use Rattle.reiser_files.proofs.Joining.{runs_same}
-use Rattle.reiser_files.proofs.Steps.{joined_below, joined_above, joined_on, joined_end}
 use Rattle.reiser_files.proofs.Adding.{all_before, all_last, on_ok, on_ok_both}
 use Rattle.reiser_files.proofs.Contents.{count_direct, count_indirect}
 use Rattle.reiser_files.proofs.Placing.{empty_from, direct_tails, indirect_disks}

@@ -12,14 +12,15 @@ use Rattle.reiser_node.specs.declared.head.ItemKind.TheVariants.{Stat, Indirect,
 use Rattle.reiser_items.specs.Pointers.{pointers}
 use Rattle.reiser_items.proofs.Lists.{pointers_length}
 use Rattle.reiser_walk.specs.Items.{Item}
+use Rattle.fs_rows.proofs.Functions.{bytes_are, byte_at, length_bytes, same_block, zero_block}
+use Rattle.fs_rows.proofs.FileMarks.{below_size, past_size}
 use Rattle.reiser_files.specs.declared.map.RunFrom.{RunFrom}
 use Rattle.reiser_files.specs.declared.map.RunFrom.TheVariants.{Disk, Tail}
 use Rattle.reiser_files.specs.Bytes.{first_byte, byte_count, direct_by_kind, direct_byte, pointer_by_kind, named_block, block_byte, file_byte, content, direct_content, bytes_by, file_block, tail_block, file_bytes, target_bytes, IsAligned, AlignedByKind}
 use Rattle.reiser_files.specs.Runs.{holds_by_kind, is_held, disk_or_hole, block_from}
 use Rattle.reiser_files.specs.Laws.{SharesByte, AreApart, up_to_size, held_from, IsNoIndirect, IsNamed}
-use Rattle.reiser_files.proofs.Functions.{bytes_are, byte_at, length_bytes, same_block, zero_block}
 use Rattle.reiser_files.proofs.Items.{uncovered, pointer_is, no_pointer_before}
-use Rattle.reiser_files.proofs.Contents.{below_size, past_size, count_direct, count_indirect}
+use Rattle.reiser_files.proofs.Contents.{count_direct, count_indirect}
 use Rattle.reiser_files.proofs.Placing.{from_below, from_past}
 
 -- a direct item that holds a byte of the block

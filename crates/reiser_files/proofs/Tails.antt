@@ -6,11 +6,12 @@ use Rattle.std.proofs.lemmas.List.{get_or-take, length-take}
 use Rattle.reiser_node.specs.declared.head.ItemKind.{ItemKind}
 use Rattle.reiser_node.specs.declared.head.ItemKind.TheVariants.{Stat, Indirect, Direct, Directory}
 use Rattle.reiser_walk.specs.Items.{Item}
+use Rattle.fs_rows.specs.Pieces.{Overlays}
+use Rattle.fs_rows.proofs.Functions.{same_block}
+use Rattle.fs_rows.proofs.FileMarks.{below_size, past_size}
 use Rattle.reiser_files.specs.Bytes.{first_byte, byte_count, direct_by_kind, direct_byte, direct_content, tail_block, EndsBy, MayFollow}
-use Rattle.reiser_files.specs.Pieces.{Overlays}
-use Rattle.reiser_files.proofs.Functions.{same_block}
 use Rattle.reiser_files.proofs.Items.{covered, no_direct_past, no_direct_before, direct_none, direct_more, same_direct}
-use Rattle.reiser_files.proofs.Contents.{below_size, past_size, count_direct}
+use Rattle.reiser_files.proofs.Contents.{count_direct}
 
 abbrev held_byte : List Item → ℕ → ℕ
 held_byte items n = unwrap_or (direct_byte items n) 0

@@ -1,9 +1,9 @@
 -- The bytes of an object of a ReiserFS volume: a look-up for each byte in the list of its items. As in Linux's
 -- fs/reiserfs, a direct item holds bytes, an indirect item names the blocks that hold them, and what neither has is 0.
-use Rattle.std.specs.Prelude.{◌≡◌, ◌≢◌, ◌≤◌, ℕ, ◌+◌, ◌-◌, ◌*◌, ◌/◌, ◌%◌, ◌==◌, nat_le, nat_lt, Bool, ◌&&◌, List, [], ◌∷◌, length, map, take, slice_index, Option, Some, None, unwrap_or, if◌then◌else◌, All}
-use Rattle.std.specs.List.{range_with_len}
+use Rattle.std.specs.Prelude.{◌≡◌, ◌≢◌, ◌≤◌, ℕ, ◌+◌, ◌-◌, ◌*◌, ◌/◌, ◌%◌, ◌==◌, nat_le, nat_lt, Bool, ◌&&◌, List, [], ◌∷◌, length, take, slice_index, Option, Some, None, unwrap_or, if◌then◌else◌, All}
 use Rattle.std.specs.Option.{option_or}
 use Rattle.outside.specs.History.{Image, block_at}
+pub use Rattle.fs_rows.specs.Bytes.{bytes_by, block_by}
 use Rattle.reiser_node.specs.declared.head.ItemKind.{ItemKind}
 use Rattle.reiser_node.specs.declared.head.ItemKind.TheVariants.{Stat, Indirect, Direct, Directory}
 use Rattle.reiser_items.specs.Pointers.{pointers}
@@ -61,10 +61,6 @@ block_byte image block n = if block == 0 then 0 else slice_index (block_at image
 abbrev pub file_byte : Image → List Item → ℕ → ℕ
 file_byte image items n = unwrap_or (direct_byte items n) (block_byte image (named_block items (n / 4096)) (n % 4096))
 
--- n bytes of a function, from byte `at` on
-unfoldable pub bytes_by : ℕ → (ℕ → ℕ) → ℕ → List ℕ
-bytes_by n f at = map (λ j. f (at + j)) (range_with_len 0 n)
-
 -- the bytes of a file of a size
 abbrev pub file_bytes : Image → List Item → ℕ → List ℕ
 file_bytes image items size = bytes_by size (file_byte image items) 0
@@ -72,10 +68,6 @@ file_bytes image items size = bytes_by size (file_byte image items) 0
 -- the same as a function, 0 from the size on
 abbrev pub content : Image → List Item → ℕ → ℕ → ℕ
 content image items size n = if nat_lt n size then file_byte image items n else 0
-
--- file block k of a function
-abbrev pub block_by : (ℕ → ℕ) → ℕ → List ℕ
-block_by f k = bytes_by 4096 f (4096 * k)
 
 -- File block k: its bytes below the size, and then zeros.
 abbrev pub file_block : Image → List Item → ℕ → ℕ → List ℕ

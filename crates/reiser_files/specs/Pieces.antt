@@ -1,24 +1,11 @@
 -- Parts of a file as functions from the number of a byte.
-use Rattle.std.specs.Prelude.{◌≡◌, ◌≤◌, ◌<◌, ℕ, ◌+◌, ◌-◌, ◌*◌, ◌/◌, ◌%◌, ◌==◌, nat_lt, Bool, true, ◌||◌, List, length, slice_index, if◌then◌else◌}
+use Rattle.std.specs.Prelude.{◌≡◌, ◌≤◌, ◌<◌, ℕ, ◌+◌, ◌-◌, ◌*◌, ◌/◌, ◌%◌, ◌==◌, nat_lt, Bool, true, ◌||◌, List, length, slice_index}
 use Rattle.std.specs.List.{list_all}
 use Rattle.reiser_node.specs.declared.head.ItemKind.{ItemKind}
 use Rattle.reiser_node.specs.declared.head.ItemKind.TheVariants.{Stat, Indirect, Direct, Directory}
 use Rattle.outside.specs.History.{Image}
 use Rattle.reiser_items.specs.Pointers.{pointers}
 use Rattle.reiser_files.specs.Bytes.{block_byte}
-
--- bytes from byte `at` of a file on lie over what was there
-pub record Overlays (at : ℕ) (bytes : List ℕ) (f g : ℕ → ℕ) : Type 0 where
-  pub inside : (n : ℕ) → at ≤ n → n < at + length bytes → g n ≡ slice_index bytes (n - at)
-  pub below : (n : ℕ) → n < at → g n ≡ f n
-  pub above : (n : ℕ) → at + length bytes ≤ n → g n ≡ f n
-
--- a block stands in place of file block k, up to the size
-pub record ReplacesBlock (size k : ℕ) (bytes : List ℕ) (f g : ℕ → ℕ) : Type 0 where
-  pub inside : (j : ℕ) → j < 4096 → 4096 * k + j < size → g (4096 * k + j) ≡ slice_index bytes j
-  pub past : (j : ℕ) → j < 4096 → size ≤ 4096 * k + j → g (4096 * k + j) ≡ 0
-  pub below : (n : ℕ) → n < 4096 * k → g n ≡ f n
-  pub above : (n : ℕ) → 4096 * k + 4096 ≤ n → g n ≡ f n
 
 -- The blocks that the pointers of a body name from file block `first` on stand in place of zeros, up to the size.
 pub record OverlaysNamed (image : Image) (size first : ℕ) (body : List ℕ) (f g : ℕ → ℕ) : Type 0 where
@@ -28,10 +15,6 @@ pub record OverlaysNamed (image : Image) (size first : ℕ) (body : List ℕ) (f
   pub empty : (n : ℕ) → 4096 * first ≤ n → n < 4096 * (first + length body / 4) → f n ≡ 0
   pub below : (n : ℕ) → n < 4096 * first → g n ≡ f n
   pub above : (n : ℕ) → 4096 * (first + length body / 4) ≤ n → g n ≡ f n
-
--- g below a place, and f from there on
-abbrev pub joined_at : {T : Type 0} → ℕ → (ℕ → T) → (ℕ → T) → ℕ → T
-joined_at at g f n = if nat_lt n at then g n else f n
 
 -- a block lies below n; 0 names none
 abbrev pub is_inside : ℕ → ℕ → Bool

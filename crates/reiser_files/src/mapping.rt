@@ -7,8 +7,9 @@ ghost use Rattle.reiser_files.specs.States.{HoldsRuns, MapsFile};
 ghost use Rattle.reiser_files.specs.declared.map.RunFrom.{RunFrom};
 
 use crate::map::extend;
-use crate::pieces::{block_count, count_below, first_byte, pointer};
+use crate::pieces::{first_byte, pointer};
 use crate::{FileMap, FileMapper, RunFrom};
+use fs_rows::{block_count, count_below};
 use outside::Memory;
 use reiser_node::{ItemHead, ItemKind};
 use std::alloc::Global;

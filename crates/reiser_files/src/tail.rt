@@ -1,9 +1,10 @@
 // What direct items hold of a file.
-ghost use Rattle.std.specs.Prelude.{◌≡◌, ◌++◌, ◌∷◌, ◌≤◌, ◌*◌, ◌<◌, ◌^◌, List, [], length};
+ghost use Rattle.std.specs.Prelude.{◌≡◌, ◌++◌, ◌∷◌, ◌≤◌, ◌*◌, ◌<◌, ◌^◌, List, []};
 ghost use Rattle.reiser_walk.specs.Items.{Item};
 ghost use Rattle.reiser_files.specs.Bytes.{tail_block, target_bytes, MayFollow};
 
-use crate::pieces::{copy_piece, count_below, first_byte};
+use crate::pieces::first_byte;
+use fs_rows::{copy_piece, count_below};
 use reiser_node::{ItemHead, ItemKind};
 use vol_block::Block;
 

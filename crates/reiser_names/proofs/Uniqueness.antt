@@ -10,6 +10,7 @@ use Rattle.std.proofs.lemmas.List.Kept.{AllPairs-filter}
 use Rattle.std.proofs.lemmas.List.Sums.{length-filter}
 use Rattle.std.proofs.lemmas.Map.Made.{IsDistinct-from_AllPairs, is_member-Decides, is_member-filter, length-from_same_keys}
 use Rattle.castagnoli.specs.Castagnoli.{extref_hash}
+use Rattle.path_list.proofs.FirstPlaces.{both_ways}
 use Rattle.reiser_walk.specs.Items.{Item}
 use Rattle.reiser_objects.specs.declared.key.ObjectKey.{ObjectKey}
 use Rattle.reiser_objects.specs.declared.naming.Naming.{Naming}
@@ -24,15 +25,8 @@ use Rattle.reiser_names.specs.Names.{inode_of, extended, extended_crowd_of}
 pub same_decides : (a b : ObjectKey) → Decides (same_key a b) (a ≡ b)
 same_decides a b = (same_key-true a b, λ e. ap (same_key a) (sym e) ∙ same_key-self a)
 
--- tests that say the same are the same
-pub both : (a b : Bool) → (a ≡ true → b ≡ true) → (b ≡ true → a ≡ true) → a ≡ b
-both true true there back = refl
-both false false there back = refl
-both true false there back = sym (there refl)
-both false true there back = back refl
-
 pub flips : (a b : ObjectKey) → same_key a b ≡ same_key b a
-flips a b = both (same_key a b) (same_key b a) (λ h. (same_decides b a).1 (sym (same_key-true a b h))) (λ h. (same_decides a b).1 (sym (same_key-true b a h)))
+flips a b = both_ways (same_key a b) (same_key b a) (λ h. (same_decides b a).1 (sym (same_key-true a b h))) (λ h. (same_decides a b).1 (sym (same_key-true b a h)))
 
 pub same_laws : IsEquivalence same_key
 same_laws = record { refl = same_key-self; symm = flips; congr = λ x y z h. ap (λ (k : ObjectKey). same_key k z) (same_key-true x y h) }
@@ -61,7 +55,7 @@ pub links_found : (items : List Item) (ns : List Naming) (has : Keys) → ns ≡
 links_found items ns has ns_is exact = record { has = has; exact = exact; are_visible = ap (filter (λ n. has n.dir)) ns_is; are_links = filter_both (λ n. has n.dir) is_followed ns }
 
 same_test : (items : List Item) (f g : Keys) → TellsNamed items f → TellsNamed items g → f ≡ g
-same_test items f g a b = λ j key. both (f key) (g key) (λ h. (b key).1 ((a key).0 h)) (λ h. (a key).1 ((b key).0 h)) j
+same_test items f g a b = λ j key. both_ways (f key) (g key) (λ h. (b key).1 ((a key).0 h)) (λ h. (a key).1 ((b key).0 h)) j
 
 module _ (items : List Item) (visible links also_visible also_links : List Naming) (a : AreLinks items visible links) (b : AreLinks items also_visible also_links) where
   pub visible_one : visible ≡ also_visible
@@ -75,7 +69,7 @@ module _ (items : List Item) (keys also : List ObjectKey) (a : AreNamedKeys item
   same_member key =
       let first = is_member-Decides same_decides keys key in
       let second = is_member-Decides same_decides also key in
-      both (is_member same_key keys key) (is_member same_key also key) (λ h. second.1 ((b.exact key).1 ((a.exact key).0 (first.0 h)))) (λ h. first.1 ((a.exact key).1 ((b.exact key).0 (second.0 h))))
+      both_ways (is_member same_key keys key) (is_member same_key also key) (λ h. second.1 ((b.exact key).1 ((a.exact key).0 (first.0 h)))) (λ h. first.1 ((a.exact key).1 ((b.exact key).0 (second.0 h))))
 
   kept : (p : ObjectKey → Bool) (ks : List ObjectKey) (key : ObjectKey) → is_member same_key (filter p ks) key ≡ (is_member same_key ks key && p key)
   kept p ks key = is_member-filter same_laws p key (λ x h. ap p (same_key-true key x h)) ks

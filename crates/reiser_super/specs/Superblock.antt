@@ -29,3 +29,8 @@ mount_state bytes = field 2 bytes 50
 -- not 0 where the checker has found damage
 abbrev pub checker_state : List ℕ → ℕ
 checker_state bytes = field 2 bytes 62
+
+-- The bit of the flags that says that the attributes of all stat data were cleared at first, and so mean something:
+-- reiserfs_attrs_cleared, 1, of the Linux headers.
+abbrev pub attrs_cleared_bit : ℕ
+attrs_cleared_bit = 0

@@ -7,6 +7,10 @@ use vol_block::{Block, BlockNo, has_magic, has_reiser_magic, u16_at, u32_at};
 /// The most blocks of a volume that is converted: 2 TiB.
 const MAX_BLOCKS: u64 = 1 << 29;
 
+/// The flag of the superblock that says that the attributes of all stat data were cleared at first, and so mean something:
+/// `reiserfs_attrs_cleared` of the Linux headers.
+pub const ATTRS_CLEARED: u32 = 1;
+
 const OUT_OF_BOUNDS: VolumeRefusal = VolumeRefusal::Damaged {
     block: 16,
     rule: Rule::SuperField,
@@ -27,7 +31,7 @@ pub struct Super {
     pub journal_first: BlockNo,
     /// The length of the log in blocks. The journal's header is the block behind it.
     pub journal_size: u64,
-    /// The flags; 1 says that stat items carry attributes.
+    /// The flags; [`ATTRS_CLEARED`] says that stat items carry attributes.
     pub flags: u32,
     /// The volume's UUID, as it stands on the device.
     pub uuid: [u8; 16],

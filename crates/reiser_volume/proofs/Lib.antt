@@ -3,6 +3,7 @@ pub mod Filing
 pub mod Holding
 pub mod Leading
 pub mod Mapping
+pub mod Numbered
 pub mod OneRows
 pub mod Owners
 pub mod Placing

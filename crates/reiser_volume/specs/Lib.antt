@@ -1,8 +1,10 @@
 pub mod Answers
 pub mod Bounds
 pub mod Front
+pub mod Inline
 pub mod Laws
 pub mod Made
+pub mod Numbers
 pub mod Opened
 pub mod Owners
 pub mod Rows

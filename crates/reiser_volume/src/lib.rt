@@ -10,6 +10,7 @@ mod front;
 mod gather;
 mod laws;
 mod links;
+mod numbers;
 mod open;
 mod row;
 mod rows;
@@ -22,6 +23,7 @@ pub use laws::{
     refusals_break_rules, rows_are_one, used_blocks_decide,
 };
 pub use links::Link;
+pub use numbers::Numbers;
 pub use volume::Volume;
 
 #[cfg(test)]

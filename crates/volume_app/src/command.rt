@@ -17,7 +17,7 @@ pub enum Command<'a> {
 }
 
 /// Reads the words, without the program's name: a command and a path that is not empty and does not begin with `-`, or
-/// `--help` or `--version` alone. Anything else asks for nothing.
+/// `--help` or `--version` alone. None where they are anything else.
 pub fn read_words(words: &[String]) -> Option<Command<'_>>
     ensures { option_map seen result ≡ command (map string_bytes words.now) }
 {

@@ -11,7 +11,7 @@ use outside::{Answer, Fault, Sink};
 pub enum Ending {
     /// The command was done and its text printed.
     Done,
-    /// The words ask for nothing.
+    /// The words are no command: the usage line is printed to the error sink, and nothing is opened.
     Usage,
     /// The command was not done.
     Failed(Answer),

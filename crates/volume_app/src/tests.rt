@@ -71,7 +71,7 @@ fn ends(
 
 const USAGE: &str = "usage: reiserconv COMMAND [OPTIONS] PATH\n";
 
-/// The words ask for nothing.
+/// The words are no command.
 fn is_usage(rt: &(impl Abort + AllocGlobal), words: &[&str]) -> Result<(), Fail> {
     let mut disk = MemDisk::new(rt.alloc(), 0)?;
     ends(rt, words, &mut disk, 2, "", USAGE)

@@ -17,8 +17,8 @@ use vol_block::Ids;
 /// Does what the words ask for, and answers the status of the program.
 ///
 /// `words` are those behind the program's name, `ids` and `now` (seconds since 1970) go into what is written. The
-/// status is 0 where the command was done and its text printed, 1 where the volume is refused, 2 where the words ask
-/// for nothing, 3 where a call of the device failed, 4 where there was no memory, and 5 where the text could not be
+/// status is 0 where the command was done and its text printed, 1 where the volume is refused, 2 where the words are
+/// no command, 3 where a call of the device failed, 4 where there was no memory, and 5 where the text could not be
 /// printed. Every other status than 0 has its line on the error sink; a failed write there changes nothing.
 pub fn run<D: Disk, O: Sink, E: Sink>(
     alloc: Global,

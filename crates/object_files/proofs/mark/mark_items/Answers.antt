@@ -73,4 +73,4 @@ returns-clause-mark g c = λ tells image is all are reads.
     let told = c.loop-marker.invariant.told tells image is all are reads in
     let over = rw c.if-branch.false at (c.in_ok-advance.ensures.comes tells image same told.0 all told.1) in
     c.finish.ensures image told.0 told.2
-    ∙ (ap (λ (xs : List Item). mark_of_bytes (file_bytes image xs c.loop-marker.marker.size)) over ∙ ap (λ (n : ℕ). mark_of_bytes (file_bytes image all n)) c.loop-marker.invariant.size)
+    ∙ (ap (λ (xs : List Item). mark_of_bytes (file_bytes image xs c.loop-marker.marker.file.size)) over ∙ ap (λ (n : ℕ). mark_of_bytes (file_bytes image all n)) c.loop-marker.invariant.size)

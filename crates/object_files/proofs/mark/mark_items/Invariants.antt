@@ -10,7 +10,7 @@ abbrev pub invariant-loop-marker : goal.invariant-loop-marker
 invariant-loop-marker g l = record {
   kept : g.S.BlockSource.kept l.fn.src l.src;
   same : g.S.BlockSource.faults l.src ≡ g.S.BlockSource.faults l.fn.src;
-  size : l.marker.size ≡ l.size;
+  size : l.marker.file.size ≡ l.size;
   told : IsTrue g.S.BlockSource.tells → (image : Image) → g.S.BlockSource.blocks l.fn.src ≡ image → (all : List Item) → AreFileItems (g.S.BlockSource.size l.fn.src) all → Reads l.fn.items l.leaves image [] all
       → (given : List Item) × Reads l.items l.leaves image given all × MarksFile l.marker image given;
 }

@@ -2,8 +2,8 @@ use Rattle.std.proofs.Common.{◌≡◌, ◌-◌, ◌∙◌, ℕ, List, [], ◌�
 use Rattle.std.proofs.lemmas.List.{take_min}
 use Rattle.reiser_node.specs.declared.head.ItemHead.{ItemHead}
 use Rattle.reiser_node.specs.declared.head.ItemKind.TheVariants.{Stat, Indirect, Directory}
+use Rattle.fs_rows.specs.Pieces.{Overlays}
 use Rattle.reiser_files.specs.Bytes.{direct_content}
-use Rattle.reiser_files.specs.Pieces.{Overlays}
 use Rattle.reiser_files.proofs.Tails.{tail_overlays, other_tail, none_by_kind}
 use Rattle.reiser_files.proofs.tail.put_tail.Goals as goal
 

@@ -1,10 +1,10 @@
 use Rattle.std.proofs.Common.{◌+◌, ◌-◌, ◌*◌, ◌≤◌, ◌++◌, ◌∷◌, [], ℕ, min, sym, ap, subst, ◌∙◌, arith}
 use Rattle.btr_keys.specs.FileExtent.{FileExtentValue, file_extent_of, file_extent_value}
+use Rattle.fs_rows.specs.Held.{HoldsBytes}
 use Rattle.btr_files.specs.declared.extents.Reach.{Reach}
 use Rattle.btr_files.specs.Bytes.{content}
 use Rattle.btr_files.specs.Extents.{extent_length, content_byte, extents_end}
 use Rattle.btr_files.specs.Parts.{Appends}
-use Rattle.btr_files.specs.States.{HoldsBytes}
 use Rattle.btr_files.proofs.Adding.{extent_refused, reach_more, begins_behind, is_straight}
 use Rattle.btr_files.proofs.Contents.{extent_appends}
 use Rattle.btr_files.proofs.marker.ExtentMarker.add_extent.Goals as goal

@@ -1,7 +1,6 @@
 use Rattle.std.proofs.Common.{◌≡◌, ◌-◌, ◌+◌, ◌*◌, ◌/◌, ◌∙◌, ◌<◌, ℕ, min, length, refl, sym, ap, arith}
-use Rattle.reiser_files.specs.Pieces.{joined_at}
+use Rattle.fs_rows.proofs.Joined.{joined_at, joined_start}
 use Rattle.reiser_files.proofs.Joining.{runs_same}
-use Rattle.reiser_files.proofs.Steps.{joined_start}
 use Rattle.reiser_files.proofs.Mapped.{others_stay, hole_stays, disk_there, disks_end}
 use Rattle.reiser_files.proofs.mapper.FileMapper.put_pointers.Goals as goal
 

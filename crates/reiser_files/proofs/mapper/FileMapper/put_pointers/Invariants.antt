@@ -1,6 +1,6 @@
 use Rattle.std.proofs.Common.{◌≡◌, ◌≤◌, ◌+◌, ◌/◌, ℕ, Option, length}
+use Rattle.fs_rows.proofs.Joined.{joined_at}
 use Rattle.reiser_files.specs.declared.map.RunFrom.{RunFrom}
-use Rattle.reiser_files.specs.Pieces.{joined_at}
 use Rattle.reiser_files.specs.Parts.{OverlaysDisks}
 use Rattle.reiser_files.specs.States.{HoldsRuns}
 use Rattle.reiser_files.proofs.mapper.FileMapper.put_pointers.Given as goal

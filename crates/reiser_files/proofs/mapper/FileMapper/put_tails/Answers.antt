@@ -1,7 +1,6 @@
 use Rattle.std.proofs.Common.{◌≡◌, ◌+◌, ◌*◌, ◌/◌, ◌∙◌, ◌≤◌, refl, arith}
-use Rattle.reiser_files.specs.Pieces.{joined_at}
+use Rattle.fs_rows.proofs.Joined.{joined_at, joined_start, joined_end, joined_below}
 use Rattle.reiser_files.proofs.Joining.{runs_same}
-use Rattle.reiser_files.proofs.Steps.{joined_start, joined_end, joined_below}
 use Rattle.reiser_files.proofs.Mapped.{others_stay}
 use Rattle.reiser_files.proofs.mapper.FileMapper.put_tails.Goals as goal
 

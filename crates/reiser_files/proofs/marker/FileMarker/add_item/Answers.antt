@@ -1,13 +1,18 @@
 use Rattle.std.proofs.Common.{◌≡◌, ◌-◌, ◌/◌, ◌∙◌, ℕ, refl, sym, ap, subst, ◌⊎◌}
+use Rattle.fs_rows.specs.declared.file.FileBytes.{FileBytes}
 use Rattle.reiser_node.specs.declared.head.ItemHead.{ItemHead}
 use Rattle.reiser_node.specs.declared.head.ItemKind.TheVariants.{Stat, Directory}
+use Rattle.reiser_files.specs.declared.marker.FileMarker.{FileMarker}
 use Rattle.reiser_files.proofs.Adding.{marks_empty, marks_direct, marks_indirect, no_bytes}
 use Rattle.reiser_files.proofs.marker.FileMarker.add_item.Goals as goal
 
+abbrev of_bytes : FileBytes → FileMarker
+of_bytes b = record { file = b }
+
 pub returns-in-Direct-clause-given : goal.returns-in-Direct-clause-given
 returns-in-Direct-clause-given g c = λ tells image is given i head body may marks.
-    marks_direct c.args.self.now c.put_bytes.new.self image given i c.first_byte.result c.args.body.now (ap (λ (h : ItemHead). h.kind) head ∙ c.in-Direct.is)
-    (c.first_byte.ensures ∙ sym (ap (λ (h : ItemHead). h.offset - 1) head)) body c.put_bytes.ensures.size c.put_bytes.ensures.next c.put_bytes.ensures.none c.put_bytes.ensures.bytes may marks
+    marks_direct c.args.self.now (record { file = c.put_bytes.new.self }) image given i c.first_byte.result c.args.body.now (ap (λ (h : ItemHead). h.kind) head ∙ c.in-Direct.is)
+    (c.first_byte.ensures ∙ sym (ap (λ (h : ItemHead). h.offset - 1) head)) body c.put_bytes.ensures.size c.put_bytes.ensures.near (λ none. ap of_bytes (c.put_bytes.ensures.none none)) c.put_bytes.ensures.bytes may marks
 
 pub returns-in-Indirect-clause-given : goal.returns-in-Indirect-clause-given
 returns-in-Indirect-clause-given g c = λ tells image is given i head body may marks.

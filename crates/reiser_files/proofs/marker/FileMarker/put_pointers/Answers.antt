@@ -1,9 +1,11 @@
 use Rattle.std.proofs.Common.{◌≡◌, ◌-◌, ◌+◌, ◌*◌, ◌/◌, ◌∙◌, ◌<◌, ℕ, min, length, refl, sym, ap, subst, arith}
-use Rattle.reiser_files.specs.Pieces.{ReplacesBlock, joined_at}
+use Rattle.std.specs.Int.{div_ceil}
 use Rattle.outside.specs.History.{block_at}
-use Rattle.reiser_files.proofs.Gathering.{held_same}
+use Rattle.fs_rows.specs.Pieces.{ReplacesBlock}
+use Rattle.fs_rows.proofs.Holding.{held_same}
+use Rattle.fs_rows.proofs.Joined.{joined_at, joined_start}
 use Rattle.reiser_files.proofs.Pointing.{pointer_inside}
-use Rattle.reiser_files.proofs.Steps.{joined_start, hole_passed, block_replaces, pointers_end}
+use Rattle.reiser_files.proofs.Steps.{hole_passed, block_replaces, pointers_end}
 use Rattle.reiser_files.proofs.marker.FileMarker.put_pointers.Goals as goal
 
 pub put_pointer-requires-clause-inside : goal.put_pointer-requires-clause-inside
@@ -13,7 +15,7 @@ put_pointer-requires-clause-inside g c = λ some.
     omega (arith, low, c.pointer.ensures, g.met.S.BlockSource.kept_size c.args.src.now c.loop-j.src c.loop-j.invariant.kept)
 
 pub put_pointer-requires-clause-fits : goal.put_pointer-requires-clause-fits
-put_pointer-requires-clause-fits g c = omega (arith, c.loop-j-test.true, c.count_below-j-end.ensures, c.block_count.ensures.bytes, c.block_count.ensures.bound)
+put_pointer-requires-clause-fits g c = omega (arith, c.loop-j.invariant.size, c.loop-j-test.true, c.count_below-j-end.ensures, c.block_count.ensures.bytes, c.size.ensures)
 
 pub loop-j-init : goal.loop-j-init
 loop-j-init g c = record {
@@ -23,7 +25,7 @@ loop-j-init g c = record {
   next = λ h. omega (arith, h);
   none = λ h. refl;
   bytes = λ tells image is f g' over low held.
-      held_same c.args.self.now f (joined_at (4096 * (c.args.first + 0)) g' f) (joined_start (4096 * (c.args.first + 0)) g' f (λ n h. over.below n (omega (arith, h)))) held;
+      held_same c.args.self.now.file f (joined_at (4096 * (c.args.first + 0)) g' f) (joined_start (4096 * (c.args.first + 0)) g' f (λ n h. over.below n (omega (arith, h)))) held;
 }
 
 pub loop-j-preserved : goal.loop-j-preserved
@@ -39,10 +41,10 @@ loop-j-preserved g c =
       bytes = λ tells image is f g' over low held.
           let same = g.met.S.BlockSource.kept_blocks c.args.src.now c.loop-j.src tells before.kept ∙ is in
           c.in_ok-put_pointer.ensures.bytes tells image same (joined_at (4096 * (c.args.first + c.loop-j.j)) g' f) (joined_at (4096 * (c.args.first + (c.loop-j.j + 1))) g' f)
-          (λ none. hole_passed image c.args.self.now.size c.args.first c.args.body.now f g' c.loop-j.j over within (sym c.pointer.ensures ∙ none))
+          (λ none. hole_passed image c.args.self.now.file.size c.args.first c.args.body.now f g' c.loop-j.j over within (sym c.pointer.ensures ∙ none))
           (λ some.
           let replaces =
-          block_replaces image c.args.self.now.size c.args.first c.args.body.now f g' c.loop-j.j c.pointer.result over within (sym c.pointer.ensures) some in
+          block_replaces image c.args.self.now.file.size c.args.first c.args.body.now f g' c.loop-j.j c.pointer.result over within (sym c.pointer.ensures) some in
           subst (λ (size : ℕ). ReplacesBlock size (c.args.first + c.loop-j.j) (block_at image c.pointer.result) (joined_at (4096 * (c.args.first + c.loop-j.j)) g' f) (joined_at (4096 * (c.args.first + (c.loop-j.j + 1))) g' f)) (sym before.size) replaces)
           (before.next low) (before.bytes tells image is f g' over low held);
     }
@@ -50,5 +52,5 @@ loop-j-preserved g c =
 pub returns-clause-bytes : goal.returns-clause-bytes
 returns-clause-bytes g c = λ tells image is f g' over low held.
     let count : c.loop-j.j ≡ c.count_below-j-end.result = omega (arith, c.loop-j-test.false, c.loop-j.auto.j-end) in
-    held_same c.loop-j.self _ g' (pointers_end image c.args.self.now.size c.args.first c.loop-j.j c.args.body.now f g' over (count ∙ (c.count_below-j-end.ensures ∙ ap (λ (d : ℕ). min (length c.args.body.now / 4) (d - c.args.first)) c.block_count.ensures.exact)))
+    held_same c.loop-j.self.file _ g' (pointers_end image c.args.self.now.file.size c.args.first c.loop-j.j c.args.body.now f g' over (count ∙ (c.count_below-j-end.ensures ∙ ap (λ (d : ℕ). min (length c.args.body.now / 4) (d - c.args.first)) (c.block_count.ensures.exact ∙ ap (λ (s : ℕ). div_ceil s 4096) c.size.ensures))))
     (c.loop-j.invariant.bytes tells image is f g' over low held)

@@ -9,5 +9,5 @@ returns-clause-numbered c = λ image opened. record {
   has_root =
       let there : Contains (keys c.args.volume.now.named) root = (opened.are_keys.exact root).1 (0, refl) in
       grind (arith, c.index_of.ensures, c.unwrap_or.ensures, there);
-  small = omega (arith, c.count-count.ensures.count, c.count-count.ensures.small);
+  small = omega (arith, c.count-count.ensures.exact, c.count-count.ensures.small);
 }
