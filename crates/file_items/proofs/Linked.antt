@@ -1,24 +1,34 @@
 -- The links of a volume by the places of their directories and objects.
-use Rattle.std.proofs.Common.{◌≡◌, ◌≢◌, ◌<◌, ◌≤◌, ℕ, zero, suc, ◌+◌, ◌==◌, Bool, true, false, cond, List, [], ◌∷◌, ◌++◌, length, filter, map, take, get_or, count_by, nat_lt, nat_eq, Some, None, Option, AllPairs, refl, sym, ap, subst, ◌∙◌, true≢false, if◌then◌else◌, append_assoc, ⊎_elim, arith}
+use Rattle.std.proofs.Common.{◌≡◌, ◌≢◌, ◌<◌, ◌≤◌, ℕ, zero, suc, ◌+◌, ◌==◌, ◌&&◌, Bool, true, false, cond, List, [], ◌∷◌, ◌++◌, length, filter, map, take, get_or, count_by, nat_lt, nat_eq, Some, None, Option, AllPairs, refl, sym, ap, subst, ◌∙◌, true≢false, if◌then◌else◌, append_assoc, ⊎_elim, arith}
 use Rattle.std.specs.Prelude.{slice_get}
+use Rattle.std.specs.List.{All, AllByRecursion}
 use Rattle.std.proofs.lemmas.Bool.{cases_lt}
 use Rattle.std.proofs.lemmas.Bool.Decides.{nat_tests}
 use Rattle.std.proofs.lemmas.List.{append-nil, map-append, length-take}
-use Rattle.std.proofs.lemmas.List.Elements.{filter-append}
-use Rattle.std.proofs.lemmas.Option.{slice_get_within, get_or_from_slice_get}
-use Rattle.indexmap.specs.IndexMap.{keys}
+use Rattle.std.proofs.lemmas.List.Elements.{filter-append, All-push, All-from_recursion}
+use Rattle.std.proofs.lemmas.Option.{slice_get_within, get_or_from_slice_get, slice_get-get_or}
+use Rattle.indexmap.specs.IndexMap.{IndexMap, keys}
+use Rattle.outside.specs.History.{Image}
+use Rattle.item_list.specs.Groups.{ascending}
 use Rattle.item_list.specs.Places.{places_from}
 use Rattle.item_list.specs.Spots.{is_under}
 use Rattle.item_list.specs.declared.spot.Spot.{Spot}
 use Rattle.item_list.proofs.Joining.{take_push}
 use Rattle.item_list.proofs.Placing.{places_push, places_map, places_hold, places_before, places_rise, count_map, pairs_map}
+use Rattle.item_list.proofs.Sorting.{ascending_filter, ascending_all}
+use Rattle.reiser_names.specs.Names.{reference_size}
+use Rattle.reiser_names.specs.Tally.{tally, capped}
+use Rattle.reiser_names.proofs.Sums.{weight_push}
 use Rattle.reiser_objects.specs.declared.key.ObjectKey.{ObjectKey}
 use Rattle.reiser_objects.specs.declared.naming.Naming.{Naming}
 use Rattle.reiser_objects.specs.Keys.{same_key}
-use Rattle.reiser_objects.proofs.Tables.{same_key-true, same_key-self}
+use Rattle.reiser_objects.proofs.Tables.{same_key-true, same_key-self, and_left, and_right}
 use Rattle.reiser_volume.specs.declared.volume.Volume.{Volume}
-use Rattle.file_items.specs.Known.{TellsPlaces, IsAt}
+use Rattle.reiser_volume.specs.Opened.{IsOpened, links_in}
+use Rattle.file_items.specs.Spots.{AreBelow, TellsPlaces, IsAt}
 use Rattle.file_items.specs.Names.{Entry, entry_behind, entries_behind, entries, names_of, names_in, next_index}
+use Rattle.file_items.specs.Sizes.{same_names, AreSizes}
+use Rattle.file_items.specs.declared.link_index.NamesIn.{NamesIn}
 
 pub unequal : (a b : ObjectKey) → (a ≡ b → ⊥) → same_key a b ≡ false
 unequal a b apart = by (same_key a b) refl
@@ -137,3 +147,89 @@ spots_before links key spots m places =
 
     before : count_by (λ (k : ℕ). nat_lt k m) (places_from (λ n. same_key n.dir key) 0 links) ≡ count_by (λ n. same_key n.dir key) (take m links)
     before = ap (λ (j : ℕ). count_by (λ (k : ℕ). nat_lt k j) (places_from (λ n. same_key n.dir key) 0 links)) (sym zero_in) ∙ places_before (λ n. same_key n.dir key) 0 m links
+
+pub no_naming : Naming
+no_naming = record { leaf = 0; dir = record { dir = 0; object = 0 }; target = record { dir = 0; object = 0 }; name = [] }
+
+pub link_there : (links : List Naming) (n : ℕ) → n < length links → slice_get links n ≡ Some (get_or links n no_naming)
+link_there links n within = slice_get-get_or links n no_naming within
+
+-- one link more of an opened volume
+pub spot_step : (volume : Volume) (image : Image) (key_of : Naming → ObjectKey) (spots new : List Spot) (n under : ℕ) → IsOpened volume image → n < length (links_in volume)
+    → ((x : Naming) → slice_get (links_in volume) n ≡ Some x → slice_get (keys volume.named) under ≡ Some (key_of x))
+    → TellsPlaces key_of volume (take n (links_in volume)) spots → new ≡ spots ++ record { of = under; number = n } ∷ [] → TellsPlaces key_of volume (take (n + 1) (links_in volume)) new
+spot_step volume image key_of spots new n under opened within ends before new_is =
+    let there = link_there (links_in volume) n within in
+    spot_more volume key_of (links_in volume) spots new n under (get_or (links_in volume) n no_naming) opened.are_keys.once before there (ends (get_or (links_in volume) n no_naming) there) new_is
+
+pub below_step : (spots new : List Spot) (n under : ℕ) → AreBelow n spots → new ≡ spots ++ record { of = under; number = n } ∷ [] → AreBelow (n + 1) new
+below_step spots new n under below new_is =
+    subst (AreBelow (n + 1)) (sym new_is) (All-push (λ (s : Spot). s.number < n + 1) spots (record { of = under; number = n }) (λ k d h. let less = below k d h in omega (arith, less)) (omega arith))
+
+-- the links in order
+pub places_sorted : (volume : Volume) (key_of : Naming → ObjectKey) (links : List Naming) (spots sorted : List Spot) → TellsPlaces key_of volume links spots → sorted ≡ ascending (λ spot. spot.of) spots → TellsPlaces key_of volume links sorted
+places_sorted volume key_of links spots sorted tells is = λ place key at.
+    ap (map (λ (s : Spot). s.number)) (ap (filter (is_under place)) is ∙ ascending_filter (λ (s : Spot). s.of) place spots) ∙ tells place key at
+
+pub below_sorted : (n : ℕ) (spots sorted : List Spot) → AreBelow n spots → sorted ≡ ascending (λ spot. spot.of) spots → AreBelow n sorted
+below_sorted n spots sorted below is =
+    subst (AreBelow n) (sym is) (All-from_recursion (λ (s : Spot). s.number < n) (ascending (λ s. s.of) spots) (ascending_all (λ (s : Spot). s.of) (λ s. s.number < n) spots (places_to (λ (s : Spot). s.number < n) spots below)))
+  where
+    places_to : (P : Spot → Type 0) (xs : List Spot) → All P xs → AllByRecursion P xs
+    places_to P [] all = tt
+    places_to P (x ∷ xs) all = (all 0 x (omega arith), places_to P xs (λ k d h. all (suc k) d (omega (arith, h))))
+
+-- what a link takes of an inode ref
+module _ {S : Type 0} (all : List ObjectKey) (once : AllPairs (λ (a b : ObjectKey). a ≢ b) all) (old new : IndexMap NamesIn ℕ S) (links : List Naming) (n : ℕ) (x : Naming) (dir object size now : ℕ)
+    (there : slice_get links n ≡ Some x) (at_dir : slice_get all dir ≡ Some x.dir) (at_object : slice_get all object ≡ Some x.target) (size_is : size ≡ capped (length x.name + 10))
+    (now_is : now ≡ capped (tally same_names old (record { dir = dir; object = object }) + size)) (before : AreSizes all old (take n links)) where
+  one_more : take (n + 1) links ≡ take n links ++ x ∷ []
+  one_more = ap (λ (k : ℕ). take k links) one ∙ (take_push n links x (slice_get_within links n x there) ∙ ap (λ (m : Naming). take n links ++ m ∷ []) (get_or_from_slice_get links n x x there))
+    where
+      one : n + 1 ≡ suc n
+      one = omega arith
+
+  pushed : (d o : ObjectKey) → reference_size (take n links ++ x ∷ []) d o ≡ reference_size (take n links) d o + (if same_key x.dir d && same_key x.target o then 10 + length x.name else 0)
+  pushed d o = weight_push (λ (m : Naming). same_key m.dir d && same_key m.target o) (λ (m : Naming). 10 + length m.name) (take n links) x
+
+  twice : (t len s sum y : ℕ) → y ≡ capped t → s ≡ capped (len + 10) → sum ≡ capped (y + s) → sum ≡ capped (t + (10 + len))
+  twice t len s sum y was sizes is = omega arith
+
+  own : (d o : ObjectKey) → (same_key x.dir d && same_key x.target o) ≡ true → x.dir ≡ d → x.target ≡ o → now ≡ capped (reference_size (take n links ++ x ∷ []) d o)
+  own d o test same_d same_o =
+      let was = before (record { dir = dir; object = object }) d o (at_dir ∙ ap (λ (k : ObjectKey). Some k) same_d) (at_object ∙ ap (λ (k : ObjectKey). Some k) same_o) in
+      let push = pushed d o ∙ ap (λ (b : Bool). reference_size (take n links) d o + (if b then 10 + length x.name else 0)) test in
+      twice (reference_size (take n links) d o) (length x.name) size now (tally same_names old (record { dir = dir; object = object })) was size_is now_is ∙ ap capped (sym push)
+
+  pub size_now : now ≡ capped (reference_size (take n links ++ x ∷ []) x.dir x.target)
+  size_now = own x.dir x.target (ap (λ (b : Bool). b && same_key x.target x.target) (same_key-self x.dir) ∙ same_key-self x.target) refl refl
+
+  pub sizes_more : ((q : NamesIn) → tally same_names new q ≡ (if same_names (record { dir = dir; object = object }) q then capped (tally same_names old (record { dir = dir; object = object }) + size) else tally same_names old q))
+      → AreSizes all new (take (n + 1) links)
+  sizes_more grows = λ q d o at_d at_o.
+      let tests : same_names (record { dir = dir; object = object }) q ≡ (same_key x.dir d && same_key x.target o) =
+              ap (λ (b : Bool). b && (object == q.object)) (same_places all dir q.dir x.dir d once at_dir at_d) ∙ ap (λ (b : Bool). same_key x.dir d && b) (same_places all object q.object x.target o once at_object at_o) in
+      grows q ∙ (ap (λ (b : Bool). if b then capped (tally same_names old (record { dir = dir; object = object }) + size) else tally same_names old q) tests
+      ∙ (by q d o at_d at_o (same_key x.dir d && same_key x.target o) refl ∙ ap (λ (l : List Naming). capped (reference_size l d o)) (sym one_more)))
+    where
+      by : (q : NamesIn) (d o : ObjectKey) → slice_get all q.dir ≡ Some d → slice_get all q.object ≡ Some o → (b : Bool) → (same_key x.dir d && same_key x.target o) ≡ b
+          → (if b then capped (tally same_names old (record { dir = dir; object = object }) + size) else tally same_names old q) ≡ capped (reference_size (take n links ++ x ∷ []) d o)
+      by q d o at_d at_o true is =
+          sym now_is ∙ own d o is (same_key-true x.dir d (and_left (same_key x.dir d) (same_key x.target o) is)) (same_key-true x.target o (and_right (same_key x.dir d) (same_key x.target o) is))
+      by q d o at_d at_o false is =
+          let push = pushed d o ∙ ap (λ (b : Bool). reference_size (take n links) d o + (if b then 10 + length x.name else 0)) is in
+          let same : reference_size (take n links ++ x ∷ []) d o ≡ reference_size (take n links) d o = omega (arith, push) in
+          before q d o at_d at_o ∙ ap capped (sym same)
+
+  -- the test of the size
+  pub flag_now : (flag : Bool) → flag ≡ nat_lt 3900 now → flag ≡ nat_lt 3900 (reference_size (take n links ++ x ∷ []) x.dir x.target)
+  flag_now flag is = is ∙ test now (reference_size (take n links ++ x ∷ []) x.dir x.target) size_now
+    where
+      test : (a t : ℕ) → a ≡ capped t → nat_lt 3900 a ≡ nat_lt 3900 t
+      test a t same = grind (arith, nat_tests)
+
+  pub flags_more : (flags more : List Bool) (flag : Bool) → flags ≡ map (λ (e : Entry). e.extended) (entries (take n links)) → flag ≡ nat_lt 3900 now → more ≡ flags ++ flag ∷ [] → more ≡ map (λ (e : Entry). e.extended) (entries (take (n + 1) links))
+  flags_more flags more flag are is more_is =
+      more_is ∙ (ap (λ (l : List Bool). l ++ flag ∷ []) are ∙ (ap (λ (b : Bool). map (λ (e : Entry). e.extended) (entries (take n links)) ++ b ∷ []) (flag_now flag is)
+      ∙ (sym (map-append (λ (e : Entry). e.extended) (entries (take n links)) (entry_behind (take n links) x ∷ []))
+      ∙ ap (map (λ (e : Entry). e.extended)) (sym (entries_push [] (take n links) x) ∙ ap entries (sym one_more)))))

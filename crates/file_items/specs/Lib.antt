@@ -7,5 +7,6 @@ pub mod Names
 pub mod Orders
 pub mod Sizes
 pub mod Small
+pub mod Spots
 pub mod Stream
 pub mod Tree

@@ -1,5 +1,5 @@
 -- Pieces by the numbers that they stand under.
-use Rattle.std.specs.Prelude.{◌≡◌, ℕ, List, map, filter, slice_get, Some}
+use Rattle.std.specs.Prelude.{◌≡◌, ℕ, List, map, filter, slice_get, Option, Some}
 use Rattle.item_list.specs.Spots.{is_under}
 use Rattle.item_list.specs.declared.spot.Spot.{Spot}
 use Rattle.unit_plan.specs.declared.piece.Piece.{Piece}
@@ -7,7 +7,7 @@ use Rattle.file_items.specs.Extents.{pieces_of, pieces_of_volume}
 
 -- the spots tell some of the pieces, each under its number
 abbrev pub Tells : List Piece → (Piece → ℕ) → List Spot → List Piece → Type 0
-Tells pieces number spots told = map (λ spot. (spot.of, slice_get pieces spot.number)) spots ≡ map (λ p. (number p, Some p)) told
+Tells pieces number spots told = map {B = ℕ × Option Piece} (λ spot. (spot.of, slice_get pieces spot.number)) spots ≡ map {B = ℕ × Option Piece} (λ p. (number p, Some p)) told
 
 -- under each inode its pieces, by their blocks of the file
 abbrev pub AreOwners : List Spot → List Piece → Type 0

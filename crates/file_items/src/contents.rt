@@ -14,7 +14,7 @@ ghost use Rattle.reiser_volume.specs.Made.{stat_at, kind_by};
 ghost use Rattle.reiser_volume.specs.Opened.{IsOpened};
 ghost use Rattle.reiser_volume.specs.Volume.{IsAccepted, volume_items};
 ghost use Rattle.file_items.specs.Contents.{begins_in_tail, HoldsBytes, HoldsInline};
-ghost use Rattle.file_items.specs.Known.{IsAt};
+ghost use Rattle.file_items.specs.Spots.{IsAt};
 
 use fs_rows::Kind;
 use outside::{BlockSource, Rule, VolAnswer, VolumeRefusal};

@@ -9,7 +9,8 @@ ghost use Rattle.reiser_volume.specs.Made.{stat_at, kind_by};
 ghost use Rattle.reiser_volume.specs.Numbers.{AreNumbered};
 ghost use Rattle.reiser_volume.specs.Opened.{IsOpened, links_in};
 ghost use Rattle.reiser_volume.specs.Volume.{IsAccepted, volume_items};
-ghost use Rattle.file_items.specs.Known.{FitsIndex, IsKnown, IsAt};
+ghost use Rattle.file_items.specs.Known.{FitsIndex, IsKnown};
+ghost use Rattle.file_items.specs.Spots.{IsAt};
 ghost use Rattle.file_items.specs.Names.{entry_kind, entry_to, entry_items, Indexed, indexed, indexed_in, names_in, saved_entry};
 
 use crate::link_index::{LinkIndex, index_at};

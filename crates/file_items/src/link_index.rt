@@ -4,7 +4,7 @@ ghost use Rattle.item_list.specs.Spots.{is_under};
 ghost use Rattle.reiser_names.specs.Tally.{tally, capped};
 ghost use Rattle.reiser_volume.specs.Opened.{IsOpened, links_in};
 ghost use Rattle.reiser_volume.specs.Volume.{IsAccepted};
-ghost use Rattle.file_items.specs.Known.{AreBelow, TellsPlaces};
+ghost use Rattle.file_items.specs.Spots.{AreBelow, TellsPlaces};
 ghost use Rattle.file_items.specs.Names.{entries};
 ghost use Rattle.file_items.specs.Sizes.{same_names, AreSizes};
 ghost use Rattle.file_items.specs.declared.link_index.NamesIn.{NamesIn as NamesInOf};

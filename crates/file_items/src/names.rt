@@ -4,7 +4,8 @@ ghost use Rattle.btr_keys.specs.Key.{make_key};
 ghost use Rattle.outside.specs.History.{Image};
 ghost use Rattle.reiser_objects.specs.declared.key.ObjectKey.{ObjectKey as KeyOf};
 ghost use Rattle.reiser_volume.specs.Opened.{links_in};
-ghost use Rattle.file_items.specs.Known.{FitsIndex, IsKnown, IsAt};
+ghost use Rattle.file_items.specs.Known.{FitsIndex, IsKnown};
+ghost use Rattle.file_items.specs.Spots.{IsAt};
 ghost use Rattle.file_items.specs.Names.{Entry, entries, names_of, inode_refs, extrefs};
 
 use crate::link_index::LinkIndex;

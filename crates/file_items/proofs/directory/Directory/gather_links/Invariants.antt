@@ -6,7 +6,8 @@ use Rattle.reiser_volume.specs.Made.{stat_at, kind_by}
 use Rattle.reiser_volume.specs.Opened.{links_in}
 use Rattle.reiser_volume.specs.Volume.{volume_items}
 use Rattle.file_items.specs.Gathered.{HasEntries}
-use Rattle.file_items.specs.Known.{IsKnown, IsAt}
+use Rattle.file_items.specs.Known.{IsKnown}
+use Rattle.file_items.specs.Spots.{IsAt}
 use Rattle.file_items.specs.Names.{indexed, names_in}
 use Rattle.file_items.proofs.directory.Directory.gather_links.Given as goal
 

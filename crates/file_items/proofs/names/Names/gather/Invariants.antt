@@ -4,7 +4,8 @@ use Rattle.outside.specs.History.{Image}
 use Rattle.reiser_objects.specs.declared.key.ObjectKey.{ObjectKey}
 use Rattle.reiser_volume.specs.Opened.{links_in}
 use Rattle.file_items.specs.Gathered.{HasNames}
-use Rattle.file_items.specs.Known.{IsKnown, IsAt}
+use Rattle.file_items.specs.Known.{IsKnown}
+use Rattle.file_items.specs.Spots.{IsAt}
 use Rattle.file_items.specs.Names.{names_of}
 use Rattle.file_items.proofs.names.Names.gather.Given as goal
 
