@@ -1,3 +1,5 @@
 pub mod Linked
+pub mod Named
 pub mod Ordering
 pub mod Referring
+pub mod Streaming

@@ -42,7 +42,7 @@ pub same_places : (all : List ObjectKey) (i j : ℕ) (a b : ObjectKey) → AllPa
 same_places all i j a b once at_i at_j = ⊎_elim (λ less. below i j a b less at_i at_j) (λ more. ⊎_elim (λ less. above less) (λ more_too. level (omega (arith, more, more_too))) (cases_lt j i)) (cases_lt i j)
   where
     different : (i j : ℕ) (a b : ObjectKey) → i < j → slice_get all i ≡ Some a → slice_get all j ≡ Some b → a ≡ b → ⊥
-    different i j a b less at_i at_j same = once i j a less (slice_get_within all j b at_j) (get_or_from_slice_get all i a a at_i ∙ (same ∙ sym (get_or_from_slice_get all j a b at_j)))
+    different i j a b less at_i at_j same = once i j a less (slice_get_within all j b at_j) (get_or_from_slice_get all i a a at_i ∙ (same ∙ sym (get_or_from_slice_get all j b a at_j)))
 
     lower : (i j : ℕ) → i < j → (i == j) ≡ false
     lower i j less = grind (arith, nat_tests)

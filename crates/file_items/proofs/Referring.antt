@@ -1,6 +1,9 @@
 -- The references of an object, made of records.
-use Rattle.std.proofs.Common.{◌≡◌, ◌<◌, ℕ, zero, suc, ◌+◌, Bool, true, false, cond, not, List, [], ◌∷◌, ◌++◌, length, filter, map, take, Some, Option, refl, sym, ap, subst, ◌∙◌, if◌then◌else◌, append_assoc, arith}
+use Rattle.std.proofs.Common.{◌≡◌, ◌<◌, ℕ, zero, suc, ◌+◌, Bool, true, false, cond, not, List, [], ◌∷◌, ◌++◌, length, filter, map, take, get_or, Some, Option, refl, sym, ap, subst, ◌∙◌, if◌then◌else◌, append_assoc, arith}
+use Rattle.std.specs.Prelude.{slice_get}
 use Rattle.std.specs.List.{flat_map}
+use Rattle.std.proofs.lemmas.List.{map-append}
+use Rattle.std.proofs.lemmas.Option.{slice_get-get_or}
 use Rattle.castagnoli.specs.Castagnoli.{name_hash, extref_hash}
 use Rattle.btr_keys.specs.DirEntry.{dir_entry_bytes}
 use Rattle.btr_keys.specs.Extref.{ExtrefValue, extref_bytes}
@@ -9,6 +12,7 @@ use Rattle.btr_keys.specs.Key.{make_key}
 use Rattle.btr_node.specs.Leaf.{Item}
 use Rattle.item_list.specs.Groups.{grouped, ascending}
 use Rattle.item_list.specs.Lists.{offset_of, joined, joined_item}
+use Rattle.item_list.proofs.Joining.{take_push}
 use Rattle.item_list.proofs.Runs.{grouped_map, ascending_map, flat_of_map}
 use Rattle.reiser_names.specs.Names.{inode_of}
 use Rattle.reiser_objects.specs.declared.key.ObjectKey.{ObjectKey}
@@ -85,3 +89,21 @@ entries_added ino list hashed indexes items₀ items₁ items₂ hashed_is index
     let one = ap (joined ino 84) hashed_is ∙ joined_of ino 84 (λ (e : Indexed). ino) (λ (e : Indexed). 84) (λ (e : Indexed). name_hash e.1.name) (λ (e : Indexed). dir_entry_bytes e.1) list in
     second ∙ (ap (λ (l : List Item). l ++ indexes) first ∙ (append_assoc items₀ (joined ino 84 hashed) indexes
     ∙ ap (λ (l : List Item). items₀ ++ l) (ap (λ (l : List Item). l ++ indexes) one ∙ ap (λ (l : List Item). map (λ (g : ℕ × List Indexed). (make_key ino 84 g.0, flat_map (λ (e : Indexed). dir_entry_bytes e.1) g.1)) (grouped (λ (e : Indexed). name_hash e.1.name) list) ++ l) indexes_are)))
+
+no_item : Item
+no_item = (make_key 0 0 0, [])
+
+-- one more extended name under its hash
+pub far_moved : (ino : ℕ) (far sorted old new : List Item) (i hash : ℕ) (body : List ℕ) → far ≡ sorted → i < length far → old ≡ map (λ (j : Item). (make_key ino 13 j.0.objectid, j.1)) (take i sorted)
+    → ((item : Item) → slice_get far i ≡ Some item → hash ≡ item.0.objectid) → ((item : Item) → slice_get far i ≡ Some item → body ≡ item.1) → new ≡ old ++ (make_key ino 13 hash, body) ∷ []
+    → new ≡ map (λ (j : Item). (make_key ino 13 j.0.objectid, j.1)) (take (i + 1) sorted)
+far_moved ino far sorted old new i hash body same within built hash_is body_is new_is =
+    let item : Item = get_or far i no_item in
+    let there = slice_get-get_or far i no_item within in
+    let move : Item → Item = λ (j : Item). (make_key ino 13 j.0.objectid, j.1) in
+    new_is ∙ (ap (λ (l : List Item). l ++ (make_key ino 13 hash, body) ∷ []) (built ∙ ap (λ (l : List Item). map move (take i l)) (sym same))
+    ∙ (ap (λ (h : ℕ). map move (take i far) ++ (make_key ino 13 h, body) ∷ []) (hash_is item there) ∙ (ap (λ (b : List ℕ). map move (take i far) ++ (make_key ino 13 item.0.objectid, b) ∷ []) (body_is item there)
+    ∙ (sym (map-append move (take i far) (item ∷ [])) ∙ ap (map move) (sym (take_push i far no_item within) ∙ (ap (λ (k : ℕ). take k far) one ∙ ap (take (i + 1)) same))))))
+  where
+    one : suc i ≡ i + 1
+    one = omega arith

@@ -33,6 +33,33 @@ enum Rest {
     Files(FileTree),
 }
 
+impl Rest {
+    ghost use Rattle.file_items.specs.Stream.{AddsSome, FitsRest, FitsRestBlocks, rest_ahead};
+
+    /// Appends some of the items that come next to a list. Whether there are any.
+    fn add_next<S: BlockSource, P: PieceList>(
+        &mut self,
+        items: &mut ItemList,
+        src: &mut S,
+        volume: &Volume,
+        pieces: &P,
+    ) -> Result<bool, VolAnswer>
+        requires { FitsRest self.old volume.now (P.pieces pieces.now) }
+        ensures kept { S.kept src.old src.new }
+        ensures cause { HasCauseOf VolAnswer.Fault (S.faults src.old) (S.faults src.new) result }
+        ensures answers { IfErr result IsFileAnswer }
+        ensures fits { FitsRest self.new volume.now (P.pieces pieces.now) }
+        ensures next { OverTold S.tells (S.blocks src.old) (λ image. IsAccepted image → IsOpened volume.now image → ArePlaced (superblock image).blocks (P.pieces pieces.now) → FitsRestBlocks self.old volume.now image
+            → MatchResult result (λ more. AddsSome more (rest_ahead self.old volume.now (P.pieces pieces.now) image) (rest_ahead self.new volume.now (P.pieces pieces.now) image) items.old items.new × FitsRestBlocks self.new volume.now image) IsFaultOrMemory) }
+    {
+        match self {
+            Rest::Nothing => Ok(false),
+            Rest::Image(extents) => Ok(extents.add_next(items, pieces)?),
+            Rest::Files(files) => files.add_next(items, src, volume, pieces),
+        }
+    }
+}
+
 /// The items of a tree of a converted volume, one after the other, ascending by key.
 ///
 /// It holds its place and the items of the object in hand, and neither the volume nor its pieces: these are passed to each
@@ -161,11 +188,7 @@ impl Items {
         }
         self.list.clear();
         self.given = 0;
-        let more = match &mut self.rest {
-            Rest::Nothing => false,
-            Rest::Image(extents) => extents.add_next(&mut self.list, pieces)?,
-            Rest::Files(files) => files.add_next(&mut self.list, src, volume, pieces)?,
-        };
+        let more = self.rest.add_next(&mut self.list, src, volume, pieces)?;
         if more {
             self.given = 1;
         }

@@ -1,0 +1,33 @@
+-- Steps of a stream.
+use Rattle.std.proofs.Common.{◌≡◌, ◌<◌, ◌≤◌, ℕ, zero, suc, ◌+◌, ◌-◌, Bool, true, false, List, [], ◌∷◌, ◌++◌, length, map, drop, get_or, Some, None, refl, sym, ap, subst, ◌∙◌, append_assoc, arith}
+use Rattle.std.specs.Prelude.{slice_get}
+use Rattle.btr_node.specs.Leaf.{Item}
+use Rattle.unit_plan.specs.declared.piece.Piece.{Piece}
+use Rattle.file_items.specs.Stream.{AddsSome, last_of}
+
+-- the first of what is left of a list
+pub record IsNext {A : Type 0} (xs : List A) (n : ℕ) : Type 0 where
+  pub first : A
+  pub stands : slice_get xs n ≡ Some first
+  pub rest : drop n xs ≡ first ∷ drop (n + 1) xs
+
+pub next_of : {A : Type 0} (xs : List A) (n : ℕ) → n < length xs → IsNext xs n
+next_of [] n within = absurd (omega (arith, within))
+next_of (x ∷ xs) zero within = record { first = x; stands = refl; rest = refl }
+next_of {A} (x ∷ xs) (suc n) within =
+    let later = next_of xs n (omega (arith, within)) in
+    let one : suc n + 1 ≡ suc (n + 1) = omega arith in
+    record { first = later.first; stands = later.stands; rest = later.rest ∙ ap (λ (k : ℕ). later.first ∷ drop k (x ∷ xs)) (sym one) }
+
+pub none_left : {A : Type 0} (xs : List A) (n : ℕ) → length xs ≤ n → drop n xs ≡ []
+none_left [] zero within = refl
+none_left [] (suc n) within = refl
+none_left (x ∷ xs) zero within = absurd (omega (arith, within))
+none_left (x ∷ xs) (suc n) within = none_left xs n (omega (arith, within))
+
+-- one of the last n
+pub next_last : {A : Type 0} (xs : List A) (n m : ℕ) → 0 < m → m ≤ length xs → last_of n xs ≡ last_of m xs → IsNext xs (length xs - m)
+next_last xs n m some within same = next_of xs (length xs - m) (omega (arith, some, within))
+
+pub last_rest : {A : Type 0} (xs : List A) (m : ℕ) → 0 < m → m ≤ length xs → drop (length xs - m + 1) xs ≡ last_of (m - 1) xs
+last_rest xs m some within = let same : length xs - m + 1 ≡ length xs - (m - 1) = omega (arith, some, within) in ap (λ (k : ℕ). drop k xs) same
