@@ -1,19 +1,23 @@
 -- Pieces by the numbers that they stand under.
-use Rattle.std.proofs.Common.{◌≡◌, ◌<◌, ℕ, zero, suc, ◌+◌, ◌*◌, ◌==◌, Bool, true, false, cond, is_some, List, [], ◌∷◌, ◌++◌, length, filter, map, take, get_or, sum_by, Some, None, Option, refl, sym, ap, subst, ◌∙◌, ◌&&◌, arith}
+use Rattle.std.proofs.Common.{◌≡◌, ◌<◌, ◌≤◌, ℕ, zero, suc, ◌+◌, ◌*◌, ◌^◌, ◌==◌, Bool, true, false, cond, is_some, List, [], ◌∷◌, ◌++◌, length, filter, map, take, drop, get_or, sum_by, Some, None, Option, refl, sym, ap, subst, ◌∙◌, ◌&&◌, arith}
 use Rattle.std.specs.Prelude.{slice_get}
-use Rattle.std.specs.Option.{option_map_or}
+use Rattle.std.specs.List.{All}
+use Rattle.std.specs.Option.{MatchOption, option_map_or}
 use Rattle.std.proofs.lemmas.List.{map-append, append-nil}
 use Rattle.std.proofs.lemmas.List.Elements.{filter-append}
-use Rattle.std.proofs.lemmas.Option.{slice_get_within, get_or_from_slice_get}
+use Rattle.std.proofs.lemmas.Option.{slice_get_within, get_or_from_slice_get, slice_get-get_or}
 use Rattle.item_list.specs.Groups.{ascending}
 use Rattle.item_list.specs.Spots.{is_under}
 use Rattle.item_list.specs.declared.spot.Spot.{Spot}
 use Rattle.item_list.proofs.Joining.{take_push}
+use Rattle.item_list.proofs.Placing.{told_at, told_long}
 use Rattle.item_list.proofs.Sorting.{ascending_filter, ascending_kept}
 use Rattle.item_list.proofs.Runs.{ascending_map}
+use Rattle.unit_plan.specs.Pieces.{ArePlaced}
 use Rattle.unit_plan.specs.declared.piece.Piece.{Piece}
-use Rattle.file_items.specs.Extents.{owner_inode, file_block, by_block, is_owned_by, pieces_of}
+use Rattle.file_items.specs.Extents.{owner_inode, file_block, source_block, by_block, is_owned_by, pieces_of}
 use Rattle.file_items.specs.Orders.{Tells, AreOwners}
+use Rattle.file_items.proofs.Streaming.{next_of}
 
 map_twice : {A B C : Type 0} (f : B → C) (g : A → B) (xs : List A) → map (λ x. f (g x)) xs ≡ map f (map g xs)
 map_twice f g [] = refl
@@ -104,3 +108,75 @@ owners_are pieces spots sorted tells is = λ ino.
     tells_there pieces owner_inode (filter (is_under ino) sorted) (filter (λ p. owner_inode p == ino) (ascending owner_inode (by_block pieces)))
         (tells_under pieces owner_inode ino sorted (ascending owner_inode (by_block pieces)) (tells_sorted pieces owner_inode spots sorted (by_block pieces) tells is))
     ∙ ap (map (λ (p : Piece). Some p)) (of_inode pieces ino)
+
+-- the piece that a spot tells
+pub record IsPieceAt (pieces told : List Piece) (i number : ℕ) : Type 0 where
+  pub piece : Piece
+  pub there : slice_get pieces number ≡ Some piece
+  pub at : slice_get told i ≡ Some piece
+  pub more : take (i + 1) told ≡ take i told ++ piece ∷ []
+  pub rest : drop i told ≡ piece ∷ drop (i + 1) told
+
+no_piece : Piece
+no_piece = record { from = None; count = 0; owner = None; place = 0 }
+
+pub piece_at : (pieces told : List Piece) (spots : List Spot) (i : ℕ) (spot : Spot) → map (λ s. slice_get pieces s.number) spots ≡ map (λ (p : Piece). Some p) told → slice_get spots i ≡ Some spot → IsPieceAt pieces told i spot.number
+piece_at pieces told spots i spot tells here =
+    let long = told_long (λ (s : Spot). slice_get pieces s.number) spots told tells in
+    let within = slice_get_within spots i spot here in
+    by (omega (arith, long, within))
+  where
+    by : i < length told → IsPieceAt pieces told i spot.number
+    by inside =
+        let p : Piece = get_or told i no_piece in
+        let at = slice_get-get_or told i no_piece inside in
+        let one : i + 1 ≡ suc i = omega arith in
+        let next = next_of told i inside in
+        let same : next.first ≡ p = some_same next.first p (sym next.stands ∙ at) in
+        record {
+          piece = p;
+          there = told_at (λ (s : Spot). slice_get pieces s.number) spots told i spot tells here ∙ at;
+          at = at;
+          more = ap (λ (k : ℕ). take k told) one ∙ take_push i told no_piece inside;
+          rest = next.rest ∙ ap (λ (q : Piece). q ∷ drop (i + 1) told) same;
+        }
+      where
+        some_same : (a b : Piece) → Some a ≡ Some b → a ≡ b
+        some_same a b is = cc
+
+pub all_at : (P : Piece → Type 0) (pieces : List Piece) (i : ℕ) (p : Piece) → All P pieces → slice_get pieces i ≡ Some p → P p
+all_at P pieces i p all there = subst P (get_or_from_slice_get pieces i p p there) (all i p (slice_get_within pieces i p there))
+
+pub owner_block : (p : Piece) (t : ℕ × ℕ) (b : ℕ) → p.owner ≡ Some t → b ≡ t.1 → b ≡ file_block p
+owner_block p t b is block = block ∙ sym (ap (λ (o : Option (ℕ × ℕ)). option_map_or (λ x. x.1) o 0) is)
+
+pub source_is : (p : Piece) (b : ℕ) → p.from ≡ Some b → b ≡ source_block p
+source_is p b is = sym (ap (λ (o : Option ℕ). option_map_or (λ x. x) o 0) is)
+
+-- what placed pieces are bounded by
+pub record IsBounded (p : Piece) : Type 0 where
+  pub place : p.place < 2 ^ 52
+  pub count : p.count < 2 ^ 52
+  pub source : source_block p < 2 ^ 52
+  pub block : file_block p < 2 ^ 52
+
+pub bounded : (blocks : ℕ) (pieces : List Piece) (i : ℕ) (p : Piece) → blocks < 2 ^ 52 → ArePlaced blocks pieces → slice_get pieces i ≡ Some p → IsBounded p
+bounded blocks pieces i p small placed there =
+    let inside = all_at (λ (q : Piece). q.place + q.count ≤ blocks) pieces i p placed.inside there in
+    record {
+      place = omega (arith, inside, small);
+      count = omega (arith, inside, small);
+      source = from p.from (all_at (λ (q : Piece). MatchOption q.from (Unit {0}) (λ b. b + q.count ≤ blocks)) pieces i p placed.sources there);
+      block = owned p.owner (all_at (λ (q : Piece). MatchOption q.owner (Unit {0}) (λ o. o.1 + q.count ≤ 2 ^ 32)) pieces i p placed.owners there);
+    }
+  where
+    from : (o : Option ℕ) → MatchOption o (Unit {0}) (λ b. b + p.count ≤ blocks) → option_map_or (λ b. b) o 0 < 2 ^ 52
+    from None h = omega arith
+    from (Some b) h = omega (arith, h, small)
+
+    owned : (o : Option (ℕ × ℕ)) → MatchOption o (Unit {0}) (λ x. x.1 + p.count ≤ 2 ^ 32) → option_map_or (λ x. x.1) o 0 < 2 ^ 52
+    owned None h = omega arith
+    owned (Some x) h = omega (arith, h)
+
+pub piece_same : (a b : Piece) → Some a ≡ Some b → a ≡ b
+piece_same a b is = cc

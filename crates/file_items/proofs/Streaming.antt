@@ -1,9 +1,7 @@
 -- Steps of a stream.
 use Rattle.std.proofs.Common.{◌≡◌, ◌<◌, ◌≤◌, ℕ, zero, suc, ◌+◌, ◌-◌, Bool, true, false, List, [], ◌∷◌, ◌++◌, length, map, drop, get_or, Some, None, refl, sym, ap, subst, ◌∙◌, append_assoc, arith}
 use Rattle.std.specs.Prelude.{slice_get}
-use Rattle.btr_node.specs.Leaf.{Item}
-use Rattle.unit_plan.specs.declared.piece.Piece.{Piece}
-use Rattle.file_items.specs.Stream.{AddsSome, last_of}
+use Rattle.file_items.specs.Stream.{last_of}
 
 -- the first of what is left of a list
 pub record IsNext {A : Type 0} (xs : List A) (n : ℕ) : Type 0 where
