@@ -1,17 +1,19 @@
 -- Pieces by the numbers that they stand under.
-use Rattle.std.proofs.Common.{◌≡◌, ◌<◌, ◌≤◌, ℕ, zero, suc, ◌+◌, ◌*◌, ◌^◌, ◌==◌, Bool, true, false, cond, is_some, List, [], ◌∷◌, ◌++◌, length, filter, map, take, drop, get_or, sum_by, Some, None, Option, refl, sym, ap, subst, ◌∙◌, ◌&&◌, arith}
-use Rattle.std.specs.Prelude.{slice_get}
+use Rattle.std.proofs.Common.{◌≡◌, ◌<◌, ◌≤◌, ℕ, zero, suc, ◌+◌, ◌*◌, ◌^◌, ◌==◌, Bool, true, false, cond, is_some, List, [], ◌∷◌, ◌++◌, length, filter, map, take, drop, get_or, sum_by, AllPairs, Some, None, Option, refl, sym, ap, subst, ◌∙◌, ◌&&◌, arith}
+use Rattle.std.specs.Prelude.{slice_get, unwrap_or}
 use Rattle.std.specs.List.{All}
 use Rattle.std.specs.Option.{MatchOption, option_map_or}
 use Rattle.std.proofs.lemmas.List.{map-append, append-nil}
 use Rattle.std.proofs.lemmas.List.Elements.{filter-append}
+use Rattle.std.proofs.lemmas.List.Sums.{sum_by-cons, sum_by_push}
 use Rattle.std.proofs.lemmas.Option.{slice_get_within, get_or_from_slice_get, slice_get-get_or}
 use Rattle.item_list.specs.Groups.{ascending}
 use Rattle.item_list.specs.Spots.{is_under}
 use Rattle.item_list.specs.declared.spot.Spot.{Spot}
 use Rattle.item_list.proofs.Joining.{take_push}
 use Rattle.item_list.proofs.Placing.{told_at, told_long}
-use Rattle.item_list.proofs.Sorting.{ascending_filter, ascending_kept}
+use Rattle.item_list.proofs.Sorting.{ascending_filter, ascending_kept, ascending_sum}
+use Rattle.reiser_names.specs.Tally.{capped}
 use Rattle.item_list.proofs.Runs.{ascending_map}
 use Rattle.unit_plan.specs.Pieces.{ArePlaced}
 use Rattle.unit_plan.specs.declared.piece.Piece.{Piece}
@@ -180,3 +182,74 @@ bounded blocks pieces i p small placed there =
 
 pub piece_same : (a b : Piece) → Some a ≡ Some b → a ≡ b
 piece_same a b is = cc
+
+-- the inode of an owner
+pub unwrapped : (o : Option (ℕ × ℕ)) (t : ℕ × ℕ) → t ≡ unwrap_or o (0, 0) → t.0 ≡ option_map_or (λ x. x.0) o 0
+unwrapped None t is = ap (λ (x : ℕ × ℕ). x.0) is
+unwrapped (Some x) t is = ap (λ (y : ℕ × ℕ). y.0) is
+
+pub unwrapped_block : (o : Option (ℕ × ℕ)) (t : ℕ × ℕ) → t ≡ unwrap_or o (0, 0) → t.1 ≡ option_map_or (λ x. x.1) o 0
+unwrapped_block None t is = ap (λ (x : ℕ × ℕ). x.1) is
+unwrapped_block (Some x) t is = ap (λ (y : ℕ × ℕ). y.1) is
+
+pub owner_more : (pieces told : List Piece) (spots new : List Spot) (i number under : ℕ) (p : Piece) → Tells pieces owner_inode spots (take i told) → slice_get pieces number ≡ Some p → under ≡ owner_inode p → take (i + 1) told ≡ take i told ++ p ∷ []
+    → new ≡ spots ++ record { of = under; number = number } ∷ [] → Tells pieces owner_inode new (take (i + 1) told)
+owner_more pieces told spots new i number under p tells there under_is more new_is =
+    ap (map {B = ℕ × Option Piece} (λ (s : Spot). (s.of, slice_get pieces s.number))) (new_is ∙ ap (λ (k : ℕ). spots ++ record { of = k; number = number } ∷ []) under_is)
+    ∙ (tells_push pieces owner_inode spots (take i told) number p tells there ∙ ap (map {B = ℕ × Option Piece} (λ (q : Piece). (owner_inode q, Some q))) (sym more))
+
+-- the blocks of some pieces, with one more
+pub count_more : (some new : List Piece) (p : Piece) (blocks sum : ℕ) → blocks ≡ capped (sum_by (λ q. q.count) some) → sum ≡ capped (blocks + p.count) → new ≡ some ++ p ∷ [] → sum ≡ capped (sum_by (λ q. q.count) new)
+count_more some new p blocks sum before is new_is =
+    summed (sum_by (λ q. q.count) some) blocks p.count sum before is ∙ ap capped (sym (sum_by_push (λ (q : Piece). q.count) some p) ∙ ap (sum_by (λ (q : Piece). q.count)) (sym new_is))
+  where
+    summed : (t a n s : ℕ) → a ≡ capped t → s ≡ capped (a + n) → s ≡ capped (t + n)
+    summed t a n s was is = omega arith
+
+-- those that pass a test
+pub tested_more : (pieces : List Piece) (t : Piece → Bool) (i : ℕ) (p : Piece) → slice_get pieces i ≡ Some p → t p ≡ true → filter t (take (i + 1) pieces) ≡ filter t (take i pieces) ++ p ∷ []
+tested_more pieces t i p there passes = part_more pieces (λ q. 0) t i p there ∙ ap (λ (b : Bool). filter t (take i pieces) ++ cond b (p ∷ []) []) passes
+
+pub tested_same : (pieces : List Piece) (t : Piece → Bool) (i : ℕ) (p : Piece) → slice_get pieces i ≡ Some p → t p ≡ false → filter t (take (i + 1) pieces) ≡ filter t (take i pieces)
+tested_same pieces t i p there fails = part_more pieces (λ q. 0) t i p there ∙ (ap (λ (b : Bool). filter t (take i pieces) ++ cond b (p ∷ []) []) fails ∙ append-nil (filter t (take i pieces)))
+
+-- all blocks of placed pieces are within the volume
+sum_from : (blocks low : ℕ) (pieces : List Piece) → AllPairs (λ p q. p.place + p.count ≤ q.place) pieces → All (λ p. p.place + p.count ≤ blocks) pieces → All (λ p. low ≤ p.place) pieces → low ≤ blocks → low + sum_by (λ p. p.count) pieces ≤ blocks
+sum_from blocks low [] pairs inside above within = omega (arith, within)
+sum_from blocks low (p ∷ pieces) pairs inside above within =
+    let own = inside 0 p (omega arith) in
+    let first = above 0 p (omega arith) in
+    let rest = sum_from blocks (p.place + p.count) pieces (λ i j d less h. pairs (suc i) (suc j) d (omega (arith, less)) (omega (arith, h))) (λ k d h. inside (suc k) d (omega (arith, h))) (λ k d h. pairs 0 (suc k) d (omega arith) (omega (arith, h))) own in
+    let whole = sum_by-cons (λ (q : Piece). q.count) p pieces in
+    omega (arith, own, first, rest, whole)
+
+sum_of_part : (t : Piece → Bool) (pieces : List Piece) → sum_by (λ p. p.count) (filter t pieces) ≤ sum_by (λ p. p.count) pieces
+sum_of_part t [] = omega arith
+sum_of_part t (p ∷ pieces) = by (sum_of_part t pieces) (t p)
+  where
+    by : sum_by (λ q. q.count) (filter t pieces) ≤ sum_by (λ q. q.count) pieces → (b : Bool) → sum_by (λ q. q.count) (cond b (p ∷ filter t pieces) (filter t pieces)) ≤ sum_by (λ q. q.count) (p ∷ pieces)
+    by later true =
+        let one = sum_by-cons (λ (q : Piece). q.count) p (filter t pieces) in
+        let two = sum_by-cons (λ (q : Piece). q.count) p pieces in
+        omega (arith, one, two, later)
+    by later false = let two = sum_by-cons (λ (q : Piece). q.count) p pieces in omega (arith, two, later)
+
+pub sum_within : (blocks : ℕ) (pieces : List Piece) (t : Piece → Bool) → ArePlaced blocks pieces → sum_by (λ p. p.count) (filter t pieces) ≤ blocks
+sum_within blocks pieces t placed =
+    let whole = sum_from blocks 0 pieces placed.ascending placed.inside (λ k d h. omega arith) (omega arith) in
+    let part = sum_of_part t pieces in
+    omega (arith, whole, part)
+
+pub bytes_are : (pieces : List Piece) → sum_by (λ p. 4096 * p.count) pieces ≡ 4096 * sum_by (λ p. p.count) pieces
+bytes_are [] = refl
+bytes_are (p ∷ pieces) =
+    let one = sum_by-cons (λ (q : Piece). 4096 * q.count) p pieces in
+    let two = sum_by-cons (λ (q : Piece). q.count) p pieces in
+    let rest = bytes_are pieces in
+    omega (arith, one, two, rest)
+
+pub owned_within : (blocks : ℕ) (pieces : List Piece) (ino : ℕ) → ArePlaced blocks pieces → sum_by (λ p. p.count) (pieces_of pieces ino) ≤ blocks
+owned_within blocks pieces ino placed =
+    let same = ascending_sum file_block (λ p. p.count) (filter (is_owned_by ino) pieces) in
+    let part = sum_within blocks pieces (is_owned_by ino) placed in
+    omega (arith, same, part)
