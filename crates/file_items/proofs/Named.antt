@@ -1,10 +1,11 @@
 -- The names of an object, and the entries of a directory, by the spots of a volume.
-use Rattle.std.proofs.Common.{◌≡◌, ◌<◌, ◌≤◌, ℕ, zero, suc, ◌+◌, ◌*◌, Bool, true, false, cond, not, List, [], ◌∷◌, ◌++◌, length, filter, map, take, get_or, count_by, nat_lt, Some, None, Option, AllPairs, Contains, refl, sym, ap, subst, ◌∙◌, if◌then◌else◌, arith}
+use Rattle.std.proofs.Common.{◌≡◌, ◌<◌, ◌≤◌, ℕ, zero, suc, ◌+◌, ◌*◌, ◌^◌, Bool, true, false, cond, not, List, [], ◌∷◌, ◌++◌, length, filter, map, take, get_or, count_by, nat_lt, Some, None, Option, AllPairs, Contains, refl, sym, ap, subst, ◌∙◌, if◌then◌else◌, arith}
 use Rattle.std.specs.Prelude.{slice_get}
 use Rattle.std.proofs.lemmas.List.{map-append, take_all}
 use Rattle.std.proofs.lemmas.List.Elements.{filter-append, filter_passes}
-use Rattle.std.proofs.lemmas.List.Sums.{sum_by_push}
+use Rattle.std.proofs.lemmas.List.Sums.{sum_by_push, sum_by-cons}
 use Rattle.std.proofs.lemmas.Option.{slice_get_within, get_or_from_slice_get, slice_get-get_or}
+use Rattle.fs_rows.specs.declared.row.Kind.{Kind}
 use Rattle.indexmap.specs.IndexMap.{keys}
 use Rattle.outside.specs.History.{Image}
 use Rattle.btr_keys.specs.DirEntry.{DirEntryValue}
@@ -15,20 +16,22 @@ use Rattle.item_list.specs.Places.{places_from}
 use Rattle.item_list.specs.Spots.{is_under}
 use Rattle.item_list.specs.declared.spot.Spot.{Spot}
 use Rattle.item_list.proofs.Joining.{take_push}
-use Rattle.item_list.proofs.Placing.{told_at, told_long}
+use Rattle.item_list.proofs.Placing.{told_at, told_long, places_count}
 use Rattle.reiser_names.proofs.Uniqueness.{links_one}
 use Rattle.reiser_names.specs.Tally.{capped}
 use Rattle.reiser_objects.specs.declared.key.ObjectKey.{ObjectKey}
 use Rattle.reiser_objects.specs.declared.naming.Naming.{Naming}
-use Rattle.reiser_objects.specs.Keys.{same_key}
+use Rattle.reiser_objects.specs.Keys.{same_key, root}
 use Rattle.reiser_objects.proofs.Tables.{same_key-true}
+use Rattle.reiser_volume.proofs.Bounds.{accepted_is_small}
 use Rattle.reiser_volume.specs.declared.numbers.Numbers.{Numbers}
 use Rattle.reiser_volume.specs.declared.volume.Volume.{Volume}
 use Rattle.reiser_volume.specs.Opened.{IsOpened, links_in}
 use Rattle.reiser_volume.specs.Volume.{IsAccepted, volume_items}
 use Rattle.file_items.specs.Gathered.{HasName, HasNames, HasEntry, HasEntries}
 use Rattle.file_items.specs.Known.{IsKnown}
-use Rattle.file_items.specs.Names.{Entry, entry_behind, entries, names_of, names_in, next_index, ref_record, far_record, Indexed, letters, hash_record, index_record}
+use Rattle.file_items.specs.Names.{Entry, entry_behind, entries, names_of, names_in, next_index, ref_record, far_record, Indexed, letters, hash_record, index_record, indexed, indexed_in, saved_entry, root_ref, inode_refs, extrefs}
+use Rattle.file_items.specs.Tree.{Source, name_items}
 use Rattle.file_items.specs.Spots.{IsAt}
 use Rattle.file_items.specs.declared.link_index.LinkIndex.{LinkIndex}
 use Rattle.file_items.specs.declared.directory.Directory.{Directory}
@@ -162,3 +165,56 @@ dir_of links key i e there = same_key-true e.link.dir key (passes (entries links
         let all = filter_passes (λ (f : Entry). same_key f.link.dir key) es in
         let within = slice_get_within (filter (λ f. same_key f.link.dir key) es) i e there in
         subst (λ (f : Entry). same_key f.link.dir key ≡ true) (get_or_from_slice_get (filter (λ f. same_key f.link.dir key) es) i e e there) (all i e within)
+
+count_is : {A : Type 0} (p : A → Bool) (xs : List A) → count_by p xs ≡ length (filter p xs)
+count_is p [] = refl
+count_is {A} p (x ∷ xs) = sum_by-cons (λ y. cond (p y) 1 0) x xs ∙ by (count_is p xs) (p x)
+  where
+    by : count_by p xs ≡ length (filter p xs) → (b : Bool) → cond b 1 0 + count_by p xs ≡ length (cond b (x ∷ filter p xs) (filter p xs))
+    by later true = omega (arith, later)
+    by later false = omega (arith, later)
+
+count_low : {A : Type 0} (p : A → Bool) (xs : List A) → count_by p xs ≤ length xs
+count_low p [] = omega arith
+count_low {A} p (x ∷ xs) = by (count_low p xs) (p x) refl
+  where
+    by : count_by p xs ≤ length xs → (b : Bool) → p x ≡ b → count_by p (x ∷ xs) ≤ length (x ∷ xs)
+    by later b is = let first = sum_by-cons (λ y. cond (p y) 1 0) x xs ∙ ap (λ (c : Bool). cond c 1 0 + count_by p xs) is in bound b later first
+      where
+        bound : (b : Bool) → count_by p xs ≤ length xs → count_by p (x ∷ xs) ≡ cond b 1 0 + count_by p xs → count_by p (x ∷ xs) ≤ length (x ∷ xs)
+        bound true later first = omega (arith, later, first)
+        bound false later first = omega (arith, later, first)
+
+-- the spots of a directory are as many as its links
+pub dir_count : (volume : Volume) (index : LinkIndex) (numbers : Numbers) (image : Image) → IsKnown volume index numbers image → (place : ℕ) (key : ObjectKey) → IsAt volume place key → (spots : List Spot) → spots ≡ filter (is_under place) index.by_dir
+    → 2 + length spots ≡ next_index (links_in volume) key
+dir_count volume index numbers image known place key at spots is =
+    let places = ap (map (λ (s : Spot). s.number)) is ∙ known.index_is.dirs place key at in
+    let long : length spots ≡ count_by (λ n. same_key n.dir key) (links_in volume) = sym (long_map spots) ∙ (ap length places ∙ (places_count (λ n. same_key n.dir key) 0 (links_in volume) ∙ sym (count_is (λ n. same_key n.dir key) (links_in volume)))) in
+    omega (arith, long)
+  where
+    long_map : (xs : List Spot) → length (map (λ (s : Spot). s.number) xs) ≡ length xs
+    long_map [] = refl
+    long_map (x ∷ xs) = let later = long_map xs in omega (arith, later)
+
+pub index_small : (volume : Volume) (image : Image) (key : ObjectKey) → IsAccepted image → IsOpened volume image → next_index (links_in volume) key < 2 ^ 63
+index_small volume image key accepted opened =
+    let links = (accepted_is_small image accepted).links opened.visible (links_in volume) opened.are_links in
+    let low = count_low (λ n. same_key n.dir key) (links_in volume) in
+    omega (arith, links, low)
+
+-- the root's entries with that of the saved image
+pub with_saved : (kind : ObjectKey → Kind) (all : List ObjectKey) (links : List Naming) (key : ObjectKey) → same_key key root ≡ true
+    → map (indexed kind all) (names_in links key) ++ (next_index links key, saved_entry) ∷ [] ≡ indexed_in kind all links key
+with_saved kind all links key is = sym (ap (λ (b : Bool). map (indexed kind all) (names_in links key) ++ (if b then (next_index links key, saved_entry) ∷ [] else [])) is)
+
+-- the names of the root, and those of any other object
+pub name_items_root : (s : Source) (key : ObjectKey) → same_key key root ≡ true → name_items s key ≡ root_ref ∷ []
+unfolding name_items
+name_items_root s key is = ap (λ (b : Bool). if b then root_ref ∷ [] else inode_refs s.keys s.links key ++ extrefs s.keys s.links key) is
+
+pub name_items_other : (s : Source) (key : ObjectKey) (all : List ObjectKey) (links : List Naming) → same_key key root ≡ false → s.keys ≡ all → s.links ≡ links → name_items s key ≡ inode_refs all links key ++ extrefs all links key
+unfolding name_items
+name_items_other s key all links is keys_are links_are =
+    ap (λ (b : Bool). if b then root_ref ∷ [] else inode_refs s.keys s.links key ++ extrefs s.keys s.links key) is
+    ∙ (ap (λ (k : List ObjectKey). inode_refs k s.links key ++ extrefs k s.links key) keys_are ∙ ap (λ (l : List Naming). inode_refs all l key ++ extrefs all l key) links_are)

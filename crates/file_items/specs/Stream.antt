@@ -17,7 +17,7 @@ use Rattle.file_items.specs.declared.items.Rest.TheVariants as rest
 use Rattle.file_items.specs.Extents.{file_block, pieces_of, source_block, pieces_of_volume, extents_at}
 use Rattle.file_items.specs.Known.{FitsIndex, IsKnown}
 use Rattle.file_items.specs.Orders.{AreOwners, AreSources}
-use Rattle.file_items.specs.Tree.{Source, source_of, object_items, content_items, kind_in}
+use Rattle.file_items.specs.Tree.{Source, source_of, object_items, content_items, extent_items, kind_in}
 
 -- the last n of a list
 abbrev pub last_of : {A : Type 0} → ℕ → List A → List A
@@ -92,6 +92,12 @@ AddsSome false before after old new = (before ≡ []) × (after ≡ []) × (new 
 abbrev pub AddsExtent : Bool → FileInHand → FileInHand → List Piece → List Item → List Item → Type 0
 AddsExtent true before after pieces old new = (item : Item) × (new ≡ old ++ item ∷ []) × (file_ahead before pieces ≡ item ∷ file_ahead after pieces)
 AddsExtent false before after pieces old new = (file_ahead before pieces ≡ []) × (after ≡ before) × (new ≡ old)
+
+-- the extents of a file or symlink were appended to a list, up to those that are now in hand
+pub record HasExtents (s : Source) (key : ObjectKey) (file : FileInHand) (old new : List Item) : Type 0 where
+  pub items : List Item
+  pub added : new ≡ old ++ items
+  pub are : extent_items s key ≡ items ++ file_ahead file s.pieces
 
 -- what an object holds was appended to a list, up to the extents that are now in hand
 pub record HasContent (s : Source) (key : ObjectKey) (file : FileInHand) (old new : List Item) : Type 0 where

@@ -119,7 +119,7 @@ fn read_bytes<S: BlockSource>(
 
 /// What is answered where the volume reads otherwise than when it was opened.
 fn changed(volume: &Volume) -> VolAnswer
-    ensures { IsFileAnswer result }
+    ensures { result ≡ VolAnswer.Refused (VolumeRefusal.Damaged volume.now.sup.root Rule.Reread) }
 {
     VolAnswer::Refused(VolumeRefusal::Damaged {
         block: volume.sup().root,

@@ -14,14 +14,14 @@ ghost use Rattle.reiser_volume.specs.Made.{stat_at, kind_by};
 ghost use Rattle.reiser_volume.specs.Opened.{IsOpened, links_in};
 ghost use Rattle.reiser_volume.specs.Volume.{IsAccepted, superblock, volume_items};
 ghost use Rattle.unit_plan.specs.Pieces.{ArePlaced};
-ghost use Rattle.file_items.specs.Contents.{HoldsInline};
+ghost use Rattle.file_items.specs.Contents.{HoldsBy, HoldsInline};
 ghost use Rattle.file_items.specs.Extents.{file_block, piece_bytes, pieces_of};
 ghost use Rattle.file_items.specs.Gathered.{HasEntries};
 ghost use Rattle.file_items.specs.Known.{FitsIndex, IsKnown};
 ghost use Rattle.file_items.specs.Spots.{IsAt};
 ghost use Rattle.file_items.specs.Names.{indexed_in, letters};
 ghost use Rattle.file_items.specs.Orders.{AreOwners};
-ghost use Rattle.file_items.specs.Tree.{Source, source_of, tree_items, name_items, number_of, kind_in, size_in, size_by};
+ghost use Rattle.file_items.specs.Tree.{Source, source_of, tree_items, name_items, number_of, kind_in, size_in, size_by, inline_in};
 
 use crate::contents::inlined;
 use crate::directory::{Directory, kind_at};
@@ -70,7 +70,7 @@ pub struct FileTree {
 }
 
 impl FileTree {
-    ghost use Rattle.file_items.specs.Stream.{AddsSome, AddsExtent, Begins, HasContent, tree_ahead, FitsTree, FitsTreeBlocks};
+    ghost use Rattle.file_items.specs.Stream.{AddsSome, AddsExtent, Begins, HasContent, HasExtents, tree_ahead, FitsTree, FitsTreeBlocks};
 
     /// All objects of a volume with these pieces.
     pub fn new<P: PieceList>(
@@ -304,16 +304,33 @@ impl FileTree {
             → HoldsInline s.inline (items_of key s.items) (size_in s key) kind held block.now.bytes → OnOk result (HasContent s key self.new.file items.old items.new) }
     {
         self.file = FileInHand { ino, left: 0 };
-        match (kind, held) {
-            (Kind::Directory, _) => self.directory.add_items(items, ino),
-            (Kind::File | Kind::Symlink, Some(length)) => {
-                add_inline(items, &mut self.body, ino, &block.bytes[..length])
-            }
-            (Kind::File | Kind::Symlink, None) => {
+        match kind {
+            Kind::Directory => self.directory.add_items(items, ino),
+            Kind::File | Kind::Symlink => self.add_bytes(items, ino, held, block),
+            Kind::Character | Kind::Block | Kind::Fifo | Kind::Socket | Kind::Subvolume => Ok(()),
+        }
+    }
+
+    /// Appends the extent of a file or symlink that stays in the tree, or takes the extents in hand.
+    fn add_bytes(
+        &mut self,
+        items: &mut ItemList,
+        ino: u64,
+        held: Option<usize>,
+        block: &Block,
+    ) -> Result<(), Memory>
+        requires small { IfSome held (λ n. n ≤ 4096) }
+        requires file { self.old.file ≡ record { ino = ino; left = 0 } }
+        ensures basis { self.new.basis ≡ self.old.basis }
+        ensures begun { self.new.begun ≡ self.old.begun }
+        ensures bytes { (s : Source) (key : KeyOf) → ino ≡ number_of s key → HoldsBy (inline_in s key) (items_of key s.items) (size_in s key) held block.now.bytes → OnOk result (HasExtents s key self.new.file items.old items.new) }
+    {
+        match held {
+            Some(length) => add_inline(items, &mut self.body, ino, &block.bytes[..length]),
+            None => {
                 self.file.left = usize::MAX;
                 Ok(())
             }
-            _ => Ok(()),
         }
     }
 }
