@@ -1,3 +1,5 @@
+pub mod Extending
+pub mod Held
 pub mod Linked
 pub mod Named
 pub mod Ordering

@@ -9,7 +9,7 @@ ghost use Rattle.reiser_files.specs.Bytes.{tail_block};
 ghost use Rattle.reiser_files.specs.Runs.{block_from};
 ghost use Rattle.reiser_objects.specs.declared.key.ObjectKey.{ObjectKey as KeyOf};
 ghost use Rattle.reiser_objects.specs.Keys.{items_of};
-ghost use Rattle.reiser_volume.specs.Inline.{is_tail};
+ghost use Rattle.reiser_volume.specs.Inline.{is_inline, is_tail};
 ghost use Rattle.reiser_volume.specs.Made.{stat_at, kind_by};
 ghost use Rattle.reiser_volume.specs.Opened.{IsOpened};
 ghost use Rattle.reiser_volume.specs.Volume.{IsAccepted, volume_items};
@@ -48,21 +48,45 @@ pub fn inlined<S: BlockSource>(
     ensures held { OverTold S.tells (S.blocks src.old) (λ image. IsAccepted image → IsOpened volume.now image → (key : KeyOf) → IsAt volume.now place key → kind ≡ kind_by (stat_at (volume_items image) key)
         → MatchResult result (λ held. HoldsInline inline (items_of key (volume_items image)) (stat_at (volume_items image) key).fields.size kind held into.new.bytes) IsFaultOrMemory) }
 {
-    let inline = match kind {
-        Kind::Symlink => true,
-        Kind::File => inline && is_inline_file(alloc, src, volume, place)?,
+    if is_inline(alloc, src, volume, place, kind, inline)? {
+        let length = read_bytes(src, volume, place, into)?;
+        Ok(Some(length))
+    } else {
+        Ok(None)
+    }
+}
+
+/// Whether the object of this kind at a place stays in the tree.
+fn is_inline<S: BlockSource>(
+    alloc: Global,
+    src: &mut S,
+    volume: &Volume,
+    place: usize,
+    kind: Kind,
+    inline: bool,
+) -> Result<bool, VolAnswer>
+    requires { place < length (keys volume.now.named) }
+    ensures kept { S.kept src.old src.new }
+    ensures cause { HasCauseOf VolAnswer.Fault (S.faults src.old) (S.faults src.new) result }
+    ensures answers { IfErr result IsFileAnswer }
+    ensures test { OverTold S.tells (S.blocks src.old) (λ image. IsAccepted image → IsOpened volume.now image → (key : KeyOf) → IsAt volume.now place key
+        → MatchResult result (λ test. test ≡ is_inline inline (items_of key (volume_items image)) (stat_at (volume_items image) key).fields.size kind) IsFaultOrMemory) }
+{
+    match kind {
+        Kind::Symlink => Ok(true),
+        Kind::File => {
+            if inline {
+                is_inline_file(alloc, src, volume, place)
+            } else {
+                Ok(false)
+            }
+        }
         Kind::Directory
         | Kind::Character
         | Kind::Block
         | Kind::Fifo
         | Kind::Socket
-        | Kind::Subvolume => false,
-    };
-    if inline {
-        let length = read_bytes(src, volume, place, into)?;
-        Ok(Some(length))
-    } else {
-        Ok(None)
+        | Kind::Subvolume => Ok(false),
     }
 }
 

@@ -53,7 +53,7 @@ struct Basis {
 #[derive(Clone, Copy)]
 struct FileInHand {
     ino: u64,
-    /// How many of its pieces are still to come, if it has so many.
+    /// How many of its pieces are still to come.
     left: usize,
 }
 
@@ -218,7 +218,8 @@ impl FileTree {
         let inode = inode_from(self.basis.datasum, volume.sup().flags, stat, kind, sizes);
         add_inode(items, ino, &inode)?;
         self.add_names(items, volume, place)?;
-        self.add_content(items, ino, kind, held, block)
+        let count = self.basis.owners.under(ino).len();
+        self.add_content(items, ino, kind, held, block, count)
     }
 
     /// Takes the entries of the object at a place, if it is a directory.
@@ -288,7 +289,7 @@ impl FileTree {
         }
     }
 
-    /// Appends what an object holds, or takes its extents in hand.
+    /// Appends what an object holds, or takes its extents in hand, one for each of so many pieces.
     fn add_content(
         &mut self,
         items: &mut ItemList,
@@ -296,17 +297,18 @@ impl FileTree {
         kind: Kind,
         held: Option<usize>,
         block: &Block,
+        pieces: usize,
     ) -> Result<(), Memory>
         requires small { IfSome held (λ n. n ≤ 4096) }
         ensures basis { self.new.basis ≡ self.old.basis }
         ensures begun { self.new.begun ≡ self.old.begun }
-        ensures content { (s : Source) (key : KeyOf) → ino ≡ number_of s key → kind ≡ kind_in s key → (kind ≡ Kind.Directory → HasEntries ino (indexed_in (kind_in s) s.keys s.links key) self.old.directory)
+        ensures content { (s : Source) (key : KeyOf) → ino ≡ number_of s key → pieces ≡ length (pieces_of s.pieces (number_of s key)) → kind ≡ kind_in s key → (kind ≡ Kind.Directory → HasEntries ino (indexed_in (kind_in s) s.keys s.links key) self.old.directory)
             → HoldsInline s.inline (items_of key s.items) (size_in s key) kind held block.now.bytes → OnOk result (HasContent s key self.new.file items.old items.new) }
     {
         self.file = FileInHand { ino, left: 0 };
         match kind {
             Kind::Directory => self.directory.add_items(items, ino),
-            Kind::File | Kind::Symlink => self.add_bytes(items, ino, held, block),
+            Kind::File | Kind::Symlink => self.add_bytes(items, ino, held, block, pieces),
             Kind::Character | Kind::Block | Kind::Fifo | Kind::Socket | Kind::Subvolume => Ok(()),
         }
     }
@@ -318,17 +320,18 @@ impl FileTree {
         ino: u64,
         held: Option<usize>,
         block: &Block,
+        pieces: usize,
     ) -> Result<(), Memory>
         requires small { IfSome held (λ n. n ≤ 4096) }
         requires file { self.old.file ≡ record { ino = ino; left = 0 } }
         ensures basis { self.new.basis ≡ self.old.basis }
         ensures begun { self.new.begun ≡ self.old.begun }
-        ensures bytes { (s : Source) (key : KeyOf) → ino ≡ number_of s key → HoldsBy (inline_in s key) (items_of key s.items) (size_in s key) held block.now.bytes → OnOk result (HasExtents s key self.new.file items.old items.new) }
+        ensures bytes { (s : Source) (key : KeyOf) → ino ≡ number_of s key → pieces ≡ length (pieces_of s.pieces (number_of s key)) → HoldsBy (inline_in s key) (items_of key s.items) (size_in s key) held block.now.bytes → OnOk result (HasExtents s key self.new.file items.old items.new) }
     {
         match held {
             Some(length) => add_inline(items, &mut self.body, ino, &block.bytes[..length]),
             None => {
-                self.file.left = usize::MAX;
+                self.file.left = pieces;
                 Ok(())
             }
         }

@@ -1,4 +1,4 @@
-use Rattle.std.proofs.Common.{◌≡◌, ◌+◌, ◌<◌, ◌^◌, ◌++◌, ◌∷◌, [], ◌∙◌, ℕ, List, length, map, refl, sym, subst, arith}
+use Rattle.std.proofs.Common.{◌≡◌, ◌+◌, ◌<◌, ◌^◌, ◌++◌, ◌∷◌, [], ◌∙◌, ℕ, List, true, length, map, refl, sym, subst, arith}
 use Rattle.fs_rows.specs.declared.row.Kind.{Kind}
 use Rattle.indexmap.specs.IndexMap.{keys}
 use Rattle.btr_keys.specs.DirEntry.{DirEntryValue, dir_entry_value}

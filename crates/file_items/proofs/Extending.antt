@@ -1,0 +1,63 @@
+-- The extents of an object, in the tree itself or from its pieces on.
+use Rattle.std.proofs.Common.{◌≡◌, ◌≤◌, ℕ, ◌-◌, Bool, true, false, List, [], ◌∷◌, ◌++◌, length, drop, take, Option, Some, None, refl, sym, ap, subst, ◌∙◌, if◌then◌else◌, arith}
+use Rattle.std.proofs.lemmas.List.{append-nil}
+use Rattle.btr_node.specs.Leaf.{Item}
+use Rattle.item_list.specs.Extents.{extent_item, inline_extent}
+use Rattle.reiser_files.specs.Bytes.{tail_block, target_bytes}
+use Rattle.reiser_objects.specs.declared.key.ObjectKey.{ObjectKey}
+use Rattle.reiser_objects.specs.Keys.{items_of}
+use Rattle.unit_plan.specs.declared.piece.Piece.{Piece}
+use Rattle.file_items.specs.Contents.{HoldsBy, HoldsBytes}
+use Rattle.file_items.specs.Extents.{pieces_of, file_block, extents_at}
+use Rattle.file_items.specs.Stream.{HasExtents, file_ahead}
+use Rattle.file_items.specs.Tree.{Source, number_of, size_in, inline_in, extent_items}
+use Rattle.file_items.specs.declared.files.FileInHand.{FileInHand}
+use Rattle.file_items.proofs.Streaming.{none_left}
+
+extents_by : (s : Source) (key : ObjectKey) (b : Bool) → inline_in s key ≡ b
+    → extent_items s key ≡ (if b then extent_item (number_of s key) 0 (inline_extent (target_bytes (items_of key s.items) (size_in s key))) ∷ [] else extents_at (number_of s key) file_block (pieces_of s.pieces (number_of s key)))
+unfolding extent_items
+extents_by s key b is =
+    ap (λ (c : Bool). if c then extent_item (number_of s key) 0 (inline_extent (target_bytes (items_of key s.items) (size_in s key))) ∷ [] else extents_at (number_of s key) file_block (pieces_of s.pieces (number_of s key))) is
+
+pub held_inline : (s : Source) (key : ObjectKey) (ino n : ℕ) (held : Option ℕ) (block : List ℕ) (file : FileInHand) (old new : List Item) → ino ≡ number_of s key → held ≡ Some n → file ≡ record { ino = ino; left = 0 }
+    → HoldsBy (inline_in s key) (items_of key s.items) (size_in s key) held block → new ≡ old ++ extent_item ino 0 (inline_extent (take n block)) ∷ [] → HasExtents s key file old new
+held_inline s key ino n held block file old new ino_is held_is file_is holds new_is = by (inline_in s key) refl (subst (λ (o : Option ℕ). HoldsBy (inline_in s key) (items_of key s.items) (size_in s key) o block) held_is holds)
+  where
+    none_some : (m : ℕ) → Some m ≡ None → ⊥
+    none_some m is = absurd cc
+
+    empty : file_ahead file s.pieces ≡ []
+    empty =
+        ap (λ (f : FileInHand). file_ahead f s.pieces) file_is
+        ∙ ap (extents_at ino file_block) (none_left (pieces_of s.pieces ino) (length (pieces_of s.pieces ino) - 0) (omega arith))
+
+    by : (b : Bool) → inline_in s key ≡ b → HoldsBy b (items_of key s.items) (size_in s key) (Some n) block → HasExtents s key file old new
+    by false is none = absurd (none_some n none)
+    by true is has = record {
+      items = extent_item ino 0 (inline_extent (take n block)) ∷ [];
+      added = new_is;
+      are =
+          extents_by s key true is
+          ∙ (ap (λ (i : ℕ). extent_item i 0 (inline_extent (target_bytes (items_of key s.items) (size_in s key))) ∷ []) (sym ino_is)
+          ∙ (ap (λ (l : List ℕ). extent_item ino 0 (inline_extent (take (size_in s key) l)) ∷ []) (sym has.bytes)
+          ∙ (ap (λ (k : ℕ). extent_item ino 0 (inline_extent (take k block)) ∷ []) (sym has.count)
+          ∙ ap (λ (l : List Item). (extent_item ino 0 (inline_extent (take n block)) ∷ []) ++ l) (sym empty))));
+    }
+
+pub held_in_pieces : (s : Source) (key : ObjectKey) (ino count : ℕ) (held : Option ℕ) (block : List ℕ) (file : FileInHand) (old : List Item) → ino ≡ number_of s key → held ≡ None → file ≡ record { ino = ino; left = count } → count ≡ length (pieces_of s.pieces (number_of s key))
+    → HoldsBy (inline_in s key) (items_of key s.items) (size_in s key) held block → HasExtents s key file old old
+held_in_pieces s key ino count held block file old ino_is held_is file_is count_is holds = by (inline_in s key) refl (subst (λ (o : Option ℕ). HoldsBy (inline_in s key) (items_of key s.items) (size_in s key) o block) held_is holds)
+  where
+    whole : file_ahead file s.pieces ≡ extents_at (number_of s key) file_block (pieces_of s.pieces (number_of s key))
+    whole =
+        ap (λ (f : FileInHand). file_ahead f s.pieces) file_is
+        ∙ (ap (λ (i : ℕ). extents_at i file_block (drop (length (pieces_of s.pieces i) - count) (pieces_of s.pieces i))) ino_is
+        ∙ ap (λ (k : ℕ). extents_at (number_of s key) file_block (drop k (pieces_of s.pieces (number_of s key)))) none)
+      where
+        none : length (pieces_of s.pieces (number_of s key)) - count ≡ 0
+        none = omega (arith, count_is)
+
+    by : (b : Bool) → inline_in s key ≡ b → HoldsBy b (items_of key s.items) (size_in s key) None block → HasExtents s key file old old
+    by true is never = absurd never
+    by false is has = record { items = []; added = sym (append-nil old); are = extents_by s key false is ∙ sym whole }

@@ -1,0 +1,117 @@
+-- What of an object is held in the tree itself.
+use Rattle.std.proofs.Common.{◌≡◌, ◌<◌, ◌≤◌, ℕ, zero, suc, ◌*◌, ◌+◌, Bool, true, false, List, [], ◌∷◌, length, nat_le, nat_lt, ◌&&◌, get_or, Contains, Option, Some, None, refl, sym, ap, subst, ◌∙◌, true≢false, arith}
+use Rattle.std.specs.Prelude.{slice_get, unwrap_or}
+use Rattle.std.specs.Int.{div_ceil}
+use Rattle.std.proofs.lemmas.Bool.Decides.{nat_tests}
+use Rattle.std.proofs.lemmas.Option.{slice_get_within, get_or_from_slice_get}
+use Rattle.fs_rows.specs.declared.row.Kind.{Kind}
+use Rattle.fs_rows.specs.declared.row.Kind.TheVariants.{Directory, File, Symlink, Character, Block, Fifo, Socket, Subvolume}
+use Rattle.indexmap.specs.IndexMap.{keys, get}
+use Rattle.outside.specs.History.{Image}
+use Rattle.reiser_files.specs.declared.map.RunFrom.{RunFrom}
+use Rattle.reiser_files.specs.Runs.{block_from, file_runs, runs_of, extended}
+use Rattle.reiser_objects.specs.declared.key.ObjectKey.{ObjectKey}
+use Rattle.reiser_objects.specs.declared.stat.ObjectStat.{ObjectStat}
+use Rattle.reiser_objects.specs.Keys.{same_key, items_of}
+use Rattle.reiser_objects.specs.Kinds.{kind_of_mode}
+use Rattle.reiser_volume.specs.Inline.{is_inline, is_tail}
+use Rattle.reiser_volume.specs.Made.{stat_at, kind_by, no_stat}
+use Rattle.reiser_volume.specs.Opened.{IsOpened}
+use Rattle.reiser_volume.specs.Volume.{IsAccepted, volume_items}
+use Rattle.reiser_volume.specs.declared.volume.Volume.{Volume}
+use Rattle.reiser_walk.specs.Items.{Item}
+use Rattle.file_items.specs.Contents.{begins_in_tail}
+use Rattle.file_items.specs.Spots.{IsAt}
+
+pub contains_at : (volume : Volume) (place : ℕ) (key : ObjectKey) → IsAt volume place key → Contains (keys volume.named) key
+contains_at volume place key at = (place, slice_get_within (keys volume.named) place key at, get_or_from_slice_get (keys volume.named) place key key at)
+
+pub stat_is : (volume : Volume) (image : Image) (place : ℕ) (key : ObjectKey) (stat : ObjectStat) → IsOpened volume image → IsAt volume place key → get same_key volume.named key ≡ Some stat → stat_at (volume_items image) key ≡ stat
+stat_is volume image place key stat opened at has = ap (λ (o : Option ObjectStat). unwrap_or o no_stat) (sym (opened.stats key (contains_at volume place key at)) ∙ has)
+
+-- the size of what stays in the tree
+pub inline_low : (volume : Volume) (image : Image) (place : ℕ) (key : ObjectKey) (stat : ObjectStat) (inline : Bool) (kind : Kind) → IsAccepted image → IsOpened volume image → IsAt volume place key → get same_key volume.named key ≡ Some stat
+    → kind ≡ kind_by (stat_at (volume_items image) key) → is_inline inline (items_of key (volume_items image)) (stat_at (volume_items image) key).fields.size kind ≡ true → (stat_at (volume_items image) key).fields.size ≤ 3900
+inline_low volume image place key stat inline kind accepted opened at has kind_is is = by kind kind_is is
+  where
+    second : (a b : Bool) → (a && b) ≡ true → b ≡ true
+    second true b h = h
+    second false b h = absurd (true≢false (sym h))
+
+    first : (a b : Bool) → (a && b) ≡ true → a ≡ true
+    first true b h = refl
+    first false b h = absurd (true≢false (sym h))
+
+    low : (n : ℕ) → nat_le n 2048 ≡ true → n ≤ 3900
+    low n h = grind (arith, nat_tests)
+
+    some_kind : (o : Option Kind) → Symlink ≡ unwrap_or o File → o ≡ Some Symlink
+    some_kind None h = absurd (apart h)
+      where
+        apart : Symlink ≡ File → ⊥
+        apart h = true≢false (ap test h)
+          where
+            test : Kind → Bool
+            test Symlink = true
+            test File = false
+            test Directory = false
+            test Character = false
+            test Block = false
+            test Fifo = false
+            test Socket = false
+            test Subvolume = false
+    some_kind (Some k) h = ap (λ (j : Kind). Some j) (sym h)
+
+    of_link : Symlink ≡ kind_by (stat_at (volume_items image) key) → (stat_at (volume_items image) key).fields.size ≤ 3900
+    of_link kind_is =
+        let there = sym (opened.stats key (contains_at volume place key at)) ∙ has in
+        let same = stat_is volume image place key stat opened at has in
+        let mode = some_kind (kind_of_mode stat.fields.mode) (kind_is ∙ ap kind_by same) in
+        let low = accepted.names.keeps.targets key stat ((opened.are_keys.exact key).0 (contains_at volume place key at)) there mode in
+        let size = ap (λ (s : ObjectStat). s.fields.size) same in
+        omega (arith, low, size)
+
+    by : (k : Kind) → k ≡ kind_by (stat_at (volume_items image) key) → is_inline inline (items_of key (volume_items image)) (stat_at (volume_items image) key).fields.size k ≡ true → (stat_at (volume_items image) key).fields.size ≤ 3900
+    by File k_is h =
+        let size : ℕ = (stat_at (volume_items image) key).fields.size in
+        let tail : Bool = is_tail (block_from (items_of key (volume_items image)) size 0) in
+        low size (first (nat_le size 2048) tail (second inline (nat_le size 2048 && tail) h))
+    by Symlink k_is h = of_link k_is
+    by Directory k_is h = absurd (true≢false (sym h))
+    by Character k_is h = absurd (true≢false (sym h))
+    by Block k_is h = absurd (true≢false (sym h))
+    by Fifo k_is h = absurd (true≢false (sym h))
+    by Socket k_is h = absurd (true≢false (sym h))
+    by Subvolume k_is h = absurd (true≢false (sym h))
+
+-- a short file lies in direct items where its map begins so
+pub first_tail : (items : List Item) (size : ℕ) → size ≤ 2048 → begins_in_tail (file_runs items size) ≡ (nat_le size 2048 && is_tail (block_from items size 0))
+unfolding runs_of
+first_tail items size short = by size short
+  where
+    le : (n : ℕ) → n ≤ 2048 → nat_le n 2048 ≡ true
+    le n h = grind (arith, nat_tests)
+
+    one : (n : ℕ) → suc n ≤ 2048 → div_ceil (suc n) 4096 ≡ 1
+    one n h = omega arith
+
+    single : (f : ℕ → Option RunFrom) → begins_in_tail (runs_of f 1) ≡ is_tail (f 0)
+    single f = at (f 0)
+      where
+        at : (o : Option RunFrom) → begins_in_tail (extended [] 0 o) ≡ is_tail o
+        at None = refl
+        at (Some from) = refl
+
+    none : (f : ℕ → Option RunFrom) → begins_in_tail (runs_of f 0) ≡ false
+    none f = refl
+
+    by : (n : ℕ) → n ≤ 2048 → begins_in_tail (file_runs items n) ≡ (nat_le n 2048 && is_tail (block_from items n 0))
+    by zero h = none (block_from items 0)
+    by (suc n) h =
+        ap (λ (k : ℕ). begins_in_tail (runs_of (block_from items (suc n)) k)) (one n h) ∙ (single (block_from items (suc n)) ∙ sym (ap (λ (b : Bool). b && is_tail (block_from items (suc n) 0)) (le (suc n) h)))
+
+pub not_short : (n : ℕ) (b : Bool) → 2048 < n → false ≡ (nat_le n 2048 && b)
+not_short n b more = sym (ap (λ (c : Bool). c && b) (gt n more))
+  where
+    gt : (n : ℕ) → 2048 < n → nat_le n 2048 ≡ false
+    gt n h = grind (arith, nat_tests)
