@@ -12,6 +12,7 @@ use Rattle.reiser_files.specs.declared.map.RunFrom.{RunFrom}
 use Rattle.reiser_files.specs.Runs.{block_from, file_runs, runs_of, extended}
 use Rattle.reiser_objects.specs.declared.key.ObjectKey.{ObjectKey}
 use Rattle.reiser_objects.specs.declared.stat.ObjectStat.{ObjectStat}
+use Rattle.reiser_objects.specs.Items.{stat_of_object}
 use Rattle.reiser_objects.specs.Keys.{same_key, items_of}
 use Rattle.reiser_objects.specs.Kinds.{kind_of_mode}
 use Rattle.reiser_volume.specs.Inline.{is_inline, is_tail}
@@ -20,7 +21,7 @@ use Rattle.reiser_volume.specs.Opened.{IsOpened}
 use Rattle.reiser_volume.specs.Volume.{IsAccepted, volume_items}
 use Rattle.reiser_volume.specs.declared.volume.Volume.{Volume}
 use Rattle.reiser_walk.specs.Items.{Item}
-use Rattle.file_items.specs.Contents.{begins_in_tail}
+use Rattle.file_items.specs.Contents.{begins_in_tail, HoldsBy, HoldsBytes, HoldsInline}
 use Rattle.file_items.specs.Spots.{IsAt}
 
 pub contains_at : (volume : Volume) (place : ℕ) (key : ObjectKey) → IsAt volume place key → Contains (keys volume.named) key
@@ -30,9 +31,9 @@ pub stat_is : (volume : Volume) (image : Image) (place : ℕ) (key : ObjectKey) 
 stat_is volume image place key stat opened at has = ap (λ (o : Option ObjectStat). unwrap_or o no_stat) (sym (opened.stats key (contains_at volume place key at)) ∙ has)
 
 -- the size of what stays in the tree
-pub inline_low : (volume : Volume) (image : Image) (place : ℕ) (key : ObjectKey) (stat : ObjectStat) (inline : Bool) (kind : Kind) → IsAccepted image → IsOpened volume image → IsAt volume place key → get same_key volume.named key ≡ Some stat
+pub inline_low : (volume : Volume) (image : Image) (place : ℕ) (key : ObjectKey) (inline : Bool) (kind : Kind) → IsAccepted image → IsOpened volume image → IsAt volume place key
     → kind ≡ kind_by (stat_at (volume_items image) key) → is_inline inline (items_of key (volume_items image)) (stat_at (volume_items image) key).fields.size kind ≡ true → (stat_at (volume_items image) key).fields.size ≤ 3900
-inline_low volume image place key stat inline kind accepted opened at has kind_is is = by kind kind_is is
+inline_low volume image place key inline kind accepted opened at kind_is is = by kind kind_is is
   where
     second : (a b : Bool) → (a && b) ≡ true → b ≡ true
     second true b h = h
@@ -63,13 +64,16 @@ inline_low volume image place key stat inline kind accepted opened at has kind_i
     some_kind (Some k) h = ap (λ (j : Kind). Some j) (sym h)
 
     of_link : Symlink ≡ kind_by (stat_at (volume_items image) key) → (stat_at (volume_items image) key).fields.size ≤ 3900
-    of_link kind_is =
-        let there = sym (opened.stats key (contains_at volume place key at)) ∙ has in
-        let same = stat_is volume image place key stat opened at has in
-        let mode = some_kind (kind_of_mode stat.fields.mode) (kind_is ∙ ap kind_by same) in
-        let low = accepted.names.keeps.targets key stat ((opened.are_keys.exact key).0 (contains_at volume place key at)) there mode in
-        let size = ap (λ (s : ObjectStat). s.fields.size) same in
-        omega (arith, low, size)
+    of_link kind_is = go (stat_of_object (volume_items image) key) refl
+      where
+        go : (o : Option ObjectStat) → stat_of_object (volume_items image) key ≡ o → (stat_at (volume_items image) key).fields.size ≤ 3900
+        go None there = let size : (stat_at (volume_items image) key).fields.size ≡ 0 = ap (λ (p : Option ObjectStat). (unwrap_or p no_stat).fields.size) there in omega (arith, size)
+        go (Some stat) there =
+            let same : stat_at (volume_items image) key ≡ stat = ap (λ (p : Option ObjectStat). unwrap_or p no_stat) there in
+            let mode = some_kind (kind_of_mode stat.fields.mode) (kind_is ∙ ap kind_by same) in
+            let low = accepted.names.keeps.targets key stat ((opened.are_keys.exact key).0 (contains_at volume place key at)) there mode in
+            let size = ap (λ (s : ObjectStat). s.fields.size) same in
+            omega (arith, low, size)
 
     by : (k : Kind) → k ≡ kind_by (stat_at (volume_items image) key) → is_inline inline (items_of key (volume_items image)) (stat_at (volume_items image) key).fields.size k ≡ true → (stat_at (volume_items image) key).fields.size ≤ 3900
     by File k_is h =
@@ -115,3 +119,15 @@ not_short n b more = sym (ap (λ (c : Bool). c && b) (gt n more))
   where
     gt : (n : ℕ) → 2048 < n → nat_le n 2048 ≡ false
     gt n h = grind (arith, nat_tests)
+
+-- a file where short ones stay in the tree
+pub file_inline : (inline : Bool) (items : List Item) (size : ℕ) (kind : Kind) (test : Bool) → kind ≡ File → inline ≡ true → test ≡ (nat_le size 2048 && is_tail (block_from items size 0)) → test ≡ is_inline inline items size kind
+file_inline inline items size kind test kind_is inline_is is =
+    is ∙ sym (ap (λ (k : Kind). is_inline inline items size k) kind_is ∙ ap (λ (b : Bool). b && (nat_le size 2048 && is_tail (block_from items size 0))) inline_is)
+
+-- what an inline object holds, and what another one
+pub holds_inline : (inline : Bool) (items : List Item) (size : ℕ) (kind : Kind) (n : ℕ) (block : List ℕ) → is_inline inline items size kind ≡ true → HoldsBytes items size n block → HoldsInline inline items size kind (Some n) block
+holds_inline inline items size kind n block is has = subst (λ (b : Bool). HoldsBy b items size (Some n) block) (sym is) has
+
+pub holds_nothing : (inline : Bool) (items : List Item) (size : ℕ) (kind : Kind) (block : List ℕ) → is_inline inline items size kind ≡ false → HoldsInline inline items size kind None block
+holds_nothing inline items size kind block is = subst (λ (b : Bool). HoldsBy b items size None block) (sym is) refl
