@@ -1,16 +1,19 @@
 -- The extents of an object, in the tree itself or from its pieces on.
 use Rattle.std.proofs.Common.{◌≡◌, ◌≤◌, ℕ, ◌-◌, Bool, true, false, List, [], ◌∷◌, ◌++◌, length, drop, take, Option, Some, None, refl, sym, ap, subst, ◌∙◌, if◌then◌else◌, arith}
+use Rattle.std.specs.List.{flat_map}
 use Rattle.std.proofs.lemmas.List.{append-nil}
 use Rattle.btr_node.specs.Leaf.{Item}
 use Rattle.item_list.specs.Extents.{extent_item, inline_extent}
 use Rattle.reiser_files.specs.Bytes.{tail_block, target_bytes}
 use Rattle.reiser_objects.specs.declared.key.ObjectKey.{ObjectKey}
 use Rattle.reiser_objects.specs.Keys.{items_of}
+use Rattle.reiser_volume.specs.Numbers.{by_inode}
 use Rattle.unit_plan.specs.declared.piece.Piece.{Piece}
 use Rattle.file_items.specs.Contents.{HoldsBy, HoldsBytes}
-use Rattle.file_items.specs.Extents.{pieces_of, file_block, extents_at}
+use Rattle.file_items.specs.Extents.{pieces_of, pieces_of_volume, piece_bytes, file_block, source_block, extents_at}
+use Rattle.file_items.specs.Small.{image_head, image_items}
 use Rattle.file_items.specs.Stream.{HasExtents, file_ahead}
-use Rattle.file_items.specs.Tree.{Source, number_of, size_in, inline_in, extent_items}
+use Rattle.file_items.specs.Tree.{Source, number_of, size_in, inline_in, extent_items, object_items, tree_items}
 use Rattle.file_items.specs.declared.files.FileInHand.{FileInHand}
 use Rattle.file_items.proofs.Streaming.{none_left}
 
@@ -61,3 +64,15 @@ held_in_pieces s key ino count held block file old ino_is held_is file_is count_
     by : (b : Bool) → inline_in s key ≡ b → HoldsBy b (items_of key s.items) (size_in s key) None block → HasExtents s key file old old
     by true is never = absurd never
     by false is has = record { items = []; added = sym (append-nil old); are = extents_by s key false is ∙ sym whole }
+
+-- the stream of the file tree begins with all objects
+pub tree_begins : (s : Source) (pieces : List Piece) → file_ahead (record { ino = 0; left = 0 }) pieces ++ flat_map (object_items s) (by_inode s.keys) ≡ tree_items s
+unfolding tree_items
+tree_begins s pieces = ap (λ (l : List Item). l ++ flat_map (object_items s) (by_inode s.keys)) (ap (extents_at 0 file_block) (none_left (pieces_of pieces 0) (length (pieces_of pieces 0) - 0) (omega arith)))
+
+-- that of the saved image with its head
+pub image_is : (blocks nbytes now : ℕ) (pieces : List Piece) (datasum : Bool) (head : List Item) → head ≡ image_head blocks nbytes datasum now → nbytes ≡ piece_bytes (pieces_of_volume pieces)
+    → head ++ extents_at 257 source_block (pieces_of_volume pieces) ≡ image_items blocks pieces datasum now
+unfolding image_items
+image_is blocks nbytes now pieces datasum head head_is bytes_is =
+    ap (λ (l : List Item). l ++ extents_at 257 source_block (pieces_of_volume pieces)) (head_is ∙ ap (λ (n : ℕ). image_head blocks n datasum now) bytes_is)
