@@ -208,7 +208,7 @@ module _ {S : Type 0} (all : List ObjectKey) (once : AllPairs (λ (a b : ObjectK
       → AreSizes all new (take (n + 1) links)
   sizes_more grows = λ q d o at_d at_o.
       let tests : same_names (record { dir = dir; object = object }) q ≡ (same_key x.dir d && same_key x.target o) =
-              ap (λ (b : Bool). b && (object == q.object)) (same_places all dir q.dir x.dir d once at_dir at_d) ∙ ap (λ (b : Bool). same_key x.dir d && b) (same_places all object q.object x.target o once at_object at_o) in
+      ap (λ (b : Bool). b && (object == q.object)) (same_places all dir q.dir x.dir d once at_dir at_d) ∙ ap (λ (b : Bool). same_key x.dir d && b) (same_places all object q.object x.target o once at_object at_o) in
       grows q ∙ (ap (λ (b : Bool). if b then capped (tally same_names old (record { dir = dir; object = object }) + size) else tally same_names old q) tests
       ∙ (by q d o at_d at_o (same_key x.dir d && same_key x.target o) refl ∙ ap (λ (l : List Naming). capped (reference_size l d o)) (sym one_more)))
     where

@@ -108,7 +108,7 @@ of_inode pieces ino =
 pub owners_are : (pieces : List Piece) (spots sorted : List Spot) → Tells pieces owner_inode spots (by_block pieces) → sorted ≡ ascending (λ spot. spot.of) spots → AreOwners sorted pieces
 owners_are pieces spots sorted tells is = λ ino.
     tells_there pieces owner_inode (filter (is_under ino) sorted) (filter (λ p. owner_inode p == ino) (ascending owner_inode (by_block pieces)))
-        (tells_under pieces owner_inode ino sorted (ascending owner_inode (by_block pieces)) (tells_sorted pieces owner_inode spots sorted (by_block pieces) tells is))
+    (tells_under pieces owner_inode ino sorted (ascending owner_inode (by_block pieces)) (tells_sorted pieces owner_inode spots sorted (by_block pieces) tells is))
     ∙ ap (map (λ (p : Piece). Some p)) (of_inode pieces ino)
 
 -- the piece that a spot tells

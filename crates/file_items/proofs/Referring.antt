@@ -46,13 +46,13 @@ refs_added keys links key ino refs far extra items₀ items₁ items₂ ino_is r
     let plain : List Entry = filter (λ e. not e.extended) (names_of links key) in
     let more : List Entry = filter (λ e. e.extended) (names_of links key) in
     let one : joined ino 12 refs ≡ inode_refs keys links key =
-            ap (joined ino 12) refs_are ∙ (joined_of ino 12 (λ (e : Entry). ino) (λ (e : Entry). 12) (parent_of keys) (λ (e : Entry). inode_ref_bytes (inode_ref e)) plain
-            ∙ ap (λ (n : ℕ). map (λ (g : ℕ × List Entry). (make_key n 12 g.0, flat_map (λ (e : Entry). inode_ref_bytes (inode_ref e)) g.1)) (grouped (parent_of keys) plain)) ino_is) in
+    ap (joined ino 12) refs_are ∙ (joined_of ino 12 (λ (e : Entry). ino) (λ (e : Entry). 12) (parent_of keys) (λ (e : Entry). inode_ref_bytes (inode_ref e)) plain
+    ∙ ap (λ (n : ℕ). map (λ (g : ℕ × List Entry). (make_key n 12 g.0, flat_map (λ (e : Entry). inode_ref_bytes (inode_ref e)) g.1)) (grouped (parent_of keys) plain)) ino_is) in
     let other : joined ino 13 extra ≡ extrefs keys links key =
-            ap (joined ino 13) (extra_is ∙ (ap (map (λ (i : Item). (make_key ino 13 i.0.objectid, i.1))) (ap (ascending offset_of) far_is ∙ ascending_map offset_of (far_record keys) more)
-            ∙ map_twice (λ (i : Item). (make_key ino 13 i.0.objectid, i.1)) (far_record keys) (ascending (parent_of keys) more)))
-            ∙ (joined_of ino 13 (λ (e : Entry). ino) (λ (e : Entry). 13) (λ (e : Entry). extref_hash (parent_of keys e) e.link.name) (λ (e : Entry). extref_bytes (extref keys e)) (ascending (parent_of keys) more)
-            ∙ ap (λ (n : ℕ). map (λ (g : ℕ × List Entry). (make_key n 13 g.0, flat_map (λ (e : Entry). extref_bytes (extref keys e)) g.1)) (grouped (λ (e : Entry). extref_hash (parent_of keys e) e.link.name) (ascending (parent_of keys) more))) ino_is) in
+    ap (joined ino 13) (extra_is ∙ (ap (map (λ (i : Item). (make_key ino 13 i.0.objectid, i.1))) (ap (ascending offset_of) far_is ∙ ascending_map offset_of (far_record keys) more)
+    ∙ map_twice (λ (i : Item). (make_key ino 13 i.0.objectid, i.1)) (far_record keys) (ascending (parent_of keys) more)))
+    ∙ (joined_of ino 13 (λ (e : Entry). ino) (λ (e : Entry). 13) (λ (e : Entry). extref_hash (parent_of keys e) e.link.name) (λ (e : Entry). extref_bytes (extref keys e)) (ascending (parent_of keys) more)
+    ∙ ap (λ (n : ℕ). map (λ (g : ℕ × List Entry). (make_key n 13 g.0, flat_map (λ (e : Entry). extref_bytes (extref keys e)) g.1)) (grouped (λ (e : Entry). extref_hash (parent_of keys e) e.link.name) (ascending (parent_of keys) more))) ino_is) in
     second ∙ (ap (λ (l : List Item). l ++ joined ino 13 extra) first ∙ (append_assoc items₀ (joined ino 12 refs) (joined ino 13 extra)
     ∙ ap (λ (l : List Item). items₀ ++ l) (ap (λ (l : List Item). l ++ joined ino 13 extra) one ∙ ap (λ (l : List Item). inode_refs keys links key ++ l) other)))
 

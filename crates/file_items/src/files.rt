@@ -131,11 +131,7 @@ impl FileTree {
     }
 
     /// Appends the next extent of the file in hand. Whether there is one.
-    fn add_extent<P: PieceList>(
-        &mut self,
-        items: &mut ItemList,
-        pieces: &P,
-    ) -> Result<bool, Memory>
+    fn add_extent<P: PieceList>(&mut self, items: &mut ItemList, pieces: &P) -> Result<bool, Memory>
         requires owners { AreOwners self.old.basis.owners (P.pieces pieces.now) }
         ensures basis { self.new.basis ≡ self.old.basis }
         ensures begun { self.new.begun ≡ self.old.begun }
@@ -237,13 +233,8 @@ impl FileTree {
             → OnOk result (HasEntries ino (indexed_in (λ k. kind_by (stat_at (volume_items image) k)) (keys volume.now.named) (links_in volume.now) key) self.new.directory) }
     {
         if kind.is_directory() {
-            self.directory.gather(
-                volume,
-                &self.basis.links,
-                self.basis.numbers,
-                place,
-                ino,
-            )
+            self.directory
+                .gather(volume, &self.basis.links, self.basis.numbers, place, ino)
         } else {
             Ok(())
         }
@@ -279,13 +270,7 @@ impl FileTree {
         if self.basis.numbers.is_root(place) {
             add_root_ref(items, &mut self.body)
         } else {
-            self.names.add_items(
-                items,
-                volume,
-                &self.basis.links,
-                self.basis.numbers,
-                place,
-            )
+            self.names.add_items(items, volume, &self.basis.links, self.basis.numbers, place)
         }
     }
 

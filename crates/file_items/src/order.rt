@@ -30,11 +30,7 @@ fn block_spots<P: PieceList>(alloc: Global, pieces: &P) -> Result<Vec<Spot>, Mem
 }
 
 /// The same pieces under their inodes.
-fn owner_spots<P: PieceList>(
-    alloc: Global,
-    pieces: &P,
-    blocks: &Spots,
-) -> Result<Vec<Spot>, Memory>
+fn owner_spots<P: PieceList>(alloc: Global, pieces: &P, blocks: &Spots) -> Result<Vec<Spot>, Memory>
     requires { Tells (P.pieces pieces.now) file_block blocks.now (by_block (P.pieces pieces.now)) }
     ensures { IfOk result (λ spots. Tells (P.pieces pieces.now) owner_inode spots.items (by_block (P.pieces pieces.now))) }
 {

@@ -47,7 +47,6 @@ fn made(now: u64, mode: u32, size: u64, nbytes: u64, flags: u64) -> Inode
     }
 }
 
-
 /// Appends an inode.
 pub fn add_inode(items: &mut ItemList, ino: u64, inode: &Inode) -> Result<(), Memory>
     ensures { OnOk result (items.new ≡ items.old ++ (make_key ino 1 0, inode_bytes inode.now) ∷ []) }

@@ -56,8 +56,8 @@ run_added objectid kind records old new next end offset body sorted_is some with
     let at_end : next + m ≡ end = omega (arith, some) in
     let rest : drop m (drop next records) ≡ drop end records = drop-drop m next records ∙ ap (λ (n : ℕ). drop n records) at_end in
     let first = first_run offset_of offset m (drop next records) (sorted_drop offset_of next records sorted) (omega (arith, some)) (omega (arith, long, within, some))
-        (λ k d less. ap offset_of (get_or-drop next records k d) ∙ (same (next + k) d (omega arith) (omega (arith, less, some)) ∙ sym (offset_is d)))
-        (λ d less is. apart d (omega (arith, less, long, some)) (ap (λ (n : ℕ). offset_of (get_or records n d)) (sym at_end) ∙ (sym (ap offset_of (get_or-drop next records m d)) ∙ (is ∙ offset_is d)))) in
+    (λ k d less. ap offset_of (get_or-drop next records k d) ∙ (same (next + k) d (omega arith) (omega (arith, less, some)) ∙ sym (offset_is d)))
+    (λ d less is. apart d (omega (arith, less, long, some)) (ap (λ (n : ℕ). offset_of (get_or records n d)) (sym at_end) ∙ (sym (ap offset_of (get_or-drop next records m d)) ∙ (is ∙ offset_is d)))) in
     ap (λ (l : List Item). l ++ joined objectid kind (drop end records)) new_is
     ∙ (append_assoc old ((make_key objectid kind offset, body) ∷ []) (joined objectid kind (drop end records))
     ∙ ap (λ (l : List Item). old ++ l)

@@ -41,7 +41,8 @@ returns-clause-next g c = λ blocks small placed.
     let count : extent.count ≡ p.count = ap (λ (e : Extent). e.count) c.extent_of.ensures in
     let added = c.in_ok-add_extent.ensures (omega (arith, block, bound.block)) (omega (arith, place, bound.place)) (omega (arith, count, bound.count)) in
     let before : length (pieces_of all ino) - left ≡ i = omega (arith, long, c.min-left.ensures) in
-    let behind : i + 1 ≡ length (pieces_of all ino) - (c.min-left.result - 1) = omega (arith, long, c.min-left.ensures, c.if-left-eq0.false) in
-    (extent_item ino (file_block p) (regular_extent p.place p.count),
+    let behind : i + 1 ≡ length (pieces_of all ino) - (c.min-left.result - 1) = omega (arith, long, c.min-left.ensures, c.if-left-eq0.false) in (
+      extent_item ino (file_block p) (regular_extent p.place p.count),
       added ∙ ap (λ (e : Extent). c.args.items.now ++ extent_item ino e.block (regular_extent e.place e.count) ∷ []) c.extent_of.ensures,
-      ap (extents_at ino file_block) (ap (λ (k : ℕ). drop k (pieces_of all ino)) before ∙ (at.rest ∙ (ap (λ (q : Piece). q ∷ drop (i + 1) (pieces_of all ino)) same ∙ ap (λ (k : ℕ). p ∷ drop k (pieces_of all ino)) behind))))
+      ap (extents_at ino file_block) (ap (λ (k : ℕ). drop k (pieces_of all ino)) before ∙ (at.rest ∙ (ap (λ (q : Piece). q ∷ drop (i + 1) (pieces_of all ino)) same ∙ ap (λ (k : ℕ). p ∷ drop k (pieces_of all ino)) behind))),
+    )

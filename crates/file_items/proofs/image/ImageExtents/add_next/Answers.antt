@@ -20,7 +20,9 @@ returns-clause-next g c = λ blocks small placed.
     let at = piece_at all (pieces_of_volume all) c.args.self.now.order c.args.self.now.given c.get.result c.requires.order c.get.ensures in
     let same : at.piece ≡ p = piece_same at.piece p (sym at.there ∙ c.get-2.ensures) in
     let bound = bounded blocks all c.get.result.number p small placed c.get-2.ensures in
-    let source : c.source_block.result < 2 ^ 52 = omega (arith, c.source_block.ensures, bound.source) in
-    (extent_item 257 (source_block p) (regular_extent p.place p.count), [],
+    let source : c.source_block.result < 2 ^ 52 = omega (arith, c.source_block.ensures, bound.source) in (
+      extent_item 257 (source_block p) (regular_extent p.place p.count),
+      [],
       c.in_ok-add_extent.ensures source bound.place bound.count ∙ ap (λ (b : ℕ). c.args.items.now ++ extent_item 257 b (regular_extent p.place p.count) ∷ []) c.source_block.ensures,
-      ap (extents_at 257 source_block) (at.rest ∙ ap (λ (q : Piece). q ∷ drop (c.args.self.now.given + 1) (pieces_of_volume all)) same))
+      ap (extents_at 257 source_block) (at.rest ∙ ap (λ (q : Piece). q ∷ drop (c.args.self.now.given + 1) (pieces_of_volume all)) same),
+    )
