@@ -8,10 +8,10 @@ use Rattle.btr_keys.specs.declared.key.Key.{Key}
 use Rattle.btr_node.specs.Order.{is_before}
 use Rattle.btr_walk.specs.declared.map.MapRange.{MapRange}
 use Rattle.btr_walk.specs.declared.walker.TreeWalker.{TreeWalker}
-use Rattle.btr_walk.specs.Events.{TreeItem, items_in_events}
+use Rattle.btr_walk.specs.Events.{TreeItem}
 use Rattle.btr_walk.specs.Tree.{order_damages}
-use Rattle.btr_walk.specs.Walks.{Walks, last_after, found, rest}
-use Rattle.btr_walk.proofs.Events.{items_in-append, last_after-append, order_damages-append}
+use Rattle.btr_walk.specs.Walks.{Walks, last_after}
+use Rattle.btr_walk.proofs.Events.{last_after-append, order_damages-append}
 use Rattle.btr_files.proofs.ExtentLists.{none_right}
 use Rattle.btr_contents.specs.Gathering.{last_inode}
 
@@ -38,10 +38,3 @@ next_inode w image ranges given i walks =
 
 pub now_last : (given : List TreeItem) (i : TreeItem) → last_inode (given ++ i ∷ []) ≡ i.key.objectid
 now_last given i = ap (λ (o : Option Key). option_map_or (λ key. key.objectid) o 0) (last_after-append None given (i ∷ []))
-
--- what was given are the first items of the tree
-pub given_first : (w : TreeWalker) (image : Image) (ranges : List MapRange) (given : List TreeItem) → Walks w image ranges given → (later : List TreeItem) × (found image ranges w.tree ≡ given ++ later)
-given_first w image ranges given k = (
-  items_in_events (rest image ranges w),
-  ap items_in_events (sym k.whole) ∙ (items_in-append k.done (rest image ranges w) ∙ ap (λ (z : List TreeItem). z ++ items_in_events (rest image ranges w)) k.items),
-)

@@ -47,7 +47,7 @@ impl Contents {
         while walker.advance(src, ranges)? {
             let key = walker.key();
             let wanted = item_wanted(names, named, &key);
-            match gathering.add_item(
+            gathering.add_item(
                 alloc,
                 src,
                 ranges,
@@ -55,10 +55,7 @@ impl Contents {
                 &key,
                 walker.body(),
                 walker.leaf(),
-            ) {
-                Ok(()) => {}
-                Err(e) => return Err(e),
-            }
+            )?;
         }
         let known = gathering.finish(alloc)?;
         Ok(Contents { known })

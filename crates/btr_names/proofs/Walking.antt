@@ -1,20 +1,8 @@
 -- One more item of a walk.
 use Rattle.std.proofs.Common.{◌≡◌, ℕ, ◌==◌, nat_eq, Bool, true, false, ◌&&◌, ◌||◌, List, [], ◌∷◌, ◌++◌, refl, sym, ◌∙◌, ap}
 use Rattle.std.proofs.lemmas.List.Folds.{list_any-append}
-use Rattle.outside.specs.History.{Image}
-use Rattle.outside.specs.declared.answer.BtrAnswer.{BtrAnswer}
-use Rattle.outside.specs.declared.answer.BtrAnswer.TheVariants.{Refused, Fault, Memory}
-use Rattle.btr_walk.specs.declared.map.MapRange.{MapRange}
-use Rattle.btr_walk.specs.declared.tree.Tree.{Tree}
 use Rattle.btr_walk.specs.Events.{TreeItem}
-use Rattle.btr_walk.specs.Walks.{IsAmong, wrong}
-use Rattle.btr_names.specs.Read.{BlamesTree}
 use Rattle.btr_names.specs.Roots.{is_root_of, has_root}
-
-pub among_blames : (image : Image) (ranges : List MapRange) (tree : Tree) (e : BtrAnswer) → IsAmong (wrong image ranges tree) e → BlamesTree image ranges tree e
-among_blames image ranges tree (Refused r) h = h
-among_blames image ranges tree Fault h = tt
-among_blames image ranges tree Memory h = tt
 
 pub or_none : (b : Bool) → (b || false) ≡ b
 or_none true = refl

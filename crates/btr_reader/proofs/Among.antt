@@ -5,7 +5,6 @@ use Rattle.outside.specs.Fault.{HasCauseOf, Rose}
 use Rattle.outside.specs.declared.answer.BtrAnswer.{BtrAnswer}
 use Rattle.outside.specs.declared.answer.BtrAnswer.TheVariants.{Refused, Fault, Memory}
 use Rattle.outside.specs.declared.refusal.BtrRefusal.{BtrRefusal}
-use Rattle.btr_walk.specs.Walks.{Blames}
 use Rattle.btr_reader.specs.Opening.{IsAmong, or_later}
 
 pub among_left : (xs ys : List BtrRefusal) (e : BtrAnswer) → IsAmong xs e → IsAmong (xs ++ ys) e
@@ -18,18 +17,13 @@ among_right xs ys (Refused r) h = Contains-append_right xs ys r h
 among_right xs ys Fault h = tt
 among_right xs ys Memory h = tt
 
-pub blames_among : (xs : List BtrRefusal) (e : BtrAnswer) → Blames xs e → IsAmong xs e
-blames_among xs (Refused r) h = h
-blames_among xs Fault h = tt
-blames_among xs Memory h = tt
-
-none_first : (ys : List BtrRefusal) (e : BtrAnswer) → IsAmong [] e → IsAmong ys e
-none_first ys (Refused r) (k, lt, is) = absurd (omega (arith, lt))
-none_first ys Fault h = tt
-none_first ys Memory h = tt
+pub among_none : (ys : List BtrRefusal) (e : BtrAnswer) → IsAmong [] e → IsAmong ys e
+among_none ys (Refused r) (k, lt, is) = absurd (omega (arith, lt))
+among_none ys Fault h = tt
+among_none ys Memory h = tt
 
 pub among_first : (xs ys : List BtrRefusal) (e : BtrAnswer) → IsAmong xs e → IsAmong (or_later xs ys) e
-among_first [] ys e h = none_first ys e h
+among_first [] ys e h = among_none ys e h
 among_first (x ∷ xs) ys e h = h
 
 pub among_later : (xs ys : List BtrRefusal) (e : BtrAnswer) → xs ≡ [] → IsAmong ys e → IsAmong (or_later xs ys) e

@@ -1,9 +1,12 @@
 -- The steps on the way to the saved image.
-use Rattle.std.proofs.Common.{◌≡◌, ℕ, true, List, [], ◌∷◌, ◌++◌, length, codes, if◌then◌else◌, Option, Some, None, Result, Ok, refl, sym, ◌∙◌, ap, subst}
+use Rattle.std.proofs.Common.{◌≡◌, ℕ, true, List, [], ◌∷◌, ◌++◌, length, codes, if◌then◌else◌, Option, Some, None, Result, Ok, Err, refl, sym, ◌∙◌, ap, subst, arith}
 use Rattle.std.specs.Option.{option_and_then}
 use Rattle.outside.specs.History.{Image}
 use Rattle.outside.specs.declared.answer.BtrAnswer.{BtrAnswer}
+use Rattle.outside.specs.declared.answer.BtrAnswer.TheVariants.{Refused, Fault, Memory}
 use Rattle.outside.specs.declared.refusal.BtrRefusal.{BtrRefusal}
+use Rattle.outside.specs.declared.refusal.BtrRefusal.TheVariants.{BadBtrfs}
+use Rattle.outside.specs.declared.rule.BtrRule.TheVariants.{Body}
 use Rattle.btr_keys.specs.Inode.{inode_of}
 use Rattle.btr_keys.specs.declared.inode.Inode.{Inode}
 use Rattle.btr_keys.specs.declared.key.Key.{Key}
@@ -25,7 +28,7 @@ use Rattle.btr_reader.specs.Pieces.{Gathers, MapsImage}
 use Rattle.btr_reader.specs.Reading.{FindsTree, FindsFile, ReadsImage}
 use Rattle.btr_reader.specs.Roots.{root_item, pointer_of}
 use Rattle.btr_reader.specs.Rows.{roots_on}
-use Rattle.btr_reader.proofs.Among.{among_first}
+use Rattle.btr_reader.proofs.Among.{among_none, among_first}
 use Rattle.btr_reader.proofs.Opens.{opening_is}
 
 -- the same answer, of the same image and refusals
@@ -33,6 +36,38 @@ reads_as : (ranges : List MapRange) (file other : Option ImageFile) (refusals ot
     → ReadsImage ranges file refusals result → ReadsImage ranges other others result
 reads_as ranges file other refusals others result is same reads =
     subst (λ (z : List BtrRefusal). ReadsImage ranges other z result) same (subst (λ (f : Option ImageFile). ReadsImage ranges f refusals result) is reads)
+
+-- a walk of a tree with which nothing is wrong is not refused
+pub walk_refused : (image : Image) (ranges slice : List MapRange) (tree : Tree) (others : List BtrRefusal) (e : BtrAnswer) → slice ≡ ranges → wrong image ranges tree ≡ [] → IsAmong (wrong image slice tree) e
+    → IsAmong others e
+walk_refused image ranges slice tree others e same sound bad =
+    among_none others e (subst (λ (z : List BtrRefusal). IsAmong z e) sound (subst (λ (r : List MapRange). IsAmong (wrong image r tree) e) same bad))
+
+-- an inode item that is off its grammar
+inode_off : (ranges : List MapRange) (items : List TreeItem) (ino : ℕ) (item : Option TreeItem) (e : BtrAnswer) → FindsFile item (Err e) → IsAmong (file_refusals ranges items ino item) e
+inode_off ranges items ino None (Refused r) finds = absurd finds
+inode_off ranges items ino None Fault finds = tt
+inode_off ranges items ino None Memory finds = tt
+inode_off ranges items ino (Some i) (Refused r) (none, is) =
+    subst (λ (o : Option Inode). IsAmong (own_refusals ranges (extents_of items ino) i.leaf o) (Refused r)) (sym none)
+    (subst (λ (x : BtrRefusal). IsAmong (BadBtrfs i.leaf Body ∷ []) (Refused x)) (sym is) (0, omega arith, refl))
+inode_off ranges items ino (Some i) Fault finds = tt
+inode_off ranges items ino (Some i) Memory finds = tt
+
+pub inode_refused : (image : Image) (ranges slice : List MapRange) (tree : Tree) (items : List TreeItem) (ino : ℕ) (e : BtrAnswer) → slice ≡ ranges → found image ranges tree ≡ items
+    → FindsFile (inode_item (found image slice tree) ino) (Err e) → IsAmong (file_refusals ranges items ino (inode_item items ino)) e
+inode_refused image ranges slice tree items ino e same is finds =
+    let all : List TreeItem = found image ranges tree in
+    subst (λ (z : List TreeItem). IsAmong (file_refusals ranges z ino (inode_item z ino)) e) is
+    (inode_off ranges all ino (inode_item all ino) e (subst (λ (r : List MapRange). FindsFile (inode_item (found image r tree) ino) (Err e)) same finds))
+
+-- a root item that is off its grammar
+pub root_item_refused : (s : Super) (number : ℕ) (next : Pointer → List BtrRefusal) (root : Option TreeItem) (e : BtrAnswer) → FindsTree s number root (Err e) → IsAmong (after_root next root) e
+root_item_refused s number next root (Refused r) (i, is, none, off) =
+    subst (λ (z : List BtrRefusal). IsAmong z (Refused r)) (sym (ap (after_root next) is ∙ ap (after_pointer next i.leaf) none))
+    (subst (λ (x : BtrRefusal). IsAmong (BadBtrfs i.leaf Body ∷ []) (Refused x)) (sym off) (0, omega arith, refl))
+root_item_refused s number next root Fault finds = tt
+root_item_refused s number next root Memory finds = tt
 
 -- a regular file: its refusals are those of its extents
 refusals_of_file : (ranges : List MapRange) (items : List TreeItem) (ino : ℕ) (i : TreeItem) (own : Inode) → inode_of i.body ≡ Some own → is_file own.mode ≡ true

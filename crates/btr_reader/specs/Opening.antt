@@ -1,5 +1,5 @@
 -- What is read of a volume as it is opened: the superblock, the chunks and the root tree.
-use Rattle.std.specs.Prelude.{◌≡◌, ℕ, ◌≤◌, List, [], ◌∷◌, ◌++◌, length, take, map, Option, Some, None, unwrap_or, Result, Ok, Err, Contains}
+use Rattle.std.specs.Prelude.{◌≡◌, ℕ, ◌≤◌, List, [], ◌∷◌, ◌++◌, length, take, map, Option, Some, None, unwrap_or, Result, Ok, Err}
 use Rattle.outside.specs.History.{Image, block_at}
 use Rattle.outside.specs.declared.answer.BtrAnswer.{BtrAnswer}
 use Rattle.outside.specs.declared.answer.BtrAnswer.TheVariants.{Refused, Fault, Memory}
@@ -16,6 +16,7 @@ use Rattle.btr_walk.specs.declared.tree.Form.{Form}
 use Rattle.btr_walk.specs.declared.tree.Pointer.{Pointer}
 use Rattle.btr_walk.specs.declared.tree.Tree.{Tree}
 use Rattle.btr_walk.specs.Walks.{wrong, found}
+pub use Rattle.btr_walk.specs.Walks.{IsAmong}
 use Rattle.btr_reader.specs.declared.chunk.ChunkAt.{ChunkAt}
 use Rattle.btr_reader.specs.Chunks.{range_of, array_chunks, chunks_refusals, with_items, items_refusals}
 
@@ -85,12 +86,6 @@ pub record IsOpened (image : Image) (s : Super) (ranges : List MapRange) : Type 
   pub sound : opening_refusals image ≡ []
   pub super : super_on image ≡ Ok s
   pub map_is : ranges ≡ chunk_map image s
-
--- a refusal is one of these
-abbrev pub IsAmong : List BtrRefusal → BtrAnswer → Type 0
-IsAmong refusals (Refused r) = Contains refusals r
-IsAmong refusals Fault = Unit {0}
-IsAmong refusals Memory = Unit {0}
 
 -- the answer names no log tree
 abbrev pub NamesNoLogTree : BtrAnswer → Type 0

@@ -199,10 +199,7 @@ pub fn add_chunks(
     ensures cause { IfErr result IsNoFault }
 {
     for c in chunks {
-        match add_chunk(ranges, device, c) {
-            Ok(()) => {}
-            Err(e) => return Err(e),
-        }
+        add_chunk(ranges, device, c)?;
     }
     Ok(())
 }

@@ -77,10 +77,7 @@ pub fn read_chunks<S: BlockSource>(
     let mut ranges = copy_of(alloc, first)?;
     let mut walker = TreeWalker::new(alloc, tree)?;
     while walker.advance(src, first)? {
-        match add_item(&mut ranges, boot, device, &walker.key(), walker.body()) {
-            Ok(()) => {}
-            Err(e) => return Err(e),
-        }
+        add_item(&mut ranges, boot, device, &walker.key(), walker.body())?;
     }
     Ok(ranges)
 }

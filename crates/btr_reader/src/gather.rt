@@ -164,17 +164,14 @@ pub fn gather_extents<S: BlockSource>(
     let mut g = nothing(alloc);
     let mut walker = TreeWalker::new(alloc, tree)?;
     while walker.advance(src, ranges)? {
-        match gather_item(
+        gather_item(
             &mut g,
             ranges,
             inode,
             &walker.key(),
             walker.body(),
             walker.leaf(),
-        ) {
-            Ok(()) => {}
-            Err(e) => return Err(e),
-        }
+        )?;
     }
     Ok(g)
 }

@@ -182,19 +182,12 @@ impl Btrfs {
             ReadsImage self.now.ranges.items (image_at items inode (inode_item items inode)) (file_refusals self.now.ranges.items items inode (inode_item items inode)) result) }
     {
         let ranges = self.ranges.as_slice();
-        let item = match find_inode(alloc, src, tree, ranges, inode) {
-            Ok(item) => item,
-            Err(e) => return Err(e),
+        let item = find_inode(alloc, src, tree, ranges, inode)?;
+        let own = match file_in(item)? {
+            Some(own) => own,
+            None => return Ok(None),
         };
-        let own = match file_in(item) {
-            Ok(Some(own)) => own,
-            Ok(None) => return Ok(None),
-            Err(e) => return Err(e),
-        };
-        let gathered = match gather_extents(alloc, src, tree, ranges, inode) {
-            Ok(gathered) => gathered,
-            Err(e) => return Err(e),
-        };
+        let gathered = gather_extents(alloc, src, tree, ranges, inode)?;
         match map_of(alloc, &own, gathered, ranges, self.device) {
             Ok(map) => Ok(map),
             Err(e) => Err(BtrAnswer::from(e)),
@@ -217,15 +210,11 @@ impl Btrfs {
             HasRoots self.now.roots (roots_on image self.now.sup self.now.ranges.items) →
             ReadsImage self.now.ranges.items (image_below image self.now.sup self.now.ranges.items number root) (refusals_below image self.now.sup self.now.ranges.items number root) result) }
     {
-        let tree = match self.find_tree(number) {
-            Ok(Some(tree)) => tree,
-            Ok(None) => return Ok(None),
-            Err(e) => return Err(e),
+        let tree = match self.find_tree(number)? {
+            Some(tree) => tree,
+            None => return Ok(None),
         };
-        let key = match find_entry(alloc, src, tree, self.ranges.as_slice(), b"image") {
-            Ok(key) => key,
-            Err(e) => return Err(e),
-        };
+        let key = find_entry(alloc, src, tree, self.ranges.as_slice(), b"image")?;
         let inode = match inode_number(key) {
             Some(inode) => inode,
             None => return Ok(None),
@@ -247,15 +236,11 @@ impl Btrfs {
         ensures reads { OverTold S.tells (S.blocks src.old) (λ image. HasRoots self.now.roots (roots_on image self.now.sup self.now.ranges.items) →
             ReadsImage self.now.ranges.items (saved_image image self.now.sup self.now.ranges.items) (image_refusals image self.now.sup self.now.ranges.items) result) }
     {
-        let tree = match self.find_tree(FILE_TREE) {
-            Ok(Some(tree)) => tree,
-            Ok(None) => return Ok(None),
-            Err(e) => return Err(e),
+        let tree = match self.find_tree(FILE_TREE)? {
+            Some(tree) => tree,
+            None => return Ok(None),
         };
-        let key = match find_entry(alloc, src, tree, self.ranges.as_slice(), b"reiserfs_saved") {
-            Ok(key) => key,
-            Err(e) => return Err(e),
-        };
+        let key = find_entry(alloc, src, tree, self.ranges.as_slice(), b"reiserfs_saved")?;
         let number = match tree_number(key) {
             Some(number) => number,
             None => return Ok(None),

@@ -9,12 +9,31 @@ ghost use Rattle.btr_reader.specs.Opening.{IsAmong, NamesNoLogTree};
 
 use btr_keys::{Inode, Key};
 use btr_names::InodeFound;
-use btr_walk::{MapRange, Tree, TreeWalker};
-use outside::{BlockSource, BtrAnswer};
+use btr_walk::{MapRange, Notes, Tree, note_items};
+use outside::{BlockSource, BtrAnswer, Memory};
 use std::alloc::Global;
 
 /// The kind in the key of an inode item.
 const INODE_KIND: u8 = 1;
+
+/// The first item of an inode, as the items of a file tree go by.
+#[derive(Drop)]
+pub struct SoughtInode {
+    number: u64,
+    first: Option<InodeFound>,
+}
+
+impl Notes for SoughtInode {
+    ghost use Rattle.std.specs.Prelude.{◌≡◌};
+    ghost use Rattle.btr_names.specs.Inodes.{inode_item, TellsInode};
+
+    ghost holds = { λ begun sought items. (sought.number ≡ begun.number) × TellsInode sought.first (inode_item items begun.number) };
+
+    fn note(&mut self, _: Global, key: &Key, body: &[u8], leaf: u64) -> Result<(), Memory> {
+        self.first = seek_inode(self.first, self.number, key, body, leaf);
+        Ok(())
+    }
+}
 
 /// The first item of an inode, after one more item of the tree.
 fn seek_inode(
@@ -57,10 +76,10 @@ pub fn find_inode<S: BlockSource>(
     ensures ok { OverTold S.tells (S.blocks src.old) (λ image. OnOk result (wrong image ranges.now tree ≡ [])) }
     ensures err { OverTold S.tells (S.blocks src.old) (λ image. IfErr result (IsAmong (wrong image ranges.now tree))) }
 {
-    let mut first = None;
-    let mut walker = TreeWalker::new(alloc, tree)?;
-    while walker.advance(src, ranges)? {
-        first = seek_inode(first, number, &walker.key(), walker.body(), walker.leaf());
-    }
-    Ok(first)
+    let mut sought = SoughtInode {
+        number,
+        first: None,
+    };
+    note_items(alloc, src, tree, ranges, &mut sought)?;
+    Ok(sought.first)
 }

@@ -132,18 +132,13 @@ fn read_boot(alloc: Global, sup: &Super, device: u64) -> Result<Boot, BtrAnswer>
     ensures known { IfErr result NamesNoLogTree }
     ensures cause { IfErr result IsNoFault }
 {
-    let chunks = match array_chunks(
+    let chunks = array_chunks(
         alloc,
         &sup.sys_chunk_array[..sup.sys_chunk_array_size as usize],
-    ) {
-        Ok(chunks) => chunks,
-        Err(e) => return Err(e),
-    };
+    )?;
     let mut ranges = Vec::new(alloc);
-    match add_chunks(&mut ranges, device, chunks.as_slice()) {
-        Ok(()) => Ok(Boot { chunks, ranges }),
-        Err(e) => Err(e),
-    }
+    add_chunks(&mut ranges, device, chunks.as_slice())?;
+    Ok(Boot { chunks, ranges })
 }
 
 impl Btrfs {

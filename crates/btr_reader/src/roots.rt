@@ -11,7 +11,7 @@ ghost use Rattle.btr_reader.specs.Roots.{pointer_of, root_pointer, HasRoots, fou
 
 use btr_keys::Key;
 use btr_space_items::RootItem;
-use btr_walk::{MapRange, Pointer, Tree, TreeWalker};
+use btr_walk::{MapRange, Notes, Pointer, Tree, note_items};
 use indexmap::{IndexMap, IndexSet};
 use outside::{BlockSource, BtrAnswer, Memory};
 use std::alloc::Global;
@@ -70,11 +70,21 @@ impl RootItems {
         }
     }
 
-    /// Notes one more item of the root tree, which stands in a leaf. Items of other kinds are passed over.
-    fn note(&mut self, key: &Key, body: &[u8], leaf: u64) -> Result<(), Memory>
-        ensures { (items : List TreeItem) (i : TreeItem) → i.key ≡ key.now → i.body ≡ body.now → i.leaf ≡ leaf → HasRoots self.old items
-            → OnOk result (HasRoots self.new (items ++ i ∷ [])) }
+    /// The root item of the tree with this number.
+    pub fn of(&self, number: u64) -> Option<RootFound>
+        ensures { result ≡ found_root self.now number }
     {
+        self.found.get(&number).copied()
+    }
+}
+
+impl Notes for RootItems {
+    ghost use Rattle.btr_reader.specs.Roots.{HasRoots};
+
+    ghost holds = { λ begun roots items. HasRoots roots items };
+
+    /// Notes one more item of the root tree. Items of other kinds are passed over.
+    fn note(&mut self, _: Global, key: &Key, body: &[u8], leaf: u64) -> Result<(), Memory> {
         if key.kind != ROOT_KIND {
             return Ok(());
         }
@@ -85,13 +95,6 @@ impl RootItems {
         note_last(&mut self.found, key.objectid, root)?;
         note_number(&mut self.numbers, key.objectid)?;
         Ok(())
-    }
-
-    /// The root item of the tree with this number.
-    pub fn of(&self, number: u64) -> Option<RootFound>
-        ensures { result ≡ found_root self.now number }
-    {
-        self.found.get(&number).copied()
     }
 }
 
@@ -133,9 +136,6 @@ pub fn read_roots<S: BlockSource>(
     ensures err { OverTold S.tells (S.blocks src.old) (λ image. IfErr result (IsAmong (wrong image ranges.now tree))) }
 {
     let mut roots = RootItems::new(alloc);
-    let mut walker = TreeWalker::new(alloc, tree)?;
-    while walker.advance(src, ranges)? {
-        roots.note(&walker.key(), walker.body(), walker.leaf())?;
-    }
+    note_items(alloc, src, tree, ranges, &mut roots)?;
     Ok(roots)
 }

@@ -14,6 +14,7 @@ pub mod KeyOrder
 pub mod Leaves
 pub mod Maps
 pub mod Meeting
+pub mod Numbered
 pub mod OnDisk
 pub mod PiecesOf
 pub mod Raising

@@ -110,6 +110,7 @@ impl TreeBuilder {
         ensures stands { IsTrue D.tells → OnOk result (Stands self.new (reads (D.history disk.new))) }
         ensures pushed { IsTrue D.tells → OnOk result (pushed_on self.new (reads (D.history disk.new)) ≡ pushed_on self.old (reads (D.history disk.old)) ++ (key, body.now) ∷ []) }
         ensures holds { (items : List Item) → Holds self.old items → OnOk result (Holds self.new (items ++ (key, body.now) ∷ [])) }
+        ensures ready { OnOk result (IsReady self.new) }
         ensures same { OnOk result (IsSameTree self.old self.new) }
         ensures spent { IsTrue self.new.spent ↔ IsErr result }
         ensures going { self.new.done ≡ false }

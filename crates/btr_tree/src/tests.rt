@@ -1,11 +1,16 @@
-ghost use Rattle.std.specs.Prelude.{◌≡◌, ◌≤◌, ◌+◌};
+ghost use Rattle.std.specs.Prelude.{◌≡◌, ◌≤◌, ◌+◌, ◌*◌, [], All, Some, false, length, map, IfOk, IsTrue, OnOk};
+ghost use Rattle.std.specs.List.{range_with_len};
+ghost use Rattle.outside.specs.History.{reads};
 ghost use Rattle.btr_node.specs.NodeSize.{IsNodeSize};
+ghost use Rattle.btr_tree.specs.Builder.{Holds, IsSameTree, Stands};
+ghost use Rattle.btr_tree.specs.Building.{AreSlots};
 
 use crate::{Counter, Root, Slots, TreeAnswer, TreeBuilder, node_bound};
 use btr_keys::Key;
 use csum_kinds::SumKind;
-use outside::{Access, Disk};
+use outside::{Access, Disk, Memory};
 use outside_mem::MemDisk;
+use std::alloc::Global;
 use std::test::Fail;
 use vol_block::Ids;
 
@@ -101,5 +106,67 @@ fn one_leaf(rt: HostRuntime) -> Result<(), Fail> {
         );
     }
     assert_eq!(rt; disk.writes(), 1);
+    Ok(())
+}
+
+/// Slots for so many nodes of 4,096 bytes, one behind the other.
+fn slots_in_a_row(alloc: Global, count: u64) -> Result<Slots, Memory>
+    requires few { count ≤ 1000 }
+    ensures slots { IfOk result (AreSlots 4096) }
+    ensures within { IfOk result (λ slots. All (λ a. a + 4096 ≤ 4096 * (count + 16)) slots) }
+{
+    let mut slots = Slots::new(alloc);
+    for k in 0..count {
+        slots.add(65536 + 4096 * k)?;
+    }
+    Ok(slots)
+}
+
+/// Pushes so many items with one body, whose keys are numbered from 0 on.
+fn push_numbered<D: Disk>(
+    tree: &mut TreeBuilder,
+    disk: &mut D,
+    count: u64,
+    body: &[u8],
+) -> Result<(), TreeAnswer>
+    requires unspent { tree.old.spent ≡ false }
+    requires going { tree.old.done ≡ false }
+    requires stands { IsTrue D.tells → Stands tree.old (reads (D.history disk.old)) }
+    requires empty { Holds tree.old [] }
+    requires small { length body.now + 126 ≤ tree.old.made.form.nodesize }
+    requires open { D.opened disk.old ≡ Some Access.Write }
+    requires in_range { All (λ a. a + tree.old.made.form.nodesize ≤ 4096 * D.size disk.old) tree.old.made.slots }
+    ensures unspent { OnOk result (tree.new.spent ≡ false) }
+    ensures going { tree.new.done ≡ false }
+    ensures stands { IsTrue D.tells → OnOk result (Stands tree.new (reads (D.history disk.new))) }
+    ensures holds { OnOk result (Holds tree.new (map (λ k. (record { objectid = k; kind = 1; offset = 0 }, body.now)) (range_with_len 0 count))) }
+    ensures same { OnOk result (IsSameTree tree.old tree.new) }
+    ensures open { D.opened disk.new ≡ D.opened disk.old }
+    ensures size { D.size disk.new ≡ D.size disk.old }
+{
+    for number in 0..count {
+        tree.push(disk, key(number), body)?;
+    }
+    Ok(())
+}
+
+// A leaf has room for one of these items, and an inner node for 121 children: above 122 leaves stand two nodes and the root.
+#[test]
+fn three_levels(rt: HostRuntime) -> Result<(), Fail> {
+    let mut disk = MemDisk::new(rt.alloc(), 141)?;
+    disk.open("", Access::Write)?;
+    let slots = slots_in_a_row(rt.alloc(), 125)?;
+    let mut tree = TreeBuilder::new(rt.alloc(), 5, 1, slots, IDS, 4096, SumKind::Crc32c)?;
+    push_numbered(&mut tree, &mut disk, 122, &[7; 3970])?;
+    let root = tree.finish(&mut disk);
+    assert_eq!(rt;
+        root,
+        Ok(Root {
+            address: 65536 + 4096 * 124,
+            level: 2,
+            nodes: 125
+        })
+    );
+    assert_eq!(rt; disk.writes(), 125);
     Ok(())
 }

@@ -259,3 +259,10 @@ pub blames_among : (refusals : List BtrRefusal) (e : BtrAnswer) → Blames refus
 blames_among refusals (Refused r) h = h
 blames_among refusals Fault h = tt
 blames_among refusals Memory h = tt
+
+-- what was given are the first items of the tree
+pub given_first : (w : TreeWalker) (image : Image) (ranges : List MapRange) (given : List TreeItem) → Walks w image ranges given → (later : List TreeItem) × (found image ranges w.tree ≡ given ++ later)
+given_first w image ranges given k = (
+  items_in_events (rest image ranges w),
+  ap items_in_events (sym k.whole) ∙ (items_in-append k.done (rest image ranges w) ∙ ap (λ (z : List TreeItem). z ++ items_in_events (rest image ranges w)) k.items),
+)

@@ -1,5 +1,5 @@
 -- Where a reader of the items of an object stands.
-use Rattle.std.specs.Prelude.{◌≡◌, ◌<◌, ℕ, zero, suc, ◌+◌, ◌-◌, ◌*◌, Bool, true, false, List, [], ◌∷◌, ◌++◌, length, drop, Option, Some, None, All, AllPairs}
+use Rattle.std.specs.Prelude.{◌≡◌, ◌<◌, ℕ, zero, suc, ◌+◌, ◌-◌, ◌*◌, Bool, true, false, List, [], ◌∷◌, ◌++◌, length, drop, Option, Some, None, All, AllPairs, ◌≤◌, slice_get}
 use Rattle.std.specs.List.{flat_map}
 use Rattle.std.specs.Ordering.{is_lt, nat_cmp, ordering_then}
 use Rattle.std.specs.declared.cmp.Ordering.{Ordering}
@@ -59,6 +59,15 @@ pub record Reads (r : ObjectItems) (leaves : List ℕ) (image : Image) (given it
   pub whole : given ++ items_of r.key (ahead image leaves r) ≡ items
   pub ascending : AllPairs IsBelow (ahead image leaves r)
   pub are_leaves : All (IsLeafOf image) (drop r.place leaves)
+
+-- the block is one of the leaves from a place on
+abbrev pub IsFrom : ℕ → List ℕ → ℕ → Type 0
+IsFrom first leaves block = (place : ℕ) × (first ≤ place) × (slice_get leaves place ≡ Some block)
+
+-- A reader goes on behind a place of the leaves, and the leaf in hand, if there is one, is one from there on.
+pub record StandsFrom (first : ℕ) (leaves : List ℕ) (r : ObjectItems) : Type 0 where
+  pub later : first ≤ r.place
+  pub hand : 0 < r.leaf.at.next + r.leaf.at.left → IsFrom first leaves r.leaf.no
 
 -- where a reader begins: at the first leaf of the object, or behind all leaves
 pub data Starts (key : ObjectKey) (items : List Item) (leaves : List ℕ) (place : ℕ) : Type 0 where

@@ -3,10 +3,12 @@ ghost use Rattle.std.specs.Result.{MatchResult};
 ghost use Rattle.outside.specs.Fault.{HasCauseOf};
 ghost use Rattle.outside.specs.History.{Image};
 ghost use Rattle.fs_rows.specs.Mark.{mark_of_bytes};
+ghost use Rattle.reiser_walk.specs.Items.{Item};
 ghost use Rattle.reiser_walk.specs.declared.tree.Tree.{Tree};
 ghost use Rattle.reiser_files.specs.Bytes.{file_bytes, tail_block};
 ghost use Rattle.reiser_files.specs.Runs.{file_runs};
-ghost use Rattle.object_files.specs.Answers.{IsReadAnswer, IsFileAnswer, IsFault, IsFaultOrMemory};
+ghost use Rattle.reiser_objects.specs.Table.{HasNoted};
+ghost use Rattle.object_files.specs.Answers.{IsReadAnswer, IsFileAnswer, IsFault, IsFaultOrMemory, NamesOwnLeaf};
 ghost use Rattle.object_files.specs.Holds.{HoldsObject, HoldsLink, object_items};
 
 use crate::ObjectItems;
@@ -34,6 +36,7 @@ pub fn file_mark<S: BlockSource>(
     ensures kept { S.kept src.old src.new }
     ensures cause { HasCauseOf VolAnswer.Fault (S.faults src.old) (S.faults src.new) result }
     ensures answers { IfErr result IsReadAnswer }
+    ensures names { (items : List Item) → HasNoted objects.now items → IfErr result (NamesOwnLeaf key items objects.now.leaves) }
     ensures mark { IsTrue S.tells → (tree : Tree) (image : Image) (used : List Bool) → S.blocks src.old ≡ image → HoldsObject objects.now key tree image used →
         MatchResult result (λ mark. mark ≡ mark_of_bytes (file_bytes image (object_items tree image used key) size)) IsFault }
 {
@@ -51,6 +54,7 @@ pub fn file_map<S: BlockSource>(
     ensures kept { S.kept src.old src.new }
     ensures cause { HasCauseOf VolAnswer.Fault (S.faults src.old) (S.faults src.new) result }
     ensures answers { IfErr result IsFileAnswer }
+    ensures names { (items : List Item) → HasNoted objects.now items → IfErr result (NamesOwnLeaf key items objects.now.leaves) }
     ensures map { IsTrue S.tells → (tree : Tree) (image : Image) (used : List Bool) → S.blocks src.old ≡ image → HoldsObject objects.now key tree image used →
         MatchResult result (λ map. map ≡ file_runs (object_items tree image used key) size) IsFaultOrMemory }
 {
@@ -77,6 +81,7 @@ pub fn file_tail<S: BlockSource>(
     ensures kept { S.kept src.old src.new }
     ensures cause { HasCauseOf VolAnswer.Fault (S.faults src.old) (S.faults src.new) result }
     ensures answers { IfErr result IsReadAnswer }
+    ensures names { (items : List Item) → HasNoted objects.now items → IfErr result (NamesOwnLeaf key items objects.now.leaves) }
     ensures tail { IsTrue S.tells → (tree : Tree) (image : Image) (used : List Bool) → S.blocks src.old ≡ image → HoldsObject objects.now key tree image used →
         MatchResult result (λ _. into.new.bytes ≡ tail_block (object_items tree image used key) size k) IsFault }
 {
@@ -102,6 +107,7 @@ pub fn link_target<S: BlockSource>(
     ensures kept { S.kept src.old src.new }
     ensures cause { HasCauseOf VolAnswer.Fault (S.faults src.old) (S.faults src.new) result }
     ensures answers { IfErr result IsFileAnswer }
+    ensures names { (items : List Item) → HasNoted objects.now items → IfErr result (NamesOwnLeaf key items objects.now.leaves) }
     ensures target { IsTrue S.tells → (tree : Tree) (image : Image) (used : List Bool) → S.blocks src.old ≡ image → HoldsLink objects.now key tree image used →
         MatchResult result (λ name. name ≡ file_bytes image (object_items tree image used key) size) IsFaultOrMemory }
 {

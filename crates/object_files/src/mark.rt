@@ -1,4 +1,4 @@
-ghost use Rattle.std.specs.Prelude.{◌≡◌, ◌++◌, ◌∷◌, [], List, true, Some, IfErr};
+ghost use Rattle.std.specs.Prelude.{◌≡◌, ◌++◌, ◌∷◌, [], ℕ, List, true, Some, IfErr};
 ghost use Rattle.std.specs.Result.{MatchResult};
 ghost use Rattle.outside.specs.Fault.{HasCauseOf};
 ghost use Rattle.outside.specs.History.{OverTold};
@@ -7,9 +7,9 @@ ghost use Rattle.reiser_walk.specs.Items.{Item};
 ghost use Rattle.reiser_files.specs.Bytes.{file_bytes, MayFollow};
 ghost use Rattle.reiser_files.specs.Pieces.{are_inside};
 ghost use Rattle.reiser_files.specs.States.{MarksFile};
-ghost use Rattle.object_files.specs.Answers.{IsReadAnswer, IsFault};
+ghost use Rattle.object_files.specs.Answers.{IsReadAnswer, IsFault, NamesLeaf};
 ghost use Rattle.object_files.specs.Holds.{AreFileItems};
-ghost use Rattle.object_files.specs.Reads.{Reads, HasItem, standing};
+ghost use Rattle.object_files.specs.Reads.{Reads, StandsFrom, HasItem, standing};
 
 use crate::ObjectItems;
 use crate::open::changed;
@@ -27,6 +27,7 @@ pub fn mark_items<S: BlockSource>(
     ensures kept { S.kept src.old src.new }
     ensures cause { HasCauseOf VolAnswer.Fault (S.faults src.old) (S.faults src.new) result }
     ensures answers { IfErr result IsReadAnswer }
+    ensures names { (first : ℕ) → StandsFrom first leaves.now items → IfErr result (NamesLeaf first leaves.now) }
     ensures mark { OverTold S.tells (S.blocks src.old) (λ image. (all : List Item) → AreFileItems (S.size src.old) all → Reads items leaves.now image [] all →
         MatchResult result (λ mark. mark ≡ mark_of_bytes (file_bytes image all size)) IsFault) }
 {
@@ -47,6 +48,7 @@ fn mark_item<S: BlockSource>(
     ensures kept { S.kept src.old src.new }
     ensures cause { HasCauseOf VolAnswer.Fault (S.faults src.old) (S.faults src.new) result }
     ensures answers { IfErr result IsReadAnswer }
+    ensures names { (first : ℕ) (leaves : List ℕ) → StandsFrom first leaves items.now → IfErr result (NamesLeaf first leaves) }
     ensures size { marker.new.file.size ≡ marker.old.file.size }
     ensures given { OverTold S.tells (S.blocks src.old) (λ image. (given : List Item) (i : Item) → standing items.now ≡ Some i →
         MayFollow given i → are_inside i.head.kind i.body (S.size src.old) ≡ true → MarksFile marker.old image given →

@@ -3,7 +3,7 @@ ghost use Rattle.std.specs.Result.{MatchResult};
 ghost use Rattle.outside.specs.Fault.{HasCauseOf};
 ghost use Rattle.outside.specs.History.{Image, block_at, OverTold};
 ghost use Rattle.reiser_node.specs.Leaf.{IsLeaf};
-ghost use Rattle.object_files.specs.Answers.{IsReadAnswer, IsFault};
+ghost use Rattle.object_files.specs.Answers.{IsReadAnswer, IsFault, NamesBlock};
 ghost use Rattle.object_files.specs.Reads.{IsLeafOf, IsWholeLeaf};
 
 use crate::leaf::{LeafInHand, Place};
@@ -28,6 +28,8 @@ impl LeafInHand {
         ensures kept { S.kept src.old src.new }
         ensures cause { HasCauseOf VolAnswer.Fault (S.faults src.old) (S.faults src.new) result }
         ensures answers { IfErr result IsReadAnswer }
+        ensures names { IfErr result (NamesBlock no) }
+        ensures no { IfOk result (λ l. l.no ≡ no) }
         ensures few { IfOk result (λ l. l.at.left ≤ 169) }
         ensures some { IfOk result (λ l. 0 < l.at.left) }
         ensures whole { OverTold S.tells (S.blocks src.old) (λ image. IsLeafOf image no → MatchResult result (IsWholeLeaf image no) IsFault) }
@@ -43,6 +45,8 @@ impl LeafInHand {
     /// The items of a leaf whose block was read.
     fn open(no: BlockNo, block: Block) -> Result<LeafInHand, VolAnswer>
         ensures answers { IfErr result IsReadAnswer }
+        ensures names { IfErr result (NamesBlock no) }
+        ensures no { IfOk result (λ l. l.no ≡ no) }
         ensures not_fault { IfErr result (λ e. e ≢ VolAnswer.Fault) }
         ensures few { IfOk result (λ l. l.at.left ≤ 169) }
         ensures some { IfOk result (λ l. 0 < l.at.left) }

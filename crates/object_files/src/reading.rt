@@ -5,9 +5,9 @@ ghost use Rattle.outside.specs.History.{Image, OverTold};
 ghost use Rattle.reiser_walk.specs.Items.{Item};
 ghost use Rattle.reiser_walk.specs.declared.tree.Tree.{Tree};
 ghost use Rattle.reiser_objects.specs.Table.{HasNoted};
-ghost use Rattle.object_files.specs.Answers.{IsReadAnswer, IsFault};
+ghost use Rattle.object_files.specs.Answers.{IsReadAnswer, IsFault, NamesLeaf};
 ghost use Rattle.object_files.specs.Holds.{HoldsObject, object_items};
-ghost use Rattle.object_files.specs.Reads.{Reads, Starts, Comes, Fills, Looks, HasItem, standing, fuel, object_order};
+ghost use Rattle.object_files.specs.Reads.{Reads, StandsFrom, Starts, Comes, Fills, Looks, HasItem, standing, fuel, object_order};
 
 use crate::ObjectItems;
 use crate::leaf::{LeafInHand, Place};
@@ -21,6 +21,7 @@ impl ObjectItems {
     /// A reader that has read nothing, of the items of an object.
     pub fn new(objects: &Objects, key: ObjectKey) -> ObjectItems
         ensures key { result.key ≡ key }
+        ensures from { (items : List Item) → HasNoted objects.now items → (first : ℕ) × Starts key items objects.now.leaves first × StandsFrom first objects.now.leaves result }
         ensures begins { (tree : Tree) (image : Image) (used : List Bool) → HoldsObject objects.now key tree image used →
             Reads result objects.now.leaves image [] (object_items tree image used key) }
     {
@@ -43,6 +44,8 @@ impl ObjectItems {
         ensures kept { S.kept src.old src.new }
         ensures cause { HasCauseOf VolAnswer.Fault (S.faults src.old) (S.faults src.new) result }
         ensures answers { IfErr result IsReadAnswer }
+        ensures names { (first : ℕ) → StandsFrom first leaves.now self.old → IfErr result (NamesLeaf first leaves.now) }
+        ensures from { (first : ℕ) → StandsFrom first leaves.now self.old → IfOk result (λ _. StandsFrom first leaves.now self.new) }
         ensures key { self.new.key ≡ self.old.key }
         ensures stands { IfOk result (λ more. IsTrue more → HasItem self.new) }
         // It ends, whatever the source gives.
@@ -65,6 +68,8 @@ impl ObjectItems {
         ensures kept { S.kept src.old src.new }
         ensures cause { HasCauseOf VolAnswer.Fault (S.faults src.old) (S.faults src.new) result }
         ensures answers { IfErr result IsReadAnswer }
+        ensures names { (first : ℕ) → StandsFrom first leaves.now self.old → IfErr result (NamesLeaf first leaves.now) }
+        ensures from { (first : ℕ) → StandsFrom first leaves.now self.old → IfOk result (λ _. StandsFrom first leaves.now self.new) }
         ensures key { self.new.key ≡ self.old.key }
         ensures left { IfOk result (λ more. IsTrue more → 0 < self.new.leaf.at.left) }
         ensures fuel { fuel leaves.now self.new ≤ fuel leaves.now self.old }
@@ -87,6 +92,7 @@ impl ObjectItems {
         requires left { 0 < self.old.leaf.at.left }
         ensures key { self.new.key ≡ self.old.key }
         ensures stands { HasItem self.new }
+        ensures from { (first : ℕ) (leaves : List ℕ) → StandsFrom first leaves self.old → StandsFrom first leaves self.new }
         ensures fuel { (leaves : List ℕ) → fuel leaves self.new < fuel leaves self.old }
         ensures looks { (leaves : List ℕ) (image : Image) (given items : List Item) → Reads self.old leaves image given items → Looks result self.new leaves image given items }
     {
@@ -117,7 +123,8 @@ impl ObjectItems {
     /// The block of the leaf that holds the item that stands.
     pub fn leaf(&self) -> BlockNo
         requires stands { HasItem self.now }
-        ensures { IfSome (standing self.now) (λ i. result ≡ i.leaf) }
+        ensures item { IfSome (standing self.now) (λ i. result ≡ i.leaf) }
+        ensures no { result ≡ self.now.leaf.no }
     {
         self.leaf.no
     }

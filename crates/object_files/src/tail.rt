@@ -1,12 +1,12 @@
-ghost use Rattle.std.specs.Prelude.{◌≡◌, ◌<◌, ◌*◌, ◌^◌, [], List, IfErr};
+ghost use Rattle.std.specs.Prelude.{◌≡◌, ◌<◌, ◌*◌, ◌^◌, [], ℕ, List, IfErr};
 ghost use Rattle.std.specs.Result.{MatchResult};
 ghost use Rattle.outside.specs.Fault.{HasCauseOf};
 ghost use Rattle.outside.specs.History.{OverTold};
 ghost use Rattle.reiser_walk.specs.Items.{Item};
 ghost use Rattle.reiser_files.specs.Bytes.{tail_block};
-ghost use Rattle.object_files.specs.Answers.{IsReadAnswer, IsFault};
+ghost use Rattle.object_files.specs.Answers.{IsReadAnswer, IsFault, NamesLeaf};
 ghost use Rattle.object_files.specs.Holds.{AreFileItems};
-ghost use Rattle.object_files.specs.Reads.{Reads};
+ghost use Rattle.object_files.specs.Reads.{Reads, StandsFrom};
 
 use crate::ObjectItems;
 use outside::{BlockSource, VolAnswer};
@@ -27,6 +27,7 @@ pub fn gather_items<S: BlockSource>(
     ensures kept { S.kept src.old src.new }
     ensures cause { HasCauseOf VolAnswer.Fault (S.faults src.old) (S.faults src.new) result }
     ensures answers { IfErr result IsReadAnswer }
+    ensures names { (first : ℕ) → StandsFrom first leaves.now items → IfErr result (NamesLeaf first leaves.now) }
     ensures tail { OverTold S.tells (S.blocks src.old) (λ image. (all : List Item) → AreFileItems (S.size src.old) all → Reads items leaves.now image [] all →
         MatchResult result (λ _. into.new.bytes ≡ tail_block all size k) IsFault) }
 {

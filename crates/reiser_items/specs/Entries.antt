@@ -46,14 +46,18 @@ is_of_name byte = not (byte == 0)
 abbrev pub until_zero : List ℕ → List ℕ
 until_zero bytes = take_while is_of_name bytes
 
--- entry i; bit 2 of its state says whether it is visible
+-- bit 2 of an entry's state, DEH_Visible of the kernel's reiserfs.h, says whether it is visible
+abbrev pub is_visible : ℕ → Bool
+is_visible state = state / 4 % 2 == 1
+
+-- entry i
 abbrev pub entry_at : List ℕ → ℕ → EntryValue
 entry_at body i =
     record {
       offset = field 4 body (16 * i);
       dir = field 4 body (16 * i + 4);
       object = field 4 body (16 * i + 8);
-      visible = field 2 body (16 * i + 14) / 4 % 2 == 1;
+      visible = is_visible (field 2 body (16 * i + 14));
       name = until_zero (name_area body i);
     }
 

@@ -4,6 +4,9 @@ ghost use Rattle.reiser_items.specs.Entries.{AreEntries, entry_value, entry_at, 
 use std::marker::Model;
 use vol_block::{u16_at, u32_at};
 
+/// The bit of an entry's state that says whether it is visible, DEH_Visible of the kernel's reiserfs.h.
+const VISIBLE: u16 = 4;
+
 /// An entry of a directory.
 #[derive(Clone, Copy, Debug)]
 pub struct Entry<'a> {
@@ -104,7 +107,7 @@ fn entry_at(body: &[u8], i: usize) -> Entry<'_>
         offset: u32_at(body, at),
         dir: u32_at(body, at + 4),
         object: u32_at(body, at + 8),
-        visible: u16_at(body, at + 14) / 4 % 2 == 1,
+        visible: u16_at(body, at + 14) / VISIBLE % 2 == 1,
         name: until_zero(name_area(body, i)),
     }
 }

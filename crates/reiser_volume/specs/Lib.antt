@@ -7,6 +7,7 @@ pub mod Made
 pub mod Numbers
 pub mod Opened
 pub mod Owners
+pub mod Reading
 pub mod Rows
 pub mod Volume
 pub mod Ways

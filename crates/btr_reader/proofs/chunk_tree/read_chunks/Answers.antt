@@ -7,12 +7,12 @@ use Rattle.btr_walk.specs.declared.tree.Tree.{Tree}
 use Rattle.btr_walk.specs.Events.{TreeItem}
 use Rattle.btr_walk.specs.Walks.{Blames, LieOn, wrong, found}
 use Rattle.btr_walk.proofs.Events.{none_both}
+use Rattle.btr_walk.proofs.Walking.{blames_among, given_first}
 use Rattle.btr_reader.specs.declared.chunk.ChunkAt.{ChunkAt}
 use Rattle.btr_reader.specs.Chunks.{items_refusals, with_items}
 use Rattle.btr_reader.specs.Opening.{IsAmong}
 use Rattle.btr_reader.proofs.Adding.{item_added, item_right, item_refused}
-use Rattle.btr_reader.proofs.Among.{blames_among, among_left, among_right}
-use Rattle.btr_contents.proofs.Orders.{given_first}
+use Rattle.btr_reader.proofs.Among.{among_left, among_right}
 use Rattle.btr_reader.proofs.chunk_tree.read_chunks.Goals as goal
 
 -- what is wrong with the chunk tree and its items
@@ -54,7 +54,7 @@ loop-walker-preserved g c =
       same = c.in_ok-advance.ensures.cause.kept (λ e. absurd cc) ∙ before.same;
       tree = c.advance.ensures.tree ∙ before.tree;
       fresh = c.in_ok-advance.ensures.spent;
-      inside = c.in-Ok.ensures.inside;
+      inside = c.in_ok-add_item.ensures.inside;
       walks = λ tells.
           let told = before.walks tells in
           let same = g.met.S.BlockSource.kept_blocks c.args.src.now c.loop-walker.src tells before.kept in
@@ -64,13 +64,13 @@ loop-walker-preserved g c =
           let body = c.body.ensures i came.2 in (
             told.0 ++ i ∷ [],
             came.1,
-            item_added chunks boot c.loop-walker.ranges.items c.add_item.new.ranges.items told.0 i c.key.result c.body.result.now key body told.2 c.in-Ok.ensures.added,
-            item_right c.args.device chunks boot c.loop-walker.ranges.items told.0 i c.key.result c.body.result.now key body told.2 told.3 c.in-Ok.ensures.ok,
+            item_added chunks boot c.loop-walker.ranges.items c.add_item.new.ranges.items told.0 i c.key.result c.body.result.now key body told.2 c.in_ok-add_item.ensures.added,
+            item_right c.args.device chunks boot c.loop-walker.ranges.items told.0 i c.key.result c.body.result.now key body told.2 told.3 c.in_ok-add_item.ensures.ok,
           );
     }
 
-pub returns-in-Err-clause-err : goal.returns-in-Err-clause-err
-returns-in-Err-clause-err g c = λ tells image is.
+pub returns-in_err-add_item-clause-err : goal.returns-in_err-add_item-clause-err
+returns-in_err-add_item-clause-err g c = λ tells image is.
     let before = c.loop-walker.invariant in
     let here : Image = g.S.BlockSource.blocks c.args.src.now in
     let chunks : List ChunkAt = c.args.boot.now in
@@ -81,10 +81,15 @@ returns-in-Err-clause-err g c = λ tells image is.
     let i : TreeItem = came.0 in
     let first = given_first c.advance.new.self here boot (told.0 ++ i ∷ []) came.1 in
     let tree = c.advance.ensures.tree ∙ before.tree in
-    subst (λ (m : Image). IsAmong (all_wrong m c.args.device chunks boot c.args.tree) c.in-Err.e) is
-    (among_right (wrong here boot c.args.tree) _ c.in-Err.e
-    (item_refused c.args.device chunks boot c.loop-walker.ranges.items (found here boot c.args.tree) told.0 first.0 i c.key.result c.body.result.now c.in-Err.e
-    (c.key.ensures i came.2) (c.body.ensures i came.2) told.2 (ap (λ (t : Tree). found here boot t) (sym tree) ∙ first.1) c.in-Err.ensures.err))
+    let err = err_from_is_err_and c.from_residual-in_err-add_item.result c.from_residual-in_err-add_item.ensures.1 in
+    rw err.1 (subst (λ (m : Image). IsAmong (all_wrong m c.args.device chunks boot c.args.tree) err.0) is
+    (subst (IsAmong (all_wrong here c.args.device chunks boot c.args.tree)) (sym err.2)
+    (among_right (wrong here boot c.args.tree) _ c.in_err-add_item.field-0.0
+    (item_refused c.args.device chunks boot c.loop-walker.ranges.items (found here boot c.args.tree) told.0 first.0 i c.key.result c.body.result.now c.in_err-add_item.field-0.0
+    (c.key.ensures i came.2) (c.body.ensures i came.2) told.2 (ap (λ (t : Tree). found here boot t) (sym tree) ∙ first.1) c.in_err-add_item.ensures.err))))
+
+pub returns-in_err-add_item-clause-kept : goal.returns-in_err-add_item-clause-kept
+returns-in_err-add_item-clause-kept g c = g.met.S.BlockSource.kept_trans _ _ _ c.loop-walker.invariant.kept c.advance.ensures.kept
 
 pub returns-clause-ok : goal.returns-clause-ok
 returns-clause-ok g c = λ tells image is.

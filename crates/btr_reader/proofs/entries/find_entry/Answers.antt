@@ -6,12 +6,12 @@ use Rattle.btr_walk.specs.declared.tree.Tree.{Tree}
 use Rattle.btr_walk.specs.Events.{TreeItem}
 use Rattle.btr_walk.specs.Walks.{Blames, found, wrong}
 use Rattle.btr_walk.proofs.Events.{none_both}
+use Rattle.btr_walk.proofs.Walking.{blames_among, given_first}
 use Rattle.btr_reader.specs.Image.{first_key, entry_named, is_called, is_root_directory, twice_refusals, index_refusals, root_refusals, entry_refusals}
 use Rattle.btr_names.specs.Links.{own_naming, namings}
 use Rattle.btr_names.proofs.Seeing.{none_seen}
 use Rattle.btr_reader.specs.Opening.{IsAmong}
-use Rattle.btr_reader.proofs.Among.{blames_among, among_left, among_right}
-use Rattle.btr_contents.proofs.Orders.{given_first}
+use Rattle.btr_reader.proofs.Among.{among_left, among_right}
 use Rattle.btr_reader.proofs.EntryItems.{entry_push, index_right}
 use Rattle.btr_reader.proofs.RootNames.{none_twice, root_refused}
 use Rattle.btr_reader.proofs.entries.find_entry.Goals as goal

@@ -6,11 +6,11 @@ use Rattle.btr_walk.specs.declared.map.MapRange.{MapRange}
 use Rattle.btr_walk.specs.declared.tree.Tree.{Tree}
 use Rattle.btr_walk.specs.Events.{TreeItem}
 use Rattle.btr_walk.specs.Walks.{Blames, found, wrong}
+use Rattle.btr_walk.proofs.Walking.{blames_among, given_first}
 use Rattle.btr_files.specs.Extents.{extents_of, extents_refusals}
 use Rattle.btr_reader.specs.Opening.{IsAmong}
 use Rattle.btr_reader.specs.Pieces.{Gathers}
-use Rattle.btr_reader.proofs.Among.{blames_among, among_left, among_right}
-use Rattle.btr_contents.proofs.Orders.{given_first}
+use Rattle.btr_reader.proofs.Among.{among_left, among_right}
 use Rattle.btr_reader.proofs.OneExtent.{extents_first}
 use Rattle.btr_reader.proofs.gather.gather_extents.Goals as goal
 
@@ -51,8 +51,8 @@ loop-walker-preserved g c =
       same = c.in_ok-advance.ensures.cause.kept (λ e. absurd cc) ∙ before.same;
       tree = c.advance.ensures.tree ∙ before.tree;
       fresh = c.in_ok-advance.ensures.spent;
-      few = c.in-Ok.ensures.few;
-      order = c.in-Ok.ensures.order;
+      few = c.in_ok-gather_item.ensures.few;
+      order = c.in_ok-gather_item.ensures.order;
       walks = λ tells.
           let told = before.walks tells in
           let same = g.met.S.BlockSource.kept_blocks c.args.src.now c.loop-walker.src tells before.kept in
@@ -60,12 +60,12 @@ loop-walker-preserved g c =
           let i : TreeItem = came.0 in (
             told.0 ++ i ∷ [],
             came.1,
-            c.in-Ok.ensures.ok i told.0 (sym (c.key.ensures i came.2)) (sym (c.body.ensures i came.2)) (sym (c.leaf.ensures i came.2)) told.2,
+            c.in_ok-gather_item.ensures.ok i told.0 (sym (c.key.ensures i came.2)) (sym (c.body.ensures i came.2)) (sym (c.leaf.ensures i came.2)) told.2,
           );
     }
 
-pub returns-in-Err-clause-err : goal.returns-in-Err-clause-err
-returns-in-Err-clause-err g c = λ tells image is.
+pub returns-in_err-gather_item-clause-err : goal.returns-in_err-gather_item-clause-err
+returns-in_err-gather_item-clause-err g c = λ tells image is.
     let before = c.loop-walker.invariant in
     let here : Image = g.S.BlockSource.blocks c.args.src.now in
     let ranges : List MapRange = c.args.ranges.now in
@@ -75,10 +75,15 @@ returns-in-Err-clause-err g c = λ tells image is.
     let i : TreeItem = came.0 in
     let first = given_first c.advance.new.self here ranges (told.0 ++ i ∷ []) came.1 in
     let tree = c.advance.ensures.tree ∙ before.tree in
-    subst (λ (m : Image). IsAmong (all_wrong m ranges c.args.tree c.args.inode) c.in-Err.e) is
-    (among_right (wrong here ranges c.args.tree) _ c.in-Err.e
-    (extents_first ranges c.args.inode (found here ranges c.args.tree) (told.0 ++ i ∷ []) first.0 c.in-Err.e (ap (λ (t : Tree). found here ranges t) (sym tree) ∙ first.1)
-    (c.in-Err.ensures.err i told.0 (sym (c.key.ensures i came.2)) (sym (c.body.ensures i came.2)) (sym (c.leaf.ensures i came.2)) told.2)))
+    let err = err_from_is_err_and c.from_residual-in_err-gather_item.result c.from_residual-in_err-gather_item.ensures.1 in
+    rw err.1 (subst (λ (m : Image). IsAmong (all_wrong m ranges c.args.tree c.args.inode) err.0) is
+    (subst (IsAmong (all_wrong here ranges c.args.tree c.args.inode)) (sym err.2)
+    (among_right (wrong here ranges c.args.tree) _ c.in_err-gather_item.field-0.0
+    (extents_first ranges c.args.inode (found here ranges c.args.tree) (told.0 ++ i ∷ []) first.0 c.in_err-gather_item.field-0.0 (ap (λ (t : Tree). found here ranges t) (sym tree) ∙ first.1)
+    (c.in_err-gather_item.ensures.err i told.0 (sym (c.key.ensures i came.2)) (sym (c.body.ensures i came.2)) (sym (c.leaf.ensures i came.2)) told.2)))))
+
+pub returns-in_err-gather_item-clause-kept : goal.returns-in_err-gather_item-clause-kept
+returns-in_err-gather_item-clause-kept g c = g.met.S.BlockSource.kept_trans _ _ _ c.loop-walker.invariant.kept c.advance.ensures.kept
 
 pub returns-clause-gathered : goal.returns-clause-gathered
 returns-clause-gathered g c = λ tells image is.

@@ -1,4 +1,4 @@
-use Rattle.std.proofs.Common.{◌≡◌, true, Result, Ok, Err, ◌++◌, ◌∷◌, [], is_ok}
+use Rattle.std.proofs.Common.{◌≡◌, true, Result, Ok, Err, [], is_ok}
 use Rattle.std.specs.Prelude.{OnOk}
 use Rattle.btr_tree.proofs.tests.one_leaf.Goals as goal
 

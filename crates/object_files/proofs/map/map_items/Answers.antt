@@ -3,7 +3,7 @@ use Rattle.std.proofs.lemmas.Result.{err_from_is_err_and}
 use Rattle.reiser_walk.specs.Items.{Item}
 use Rattle.reiser_files.specs.Runs.{file_runs}
 use Rattle.reiser_objects.specs.Keys.{items_of}
-use Rattle.object_files.specs.Answers.{IsFaultOrMemory}
+use Rattle.object_files.specs.Answers.{IsFaultOrMemory, NamesLeaf}
 use Rattle.object_files.specs.Reads.{ahead, standing}
 use Rattle.object_files.proofs.Files.{next_follows, stands_head, stands_body, fault_of}
 use Rattle.object_files.proofs.map.map_items.Goals as goal
@@ -33,6 +33,7 @@ loop-mapper-preserved g c =
             c.in_ok-add_item.ensures.given told.0 came.0 (stands_head (standing c.advance.new.self) came.0 c.head.result came.2 c.head.ensures) (stands_body (standing c.advance.new.self) came.0 c.body.result.now came.2 c.body.ensures)
                 (next_follows (g.S.BlockSource.size c.args.src.now) all told.0 came.0 later are came.1.whole) told.2,
           );
+      from = λ first from. c.in_ok-advance.ensures.from first (before.from first from);
     }
 
 pub returns-clause-map : goal.returns-clause-map
@@ -42,3 +43,9 @@ returns-clause-map g c = λ tells image is all are reads.
     let over = rw c.if-branch.false at (c.in_ok-advance.ensures.comes tells image same told.0 all told.1) in
     c.in_ok-map.ensures told.0 told.2
     ∙ (ap (λ (xs : List Item). file_runs xs c.loop-mapper.mapper.size) over ∙ ap (λ (n : ℕ). file_runs all n) c.loop-mapper.invariant.size)
+
+pub returns-in_err-advance-clause-names : goal.returns-in_err-advance-clause-names
+returns-in_err-advance-clause-names g c = λ first from.
+    let named = c.in_err-advance.ensures.names first (c.loop-mapper.invariant.from first from) in
+    let err = err_from_is_err_and c.from_residual.result c.from_residual.ensures.1 in
+    rw err.1 (subst (NamesLeaf first c.args.leaves.now) (sym err.2) named)

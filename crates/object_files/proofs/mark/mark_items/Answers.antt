@@ -5,7 +5,7 @@ use Rattle.reiser_walk.specs.Items.{Item}
 use Rattle.reiser_files.specs.Bytes.{file_bytes}
 use Rattle.reiser_files.specs.Pieces.{are_inside}
 use Rattle.reiser_objects.specs.Keys.{items_of}
-use Rattle.object_files.specs.Answers.{IsFault}
+use Rattle.object_files.specs.Answers.{IsFault, NamesLeaf}
 use Rattle.object_files.specs.Reads.{ahead}
 use Rattle.object_files.proofs.Files.{next_follows, next_inside}
 use Rattle.object_files.proofs.mark.mark_items.Goals as goal
@@ -16,6 +16,7 @@ loop-marker-init g c = record {
   same = refl;
   size = c.new-marker.ensures.size;
   told = λ tells image is all are reads. ([], reads, c.new-marker.ensures.none image);
+  from = λ first from. from;
 }
 
 pub returns-in_err-advance-clause-mark : goal.returns-in_err-advance-clause-mark
@@ -46,6 +47,7 @@ loop-marker-preserved g c =
             came.1,
             c.in_ok-mark_item.ensures.given tells image next told.0 came.0 came.2 (next_follows (g.S.BlockSource.size c.args.src.now) all told.0 came.0 later are came.1.whole) here told.2,
           );
+      from = λ first from. c.in_ok-advance.ensures.from first (before.from first from);
     }
 
 pub returns-in_err-mark_item-clause-kept : goal.returns-in_err-mark_item-clause-kept
@@ -74,3 +76,15 @@ returns-clause-mark g c = λ tells image is all are reads.
     let over = rw c.if-branch.false at (c.in_ok-advance.ensures.comes tells image same told.0 all told.1) in
     c.finish.ensures image told.0 told.2
     ∙ (ap (λ (xs : List Item). mark_of_bytes (file_bytes image xs c.loop-marker.marker.file.size)) over ∙ ap (λ (n : ℕ). mark_of_bytes (file_bytes image all n)) c.loop-marker.invariant.size)
+
+pub returns-in_err-advance-clause-names : goal.returns-in_err-advance-clause-names
+returns-in_err-advance-clause-names g c = λ first from.
+    let named = c.in_err-advance.ensures.names first (c.loop-marker.invariant.from first from) in
+    let err = err_from_is_err_and c.from_residual.result c.from_residual.ensures.1 in
+    rw err.1 (subst (NamesLeaf first c.args.leaves.now) (sym err.2) named)
+
+pub returns-in_err-mark_item-clause-names : goal.returns-in_err-mark_item-clause-names
+returns-in_err-mark_item-clause-names g c = λ first from.
+    let named = c.in_err-mark_item.ensures.names first c.args.leaves.now (c.in_ok-advance.ensures.from first (c.loop-marker.invariant.from first from)) in
+    let err = err_from_is_err_and c.from_residual-in_err-mark_item.result c.from_residual-in_err-mark_item.ensures.1 in
+    rw err.1 (subst (NamesLeaf first c.args.leaves.now) (sym err.2) named)

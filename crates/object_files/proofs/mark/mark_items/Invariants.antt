@@ -1,9 +1,9 @@
-use Rattle.std.proofs.Common.{◌≡◌, List, [], IsTrue}
+use Rattle.std.proofs.Common.{◌≡◌, ℕ, List, [], IsTrue}
 use Rattle.outside.specs.History.{Image}
 use Rattle.reiser_walk.specs.Items.{Item}
 use Rattle.reiser_files.specs.States.{MarksFile}
 use Rattle.object_files.specs.Holds.{AreFileItems}
-use Rattle.object_files.specs.Reads.{Reads, fuel}
+use Rattle.object_files.specs.Reads.{Reads, StandsFrom, fuel}
 use Rattle.object_files.proofs.mark.mark_items.Given as goal
 
 abbrev pub invariant-loop-marker : goal.invariant-loop-marker
@@ -13,6 +13,7 @@ invariant-loop-marker g l = record {
   size : l.marker.file.size ≡ l.size;
   told : IsTrue g.S.BlockSource.tells → (image : Image) → g.S.BlockSource.blocks l.fn.src ≡ image → (all : List Item) → AreFileItems (g.S.BlockSource.size l.fn.src) all → Reads l.fn.items l.leaves image [] all
       → (given : List Item) × Reads l.items l.leaves image given all × MarksFile l.marker image given;
+  from : (first : ℕ) → StandsFrom first l.leaves l.fn.items → StandsFrom first l.leaves l.items;
 }
 
 abbrev pub decreases-loop-marker : goal.decreases-loop-marker

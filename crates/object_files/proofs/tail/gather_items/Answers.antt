@@ -3,7 +3,7 @@ use Rattle.std.proofs.lemmas.Result.{err_from_is_err_and}
 use Rattle.reiser_walk.specs.Items.{Item}
 use Rattle.reiser_files.specs.Bytes.{tail_block}
 use Rattle.reiser_objects.specs.Keys.{items_of}
-use Rattle.object_files.specs.Answers.{IsFault}
+use Rattle.object_files.specs.Answers.{IsFault, NamesLeaf}
 use Rattle.object_files.specs.Reads.{ahead, standing}
 use Rattle.object_files.proofs.Files.{next_follows, stands_head, stands_body, empty_tail}
 use Rattle.object_files.proofs.tail.gather_items.Goals as goal
@@ -13,6 +13,7 @@ loop-into-init g c = record {
   kept = g.met.S.BlockSource.kept_refl c.args.src.now;
   same = refl;
   told = λ tells image is all are reads. ([], reads, c.zero.ensures ∙ sym (empty_tail c.args.size c.args.k));
+  from = λ first from. from;
 }
 
 pub returns-in_err-advance-clause-tail : goal.returns-in_err-advance-clause-tail
@@ -39,6 +40,7 @@ loop-into-preserved g c =
             c.put_tail.ensures told.0 came.0 (stands_head (standing c.advance.new.self) came.0 c.head.result came.2 c.head.ensures) (stands_body (standing c.advance.new.self) came.0 c.body.result.now came.2 c.body.ensures)
                 (next_follows (g.S.BlockSource.size c.args.src.now) all told.0 came.0 later are came.1.whole) told.2,
           );
+      from = λ first from. c.in_ok-advance.ensures.from first (before.from first from);
     }
 
 pub returns-clause-tail : goal.returns-clause-tail
@@ -47,3 +49,9 @@ returns-clause-tail g c = λ tells image is all are reads.
     let told = c.loop-into.invariant.told tells image is all are reads in
     let over = rw c.if-branch.false at (c.in_ok-advance.ensures.comes tells image same told.0 all told.1) in
     told.2 ∙ ap (λ (xs : List Item). tail_block xs c.args.size c.args.k) over
+
+pub returns-in_err-advance-clause-names : goal.returns-in_err-advance-clause-names
+returns-in_err-advance-clause-names g c = λ first from.
+    let named = c.in_err-advance.ensures.names first (c.loop-into.invariant.from first from) in
+    let err = err_from_is_err_and c.from_residual.result c.from_residual.ensures.1 in
+    rw err.1 (subst (NamesLeaf first c.args.leaves.now) (sym err.2) named)

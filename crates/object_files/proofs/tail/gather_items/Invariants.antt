@@ -1,9 +1,9 @@
-use Rattle.std.proofs.Common.{◌≡◌, List, [], IsTrue}
+use Rattle.std.proofs.Common.{◌≡◌, ℕ, List, [], IsTrue}
 use Rattle.outside.specs.History.{Image}
 use Rattle.reiser_walk.specs.Items.{Item}
 use Rattle.reiser_files.specs.Bytes.{tail_block}
 use Rattle.object_files.specs.Holds.{AreFileItems}
-use Rattle.object_files.specs.Reads.{Reads, fuel}
+use Rattle.object_files.specs.Reads.{Reads, StandsFrom, fuel}
 use Rattle.object_files.proofs.tail.gather_items.Given as goal
 
 abbrev pub invariant-loop-into : goal.invariant-loop-into
@@ -12,6 +12,7 @@ invariant-loop-into g l = record {
   same : g.S.BlockSource.faults l.src ≡ g.S.BlockSource.faults l.fn.src;
   told : IsTrue g.S.BlockSource.tells → (image : Image) → g.S.BlockSource.blocks l.fn.src ≡ image → (all : List Item) → AreFileItems (g.S.BlockSource.size l.fn.src) all → Reads l.fn.items l.leaves image [] all
       → (given : List Item) × Reads l.items l.leaves image given all × (l.into.bytes ≡ tail_block given l.size l.k);
+  from : (first : ℕ) → StandsFrom first l.leaves l.fn.items → StandsFrom first l.leaves l.items;
 }
 
 abbrev pub decreases-loop-into : goal.decreases-loop-into

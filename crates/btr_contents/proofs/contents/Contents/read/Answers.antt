@@ -8,12 +8,13 @@ use Rattle.btr_walk.specs.declared.map.MapRange.{MapRange}
 use Rattle.btr_walk.specs.declared.tree.Tree.{Tree}
 use Rattle.btr_walk.specs.Events.{TreeItem}
 use Rattle.btr_walk.specs.Walks.{Blames, LieOn, found, wrong}
+use Rattle.btr_walk.proofs.Walking.{given_first}
 use Rattle.btr_names.specs.Table.{HasNoted}
 use Rattle.btr_contents.specs.declared.wanted.Wanted.{Wanted}
 use Rattle.btr_contents.specs.Contents.{wanted_at, HasContents, RefusesContents}
 use Rattle.btr_contents.specs.Gathering.{HasGathered, last_inode}
 use Rattle.btr_contents.proofs.Gathered.{refuses_all, refuses_tree}
-use Rattle.btr_contents.proofs.Orders.{next_inode, now_last, given_first}
+use Rattle.btr_contents.proofs.Orders.{next_inode, now_last}
 use Rattle.btr_contents.proofs.contents.Contents.read.Goals as goal
 
 pub loop-walker-init : goal.loop-walker-init
@@ -43,7 +44,7 @@ loop-walker-preserved g c =
     let before = c.loop-walker.invariant in
     record {
       kept = g.met.S.BlockSource.kept_trans _ _ _ (g.met.S.BlockSource.kept_trans _ _ _ before.kept c.advance.ensures.kept) c.add_item.ensures.kept;
-      same = c.in-Ok.ensures.cause.kept (λ e. absurd cc) ∙ (c.in_ok-advance.ensures.cause.kept (λ e. absurd cc) ∙ before.same);
+      same = c.in_ok-add_item.ensures.cause.kept (λ e. absurd cc) ∙ (c.in_ok-advance.ensures.cause.kept (λ e. absurd cc) ∙ before.same);
       tree = c.advance.ensures.tree ∙ before.tree;
       fresh = c.in_ok-advance.ensures.spent;
       walks = λ tells blocks noted.
@@ -60,12 +61,12 @@ loop-walker-preserved g c =
             told.0 ++ i ∷ [],
             came.1,
             subst (λ (n : ℕ). HasGathered (wanted_at (contains same_node c.args.named.now) (found here ranges c.args.tree)) here ranges (told.0 ++ i ∷ []) n (λ ino. get nat_eq c.add_item.new.self.done ino) c.add_item.new.self.hand) (sym (now_last told.0 i))
-                (c.in-Ok.ensures.adds tells here after blocks _ told.0 i (last_inode told.0) key (sym (c.body.ensures i came.2)) (sym (c.leaf.ensures i came.2)) (rw (sym key) at wanted) le told.2),
+                (c.in_ok-add_item.ensures.adds tells here after blocks _ told.0 i (last_inode told.0) key (sym (c.body.ensures i came.2)) (sym (c.leaf.ensures i came.2)) (rw (sym key) at wanted) le told.2),
           );
     }
 
-pub returns-in-Err-clause-refused : goal.returns-in-Err-clause-refused
-returns-in-Err-clause-refused g c = λ tells image is blocks noted.
+pub returns-in_err-add_item-clause-refused : goal.returns-in_err-add_item-clause-refused
+returns-in_err-add_item-clause-refused g c = λ tells image is blocks noted.
     let before = c.loop-walker.invariant in
     let here : Image = g.S.BlockSource.blocks c.args.src.now in
     let ranges : List MapRange = c.args.ranges.now in
@@ -81,9 +82,11 @@ returns-in-Err-clause-refused g c = λ tells image is blocks noted.
     let first = given_first c.advance.new.self here ranges (told.0 ++ i ∷ []) came.1 in
     let tree = c.advance.ensures.tree ∙ before.tree in
     let plan : ℕ → Option Wanted = wanted_at (contains same_node c.args.named.now) (found here ranges c.args.tree) in
-    subst (λ (m : Image). RefusesContents (wanted_at (contains same_node c.args.named.now) (found m ranges c.args.tree)) m ranges c.args.tree c.in-Err.e) is
-    (refuses_all plan here ranges c.args.tree (told.0 ++ i ∷ []) first.0 c.in-Err.e (ap (λ (t : Tree). found here ranges t) (sym tree) ∙ first.1)
-    (c.in-Err.ensures.adds tells here after blocks plan told.0 i (last_inode told.0) key (sym (c.body.ensures i came.2)) (sym (c.leaf.ensures i came.2)) (rw (sym key) at wanted) le told.2))
+    let err = err_from_is_err_and c.from_residual-in_err-add_item.result c.from_residual-in_err-add_item.ensures.1 in
+    rw err.1 (subst (λ (m : Image). RefusesContents (wanted_at (contains same_node c.args.named.now) (found m ranges c.args.tree)) m ranges c.args.tree err.0) is
+    (subst (RefusesContents plan here ranges c.args.tree) (sym err.2)
+    (refuses_all plan here ranges c.args.tree (told.0 ++ i ∷ []) first.0 c.in_err-add_item.field-0.0 (ap (λ (t : Tree). found here ranges t) (sym tree) ∙ first.1)
+    (c.in_err-add_item.ensures.adds tells here after blocks plan told.0 i (last_inode told.0) key (sym (c.body.ensures i came.2)) (sym (c.leaf.ensures i came.2)) (rw (sym key) at wanted) le told.2))))
 
 pub returns-clause-contents : goal.returns-clause-contents
 returns-clause-contents g c = λ tells image is blocks noted.
@@ -106,8 +109,8 @@ add_item-requires-clause-inside g c =
     let kept = g.met.S.BlockSource.kept_trans _ _ _ c.loop-walker.invariant.kept c.advance.ensures.kept in
     subst (λ (n : ℕ). LieOn n c.args.ranges.now) (sym (g.met.S.BlockSource.kept_size c.args.src.now c.advance.new.src kept)) c.requires.inside
 
-pub returns-in-Err-clause-kept : goal.returns-in-Err-clause-kept
-returns-in-Err-clause-kept g c = g.met.S.BlockSource.kept_trans _ _ _ (g.met.S.BlockSource.kept_trans _ _ _ c.loop-walker.invariant.kept c.advance.ensures.kept) c.add_item.ensures.kept
+pub returns-in_err-add_item-clause-kept : goal.returns-in_err-add_item-clause-kept
+returns-in_err-add_item-clause-kept g c = g.met.S.BlockSource.kept_trans _ _ _ (g.met.S.BlockSource.kept_trans _ _ _ c.loop-walker.invariant.kept c.advance.ensures.kept) c.add_item.ensures.kept
 
 pub returns-clause-kept : goal.returns-clause-kept
 returns-clause-kept g c = g.met.S.BlockSource.kept_trans _ _ _ c.loop-walker.invariant.kept c.advance.ensures.kept

@@ -3,7 +3,7 @@ use Rattle.std.specs.Prelude.{OnOk}
 use Rattle.outside.specs.History.{reads}
 use Rattle.btr_node.specs.Leaf.{Item}
 use Rattle.btr_tree.specs.Building.{Made}
-use Rattle.btr_tree.specs.Builder.{Building, Holds, Stands, all_made, told_nodes}
+use Rattle.btr_tree.specs.Builder.{Building, Holds, IsReady, Stands, all_made, told_nodes}
 use Rattle.btr_tree.specs.declared.builder.TreeBuilder.TheInside.{Inside}
 use Rattle.btr_tree.proofs.Fronts.{TakenOnly}
 use Rattle.btr_tree.proofs.Standing.{standing_spent}
@@ -41,6 +41,11 @@ returns-clause-holds g c = λ items holds.
       pushed_is = there.pushed_is;
     })
     (c.push_item-result.ensures.holds items holds)
+
+pub returns-clause-ready : goal.returns-clause-ready
+returns-clause-ready g c =
+    let items : List Item = c.requires.ready.0 in
+    on_ok_map c.push_item-result.result (Holds _ (items ++ (c.args.key, c.args.body.now) ∷ [])) (IsReady _) (λ h. (_, h)) (returns-clause-holds g c items c.requires.ready.1)
 
 pub returns-clause-only : goal.returns-clause-only
 returns-clause-only g c = λ tells.

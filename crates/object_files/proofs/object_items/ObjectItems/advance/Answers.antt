@@ -1,6 +1,6 @@
 use Rattle.std.proofs.Common.{◌∙◌, sym, subst, arith}
 use Rattle.std.proofs.lemmas.Result.{err_from_is_err_and}
-use Rattle.object_files.specs.Answers.{IsFault}
+use Rattle.object_files.specs.Answers.{IsFault, NamesLeaf}
 use Rattle.object_files.proofs.object_items.ObjectItems.advance.Goals as goal
 
 pub returns-in_err-fill-clause-comes : goal.returns-in_err-fill-clause-comes
@@ -20,6 +20,7 @@ loop-self-preserved g c = record {
       let same = g.met.S.BlockSource.kept_blocks c.args.src.now c.loop-self.src tells c.loop-self.invariant.kept ∙ is in
       let here = rw c.if-branch.true at (c.in_ok-fill.ensures.fills tells image same given items (c.loop-self.invariant.reads tells image is given items reads)) in
       c.in-Less.ensures.looks c.args.leaves.now image given items here;
+  from = λ first from. c.look.ensures.from first c.args.leaves.now (c.in_ok-fill.ensures.from first (c.loop-self.invariant.from first from));
 }
 
 pub returns-in-Equal-clause-kept : goal.returns-in-Equal-clause-kept
@@ -44,3 +45,18 @@ pub returns-clause-comes : goal.returns-clause-comes
 returns-clause-comes g c = λ tells image is given items reads.
     let same = g.met.S.BlockSource.kept_blocks c.args.src.now c.loop-self.src tells c.loop-self.invariant.kept ∙ is in
     rw c.if-branch.false at (c.in_ok-fill.ensures.fills tells image same given items (c.loop-self.invariant.reads tells image is given items reads))
+
+pub returns-in_err-fill-clause-names : goal.returns-in_err-fill-clause-names
+returns-in_err-fill-clause-names g c = λ first from.
+    let named = c.in_err-fill.ensures.names first (c.loop-self.invariant.from first from) in
+    let err = err_from_is_err_and c.from_residual.result c.from_residual.ensures.1 in
+    rw err.1 (subst (NamesLeaf first c.args.leaves.now) (sym err.2) named)
+
+pub returns-in-Equal-clause-from : goal.returns-in-Equal-clause-from
+returns-in-Equal-clause-from g c = λ first from. c.look.ensures.from first c.args.leaves.now (c.in_ok-fill.ensures.from first (c.loop-self.invariant.from first from))
+
+pub returns-in-Greater-clause-from : goal.returns-in-Greater-clause-from
+returns-in-Greater-clause-from g c = λ first from. c.look.ensures.from first c.args.leaves.now (c.in_ok-fill.ensures.from first (c.loop-self.invariant.from first from))
+
+pub returns-clause-from : goal.returns-clause-from
+returns-clause-from g c = λ first from. c.in_ok-fill.ensures.from first (c.loop-self.invariant.from first from)

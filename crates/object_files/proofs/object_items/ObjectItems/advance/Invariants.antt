@@ -1,7 +1,7 @@
-use Rattle.std.proofs.Common.{◌≡◌, ◌≤◌, List, IsTrue}
+use Rattle.std.proofs.Common.{◌≡◌, ℕ, ◌≤◌, List, IsTrue}
 use Rattle.outside.specs.History.{Image}
 use Rattle.reiser_walk.specs.Items.{Item}
-use Rattle.object_files.specs.Reads.{Reads, fuel}
+use Rattle.object_files.specs.Reads.{Reads, StandsFrom, fuel}
 use Rattle.object_files.proofs.object_items.ObjectItems.advance.Given as goal
 
 abbrev pub invariant-loop-self : goal.invariant-loop-self
@@ -11,6 +11,7 @@ invariant-loop-self g l = record {
   key : l.self.key ≡ l.fn.self.key;
   fewer : fuel l.leaves l.self ≤ fuel l.leaves l.fn.self;
   reads : IsTrue g.S.BlockSource.tells → (image : Image) → g.S.BlockSource.blocks l.fn.src ≡ image → (given items : List Item) → Reads l.fn.self l.leaves image given items → Reads l.self l.leaves image given items;
+  from : (first : ℕ) → StandsFrom first l.leaves l.fn.self → StandsFrom first l.leaves l.self;
 }
 
 abbrev pub decreases-loop-self : goal.decreases-loop-self

@@ -24,3 +24,6 @@ returns-clause-looks c = λ leaves image given items reads.
     looked c.args.self.now _ leaves image given items (record { leaf = l.no; head = head; body = body_at l.block.bytes l.at.next }) refl refl
     (ap (λ (xs : List Item). xs ++ flat_map (leaf_items image) (drop c.args.self.now.place leaves)) (next_item l.no l.at.next l.block.bytes l.at.left (l.at.left - 1) head left at))
     reads c.object_order.result (sym c.object_order.ensures) (stands_next l.no l.at.next l.block.bytes head at)
+
+pub returns-clause-from : goal.returns-clause-from
+returns-clause-from c = λ first leaves from. record { later = from.later; hand = λ some. from.hand (omega (arith, c.requires.left)) }

@@ -1,0 +1,23 @@
+-- What is counted of a volume, and the space that a conversion of it needs.
+use Rattle.std.specs.Prelude.{◌≡◌, List}
+use Rattle.std.specs.List.Sorted.{IsStrictlySortedBy}
+use Rattle.outside.specs.History.{Image}
+use Rattle.reiser_names.specs.Links.{AreLinks, AreNamedKeys, object_cmp}
+use Rattle.reiser_objects.specs.declared.key.ObjectKey.{ObjectKey}
+use Rattle.reiser_objects.specs.declared.naming.Naming.{Naming}
+use Rattle.reiser_volume.specs.Volume.{volume_items}
+use Rattle.unit_plan.specs.declared.options.Options.{Options}
+use Rattle.unit_plan.specs.Needed.{need}
+use Rattle.extent_pieces.specs.Found.{counts_of}
+use Rattle.convert_core.specs.declared.survey.Survey.{Survey}
+
+-- The counts of a volume, by the keys of its named objects in their order and by its links, and the space by these.
+pub record IsSurvey (o : Options) (image : Image) (told : Survey) : Type 0 where
+  pub keys : List ObjectKey
+  pub are_keys : AreNamedKeys (volume_items image) keys
+  pub ascend : IsStrictlySortedBy object_cmp keys
+  pub visible : List Naming
+  pub links : List Naming
+  pub are_links : AreLinks (volume_items image) visible links
+  pub counts_are : told.counts ≡ counts_of o.inline image keys links
+  pub need_is : told.need ≡ need told.counts o

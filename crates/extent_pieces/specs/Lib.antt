@@ -1,0 +1,9 @@
+pub mod Counts
+pub mod Files
+pub mod Found
+pub mod Laws
+pub mod Owned
+pub mod Parts
+pub mod Pieces
+pub mod Placed
+pub mod Tallies

@@ -1,0 +1,57 @@
+// The used blocks that are copied.
+ghost use Rattle.std.specs.Prelude.{◌≡◌, ◌≤◌, ◌++◌, not, OnOk};
+ghost use Rattle.vol_block.specs.Volume.{is_reserved};
+ghost use Rattle.reiser_bitmap.specs.Next.{end_of_run};
+ghost use Rattle.extent_pieces.specs.Owned.{TellOwners};
+ghost use Rattle.extent_pieces.specs.Pieces.{Owners, copied_pieces};
+
+use crate::owned::owner_of;
+use crate::run::OwnedRun;
+use outside::Memory;
+use reiser_bitmap::Bitmap;
+use unit_plan::Piece;
+use vol_block::{BlockNo, is_reserved};
+
+/// Where the second superblock of Btrfs lies.
+const SECOND: BlockNo = 16384;
+
+/// Where the third superblock of Btrfs lies.
+const THIRD: BlockNo = 67_108_864;
+
+/// Appends a piece for each used block that is reserved, ascending. It has no place yet.
+pub fn add_copies(items: &mut Vec<Piece>, map: &Bitmap, owned: &[OwnedRun]) -> Result<(), Memory>
+    ensures { (owner : Owners) → TellOwners owned.now owner → OnOk result (items.new.items ≡ items.old.items ++ copied_pieces map.now owner) }
+{
+    let blocks = map.len();
+    let mut b = next_reserved(0, blocks);
+    while b < blocks {
+        if map.is_used(b) {
+            items.push(Piece {
+                from: Some(b),
+                count: 1,
+                owner: owner_of(owned, b),
+                place: 0,
+            })?;
+        }
+        b = next_reserved(b + 1, blocks);
+    }
+    Ok(())
+}
+
+/// The first reserved block from block `b` on of a volume of so many blocks; `blocks` where there is none.
+pub fn next_reserved(b: BlockNo, blocks: u64) -> BlockNo
+    requires { b ≤ blocks }
+    ensures { result ≡ end_of_run (λ c. not (is_reserved c blocks)) b blocks }
+{
+    if b == blocks || is_reserved(b, blocks) {
+        return b;
+    }
+    let end = blocks - blocks % 16;
+    if b < SECOND {
+        end.min(SECOND)
+    } else if b < THIRD {
+        end.min(THIRD)
+    } else {
+        end
+    }
+}
