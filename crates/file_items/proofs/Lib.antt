@@ -1,7 +1,9 @@
+pub mod Beginning
 pub mod Extending
 pub mod Held
 pub mod Linked
 pub mod Named
 pub mod Ordering
 pub mod Referring
+pub mod Stepping
 pub mod Streaming

@@ -1,4 +1,4 @@
-ghost use Rattle.std.specs.Prelude.{◌≡◌, ◌≤◌, ◌<◌, ◌++◌, ◌^◌, ℕ, filter, length, sum_by, Some, IfOk, IfErr, OnOk, IfSome, if◌then◌else◌};
+ghost use Rattle.std.specs.Prelude.{◌≡◌, ◌≤◌, ◌<◌, ◌++◌, ◌^◌, ℕ, false, filter, length, sum_by, Some, IfOk, IfErr, OnOk, IfSome, if◌then◌else◌};
 ghost use Rattle.std.specs.Option.{option_map_or};
 ghost use Rattle.std.specs.Result.{MatchResult};
 ghost use Rattle.indexmap.specs.IndexMap.{keys, get};
@@ -350,7 +350,7 @@ impl Basis {
 
     /// How many names the object of this kind at a place has; a directory has one.
     fn links_of(&self, place: usize, kind: Kind) -> u32
-        ensures { (n : ℕ) → length (filter (is_under place) self.now.links.by_target) ≡ n → n < 2 ^ 32 → result ≡ (if is_directory kind then 1 else n) }
+        ensures { (n : ℕ) → length (filter (is_under place) self.now.links.by_target) ≡ n → (is_directory kind ≡ false → n < 2 ^ 32) → result ≡ (if is_directory kind then 1 else n) }
     {
         if kind.is_directory() {
             1

@@ -1,4 +1,4 @@
-ghost use Rattle.std.specs.Prelude.{◌≡◌, ◌≤◌, ◌<◌, ◌^◌, ◌∷◌, [], false, List, is_err, length, IfOk, IfErr};
+ghost use Rattle.std.specs.Prelude.{◌≡◌, ◌≤◌, ◌<◌, ◌^◌, ◌∷◌, [], true, false, List, is_err, length, IfOk, IfErr};
 ghost use Rattle.std.specs.Result.{MatchResult};
 ghost use Rattle.outside.specs.Fault.{HasCauseOf};
 ghost use Rattle.outside.specs.History.{Image, OverTold};
@@ -158,6 +158,7 @@ impl Items {
         ensures answers { IfErr result IsFileAnswer }
         ensures spent { self.new.spent ≡ is_err result }
         ensures fits { IfOk result (λ _. Fits self.new volume.now (P.pieces pieces.now)) }
+        ensures stands { IfOk result (λ more. more ≡ true → HasItem self.new) }
         ensures next { OverTold S.tells (S.blocks src.old) (λ image. IsAccepted image → IsOpened volume.now image → ArePlaced (superblock image).blocks (P.pieces pieces.now) → FitsBlocks self.old volume.now image
             → MatchResult result (λ more. Comes more self.old self.new volume.now (P.pieces pieces.now) image) IsFaultOrMemory) }
     {
@@ -179,6 +180,7 @@ impl Items {
         ensures answers { IfErr result IsFileAnswer }
         ensures spent { self.new.spent ≡ self.old.spent }
         ensures fits { IfOk result (λ _. Fits self.new volume.now (P.pieces pieces.now)) }
+        ensures stands { IfOk result (λ more. more ≡ true → HasItem self.new) }
         ensures next { OverTold S.tells (S.blocks src.old) (λ image. IsAccepted image → IsOpened volume.now image → ArePlaced (superblock image).blocks (P.pieces pieces.now) → FitsBlocks self.old volume.now image
             → MatchResult result (λ more. Comes more self.old self.new volume.now (P.pieces pieces.now) image) IsFaultOrMemory) }
     {
@@ -188,11 +190,12 @@ impl Items {
         }
         self.list.clear();
         self.given = 0;
-        let more = self.rest.add_next(&mut self.list, src, volume, pieces)?;
-        if more {
-            self.given = 1;
+        self.rest.add_next(&mut self.list, src, volume, pieces)?;
+        if self.list.len() == 0 {
+            return Ok(false);
         }
-        Ok(more)
+        self.given = 1;
+        Ok(true)
     }
 
     /// The key of the item that stands.
