@@ -1,5 +1,6 @@
 // The items of a sample volume. Their checksums are those of an independent program that writes the same items.
-ghost use Rattle.std.specs.Prelude.{◌≡◌, None, IfOk};
+ghost use Rattle.std.specs.Prelude.{◌≡◌, false};
+ghost use Rattle.file_items.specs.Stream.{Fits};
 
 use crate::Items;
 use castagnoli::raw_crc;
@@ -113,7 +114,10 @@ fn sum(
     disk: &mut MemDisk,
     volume: &Volume,
     pieces: &Pieces,
-) -> Result<(u64, u32), VolAnswer> {
+) -> Result<(u64, u32), VolAnswer>
+    requires live { items.old.spent ≡ false }
+    requires fits { Fits items.old volume.now pieces.now.items.items }
+{
     let mut count = 0_u64;
     let mut sum = u32::MAX;
     for _ in 0..100_000 {
@@ -122,7 +126,8 @@ fn sum(
         }
         count = count.wrapping_add(1);
         sum = raw_crc(sum, &items.key().to_bytes());
-        sum = raw_crc(sum, &(items.body().len() as u32).to_le_bytes());
+        let length = items.body().len().min(u32::MAX as usize) as u32;
+        sum = raw_crc(sum, &length.to_le_bytes());
         sum = raw_crc(sum, items.body());
     }
     Ok((count, sum ^ u32::MAX))
