@@ -1,13 +1,12 @@
 -- How an object begins: its inode, its names and what it holds.
-use Rattle.std.proofs.Common.{◌≡◌, ◌≤◌, ◌<◌, ℕ, ◌+◌, ◌^◌, Bool, true, false, cond, List, [], ◌∷◌, ◌++◌, length, filter, map, count_by, sum_by, Option, Some, None, refl, sym, ap, subst, ◌∙◌, if◌then◌else◌, arith, true≢false}
-use Rattle.std.specs.Prelude.{slice_get, unwrap_or}
+use Rattle.std.proofs.Common.{◌≡◌, ◌≤◌, ◌<◌, ℕ, ◌+◌, ◌^◌, Bool, true, false, cond, List, [], ◌∷◌, ◌++◌, length, filter, map, count_by, sum_by, Option, Some, None, sym, ap, subst, ◌∙◌, if◌then◌else◌, arith, true≢false}
+use Rattle.std.specs.Prelude.{unwrap_or}
 use Rattle.std.specs.Option.{option_map_or}
 use Rattle.std.proofs.lemmas.List.{append_assoc, length-map}
 use Rattle.std.proofs.lemmas.List.Sums.{length-filter, sum_by-cons, sum_by-append}
 use Rattle.fs_rows.specs.declared.row.Kind.{Kind}
 use Rattle.fs_rows.specs.declared.row.Kind.TheVariants.{Directory}
 use Rattle.fs_rows.specs.Kinds.{is_directory}
-use Rattle.indexmap.specs.IndexMap.{keys}
 use Rattle.outside.specs.History.{Image}
 use Rattle.btr_keys.specs.Inode.{inode_bytes}
 use Rattle.btr_keys.specs.Key.{make_key}
@@ -17,9 +16,7 @@ use Rattle.item_list.specs.Spots.{is_under}
 use Rattle.item_list.specs.declared.spot.Spot.{Spot}
 use Rattle.item_list.proofs.Placing.{places_count}
 use Rattle.reiser_names.proofs.Uniqueness.{links_one}
-use Rattle.reiser_objects.specs.Items.{stat_of_object}
 use Rattle.reiser_objects.specs.Keys.{same_key, root, items_of}
-use Rattle.reiser_objects.specs.Kinds.{kind_of_mode}
 use Rattle.reiser_objects.specs.Rules.{IsDirectory}
 use Rattle.reiser_objects.specs.declared.key.ObjectKey.{ObjectKey}
 use Rattle.reiser_objects.specs.declared.naming.Naming.{Naming}
@@ -37,7 +34,7 @@ use Rattle.file_items.specs.Known.{IsKnown}
 use Rattle.file_items.specs.Names.{Entry, Indexed, entries_behind, entry_behind, indexed, indexed_in, letters, next_index, saved_entry}
 use Rattle.file_items.specs.Spots.{IsAt}
 use Rattle.file_items.specs.Stream.{HasContent, Begins, file_ahead}
-use Rattle.file_items.specs.Tree.{Source, number_of, stat_in, kind_in, size_in, inline_in, size_by, bytes_by, link_count, inode_in, name_items, content_items, object_items}
+use Rattle.file_items.specs.Tree.{Source, number_of, stat_in, kind_in, size_in, inline_in, size_by, bytes_by, inode_in, name_items, content_items, object_items}
 use Rattle.file_items.specs.declared.files.FileInHand.{FileInHand}
 use Rattle.file_items.specs.declared.link_index.LinkIndex.{LinkIndex}
 use Rattle.file_items.proofs.Held.{contains_at}

@@ -1,15 +1,15 @@
 -- The extents of an object, in the tree itself or from its pieces on.
-use Rattle.std.proofs.Common.{◌≡◌, ◌≤◌, ℕ, ◌-◌, Bool, true, false, List, [], ◌∷◌, ◌++◌, length, drop, take, Option, Some, None, refl, sym, ap, subst, ◌∙◌, if◌then◌else◌, arith}
+use Rattle.std.proofs.Common.{◌≡◌, ℕ, ◌-◌, Bool, true, false, List, [], ◌∷◌, ◌++◌, length, drop, take, Option, Some, None, refl, sym, ap, subst, ◌∙◌, if◌then◌else◌, arith}
 use Rattle.std.specs.List.{flat_map}
 use Rattle.std.proofs.lemmas.List.{append-nil}
 use Rattle.btr_node.specs.Leaf.{Item}
 use Rattle.item_list.specs.Extents.{extent_item, inline_extent}
-use Rattle.reiser_files.specs.Bytes.{tail_block, target_bytes}
+use Rattle.reiser_files.specs.Bytes.{target_bytes}
 use Rattle.reiser_objects.specs.declared.key.ObjectKey.{ObjectKey}
 use Rattle.reiser_objects.specs.Keys.{items_of}
 use Rattle.reiser_volume.specs.Numbers.{by_inode}
 use Rattle.unit_plan.specs.declared.piece.Piece.{Piece}
-use Rattle.file_items.specs.Contents.{HoldsBy, HoldsBytes}
+use Rattle.file_items.specs.Contents.{HoldsBy}
 use Rattle.file_items.specs.Extents.{pieces_of, pieces_of_volume, piece_bytes, file_block, source_block, extents_at}
 use Rattle.file_items.specs.Small.{image_head, image_items}
 use Rattle.file_items.specs.Stream.{HasExtents, file_ahead}

@@ -1,5 +1,5 @@
 -- The links of a volume by the places of their directories and objects.
-use Rattle.std.proofs.Common.{◌≡◌, ◌≢◌, ◌<◌, ◌≤◌, ℕ, zero, suc, ◌+◌, ◌==◌, ◌&&◌, Bool, true, false, cond, List, [], ◌∷◌, ◌++◌, length, filter, map, take, get_or, count_by, nat_lt, nat_eq, Some, None, Option, AllPairs, refl, sym, ap, subst, ◌∙◌, true≢false, if◌then◌else◌, append_assoc, ⊎_elim, arith}
+use Rattle.std.proofs.Common.{◌≡◌, ◌≢◌, ◌<◌, ℕ, zero, suc, ◌+◌, ◌==◌, ◌&&◌, Bool, true, false, cond, List, [], ◌∷◌, ◌++◌, length, filter, map, take, get_or, count_by, nat_lt, Some, None, AllPairs, refl, sym, ap, subst, ◌∙◌, if◌then◌else◌, append_assoc, ⊎_elim, arith}
 use Rattle.std.specs.Prelude.{slice_get}
 use Rattle.std.specs.List.{All, AllByRecursion}
 use Rattle.std.proofs.lemmas.Bool.{cases_lt}
@@ -25,8 +25,8 @@ use Rattle.reiser_objects.specs.Keys.{same_key}
 use Rattle.reiser_objects.proofs.Tables.{same_key-true, same_key-self, and_left, and_right}
 use Rattle.reiser_volume.specs.declared.volume.Volume.{Volume}
 use Rattle.reiser_volume.specs.Opened.{IsOpened, links_in}
-use Rattle.file_items.specs.Spots.{AreBelow, TellsPlaces, IsAt}
-use Rattle.file_items.specs.Names.{Entry, entry_behind, entries_behind, entries, names_of, names_in, next_index}
+use Rattle.file_items.specs.Spots.{AreBelow, TellsPlaces}
+use Rattle.file_items.specs.Names.{Entry, entry_behind, entries_behind, entries, next_index}
 use Rattle.file_items.specs.Sizes.{same_names, AreSizes}
 use Rattle.file_items.specs.declared.link_index.NamesIn.{NamesIn}
 

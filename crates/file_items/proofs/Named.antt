@@ -1,18 +1,16 @@
 -- The names of an object, and the entries of a directory, by the spots of a volume.
-use Rattle.std.proofs.Common.{◌≡◌, ◌<◌, ◌≤◌, ℕ, zero, suc, ◌+◌, ◌*◌, ◌^◌, Bool, true, false, cond, not, List, [], ◌∷◌, ◌++◌, length, filter, map, take, get_or, count_by, nat_lt, Some, None, Option, AllPairs, Contains, refl, sym, ap, subst, ◌∙◌, if◌then◌else◌, arith}
+use Rattle.std.proofs.Common.{◌≡◌, ◌<◌, ◌≤◌, ℕ, zero, suc, ◌+◌, ◌^◌, Bool, true, false, cond, not, List, [], ◌∷◌, ◌++◌, length, filter, map, take, get_or, count_by, nat_lt, Some, None, AllPairs, Contains, refl, sym, ap, subst, ◌∙◌, if◌then◌else◌, arith}
 use Rattle.std.specs.Prelude.{slice_get}
-use Rattle.std.proofs.lemmas.List.{map-append, take_all}
+use Rattle.std.proofs.lemmas.List.{map-append}
 use Rattle.std.proofs.lemmas.List.Elements.{filter-append, filter_passes}
 use Rattle.std.proofs.lemmas.List.Sums.{sum_by_push, sum_by-cons}
 use Rattle.std.proofs.lemmas.Option.{slice_get_within, get_or_from_slice_get, slice_get-get_or}
 use Rattle.fs_rows.specs.declared.row.Kind.{Kind}
-use Rattle.indexmap.specs.IndexMap.{keys}
 use Rattle.outside.specs.History.{Image}
 use Rattle.btr_keys.specs.DirEntry.{DirEntryValue}
 use Rattle.btr_keys.specs.Key.{make_key}
 use Rattle.btr_keys.specs.declared.key.Key.{Key}
 use Rattle.btr_node.specs.Leaf.{Item}
-use Rattle.item_list.specs.Places.{places_from}
 use Rattle.item_list.specs.Spots.{is_under}
 use Rattle.item_list.specs.declared.spot.Spot.{Spot}
 use Rattle.item_list.proofs.Joining.{take_push}
@@ -30,7 +28,7 @@ use Rattle.reiser_volume.specs.Opened.{IsOpened, links_in}
 use Rattle.reiser_volume.specs.Volume.{IsAccepted, volume_items}
 use Rattle.file_items.specs.Gathered.{HasName, HasNames, HasEntry, HasEntries}
 use Rattle.file_items.specs.Known.{IsKnown}
-use Rattle.file_items.specs.Names.{Entry, entry_behind, entries, names_of, names_in, next_index, ref_record, far_record, Indexed, letters, hash_record, index_record, indexed, indexed_in, saved_entry, root_ref, inode_refs, extrefs}
+use Rattle.file_items.specs.Names.{Entry, entries, names_of, names_in, next_index, ref_record, far_record, Indexed, letters, hash_record, index_record, indexed, indexed_in, saved_entry, root_ref, inode_refs, extrefs}
 use Rattle.file_items.specs.Tree.{Source, name_items}
 use Rattle.file_items.specs.Spots.{IsAt}
 use Rattle.file_items.specs.declared.link_index.LinkIndex.{LinkIndex}

@@ -1,5 +1,5 @@
 -- The references of an object, made of records.
-use Rattle.std.proofs.Common.{◌≡◌, ◌<◌, ℕ, zero, suc, ◌+◌, Bool, true, false, cond, not, List, [], ◌∷◌, ◌++◌, length, filter, map, take, get_or, Some, Option, refl, sym, ap, subst, ◌∙◌, if◌then◌else◌, append_assoc, arith}
+use Rattle.std.proofs.Common.{◌≡◌, ◌<◌, ℕ, suc, ◌+◌, not, List, [], ◌∷◌, ◌++◌, length, filter, map, take, get_or, Some, refl, sym, ap, ◌∙◌, append_assoc, arith}
 use Rattle.std.specs.Prelude.{slice_get}
 use Rattle.std.specs.List.{flat_map}
 use Rattle.std.proofs.lemmas.List.{map-append}
@@ -17,7 +17,7 @@ use Rattle.item_list.proofs.Runs.{grouped_map, ascending_map, flat_of_map}
 use Rattle.reiser_names.specs.Names.{inode_of}
 use Rattle.reiser_objects.specs.declared.key.ObjectKey.{ObjectKey}
 use Rattle.reiser_objects.specs.declared.naming.Naming.{Naming}
-use Rattle.file_items.specs.Gathered.{HasNames, HasEntries, AreExtrefs}
+use Rattle.file_items.specs.Gathered.{AreExtrefs}
 use Rattle.file_items.specs.Names.{Entry, Indexed, names_of, parent_of, inode_ref, extref, inode_refs, extrefs, entry_items, ref_record, far_record, hash_record, index_record}
 
 module _ {A : Type 0} (ino kind : ℕ) (key : A → ℕ) (kind_of : A → ℕ) (number : A → ℕ) (bytes : A → List ℕ) where

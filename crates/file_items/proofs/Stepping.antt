@@ -1,5 +1,5 @@
 -- Steps of the stream of the file tree, and of a stream of items.
-use Rattle.std.proofs.Common.{◌≡◌, ◌<◌, ◌≤◌, ℕ, zero, suc, ◌+◌, Bool, true, false, List, [], ◌∷◌, ◌++◌, length, drop, get_or, Some, None, Result, Ok, Err, refl, sym, ap, subst, ◌∙◌, append_assoc, arith}
+use Rattle.std.proofs.Common.{◌≡◌, ◌<◌, ◌≤◌, ℕ, zero, suc, ◌+◌, Bool, true, false, List, [], ◌∷◌, ◌++◌, length, drop, get_or, Some, None, Result, Ok, Err, refl, sym, ap, ◌∙◌, append_assoc, arith}
 use Rattle.std.specs.Prelude.{slice_get}
 use Rattle.std.specs.List.{flat_map}
 use Rattle.std.specs.Result.{MatchResult}
@@ -17,11 +17,10 @@ use Rattle.reiser_volume.specs.declared.volume.Volume.{Volume}
 use Rattle.unit_plan.specs.declared.piece.Piece.{Piece}
 use Rattle.file_items.specs.Spots.{IsAt}
 use Rattle.file_items.specs.Stream.{AddsSome, AddsExtent, Begins, Comes, FitsRestBlocks, file_ahead, tree_ahead, rest_ahead}
-use Rattle.file_items.specs.Tree.{Source, source_of, object_items}
+use Rattle.file_items.specs.Tree.{source_of, object_items}
 use Rattle.file_items.specs.declared.files.Basis.{Basis}
 use Rattle.file_items.specs.declared.files.FileTree.{FileTree}
 use Rattle.file_items.specs.declared.items.Items.{Items}
-use Rattle.file_items.specs.declared.items.Rest.{Rest}
 use Rattle.file_items.proofs.Streaming.{none_left}
 
 -- an element at a place is the first from there on

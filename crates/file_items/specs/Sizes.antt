@@ -5,7 +5,6 @@ use Rattle.reiser_names.specs.Names.{reference_size}
 use Rattle.reiser_names.specs.Tally.{tally, capped}
 use Rattle.reiser_objects.specs.declared.key.ObjectKey.{ObjectKey}
 use Rattle.reiser_objects.specs.declared.naming.Naming.{Naming}
-use Rattle.reiser_volume.specs.declared.volume.Volume.{Volume}
 use Rattle.file_items.specs.declared.link_index.NamesIn.{NamesIn}
 
 abbrev pub same_names : NamesIn → NamesIn → Bool

@@ -1,5 +1,5 @@
 -- The items of the tree of the saved image, and of the relocation tree.
-use Rattle.std.specs.Prelude.{ℕ, ◌+◌, ◌*◌, List, [], ◌∷◌, ◌++◌, codes, if◌then◌else◌, Bool}
+use Rattle.std.specs.Prelude.{ℕ, ◌*◌, List, [], ◌∷◌, ◌++◌, codes, if◌then◌else◌, Bool}
 use Rattle.btr_keys.specs.Inode.{inode_bytes}
 use Rattle.btr_keys.specs.InodeRef.{inode_ref_bytes}
 use Rattle.btr_keys.specs.Key.{make_key}

@@ -1,5 +1,4 @@
-use Rattle.std.proofs.Common.{◌<◌, ◌∙◌, List, length, ap, arith}
-use Rattle.fs_rows.specs.declared.row.Kind.{Kind}
+use Rattle.std.proofs.Common.{◌<◌, ◌∙◌, length, ap, arith}
 use Rattle.indexmap.specs.IndexMap.{keys}
 use Rattle.reiser_names.specs.Names.{inode_of}
 use Rattle.reiser_volume.specs.Made.{stat_at, kind_by}

@@ -1,4 +1,4 @@
-use Rattle.std.proofs.Common.{◌≡◌, ◌+◌, ◌∙◌, Bool, List, filter, is_some, sum_by, take, ap, sym, arith}
+use Rattle.std.proofs.Common.{◌+◌, ◌∙◌, Bool, List, filter, is_some, sum_by, take, ap, sym, arith}
 use Rattle.reiser_names.specs.Tally.{capped}
 use Rattle.unit_plan.specs.declared.piece.Piece.{Piece}
 use Rattle.file_items.proofs.Ordering.{count_more, tested_more, tested_same}

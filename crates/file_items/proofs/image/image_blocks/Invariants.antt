@@ -1,4 +1,4 @@
-use Rattle.std.proofs.Common.{◌≡◌, ◌<◌, ◌^◌, filter, is_some, sum_by, take}
+use Rattle.std.proofs.Common.{◌≡◌, filter, is_some, sum_by, take}
 use Rattle.reiser_names.specs.Tally.{capped}
 use Rattle.file_items.proofs.image.image_blocks.Given as goal
 

@@ -1,7 +1,7 @@
 use Rattle.std.proofs.Common.{filter, is_some, List}
 use Rattle.std.proofs.lemmas.Result.{IfOk-weaker}
 use Rattle.unit_plan.specs.declared.piece.Piece.{Piece}
-use Rattle.file_items.specs.Extents.{file_block, owner_inode, by_block}
+use Rattle.file_items.specs.Extents.{file_block}
 use Rattle.file_items.proofs.Ordering.{tells_sorted, owners_are}
 use Rattle.file_items.proofs.order.by_owner.Goals as goal
 

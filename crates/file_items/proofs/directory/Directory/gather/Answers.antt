@@ -1,8 +1,7 @@
-use Rattle.std.proofs.Common.{◌≡◌, ◌+◌, ◌<◌, ◌^◌, ◌++◌, ◌∷◌, [], ◌∙◌, ℕ, List, true, length, map, refl, sym, subst, arith}
+use Rattle.std.proofs.Common.{◌≡◌, ◌++◌, ◌∷◌, [], ◌∙◌, ℕ, List, true, map, refl, sym, subst, arith}
 use Rattle.fs_rows.specs.declared.row.Kind.{Kind}
 use Rattle.indexmap.specs.IndexMap.{keys}
 use Rattle.btr_keys.specs.DirEntry.{DirEntryValue, dir_entry_value}
-use Rattle.item_list.specs.declared.spot.Spot.{Spot}
 use Rattle.reiser_objects.specs.declared.key.ObjectKey.{ObjectKey}
 use Rattle.reiser_objects.specs.declared.naming.Naming.{Naming}
 use Rattle.reiser_objects.specs.Keys.{root, same_key}

@@ -1,4 +1,4 @@
-use Rattle.std.proofs.Common.{◌≡◌, ◌<◌, ◌+◌, ◌++◌, ◌∷◌, [], ◌∙◌, ap, sym, ℕ, List, length, map, take, get_or, Some, subst, arith}
+use Rattle.std.proofs.Common.{◌<◌, ◌+◌, ◌∷◌, [], ◌∙◌, ap, ℕ, List, length, map, take, get_or, subst, arith}
 use Rattle.std.specs.Prelude.{slice_get}
 use Rattle.std.proofs.lemmas.List.{take_all, map-append}
 use Rattle.std.proofs.lemmas.Option.{slice_get-get_or}
@@ -7,14 +7,13 @@ use Rattle.indexmap.specs.IndexMap.{keys}
 use Rattle.btr_keys.specs.DirEntry.{DirEntryValue, dir_entry_value}
 use Rattle.item_list.specs.declared.spot.Spot.{Spot}
 use Rattle.item_list.proofs.Placing.{told_long}
-use Rattle.reiser_names.specs.Names.{inode_of}
 use Rattle.reiser_objects.specs.declared.key.ObjectKey.{ObjectKey}
 use Rattle.reiser_objects.specs.declared.naming.Naming.{Naming}
 use Rattle.reiser_volume.specs.Made.{stat_at, kind_by}
 use Rattle.reiser_volume.specs.Opened.{links_in}
 use Rattle.reiser_volume.specs.Volume.{volume_items}
 use Rattle.file_items.specs.Gathered.{HasEntry, HasEntries}
-use Rattle.file_items.specs.Names.{Entry, Indexed, indexed, entries, names_in, entry_to}
+use Rattle.file_items.specs.Names.{Entry, indexed, entries, names_in}
 use Rattle.file_items.proofs.Linked.{entry_at}
 use Rattle.file_items.proofs.Named.{entries_of_dir, told_here, index_is, entries_more, dir_of}
 use Rattle.file_items.proofs.directory.Directory.gather_links.Goals as goal

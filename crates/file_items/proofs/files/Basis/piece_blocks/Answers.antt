@@ -1,4 +1,4 @@
-use Rattle.std.proofs.Common.{◌≡◌, ◌+◌, ◌<◌, ◌∙◌, List, length, take, map, get_or, Some, ap, sym, arith}
+use Rattle.std.proofs.Common.{◌+◌, ◌∙◌, List, take, map, get_or, ap, sym, arith}
 use Rattle.std.specs.Prelude.{slice_get}
 use Rattle.std.proofs.lemmas.Option.{slice_get_within, slice_get-get_or}
 use Rattle.item_list.specs.declared.spot.Spot.{Spot}

@@ -1,4 +1,4 @@
-use Rattle.std.proofs.Common.{ap, ◌∙◌, ℕ}
+use Rattle.std.proofs.Common.{ap, ℕ}
 use Rattle.std.proofs.lemmas.Result.{on_ok_weaker}
 use Rattle.file_items.specs.declared.files.FileInHand.{FileInHand}
 use Rattle.file_items.proofs.Extending.{held_inline, held_in_pieces}

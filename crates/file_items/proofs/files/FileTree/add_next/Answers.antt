@@ -1,10 +1,8 @@
-use Rattle.std.proofs.Common.{◌≡◌, ◌<◌, ◌∙◌, Bool, List, length, ap, refl, sym, subst, arith}
+use Rattle.std.proofs.Common.{◌≡◌, ◌<◌, ◌∙◌, Bool, List, length, ap, sym, subst, arith}
 use Rattle.std.proofs.lemmas.Result.{err_from_is_err_and}
-use Rattle.btr_node.specs.Leaf.{Item}
 use Rattle.indexmap.specs.IndexMap.{keys}
 use Rattle.object_files.specs.Answers.{IsFaultOrMemory}
 use Rattle.reiser_volume.proofs.Bounds.{accepted_is_small}
-use Rattle.reiser_volume.specs.Numbers.{AreNumbered}
 use Rattle.reiser_volume.specs.Volume.{superblock}
 use Rattle.reiser_volume.specs.declared.volume.Volume.{Volume}
 use Rattle.unit_plan.specs.declared.piece.Piece.{Piece}

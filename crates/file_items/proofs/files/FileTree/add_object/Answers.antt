@@ -1,4 +1,4 @@
-use Rattle.std.proofs.Common.{sym, ap, subst}
+use Rattle.std.proofs.Common.{sym, subst}
 use Rattle.std.proofs.lemmas.Result.{err_from_is_err_and}
 use Rattle.object_files.specs.Answers.{IsFaultOrMemory}
 use Rattle.file_items.proofs.files.FileTree.add_object.Goals as goal

@@ -10,7 +10,6 @@ use Rattle.item_list.specs.Spots.{is_under}
 use Rattle.item_list.specs.declared.spot.Spot.{Spot}
 use Rattle.item_list.proofs.Placing.{told_long}
 use Rattle.reiser_objects.specs.Keys.{same_key, items_of}
-use Rattle.reiser_objects.specs.declared.key.ObjectKey.{ObjectKey}
 use Rattle.reiser_objects.specs.declared.stat.ObjectStat.{ObjectStat}
 use Rattle.reiser_super.specs.declared.superblock.Super.{Super}
 use Rattle.reiser_volume.proofs.Bounds.{accepted_is_small}

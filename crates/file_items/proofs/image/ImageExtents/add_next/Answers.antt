@@ -1,6 +1,5 @@
-use Rattle.std.proofs.Common.{◌≡◌, ◌∙◌, ◌∷◌, ◌++◌, [], ℕ, ap, sym, List, drop, Some, arith, ◌+◌, ◌<◌, ◌^◌, subst, map, refl}
+use Rattle.std.proofs.Common.{◌≡◌, ◌∙◌, ◌∷◌, ◌++◌, [], ℕ, ap, sym, List, drop, arith, ◌+◌, ◌<◌, ◌^◌}
 use Rattle.std.proofs.lemmas.Option.{slice_get_within}
-use Rattle.btr_node.specs.Leaf.{Item}
 use Rattle.item_list.specs.Extents.{extent_item, regular_extent}
 use Rattle.unit_plan.specs.declared.piece.Piece.{Piece}
 use Rattle.file_items.specs.Extents.{source_block, pieces_of_volume, extents_at}

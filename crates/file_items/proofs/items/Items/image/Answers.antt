@@ -1,10 +1,9 @@
-use Rattle.std.proofs.Common.{◌≡◌, ◌*◌, ◌++◌, ◌∙◌, ℕ, List, filter, is_some, sum_by, drop, ap, arith}
-use Rattle.btr_node.specs.Leaf.{Item}
+use Rattle.std.proofs.Common.{◌≡◌, ◌++◌, ◌∙◌, ℕ, List, filter, is_some, drop, ap, arith}
 use Rattle.item_list.proofs.Sorting.{ascending_sum}
 use Rattle.reiser_super.specs.declared.superblock.Super.{Super}
 use Rattle.unit_plan.specs.declared.piece.Piece.{Piece}
 use Rattle.file_items.specs.Extents.{source_block, pieces_of_volume, piece_bytes, extents_at}
-use Rattle.file_items.specs.Small.{image_head, image_items}
+use Rattle.file_items.specs.Small.{image_items}
 use Rattle.file_items.specs.Stream.{ahead}
 use Rattle.file_items.specs.declared.items.Items.{Items}
 use Rattle.file_items.proofs.Extending.{image_is}

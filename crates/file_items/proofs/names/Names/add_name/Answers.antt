@@ -1,11 +1,9 @@
-use Rattle.std.proofs.Common.{◌≡◌, ◌<◌, ◌++◌, ◌∷◌, [], ◌∙◌, Bool, List, ℕ, true, false, length, Some, ap, sym, refl, if◌then◌else◌, arith}
-use Rattle.std.specs.Prelude.{slice_get}
+use Rattle.std.proofs.Common.{◌≡◌, ◌<◌, ◌++◌, ◌∷◌, [], ◌∙◌, Bool, List, ℕ, true, false, length, ap, sym, refl, if◌then◌else◌, arith}
 use Rattle.std.proofs.lemmas.List.{append-nil}
 use Rattle.std.proofs.lemmas.Result.{on_ok_weaker}
 use Rattle.btr_keys.specs.Extref.{extref_bytes}
 use Rattle.btr_keys.specs.InodeRef.{inode_ref_bytes}
 use Rattle.btr_keys.specs.declared.key.Key.{Key}
-use Rattle.btr_node.specs.Leaf.{Item}
 use Rattle.indexmap.specs.IndexMap.{keys}
 use Rattle.reiser_objects.specs.declared.key.ObjectKey.{ObjectKey}
 use Rattle.reiser_objects.specs.declared.naming.Naming.{Naming}

@@ -1,5 +1,4 @@
-use Rattle.std.proofs.Common.{◌∙◌, ◌++◌, ◌∷◌, [], List, length, ap, sym, arith}
-use Rattle.btr_node.specs.Leaf.{Item}
+use Rattle.std.proofs.Common.{◌∙◌, ◌++◌, ◌∷◌, [], length, ap, sym, arith}
 use Rattle.btr_keys.specs.declared.key.Key.{Key}
 use Rattle.item_list.specs.Groups.{ascending}
 use Rattle.item_list.specs.Lists.{offset_of}
