@@ -239,6 +239,8 @@ linux_volumes() {
         else
             same "inspect of the volume $name" "0||$(expected_super packed)" "$status|$err|$(head -8 "$work/.out")"
             same "used blocks of the volume $name" 'adds up' "$(used_adds_up)"
+            # the lines that another program counted
+            same "all lines of inspect of the volume $name" "$(cat "$top/tests/volumes/$name.inspect")" "$out"
         fi
         if [ -e "${packed%.img.zst}.rows" ]; then listed "$name" packed "${packed%.img.zst}.rows"; else
             run list packed
@@ -416,8 +418,8 @@ checked() {
 
 # the samples of tests/samples.table
 samples() {
-    local number blocks items free root height units directories names sum name option
-    while read -r number blocks items free root height units directories names sum; do
+    local number blocks items free root height units needed run directories names sum name option
+    while read -r number blocks items free root height units needed run directories names sum; do
         [ "$number" = '#' ] && continue
         name="of sample $number in $blocks blocks with $items items"
         option=()
@@ -428,7 +430,7 @@ samples() {
         same "inspect $name" "0||$(
             printf 'format reiserfs\nblocks %s\nfree %s\nroot %s\nheight %s\njournal 18 8192\n' "$blocks" "$free" "$root" "$height"
             printf 'uuid %02x%02x0000-0000-0000-0000-000000000000\nlabel -\n' $((number % 256)) $((number / 256))
-            printf 'used %s\nunits %s' $((blocks - free)) "$units"
+            printf 'used %s\nunits %s\nneeded %s\nrun %s' $((blocks - free)) "$units" "$needed" "$run"
         )" "$status|$err|$out"
         same "the superblock $name" "$(expected_super made)" "$(head -8 "$work/.out")"
         run list made

@@ -1,5 +1,5 @@
 -- What `inspect` answers.
-use Rattle.std.proofs.Common.{◌≡◌, sym, ◌∙◌, ap, subst}
+use Rattle.std.proofs.Common.{◌≡◌, refl, sym, ap, subst}
 use Rattle.std.specs.Prelude.{◌≢◌}
 use Rattle.vol_block.specs.declared.format.Format.{Format}
 use Rattle.vol_block.specs.declared.format.Format.TheVariants as formats
@@ -8,7 +8,8 @@ use Rattle.outside.specs.declared.answer.BtrAnswer.{BtrAnswer}
 use Rattle.outside.specs.declared.answer.BtrAnswer.TheVariants as of_btr
 use Rattle.outside.specs.declared.answer.VolAnswer.{VolAnswer}
 use Rattle.outside.specs.declared.answer.VolAnswer.TheVariants as of_reiser
-use Rattle.reiser_volume.specs.Answers.{IsVolumeAnswer, RefusesVolume}
+use Rattle.reiser_volume.specs.Answers.{RefusesVolume}
+use Rattle.reiser_volume.specs.Reading.{IsReadingAnswer}
 use Rattle.reiser_volume.specs.Volume.{IsAccepted}
 use Rattle.btr_summary.specs.declared.summary.Summary.{Summary}
 use Rattle.btr_reader.specs.Opening.{NamesNoLogTree}
@@ -19,23 +20,23 @@ use Rattle.volume_app.specs.declared.inspect.Inspected.TheVariants.{Reiser, Btrf
 use Rattle.volume_app.specs.declared.reiser.ReiserSummary.{ReiserSummary}
 use Rattle.volume_app.specs.Answers.{of_volume, of_btrfs}
 use Rattle.outside.specs.Format.{format_in}
-use Rattle.volume_app.specs.Inspect.{IsInspectable, inspect_text, Inspects, InspectRefuses, IsInspectAnswer}
-use Rattle.volume_app.specs.Reiser.{reiser_summary, summary_text}
+use Rattle.volume_app.specs.Inspect.{IsInspectable, IsInspectText, Inspects, InspectRefuses, IsInspectAnswer}
+use Rattle.volume_app.specs.Reiser.{IsReiserSummary, summary_text}
 use Rattle.volume_app.proofs.Formats.{reiser_found}
 
-pub reiser_inspected : (disk : Image) (told : ReiserSummary) → format_in disk ≢ formats.Btrfs → IsAccepted disk → told ≡ reiser_summary disk → Inspects disk (Reiser told)
+pub reiser_inspected : (disk : Image) (told : ReiserSummary) → format_in disk ≢ formats.Btrfs → IsAccepted disk → IsReiserSummary disk told → Inspects disk (Reiser told)
 reiser_inspected disk told other accepted is =
     let format = sym (reiser_found disk accepted other) in
     record {
       inspectable = subst (λ (f : Format). IsInspectable f disk) format accepted;
-      text = ap (λ (s : ReiserSummary). summary_text s) is ∙ ap (λ (f : Format). inspect_text f disk) format;
+      text = subst (λ (f : Format). IsInspectText f disk (summary_text told)) format (record { told = told; summary = is; is = refl });
     }
 
 pub btrfs_inspected : (disk : Image) (told : Summary) → format_in disk ≡ formats.Btrfs → IsReadable disk SavedImage → told ≡ summary_of disk → Inspects disk (Btrfs told)
 btrfs_inspected disk told format readable is =
     record {
       inspectable = subst (λ (f : Format). IsInspectable f disk) (sym format) readable;
-      text = ap (λ (s : Summary). btrfs_summary_text s) is ∙ ap (λ (f : Format). inspect_text f disk) (sym format);
+      text = subst (λ (f : Format). IsInspectText f disk (btrfs_summary_text told)) (sym format) (ap (λ (s : Summary). btrfs_summary_text s) is);
     }
 
 -- what is refused of a volume
@@ -49,7 +50,7 @@ btrfs_refused disk (of_btr.Refused refusal) format refuses = (format, refuses)
 btrfs_refused disk of_btr.Fault format refuses = tt
 btrfs_refused disk of_btr.Memory format refuses = tt
 
-pub reiser_known : (answer : VolAnswer) → IsVolumeAnswer answer → IsInspectAnswer (of_volume answer)
+pub reiser_known : (answer : VolAnswer) → IsReadingAnswer answer → IsInspectAnswer (of_volume answer)
 reiser_known (of_reiser.Refused refusal) known = known
 reiser_known of_reiser.Fault known = tt
 reiser_known of_reiser.Memory known = tt

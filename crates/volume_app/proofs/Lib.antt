@@ -1,4 +1,5 @@
 pub mod Formats
 pub mod Inspecting
 pub mod Listing
+pub mod OneText
 pub mod Outcomes

@@ -1,24 +1,23 @@
 -- What `list` answers.
-use Rattle.std.proofs.Common.{◌≡◌, inl, inr, sym, ap, subst}
+use Rattle.std.proofs.Common.{◌≡◌, sym, ap, subst}
 use Rattle.std.specs.Prelude.{◌≢◌, List, map}
 use Rattle.vol_block.specs.declared.format.Format.{Format}
 use Rattle.vol_block.specs.declared.format.Format.TheVariants as formats
 use Rattle.fs_rows.specs.Rows.{WholeRow, row_of}
 use Rattle.fs_rows.specs.Text.{rows_text}
 use Rattle.fs_rows.specs.declared.row.Row.{Row}
-use Rattle.object_files.specs.Answers.{IsFileAnswer, IsFaultOrMemory}
 use Rattle.outside.specs.History.{Image}
 use Rattle.outside.specs.declared.answer.BtrAnswer.{BtrAnswer}
 use Rattle.outside.specs.declared.answer.BtrAnswer.TheVariants as of_btr
 use Rattle.outside.specs.declared.answer.VolAnswer.{VolAnswer}
 use Rattle.outside.specs.declared.answer.VolAnswer.TheVariants.{Refused, Fault, Memory}
-use Rattle.reiser_volume.specs.Answers.{IsVolumeAnswer, RefusesVolume}
+use Rattle.reiser_volume.specs.Answers.{RefusesVolume}
+use Rattle.reiser_volume.specs.Reading.{IsReadingAnswer}
 use Rattle.reiser_volume.specs.Volume.{AreRowsOf, IsAccepted}
 use Rattle.volume_app.specs.Answers.{of_volume, of_btrfs}
 use Rattle.btr_reader.specs.Parts.{HasBtrfsRows, AreRowsOfBtrfs, RefusesBtrfsRows}
 use Rattle.outside.specs.Format.{format_in}
 use Rattle.volume_app.specs.Listing.{IsListable, AreRowsIn, IsListText, Lists, ListRefuses, IsListAnswer}
-use Rattle.volume_app.specs.Reiser.{IsRowsAnswer}
 use Rattle.volume_app.proofs.Formats.{reiser_found}
 
 pub reiser_listed : (disk : Image) (rows : List Row) → format_in disk ≢ formats.Btrfs → IsAccepted disk → (whole : List WholeRow) × AreRowsOf disk whole × (rows ≡ map row_of whole) → Lists disk rows
@@ -55,23 +54,7 @@ btrfs_refused disk (of_btr.Refused refusal) format refuses = (format, refuses)
 btrfs_refused disk of_btr.Fault format refuses = tt
 btrfs_refused disk of_btr.Memory format refuses = tt
 
--- an accepted volume's rows are refused by no rule
-pub rows_refused : (disk : Image) (answer : VolAnswer) → IsFaultOrMemory answer → RefusesVolume disk answer
-rows_refused disk (Refused refusal) is = absurd is
-rows_refused disk Fault is = tt
-rows_refused disk Memory is = tt
-
-pub again_known : (answer : VolAnswer) → IsFileAnswer answer → IsRowsAnswer answer
-again_known (Refused refusal) is = inr is
-again_known Fault is = tt
-again_known Memory is = tt
-
-pub volume_known : (answer : VolAnswer) → IsVolumeAnswer answer → IsRowsAnswer answer
-volume_known (Refused refusal) is = inl is
-volume_known Fault is = tt
-volume_known Memory is = tt
-
-pub reiser_known : (answer : VolAnswer) → IsRowsAnswer answer → IsListAnswer (of_volume answer)
+pub reiser_known : (answer : VolAnswer) → IsReadingAnswer answer → IsListAnswer (of_volume answer)
 reiser_known (Refused refusal) known = known
 reiser_known Fault known = tt
 reiser_known Memory known = tt

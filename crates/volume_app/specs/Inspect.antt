@@ -1,5 +1,6 @@
 -- What `inspect` answers and prints, by the format of the disk.
-use Rattle.std.specs.Prelude.{◌≡◌, ◌≢◌, ℕ, List, []}
+use Rattle.object_files.specs.Answers.{IsChanged}
+use Rattle.std.specs.Prelude.{◌≡◌, ◌⊎◌, ◌≢◌, ℕ, List, []}
 use Rattle.vol_block.specs.declared.format.Format.{Format}
 use Rattle.vol_block.specs.declared.format.Format.TheVariants as formats
 use Rattle.outside.specs.History.{Image}
@@ -13,7 +14,7 @@ use Rattle.btr_summary.specs.Text.{btrfs_text, summary_text as btrfs_summary_tex
 use Rattle.volume_app.specs.declared.inspect.Inspected.{Inspected}
 use Rattle.volume_app.specs.declared.inspect.Inspected.TheVariants.{Reiser, Btrfs}
 use Rattle.outside.specs.Format.{format_in}
-use Rattle.volume_app.specs.Reiser.{reiser_text, summary_text}
+use Rattle.volume_app.specs.Reiser.{IsReiserText, summary_text}
 
 -- a volume of this format of which `inspect` tells
 abbrev pub IsInspectable : Format → Image → Type 0
@@ -22,10 +23,10 @@ IsInspectable formats.Btrfs disk = IsReadable disk SavedImage
 IsInspectable formats.Neither disk = ⊥
 
 -- what it prints of a volume of this format
-abbrev pub inspect_text : Format → Image → List ℕ
-inspect_text formats.Reiser disk = reiser_text disk
-inspect_text formats.Btrfs disk = btrfs_text disk
-inspect_text formats.Neither disk = []
+abbrev pub IsInspectText : Format → Image → List ℕ → Type 0
+IsInspectText formats.Reiser disk text = IsReiserText disk text
+IsInspectText formats.Btrfs disk text = text ≡ btrfs_text disk
+IsInspectText formats.Neither disk text = text ≡ []
 
 -- the text of what was found
 abbrev pub inspected_text : Inspected → List ℕ
@@ -35,7 +36,7 @@ inspected_text (Btrfs told) = btrfs_summary_text told
 -- what was found is what is to be printed of the disk
 pub record Inspects (disk : Image) (found : Inspected) : Type 0 where
   pub inspectable : IsInspectable (format_in disk) disk
-  pub text : inspected_text found ≡ inspect_text (format_in disk) disk
+  pub text : IsInspectText (format_in disk) disk (inspected_text found)
 
 -- `inspect` may refuse a disk so; that a device failed or memory was short is said elsewhere
 abbrev pub InspectRefuses : Image → Answer → Type 0
@@ -50,9 +51,10 @@ InspectRefuses disk (ImageMoved block) = ⊥
 InspectRefuses disk (ImageDamaged refusal) = ⊥
 InspectRefuses disk (ReservedUsed block) = ⊥
 
--- The answers that `inspect` knows, whatever the disk gives: its refusals are those of volumes, and name no log tree.
+-- The answers that `inspect` knows, whatever the disk gives: its refusals are those of volumes, or that a block reads otherwise
+-- than before, and name no log tree.
 abbrev pub IsInspectAnswer : Answer → Type 0
-IsInspectAnswer (Volume refusal) = NamesVolumeRule refusal
+IsInspectAnswer (Volume refusal) = NamesVolumeRule refusal ⊎ IsChanged refusal
 IsInspectAnswer (Btr refusal) = NamesNoLog refusal
 IsInspectAnswer Fault = Unit {0}
 IsInspectAnswer Memory = Unit {0}

@@ -3,6 +3,7 @@ pub mod Command
 pub mod Ending
 pub mod Found
 pub mod Inspect
+pub mod Laws
 pub mod Listing
 pub mod Outcome
 pub mod Reiser

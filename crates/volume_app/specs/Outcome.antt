@@ -10,7 +10,7 @@ use Rattle.volume_app.specs.declared.ending.Ending.TheVariants.{Done, Usage, Fai
 use Rattle.volume_app.specs.Command.{Asked, inspect, list, help, version}
 use Rattle.volume_app.specs.Ending.{status, error_line}
 use Rattle.outside.specs.Format.{format_in}
-use Rattle.volume_app.specs.Inspect.{IsInspectable, inspect_text, InspectRefuses, IsInspectAnswer}
+use Rattle.volume_app.specs.Inspect.{IsInspectable, IsInspectText, InspectRefuses, IsInspectAnswer}
 use Rattle.volume_app.specs.Listing.{IsListable, IsListText, ListRefuses, IsListAnswer}
 use Rattle.volume_app.specs.Texts.{help_text, version_text}
 
@@ -41,7 +41,7 @@ AsksDisk (Some version) = ⊥
 -- the text that a command prints of a disk
 abbrev pub IsTextOf : Option Asked → Image → List ℕ → Type 0
 IsTextOf None disk text = text ≡ []
-IsTextOf (Some (inspect path)) disk text = text ≡ inspect_text (format_in disk) disk
+IsTextOf (Some (inspect path)) disk text = IsInspectText (format_in disk) disk text
 IsTextOf (Some (list path)) disk text = IsListText disk text
 IsTextOf (Some help) disk text = text ≡ help_text
 IsTextOf (Some version) disk text = text ≡ version_text

@@ -1,28 +1,45 @@
 -- What `inspect` tells of a ReiserFS volume and prints of it, and what `list` makes of one.
-use Rattle.std.specs.Prelude.{◌≡◌, ◌⊎◌, ℕ, Bool, List, [], ◌∷◌, length, map, codes, decimal, nat_eq}
+use Rattle.std.specs.Prelude.{◌≡◌, ℕ, ◌+◌, Bool, true, List, [], ◌∷◌, length, map, codes, decimal, nat_eq}
 use Rattle.std.specs.List.{before_first}
 use Rattle.uuid.specs.Text.{hyphenated_text, lower}
 use Rattle.fs_rows.specs.Rows.{WholeRow, row_of}
 use Rattle.fs_rows.specs.declared.row.Row.{Row}
-use Rattle.object_files.specs.Answers.{IsChanged}
 use Rattle.outside.specs.History.{Image}
-use Rattle.outside.specs.declared.answer.VolAnswer.{VolAnswer}
-use Rattle.outside.specs.declared.answer.VolAnswer.TheVariants.{Refused, Fault, Memory}
 use Rattle.reiser_super.specs.declared.superblock.Super.{Super}
 use Rattle.reiser_bitmap.specs.Bits.{used_blocks}
 use Rattle.reiser_bitmap.specs.Units.{free_units}
-use Rattle.reiser_volume.specs.Answers.{NamesVolumeRule}
 use Rattle.reiser_volume.specs.Volume.{superblock, used_of, AreRowsOf, IsAccepted}
+use Rattle.csum_kinds.specs.declared.kind.SumKind.TheVariants.{Crc32c}
+use Rattle.unit_plan.specs.declared.need.Need.{Need}
+use Rattle.unit_plan.specs.declared.options.Options.{Options}
+use Rattle.unit_plan.specs.declared.options.LabelChoice.TheVariants as LabelChoice
+use Rattle.unit_plan.specs.declared.options.UuidChoice.TheVariants as UuidChoice
+use Rattle.convert_core.specs.declared.survey.Survey.{Survey}
+use Rattle.convert_core.specs.Surveyed.{IsSurvey}
 use Rattle.volume_app.specs.declared.reiser.ReiserSummary.{ReiserSummary}
 use Rattle.sink_text.specs.Escape.{escaped}
 use Rattle.volume_app.specs.Texts.{text_of_lines}
 
--- what is told, by the superblock and the bitmap
-abbrev pub summary_with : Super → List Bool → ReiserSummary
-summary_with s used = record { superblock = s; used = length (used_blocks used); units = length (free_units used) }
+-- what is told, by the superblock, the bitmap and the space that a conversion needs
+abbrev pub summary_with : Super → List Bool → Need → ReiserSummary
+summary_with s used need =
+    record {
+      superblock = s;
+      used = length (used_blocks used);
+      units = length (free_units used);
+      needed = need.system + need.metadata + need.data_;
+      run = need.system;
+    }
 
-abbrev pub reiser_summary : Image → ReiserSummary
-reiser_summary disk = summary_with (superblock disk) (used_of disk)
+-- the space is that of a conversion for which nothing is asked
+abbrev pub plain : Options
+plain = record { nodesize = 16384; inline = true; datasum = true; label = LabelChoice.Empty; uuid = UuidChoice.New; sums = Crc32c }
+
+-- what is told of a disk
+pub record IsReiserSummary (disk : Image) (told : ReiserSummary) : Type 0 where
+  pub survey : Survey
+  pub surveyed : IsSurvey plain disk survey
+  pub is : told ≡ summary_with (superblock disk) (used_of disk) survey.need
 
 -- a label ends before its first zero byte
 abbrev pub label_of : List ℕ → List ℕ
@@ -46,21 +63,19 @@ summary_lines told =
     ∷ (codes "label", label_text (label_of s.label) ∷ [])
     ∷ (codes "used", decimal told.used ∷ [])
     ∷ (codes "units", decimal told.units ∷ [])
+    ∷ (codes "needed", decimal told.needed ∷ [])
+    ∷ (codes "run", decimal told.run ∷ [])
     ∷ []
 
 abbrev pub summary_text : ReiserSummary → List ℕ
 summary_text told = text_of_lines (summary_lines told)
 
 -- the text of a disk
-abbrev pub reiser_text : Image → List ℕ
-reiser_text disk = summary_text (reiser_summary disk)
+pub record IsReiserText (disk : Image) (text : List ℕ) : Type 0 where
+  pub told : ReiserSummary
+  pub summary : IsReiserSummary disk told
+  pub is : text ≡ summary_text told
 
 -- the volume is accepted, and these are its rows as the program has them
 abbrev pub ListsReiser : Image → List Row → Type 0
 ListsReiser disk rows = IsAccepted disk × ((whole : List WholeRow) × AreRowsOf disk whole × (rows ≡ map row_of whole))
-
--- what is answered of the rows, whatever the source gives: a refusal of volumes, or that a block reads otherwise than before
-abbrev pub IsRowsAnswer : VolAnswer → Type 0
-IsRowsAnswer (Refused refusal) = NamesVolumeRule refusal ⊎ IsChanged refusal
-IsRowsAnswer Fault = Unit {0}
-IsRowsAnswer Memory = Unit {0}

@@ -9,6 +9,7 @@ mod command;
 mod ending;
 mod format;
 mod inspect;
+mod laws;
 mod list;
 mod reiser;
 #[cfg(test)]
@@ -18,4 +19,5 @@ mod top;
 
 pub use command::{Command, read_words};
 pub use ending::Ending;
+pub use laws::inspect_texts_are_one;
 pub use top::run;

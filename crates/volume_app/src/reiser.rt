@@ -2,11 +2,14 @@ ghost use Rattle.std.specs.Prelude.{◌≡◌, [], IfOk, IfErr, IsTrue};
 ghost use Rattle.std.specs.Result.{MatchResult};
 ghost use Rattle.outside.specs.Fault.{HasCause, HasCauseOf, Takes};
 ghost use Rattle.outside.specs.History.{OverTold};
-ghost use Rattle.reiser_volume.specs.Answers.{IsVolumeAnswer, RefusesVolume};
+ghost use Rattle.reiser_volume.specs.Answers.{RefusesVolume};
+ghost use Rattle.reiser_volume.specs.Reading.{IsReadingAnswer};
+ghost use Rattle.unit_plan.specs.Choice.{IsSmall};
 ghost use Rattle.reiser_volume.specs.Volume.{IsAccepted};
 ghost use Rattle.sink_text.specs.Text.{piece_text};
-ghost use Rattle.volume_app.specs.Reiser.{label_of, label_text, reiser_summary, summary_text, summary_with, IsRowsAnswer, ListsReiser};
+ghost use Rattle.volume_app.specs.Reiser.{label_of, label_text, IsReiserSummary, summary_text, summary_with, ListsReiser};
 
+use convert_core::Survey;
 use fs_rows::Rows;
 use outside::{BlockSource, Fault, Sink, VolAnswer};
 use reiser_super::Super;
@@ -14,6 +17,7 @@ use reiser_volume::Volume;
 use sink_text::Piece::{Decimal, Escaped, Hyphenated, Plain};
 use sink_text::{Piece, write_pieces};
 use std::alloc::Global;
+use unit_plan::{Need, Options};
 
 /// What is told of a ReiserFS volume.
 #[derive(Clone, Copy, Debug)]
@@ -24,6 +28,10 @@ pub struct ReiserSummary {
     pub used: u64,
     /// The number of free units of 256 blocks.
     pub units: u64,
+    /// The units that a conversion needs.
+    pub needed: u64,
+    /// Those of them that are to lie in one run.
+    pub run: u64,
 }
 
 impl ReiserSummary {
@@ -32,17 +40,16 @@ impl ReiserSummary {
         ensures kept { S.kept source.old source.new }
         ensures cause { HasCauseOf VolAnswer.Fault (S.faults source.old) (S.faults source.new) result }
         ensures accepted { OverTold S.tells (S.blocks source.old) (λ image. IfOk result (λ s. IsAccepted image)) }
-        ensures told { OverTold S.tells (S.blocks source.old) (λ image. IfOk result (λ s. s ≡ reiser_summary image)) }
+        ensures told { OverTold S.tells (S.blocks source.old) (λ image. IfOk result (IsReiserSummary image)) }
         ensures refused { OverTold S.tells (S.blocks source.old) (λ image. IfErr result (RefusesVolume image)) }
-        ensures answers { IfErr result IsVolumeAnswer }
+        ensures answers { IfErr result IsReadingAnswer }
     {
-        match Volume::open(alloc, source) {
-            Ok(volume) => Ok(summary_of(&volume)),
-            Err(answer) => Err(answer),
-        }
+        let volume = Volume::open(alloc, source)?;
+        let survey = Survey::of(alloc, source, &volume, &Options::plain())?;
+        Ok(summary_of(&volume, &survey.need))
     }
 
-    /// Prints ten lines. After a fault the sink gained a first part of them.
+    /// Prints twelve lines. After a fault the sink gained a first part of them.
     pub fn print<O: Sink>(&self, out: &mut O) -> Result<(), Fault>
         ensures taken { IsTrue O.tells → Takes (O.taken out.old) (summary_text self.now) result (O.taken out.new) }
         ensures cause { HasCause (O.faults out.old) (O.faults out.new) result }
@@ -69,6 +76,10 @@ impl ReiserSummary {
             Decimal(self.used),
             Plain(b"\nunits "),
             Decimal(self.units),
+            Plain(b"\nneeded "),
+            Decimal(self.needed),
+            Plain(b"\nrun "),
+            Decimal(self.run),
             Plain(b"\n"),
         ];
         write_pieces(&pieces, out)
@@ -76,14 +87,17 @@ impl ReiserSummary {
 }
 
 /// What is told of an opened volume.
-fn summary_of(volume: &Volume) -> ReiserSummary
-    ensures { result ≡ summary_with volume.now.sup volume.now.bitmap }
+fn summary_of(volume: &Volume, need: &Need) -> ReiserSummary
+    requires { IsSmall need.now }
+    ensures { result ≡ summary_with volume.now.sup volume.now.bitmap need.now }
 {
     let map = volume.bitmap();
     ReiserSummary {
         superblock: *volume.sup(),
         used: map.used(),
         units: map.free_units(),
+        needed: need.total(),
+        run: need.system,
     }
 }
 
@@ -113,7 +127,7 @@ pub fn reiser_rows<S: BlockSource>(alloc: Global, source: &mut S) -> Result<Rows
     ensures kept { S.kept source.old source.new }
     ensures cause { HasCauseOf VolAnswer.Fault (S.faults source.old) (S.faults source.new) result }
     ensures rows { OverTold S.tells (S.blocks source.old) (λ image. MatchResult result (ListsReiser image) (RefusesVolume image)) }
-    ensures answers { IfErr result IsRowsAnswer }
+    ensures answers { IfErr result IsReadingAnswer }
 {
     match Volume::open(alloc, source) {
         Ok(volume) => volume.rows(alloc, source),

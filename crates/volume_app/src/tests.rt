@@ -104,7 +104,7 @@ fn help_and_version_open_nothing(rt: HostRuntime) -> Result<(), Fail> {
 }
 
 const SAMPLE: &str =
-    "format reiserfs\nblocks 2048\nfree 1996\nroot 51\nheight 2\njournal 18 32\nuuid 00000000-0000-0000-0000-000000000000\nlabel -\nused 52\nunits 7\n";
+    "format reiserfs\nblocks 2048\nfree 1996\nroot 51\nheight 2\njournal 18 32\nuuid 00000000-0000-0000-0000-000000000000\nlabel -\nused 52\nunits 7\nneeded 4\nrun 1\n";
 
 #[test]
 fn inspect_prints_the_superblock(rt: HostRuntime) -> Result<(), Fail> {
@@ -117,11 +117,11 @@ fn a_label_is_escaped_and_cut(rt: HostRuntime) -> Result<(), Fail> {
     for (label, line) in [
         (
             b"my disk\0\0x".as_slice(),
-            "label my\\x20disk\nused 52\nunits 7\n",
+            "label my\\x20disk\nused 52\nunits 7\nneeded 4\nrun 1\n",
         ),
         (
             b"\x7f\\\xff~!456789abcde".as_slice(),
-            "label \\x7f\\x5c\\xff~!456789abcde\nused 52\nunits 7\n",
+            "label \\x7f\\x5c\\xff~!456789abcde\nused 52\nunits 7\nneeded 4\nrun 1\n",
         ),
     ] {
         let mut disk = changed(rt.alloc(), 16, 100, label)?;
