@@ -22,3 +22,6 @@ pub use laws::{
     places_are_apart, plans_have_room,
 };
 pub use pieces::Pieces;
+
+#[cfg(test)]
+mod tests;
