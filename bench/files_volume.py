@@ -119,18 +119,27 @@ def inner_levels(nodes, write, numbers):
     return nodes[0][0], level
 
 
-def write_system(write, end, root, height, first_free):
-    """The bitmap and the superblock of a volume whose used blocks are those below `end`."""
-    for bitmap in range((end - 1) // 32768 + 1):
-        used = min(32768, end - bitmap * 32768)
-        bits = bytearray(b"\xff" * BLOCK)
-        write(17 if bitmap == 0 else bitmap * 32768, bits)
+def write_system(write, end, root, height, first_free, blocks=None):
+    """The bitmap and the superblock of a volume of so many blocks, by default `end`, whose used blocks are those below `end`
+    and the bitmap blocks."""
+    blocks = blocks or end
+    bitmaps = (blocks - 1) // 32768 + 1
+    for bitmap in range(bitmaps):
+        first = bitmap * 32768
+        used = min(max(end - first, 1), 32768) if first < end or bitmap else end
+        bits = bytearray(b"\xff" * (used // 8)) + bytearray([(1 << used % 8) - 1] if used % 8 else [])
+        bits += bytes(BLOCK - len(bits))
+        # what lies behind the volume is marked too
+        for block in range(min(blocks - first, 32768), 32768):
+            bits[block // 8] |= 1 << block % 8
+        write(17 if bitmap == 0 else first, bits)
+    free = blocks - end - sum(1 for bitmap in range(1, bitmaps) if bitmap * 32768 >= end)
     block = bytearray(BLOCK)
-    struct.pack_into("<IIIIII", block, 0, end, 0, root, JOURNAL_FIRST, 0, JOURNAL_SIZE)
+    struct.pack_into("<IIIIII", block, 0, blocks, free, root, JOURNAL_FIRST, 0, JOURNAL_SIZE)
     struct.pack_into("<IIIII", block, 24, 1024, 0, 900, 30, 30)
     struct.pack_into("<HHHH", block, 44, BLOCK, 972, 2, 1)
     block[52:62] = b"ReIsEr2Fs\0"
-    struct.pack_into("<HIHHH", block, 62, 0, 3, height, (end - 1) // 32768 + 1, 2)
+    struct.pack_into("<HIHHH", block, 62, 0, 3, height, bitmaps, 2)
     struct.pack_into("<II", block, 204, 1, first_free)
     write(16, block)
 
@@ -189,4 +198,5 @@ def main():
     print("blocks", end, "leaves", len(leaves.nodes), "files", directories * FILES, "bytes", total)
 
 
-main()
+if __name__ == "__main__":
+    main()

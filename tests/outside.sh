@@ -416,6 +416,29 @@ checked() {
         "$(printf '%s\n' "$said" | sed -n 's/.*Directories \([0-9]*\).*/\1/p')" "$(printf '%s\n' "$said" | sed -n 's/.*Other files \([0-9]*\).*/\1/p')"
 }
 
+# rare KIND USED UNITS NEEDED RUN NAMES CLEAN: a volume with something that is rare (tests/rare_volume.py). The needed units are those
+# that another program counted.
+rare() {
+    "$top/tests/rare_volume.py" "$1" rare
+    run inspect rare
+    same "inspect of a volume of $1" "0||$(expected_super rare)" "$status|$err|$(head -8 "$work/.out")"
+    same "the space of a volume of $1" "used $2 units $3 needed $4 run $5" "$(tail -4 "$work/.out" | xargs)"
+    run list rare
+    same "list of a volume of $1" "0||$6" "$status|$err|$(wc -l <"$work/.out")"
+    if [ "$7" = clean ]; then same "reiserfsck of a volume of $1" '0|1' "$(checked rare | cut -d '|' -f 1,2)"; fi
+}
+
+# a file with 65,536 names, a directory of 100,000, and a file of 2^44 bytes with one block, of which reiserfsck wants a
+# pointer for each hole
+rare_volumes() {
+    need python3 python3 || { echo 'skipped: rare volumes, since python3 is not to be had'; return; }
+    rare links 8739 125 28 1 65538 clean
+    same 'the further names of a file with 65,536' 65535 "$(grep -c ' = /folder/name00000$' "$work/.out")"
+    rare names 10718 125 77 1 100002 clean
+    rare sparse 8214 125 4 1 3 other
+    same 'the length of a file of 2^44 bytes' 17592186044416 "$(awk '/ \/folder\/sparse$/ { print $11 }' "$work/.out")"
+}
+
 # the samples of tests/samples.table
 samples() {
     local number blocks items free root height units needed run directories names sum name option
@@ -466,6 +489,7 @@ if need mkfs.reiserfs reiserfsprogs && need debugreiserfs reiserfsprogs; then
     loop_device
     maker_statuses
     samples
+    rare_volumes
 else
     echo 'skipped: all checks on volumes, since reiserfsprogs is not to be had'
 fi

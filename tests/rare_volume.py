@@ -1,0 +1,88 @@
+#!/usr/bin/env python3
+"""Writes a ReiserFS 3.6 volume with something that is rare: rare_volume.py KIND FILE.
+
+links   a file with 65,536 names in one directory
+names   a directory with 100,000 empty files
+sparse  a file of 2^44 bytes of which only the last block is there
+"""
+import struct
+import sys
+from pathlib import Path
+
+sys.path.insert(0, str(Path(__file__).resolve().parent.parent / "bench"))
+from files_volume import (  # noqa: E402
+    BLOCK,
+    INDIRECT,
+    JOURNAL_FIRST,
+    JOURNAL_SIZE,
+    STAT,
+    Leaves,
+    blocks_from,
+    directory_items,
+    inner_levels,
+    stat,
+    write_system,
+)
+
+ROOT, FOLDER = (1, 2), (2, 3)
+FIRST_FILE = 4
+# Behind the used blocks there is room for the trees of a conversion.
+FREE = 32768
+
+
+def add_directory(leaves, key, parent, links, names):
+    items = list(directory_items(key, parent, names))
+    size = sum(len(item[4]) for item in items)
+    leaves.add(key, STAT, 0, 0xFFFF, stat(0o40755, links, size, (size + 511) // 512))
+    for item in items:
+        leaves.add(*item)
+
+
+def links(leaves, _write, _numbers):
+    """One object, named 65,536 times."""
+    target = (FOLDER[1], FIRST_FILE)
+    add_directory(leaves, FOLDER, ROOT, 2, [(target, b"name%05d" % i) for i in range(65536)])
+    leaves.add(target, STAT, 0, 0xFFFF, stat(0o100644, 65536, 0, 0))
+    return 1
+
+
+def names(leaves, _write, _numbers):
+    """100,000 objects in one directory."""
+    targets = [(FOLDER[1], FIRST_FILE + i) for i in range(100000)]
+    add_directory(leaves, FOLDER, ROOT, 2, [(target, b"file%06d" % i) for i, target in enumerate(targets)])
+    for target in targets:
+        leaves.add(target, STAT, 0, 0xFFFF, stat(0o100644, 1, 0, 0))
+    return len(targets)
+
+
+def sparse(leaves, write, numbers):
+    """One pointer, to the last of 2^32 blocks."""
+    target = (FOLDER[1], FIRST_FILE)
+    add_directory(leaves, FOLDER, ROOT, 2, [(target, b"sparse")])
+    place = next(numbers)
+    write(place, b"\x5a" * BLOCK)
+    leaves.add(target, STAT, 0, 0xFFFF, stat(0o100644, 1, 1 << 44, 8))
+    leaves.add(target, INDIRECT, (1 << 44) - BLOCK + 1, 0, struct.pack("<I", place))
+    return 1
+
+
+def main():
+    kind, path = sys.argv[1:]
+    numbers = blocks_from(JOURNAL_FIRST + JOURNAL_SIZE + 1)
+    with open(path, "wb") as out:
+
+        def write(number, block):
+            out.seek(number * BLOCK)
+            out.write(block)
+
+        leaves = Leaves(write, numbers)
+        add_directory(leaves, ROOT, (0, 1), 3, [(FOLDER, b"folder")])
+        count = {"links": links, "names": names, "sparse": sparse}[kind](leaves, write, numbers)
+        leaves.flush()
+        root_block, level = inner_levels(leaves.nodes, write, numbers)
+        end = next(numbers)
+        write_system(write, end, root_block, level + 1, FIRST_FILE + count, end + FREE)
+        out.truncate((end + FREE) * BLOCK)
+
+
+main()
