@@ -1,0 +1,12 @@
+//! The steps of a conversion: the identifiers and the label, the superblock, and the switch to it.
+#![tactic(auto)]
+
+mod fields;
+mod form;
+mod switch;
+#[cfg(test)]
+mod tests;
+
+pub use fields::{NewRoots, superblock};
+pub use form::{ids_of, label_of};
+pub use switch::switch_to;

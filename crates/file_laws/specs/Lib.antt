@@ -1,0 +1,5 @@
+pub mod Entries
+pub mod Held
+pub mod Inodes
+pub mod Keys
+pub mod Used
