@@ -1,12 +1,14 @@
-//! The steps of a conversion: the identifiers and the label, the superblock, and the switch to it.
+//! The steps of a conversion: the pieces that move, the identifiers and the label, the superblock, and the switch to it.
 #![tactic(auto)]
 
 mod fields;
 mod form;
+mod pieces;
 mod switch;
 #[cfg(test)]
 mod tests;
 
 pub use fields::{NewRoots, superblock};
 pub use form::{ids_of, label_of};
+pub use pieces::write_moved;
 pub use switch::switch_to;
