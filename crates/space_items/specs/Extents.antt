@@ -1,0 +1,77 @@
+-- The extent tree: which ranges of the volume are taken, by what, and how much of each chunk.
+use Rattle.std.specs.Prelude.{ℕ, ◌+◌, ◌*◌, nat_le, nat_lt, Bool, ◌&&◌, if◌then◌else◌, Option, Some, None, List, [], ◌∷◌, ◌++◌, length, map, filter}
+use Rattle.std.specs.List.{flat_map, sum_by}
+use Rattle.castagnoli.specs.Castagnoli.{data_ref_hash}
+use Rattle.btr_keys.specs.Key.{make_key}
+use Rattle.btr_node.specs.Leaf.{Item}
+use Rattle.btr_space_items.specs.BlockGroup.{block_group_bytes}
+use Rattle.btr_space_items.specs.ExtentHead.{extent_head_bytes}
+use Rattle.btr_space_items.specs.InlineRef.{inline_ref_bytes, ref_root, ref_objectid, ref_offset}
+use Rattle.btr_space_items.specs.declared.inline_ref.InlineRef.{InlineRef}
+use Rattle.btr_space_items.specs.declared.inline_ref.InlineRef.TheVariants.{TreeBlock, DataRef}
+use Rattle.space_items.specs.Merging.{merged}
+use Rattle.unit_plan.specs.declared.chunk.Chunk.{Chunk}
+use Rattle.unit_plan.specs.declared.piece.Piece.{Piece}
+use Rattle.space_items.specs.declared.node.TreeNode.{TreeNode}
+use Rattle.space_items.specs.Chunks.{chunk_kind}
+
+-- one file extent refers to the data, from a byte of the file on
+abbrev pub data_ref : ℕ → ℕ → ℕ → InlineRef
+data_ref tree inode block = DataRef tree inode (4096 * block) 1
+
+-- the image, inode 257 of tree 256, refers to the blocks of the volume; a file of tree 5 to what it owns
+abbrev pub image_refs : Option ℕ → List InlineRef
+image_refs None = []
+image_refs (Some block) = data_ref 256 257 block ∷ []
+
+abbrev pub owner_refs : Option (ℕ × ℕ) → List InlineRef
+owner_refs None = []
+owner_refs (Some owner) = data_ref 5 owner.0 owner.1 ∷ []
+
+abbrev pub hash_of_ref : InlineRef → ℕ
+hash_of_ref r = data_ref_hash (ref_root r) (ref_objectid r) (ref_offset r)
+
+-- One reference more in a list of references by descending hash. Of two equal ones it stands first.
+abbrev pub put_ref : InlineRef → List InlineRef → List InlineRef
+put_ref r [] = r ∷ []
+put_ref r (next ∷ refs) = if nat_lt (hash_of_ref r) (hash_of_ref next) then next ∷ put_ref r refs else r ∷ (next ∷ refs)
+
+-- The references to a piece. Tree 5 is before tree 256, so of equal hashes its reference stands first.
+abbrev pub piece_refs : Piece → List InlineRef
+piece_refs p = put_all (owner_refs p.owner) (image_refs p.from)
+  where
+    put_all : List InlineRef → List InlineRef → List InlineRef
+    put_all [] refs = refs
+    put_all (r ∷ rs) refs = put_ref r (put_all rs refs)
+
+-- what an extent's item has: how many references there are, and these
+abbrev pub extent_body : ℕ → List InlineRef → List ℕ
+extent_body flags refs = extent_head_bytes (record { refs = length refs; generation = 1; flags = flags }) ++ flat_map inline_ref_bytes refs
+
+-- the extent of a piece; 1 is data
+abbrev pub piece_item : Piece → Item
+piece_item p = (make_key (4096 * p.place) 168 (4096 * p.count), extent_body 1 (piece_refs p))
+
+-- the extent of a node; 2 is a node
+abbrev pub node_item : TreeNode → Item
+node_item n = (make_key n.address 169 n.level, extent_body 2 (TreeBlock n.owner ∷ []))
+
+-- an address lies in the chunk
+abbrev pub is_in_chunk : Chunk → ℕ → Bool
+is_in_chunk c address = nat_le (4096 * c.start) address && nat_lt address (4096 * (c.start + c.length))
+
+-- the bytes of the extents of a chunk: those of pieces and those of nodes
+abbrev pub used_in : List Piece → List TreeNode → ℕ → Chunk → ℕ
+used_in pieces nodes nodesize c =
+    sum_by (λ p. 4096 * p.count) (filter (λ p. is_in_chunk c (4096 * p.place)) pieces)
+    + sum_by (λ n. nodesize) (filter (λ n. is_in_chunk c n.address) nodes)
+
+-- the block group of a chunk
+abbrev pub group_item : ℕ → Chunk → Item
+group_item used c =
+    (make_key (4096 * c.start) 192 (4096 * c.length), block_group_bytes (record { used = used; chunk_objectid = 256; flags = chunk_kind c.role }))
+
+-- The whole of it, ascending: an extent for each piece and for each node, and a block group for each chunk.
+abbrev pub extent_items : List Chunk → List Piece → List TreeNode → ℕ → List Item
+extent_items chunks pieces nodes nodesize =
+    merged (map (λ c. group_item (used_in pieces nodes nodesize c) c) chunks) (merged (map node_item nodes) (map piece_item pieces))

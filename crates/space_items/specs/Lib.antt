@@ -1,0 +1,9 @@
+pub mod Chunks
+pub mod Extents
+pub mod Inodes
+pub mod Merging
+pub mod Nodes
+pub mod Own
+pub mod Roots
+pub mod Stream
+pub mod Sums

@@ -1,0 +1,84 @@
+-- The root tree: where each tree begins, and the subvolume of the saved image.
+use Rattle.std.specs.Prelude.{ℕ, ◌*◌, ◌^◌, ◌-◌, ◌==◌, nat_le, Bool, ◌||◌, if◌then◌else◌, List, [], ◌∷◌, length, map, codes, replicate}
+
+use Rattle.castagnoli.specs.Castagnoli.{name_hash}
+use Rattle.vol_block.specs.declared.ids.Ids.{Ids}
+use Rattle.btr_keys.specs.DirEntry.{dir_entry_bytes}
+use Rattle.btr_keys.specs.Key.{make_key}
+use Rattle.btr_keys.specs.declared.inode.Inode.{Inode}
+use Rattle.btr_node.specs.Leaf.{Item}
+use Rattle.btr_space_items.specs.RootItem.{root_item_bytes}
+use Rattle.btr_space_items.specs.RootRef.{root_ref_bytes}
+use Rattle.btr_space_items.specs.declared.root_item.RootItem.{RootItem}
+use Rattle.space_items.specs.Inodes.{stamp_of, new_inode, inode_made, inode_item, ref_item}
+use Rattle.space_items.specs.Merging.{merged}
+use Rattle.space_items.specs.declared.node.TreeRoot.{TreeRoot}
+
+-- Tree 5, and those from 256 on, hold files.
+abbrev pub is_file_tree : ℕ → Bool
+is_file_tree tree = (tree == 5) || nat_le 256 tree
+
+-- a root item has the inode of a directory in it, of which a kernel reads nothing
+abbrev pub root_inode : ℕ → Inode
+root_inode nodesize = record new_inode { generation = 0; transid = 0; size = 3; nbytes = nodesize; mode = 0x41ED }
+
+abbrev pub zero_uuid : List ℕ
+zero_uuid = replicate 16 0
+
+abbrev pub root_body : Ids → ℕ → TreeRoot → RootItem
+root_body ids nodesize r = record {
+  inode = root_inode nodesize;
+  generation = 1;
+  root_dirid = if is_file_tree r.tree then 256 else 0;
+  bytenr = r.root.address;
+  byte_limit = 0;
+  bytes_used = nodesize * r.root.nodes;
+  last_snapshot = 0;
+  flags = 0;
+  refs = 1;
+  drop_progress = make_key 0 0 0;
+  drop_level = 0;
+  level = r.root.level;
+  generation_v2 = 1;
+  uuid = if r.tree == 256 then ids.subvolume else zero_uuid;
+  parent_uuid = zero_uuid;
+  received_uuid = zero_uuid;
+  ctransid = 0;
+  otransid = 0;
+  stransid = 0;
+  rtransid = 0;
+  ctime = stamp_of 0;
+  otime = stamp_of 0;
+  stime = stamp_of 0;
+  rtime = stamp_of 0;
+}
+
+abbrev pub root_item : Ids → ℕ → TreeRoot → Item
+root_item ids nodesize r = (make_key r.tree 132 0, root_item_bytes (root_body ids nodesize r))
+
+-- the entry of tree 5's root that names the subvolume with the image
+abbrev pub saved_name : List ℕ
+saved_name = codes "reiserfs_saved"
+
+abbrev pub saved_ref : ℕ → List ℕ
+saved_ref index = root_ref_bytes (record { dirid = 256; sequence = index; name = saved_name })
+
+-- the entry that names tree 5 as the one to mount
+abbrev pub default_name : List ℕ
+default_name = codes "default"
+
+abbrev pub default_entry : List ℕ
+default_entry = dir_entry_bytes (record { location = make_key 5 132 (2 ^ 64 - 1); transid = 1; data_length = 0; kind = 2; name = default_name })
+
+-- The subvolume's references from and to tree 5, and directory 6 with the entry `default`.
+abbrev pub other_root_items : ℕ → ℕ → List Item
+other_root_items index now =
+    (make_key 5 156 256, saved_ref index)
+    ∷ (inode_item 6 (inode_made now 0x41ED 0 0 0)
+    ∷ (ref_item 6 6 0 (codes "..")
+    ∷ ((make_key 6 84 (name_hash default_name), default_entry)
+    ∷ ((make_key 256 144 5, saved_ref index) ∷ []))))
+
+-- the whole of it
+abbrev pub root_items : List TreeRoot → ℕ → Ids → ℕ → ℕ → List Item
+root_items list index ids now nodesize = merged (map (root_item ids nodesize) list) (other_root_items index now)

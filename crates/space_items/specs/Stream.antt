@@ -1,0 +1,79 @@
+-- What is still to come of the streams, and when they fit the pieces and nodes that they were made from.
+use Rattle.std.specs.Prelude.{◌≡◌, ℕ, suc, ◌+◌, ◌-◌, ◌*◌, ◌%◌, ◌^◌, ◌≤◌, ◌<◌, Bool, true, false, List, [], ◌∷◌, ◌++◌, length, map, take, drop, slice_get, Some, All, AllPairs, MatchOption}
+use Rattle.outside.specs.History.{Image}
+use Rattle.btr_node.specs.Leaf.{Item}
+use Rattle.csum_kinds.specs.declared.kind.SumKind.{SumKind}
+use Rattle.space_items.specs.Merging.{merged}
+use Rattle.unit_plan.specs.Sums.{sums_in_item}
+use Rattle.unit_plan.specs.declared.chunk.Chunk.{Chunk}
+use Rattle.unit_plan.specs.declared.piece.Piece.{Piece}
+use Rattle.space_items.specs.declared.extent_stream.ExtentStream.{ExtentStream}
+use Rattle.space_items.specs.declared.groups.Group.{Group}
+use Rattle.space_items.specs.declared.node.TreeNode.{TreeNode}
+use Rattle.space_items.specs.declared.sum_stream.SumStream.{SumStream}
+use Rattle.space_items.specs.Extents.{group_item, node_item, piece_item, used_in}
+use Rattle.space_items.specs.Sums.{run_items, sum_items}
+
+-- addresses in bytes that a u64 holds
+pub record IsSmallPiece (p : Piece) : Type 0 where
+  pub some : 1 ≤ p.count
+  pub place : p.place + p.count ≤ 2 ^ 29
+  pub from : MatchOption p.from (Unit {0}) (λ b. b < 2 ^ 29)
+  pub owner : MatchOption p.owner (Unit {0}) (λ o. o.1 < 2 ^ 32)
+
+-- pieces in the order of their places
+pub record ArePieces (pieces : List Piece) : Type 0 where
+  pub small : All IsSmallPiece pieces
+  pub ascending : AllPairs (λ p q. p.place + p.count ≤ q.place) pieces
+
+pub record IsSmallGroup (g : Group) : Type 0 where
+  pub small : g.chunk.start + g.chunk.length ≤ 2 ^ 29
+
+-- one more item came and stands, or there is none more
+abbrev pub ComesTo : Bool → List Item → Item → List Item → Type 0
+ComesTo true before item after = before ≡ item ∷ after
+ComesTo false before item after = (before ≡ []) × (after ≡ [])
+
+-- The extent tree.
+
+abbrev pub item_of_group : Group → Item
+item_of_group g = group_item g.used g.chunk
+
+abbrev pub extents_ahead : ExtentStream → List Piece → List TreeNode → List Item
+extents_ahead s pieces nodes =
+    merged (map item_of_group (drop s.group s.groups)) (merged (map node_item (drop s.node nodes)) (map piece_item (drop s.piece pieces)))
+
+-- the item that stands
+abbrev pub extent_standing : ExtentStream → Item
+extent_standing s = (s.key, s.body)
+
+pub record FitsExtents (s : ExtentStream) (pieces : List Piece) (nodes : List TreeNode) : Type 0 where
+  pub pieces_small : All IsSmallPiece pieces
+  pub groups_small : All IsSmallGroup s.groups
+  pub group_within : s.group ≤ length s.groups
+  pub node_within : s.node ≤ length nodes
+  pub piece_within : s.piece ≤ length pieces
+
+-- a chunk's group has what extents take of it
+abbrev pub group_of : List Piece → List TreeNode → ℕ → Chunk → Group
+group_of pieces nodes nodesize c = record { chunk = c; used = used_in pieces nodes nodesize c }
+
+-- The checksum tree.
+
+-- what is left of the piece in hand, and the pieces behind it
+abbrev pub left_of : SumKind → Image → ℕ → List Piece → List Item
+left_of sums image done [] = []
+left_of sums image done (p ∷ pieces) = run_items sums image (p.place + done) (p.count - done) ++ sum_items sums image pieces
+
+abbrev pub sums_ahead : SumStream → List Piece → Image → List Item
+sums_ahead s pieces image = left_of s.sums image s.done (drop s.piece pieces)
+
+abbrev pub sum_standing : SumStream → Item
+sum_standing s = (s.key, take s.length s.bytes.items)
+
+pub record FitsSums (s : SumStream) (pieces : List Piece) : Type 0 where
+  pub pieces_small : All IsSmallPiece pieces
+  pub piece_within : s.piece ≤ length pieces
+  pub done_within : (p : Piece) → slice_get pieces s.piece ≡ Some p → s.done < p.count
+  pub none_done : s.piece ≡ length pieces → s.done ≡ 0
+  pub room : s.length ≤ length s.bytes.items

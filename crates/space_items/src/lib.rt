@@ -1,0 +1,27 @@
+//! The items of the trees that tell how a converted volume's space is used: the chunk, device, checksum, extent and root trees.
+//!
+//! [`chunks`], [`devices`] and [`roots`] make lists. [`checksums`] and [`extents`] give streams, since these trees go by the
+//! number of the volume's blocks; a stream holds its place, and its pieces and nodes are passed to each call. [`own_nodes`]
+//! finds how many nodes the extent tree has, its own among them.
+#![tactic(auto)]
+
+mod chunk_lists;
+mod extent_stream;
+mod groups;
+mod inode;
+mod items;
+mod node;
+mod own_count;
+mod refs;
+mod root_list;
+mod sum_stream;
+
+pub use chunk_lists::{chunk_body, chunks, device_body, devices};
+pub use extent_stream::{ExtentStream, extents};
+pub use node::{NodeList, RootList, TreeNode, TreeRoot};
+pub use own_count::{add_nodes, merged, own_nodes, with_own};
+pub use root_list::roots;
+pub use sum_stream::{SumStream, checksums};
+
+#[cfg(test)]
+mod tests;

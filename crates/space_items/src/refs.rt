@@ -1,0 +1,139 @@
+ghost use Rattle.std.specs.Prelude.{◌≡◌, ◌≤◌, ◌<◌, ◌+◌, ◌^◌, ◌++◌, [], length};
+ghost use Rattle.btr_space_items.specs.ExtentHead.{extent_head_bytes};
+ghost use Rattle.btr_space_items.specs.InlineRef.{inline_ref_bytes, inline_ref_size};
+ghost use Rattle.space_items.specs.Extents.{data_ref, hash_of_ref, node_item, piece_item};
+ghost use Rattle.space_items.specs.Stream.{IsSmallPiece};
+
+use crate::node::TreeNode;
+use btr_space_items::{ExtentHead, InlineRef};
+use castagnoli::data_ref_hash;
+use std::marker::Model;
+use unit_plan::Piece;
+
+/// The most bytes that an item of the extent tree has: an extent of two references to data.
+pub const LONGEST: usize = 82;
+
+/// The body of an item of the extent tree, seen as its bytes.
+#[derive(Drop)]
+pub struct Body {
+    bytes: [u8; LONGEST],
+    length: usize,
+}
+
+impl Model for Body {
+    ghost use Rattle.std.specs.Prelude.{◌≤◌, ℕ, List, take};
+
+    ghost Value = { List ℕ };
+
+    ghost view = { λ b. take b.length b.bytes };
+
+    ghost invariant = { λ b. b.length ≤ 82 };
+}
+
+impl Body {
+    /// No bytes.
+    pub fn empty() -> Body
+        ensures { result ≡ [] }
+    {
+        Body {
+            bytes: [0; LONGEST],
+            length: 0,
+        }
+    }
+
+    /// These bytes, of which there are at most 82.
+    pub fn of(bytes: &[u8]) -> Body
+        requires { length bytes.now ≤ 82 }
+        ensures { result ≡ bytes.now }
+    {
+        let mut body = Body::empty();
+        body.bytes[..bytes.len()].copy_from_slice(bytes);
+        body.length = bytes.len();
+        body
+    }
+
+    /// The head of an extent, before its references.
+    fn begun(refs: u64, flags: u64) -> Body
+        ensures { result ≡ extent_head_bytes (record { refs = refs; generation = 1; flags = flags }) }
+    {
+        let head = ExtentHead {
+            refs,
+            generation: 1,
+            flags,
+        };
+        Body::of(&head.to_bytes())
+    }
+
+    /// One reference more.
+    fn with(mut self, reference: InlineRef) -> Body
+        requires { length self + inline_ref_size reference ≤ 82 }
+        ensures { result ≡ self ++ inline_ref_bytes reference }
+    {
+        let end = self.length + reference.size();
+        reference.write(&mut self.bytes[self.length..end]);
+        self.length = end;
+        self
+    }
+
+    /// The bytes.
+    pub fn bytes(&self) -> &[u8]
+        ensures { result.now ≡ self.now }
+    {
+        &self.bytes[..self.length]
+    }
+}
+
+/// The body of a node's extent.
+pub fn node_body(node: TreeNode) -> Body
+    ensures { result ≡ (node_item node).1 }
+{
+    Body::begun(1, 2).with(InlineRef::TreeBlock { root: node.owner })
+}
+
+/// The body of a piece's extent. References stand by descending hash, and of equal ones that of tree 5 stands first.
+pub fn piece_body(piece: &Piece) -> Body
+    requires { IsSmallPiece piece.now }
+    ensures { result ≡ (piece_item piece.now).1 }
+{
+    let image = piece.from.map(|block| data_ref(256, 257, block));
+    let owner = piece.owner.map(|(inode, block)| data_ref(5, inode, block));
+    match (owner, image) {
+        (None, None) => Body::begun(0, 1),
+        (Some(one), None) | (None, Some(one)) => Body::begun(1, 1).with(one),
+        (Some(owner), Some(image)) => {
+            if hash_of(owner) < hash_of(image) {
+                Body::begun(2, 1).with(image).with(owner)
+            } else {
+                Body::begun(2, 1).with(owner).with(image)
+            }
+        }
+    }
+}
+
+/// The reference of a file extent that begins at a block of an inode.
+fn data_ref(tree: u64, inode: u64, block: u64) -> InlineRef
+    requires { block < 2 ^ 50 }
+    ensures { result ≡ data_ref tree inode block }
+{
+    InlineRef::DataRef {
+        root: tree,
+        objectid: inode,
+        offset: 4096 * block,
+        count: 1,
+    }
+}
+
+/// By which references to data are ordered.
+fn hash_of(reference: InlineRef) -> u64
+    ensures { result ≡ hash_of_ref reference }
+{
+    match reference {
+        InlineRef::TreeBlock { root } => data_ref_hash(root, 0, 0),
+        InlineRef::DataRef {
+            root,
+            objectid,
+            offset,
+            ..
+        } => data_ref_hash(root, objectid, offset),
+    }
+}

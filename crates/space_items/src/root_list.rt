@@ -1,0 +1,194 @@
+ghost use Rattle.std.specs.Prelude.{◌≡◌, ◌≤◌, ◌<◌, ◌*◌, ◌^◌, ◌++◌, ◌∷◌, [], drop, length, All, AllPairs, IfOk, OnOk};
+ghost use Rattle.space_items.specs.Inodes.{inode_item, ref_item};
+ghost use Rattle.space_items.specs.Roots.{root_items, root_item, root_body, root_inode, is_file_tree, other_root_items, saved_ref};
+
+use crate::node::{RootList, TreeRoot};
+use btr_keys::{DirEntry, Inode, InodeRef, Key};
+use btr_space_items::{RootItem, RootRef};
+use castagnoli::name_hash;
+use crate::inode::{inode_made, new_inode, stamp_of};
+use crate::items::{add_inode, add_ref, key_of};
+use item_list::{ItemList, put_dir_entry};
+use outside::Memory;
+use std::alloc::Global;
+use vol_block::Ids;
+
+/// The entry of tree 5's root that names the subvolume with the image.
+const SAVED: &[u8] = b"reiserfs_saved";
+
+/// The entry that names the tree to mount.
+const DEFAULT: &[u8] = b"default";
+
+/// The mode of a directory that only its owner may write.
+const DIRECTORY: u32 = 0o40755;
+
+/// The items of the root tree. `list` has the other trees, ascending by number, `index` is that of tree 5's entry
+/// `reiserfs_saved`, and `now` is the time of the conversion in seconds since the start of 1970, below 2^63.
+pub fn roots(
+    alloc: Global,
+    list: &RootList,
+    index: u64,
+    ids: &Ids,
+    now: u64,
+    nodesize: u32,
+) -> Result<ItemList, Memory>
+    requires moment { now < 2 ^ 63 }
+    requires few { All (λ r. nodesize * r.root.nodes < 2 ^ 64) list.now }
+    requires order { AllPairs (λ r s. r.tree < s.tree) list.now }
+    ensures { IfOk result (λ items. items ≡ root_items list.now index ids.now now nodesize) }
+{
+    let others = other_items(alloc, index, now)?;
+    let mut items = ItemList::new(alloc);
+    let mut next = 0;
+    for i in 0..list.len() {
+        let root = list.get(i);
+        let key = key_of(root.tree, 132, 0);
+        next = add_before(&mut items, &others, next, key)?;
+        add_root(&mut items, ids, nodesize, root)?;
+    }
+    add_rest(&mut items, &others, next)?;
+    Ok(items)
+}
+
+/// Appends those of the others from one on whose keys are before a key, and tells which is the next.
+fn add_before(
+    items: &mut ItemList,
+    others: &ItemList,
+    first: usize,
+    key: Key,
+) -> Result<usize, Memory> {
+    let mut next = first;
+    while next < others.len() && others.key(next) < key {
+        items.add(others.key(next), others.body(next))?;
+        next += 1;
+    }
+    Ok(next)
+}
+
+/// Appends all of the others from one on.
+fn add_rest(items: &mut ItemList, others: &ItemList, first: usize) -> Result<(), Memory>
+    ensures { OnOk result (items.new ≡ items.old ++ drop first others.now) }
+{
+    for i in first..others.len() {
+        items.add(others.key(i), others.body(i))?;
+    }
+    Ok(())
+}
+
+/// Appends a root item.
+fn add_root(items: &mut ItemList, ids: &Ids, nodesize: u32, root: TreeRoot) -> Result<(), Memory>
+    requires { nodesize * root.root.nodes < 2 ^ 64 }
+    ensures { OnOk result (items.new ≡ items.old ++ root_item ids.now nodesize root ∷ []) }
+{
+    let mut body = [0; RootItem::SIZE];
+    root_body(ids, nodesize, root).write(&mut body);
+    items.add(key_of(root.tree, 132, 0), &body)
+}
+
+/// What a root item has.
+fn root_body(ids: &Ids, nodesize: u32, root: TreeRoot) -> RootItem
+    requires { nodesize * root.root.nodes < 2 ^ 64 }
+    ensures { result ≡ root_body ids.now nodesize root }
+{
+    let never = stamp_of(0);
+    RootItem {
+        inode: root_inode(nodesize),
+        generation: 1,
+        root_dirid: if is_file_tree(root.tree) { 256 } else { 0 },
+        bytenr: root.root.address,
+        byte_limit: 0,
+        bytes_used: nodesize as u64 * root.root.nodes,
+        last_snapshot: 0,
+        flags: 0,
+        refs: 1,
+        drop_progress: key_of(0, 0, 0),
+        drop_level: 0,
+        level: root.root.level,
+        generation_v2: 1,
+        uuid: uuid_of(ids, root.tree),
+        parent_uuid: [0; 16],
+        received_uuid: [0; 16],
+        ctransid: 0,
+        otransid: 0,
+        stransid: 0,
+        rtransid: 0,
+        ctime: never,
+        otime: never,
+        stime: never,
+        rtime: never,
+    }
+}
+
+/// The subvolume of the image has an identifier.
+fn uuid_of(ids: &Ids, tree: u64) -> [u8; 16] {
+    if tree == 256 { ids.subvolume } else { [0; 16] }
+}
+
+/// Whether the tree holds files: tree 5, and those from 256 on.
+fn is_file_tree(tree: u64) -> bool
+    ensures { result ≡ is_file_tree tree }
+{
+    tree == 5 || tree >= 256
+}
+
+/// A root item has the inode of a directory in it, of which a kernel reads nothing.
+fn root_inode(nodesize: u32) -> Inode
+    ensures { result ≡ root_inode nodesize }
+{
+    Inode {
+        generation: 0,
+        transid: 0,
+        size: 3,
+        nbytes: nodesize as u64,
+        mode: DIRECTORY,
+        ..new_inode()
+    }
+}
+
+/// The subvolume's references from and to tree 5, and directory 6 with the entry `default`.
+fn other_items(alloc: Global, index: u64, now: u64) -> Result<ItemList, Memory>
+    requires { now < 2 ^ 63 }
+    ensures { IfOk result (λ items. items ≡ other_root_items index now) }
+{
+    let mut items = ItemList::new(alloc);
+    let mut body = Vec::new(alloc);
+    let saved = saved_ref(index);
+    items.add(key_of(5, 156, 256), &saved)?;
+    add_inode(&mut items, 6, &inode_made(now, DIRECTORY, 0, 0, 0))?;
+    let up = InodeRef {
+        index: 0,
+        name: b"..",
+    };
+    add_ref(&mut items, &mut body, 6, 6, &up)?;
+    add_default(&mut items, &mut body)?;
+    items.add(key_of(256, 144, 5), &saved)?;
+    Ok(items)
+}
+
+/// The body of the references between the subvolume and tree 5.
+fn saved_ref(index: u64) -> [u8; 32]
+    ensures { result ≡ saved_ref index }
+{
+    let name = RootRef {
+        dirid: 256,
+        sequence: index,
+        name: SAVED,
+    };
+    let mut body = [0; 32];
+    name.write(&mut body);
+    body
+}
+
+/// Appends the entry `default` of directory 6, which names tree 5.
+fn add_default(items: &mut ItemList, body: &mut Vec<u8>) -> Result<(), Memory> {
+    let entry = DirEntry {
+        location: key_of(5, 132, u64::MAX),
+        transid: 1,
+        data_length: 0,
+        kind: 2,
+        name: DEFAULT,
+    };
+    body.clear();
+    put_dir_entry(body, &entry)?;
+    items.add(key_of(6, 84, name_hash(DEFAULT) as u64), body)
+}

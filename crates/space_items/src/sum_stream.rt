@@ -1,0 +1,145 @@
+ghost use Rattle.std.specs.Prelude.{◌≡◌, ◌≤◌, ◌<◌, ◌+◌, ◌*◌, false, is_err, length, take, All, IsTrue, IfOk, OnOk};
+ghost use Rattle.outside.specs.Fault.{HasCause};
+ghost use Rattle.outside.specs.History.{Image};
+ghost use Rattle.csum_kinds.specs.Kind.{kind_width};
+ghost use Rattle.unit_plan.specs.Sums.{sums_in_item};
+ghost use Rattle.space_items.specs.Stream.{ArePieces};
+ghost use Rattle.space_items.specs.Sums.{block_sum, sum_items};
+
+use btr_keys::Key;
+use csum_kinds::{SumKind, kind_sum, kind_width};
+use crate::items::key_of;
+use outside::{BlockSource, Fault, Memory};
+use std::alloc::Global;
+use unit_plan::{Piece, PieceList, sums_in_item};
+use vol_block::Block;
+
+/// The object of all checksums of data.
+const SUMS: u64 = u64::MAX - 9;
+
+/// The items of the checksum tree, one after the other, ascending by key.
+///
+/// It holds its place and the item that stands. The pieces are passed to each call, the same as at its making.
+#[derive(Drop)]
+pub struct SumStream {
+    sums: SumKind,
+    piece: usize,
+    done: u64,
+    key: Key,
+    /// Room for the checksums of an item, and how many bytes of it are used.
+    bytes: Vec<u8>,
+    length: usize,
+    spent: bool,
+}
+
+/// The items of the checksum tree of pieces that were placed. Its calls take no memory.
+pub fn checksums<P: PieceList>(
+    alloc: Global,
+    _pieces: &P,
+    sums: SumKind,
+) -> Result<SumStream, Memory>
+    requires { ArePieces (P.pieces _pieces.now) }
+    ensures fits { IfOk result (λ s. FitsSums s (P.pieces _pieces.now)) }
+    ensures live { IfOk result (λ s. s.spent ≡ false) }
+    ensures all { IfOk result (λ s. (image : Image) → sums_ahead s (P.pieces _pieces.now) image ≡ sum_items sums image (P.pieces _pieces.now)) }
+{
+    Ok(SumStream {
+        sums,
+        piece: 0,
+        done: 0,
+        key: key_of(0, 0, 0),
+        bytes: room_for(alloc, sums)?,
+        length: 0,
+        spent: false,
+    })
+}
+
+/// Room for the most checksums that an item has.
+fn room_for(alloc: Global, sums: SumKind) -> Result<Vec<u8>, Memory>
+    ensures { IfOk result (λ room. length room.items ≡ kind_width sums * sums_in_item sums) }
+{
+    let mut room = Vec::new(alloc);
+    room.resize(kind_width(sums) * sums_in_item(sums) as usize, 0)?;
+    Ok(room)
+}
+
+impl SumStream {
+    ghost use Rattle.space_items.specs.Stream.{ComesTo, FitsSums, sums_ahead, sum_standing};
+
+    /// Goes to the next item, which stands then; false after the last one. After an error it is spent.
+    pub fn advance<S: BlockSource, P: PieceList>(
+        &mut self,
+        src: &mut S,
+        pieces: &P,
+    ) -> Result<bool, Fault>
+        requires live { self.old.spent ≡ false }
+        requires fits { FitsSums self.old (P.pieces pieces.now) }
+        requires inside { All (λ p. p.place + p.count ≤ S.size src.old) (P.pieces pieces.now) }
+        ensures kept { S.kept src.old src.new }
+        ensures cause { HasCause (S.faults src.old) (S.faults src.new) result }
+        ensures spent { self.new.spent ≡ is_err result }
+        ensures fits { OnOk result (FitsSums self.new (P.pieces pieces.now)) }
+        ensures next { IsTrue S.tells → (image : Image) → S.blocks src.old ≡ image
+            → IfOk result (λ more. ComesTo more (sums_ahead self.old (P.pieces pieces.now) image) (sum_standing self.new) (sums_ahead self.new (P.pieces pieces.now) image)) }
+    {
+        if self.piece >= pieces.len() {
+            return Ok(false);
+        }
+        let piece = *pieces.get(self.piece);
+        let answer = self.take(src, piece);
+        self.spent = answer.is_err();
+        answer?;
+        Ok(true)
+    }
+
+    /// Makes the next item of a piece.
+    fn take<S: BlockSource>(&mut self, src: &mut S, piece: Piece) -> Result<(), Fault> {
+        let first = piece.place + self.done;
+        let count = (piece.count - self.done).min(sums_in_item(self.sums));
+        self.fill(src, first, count)?;
+        self.key = key_of(SUMS, 128, 4096 * first);
+        self.done += count;
+        if self.done == piece.count {
+            self.piece += 1;
+            self.done = 0;
+        }
+        Ok(())
+    }
+
+    /// Puts the checksums of so many blocks into the body.
+    fn fill<S: BlockSource>(&mut self, src: &mut S, first: u64, count: u64) -> Result<(), Fault> {
+        let width = kind_width(self.sums);
+        let mut block = Block::zero();
+        let mut length = 0;
+        for b in first..first + count {
+            src.read(b, &mut block)?;
+            let sum = kind_sum(self.sums, &block.bytes);
+            self.bytes[length..length + width].copy_from_slice(&sum[..width]);
+            length += width;
+        }
+        self.length = length;
+        Ok(())
+    }
+
+    /// The key of the item that stands.
+    pub fn key(&self) -> Key
+        ensures { result ≡ (sum_standing self.now).0 }
+    {
+        self.key
+    }
+
+    /// The body of the item that stands.
+    pub fn body(&self) -> &[u8]
+        requires { self.now.length ≤ length self.now.bytes.items }
+        ensures { result.now ≡ (sum_standing self.now).1 }
+    {
+        &self.bytes[..self.length]
+    }
+
+    /// Whether an error was answered.
+    pub fn spent(&self) -> bool
+        ensures { result ≡ self.now.spent }
+    {
+        self.spent
+    }
+}
