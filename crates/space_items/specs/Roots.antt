@@ -1,6 +1,5 @@
 -- The root tree: where each tree begins, and the subvolume of the saved image.
 use Rattle.std.specs.Prelude.{ℕ, ◌*◌, ◌^◌, ◌-◌, ◌==◌, nat_le, Bool, ◌||◌, if◌then◌else◌, List, [], ◌∷◌, length, map, codes, replicate}
-
 use Rattle.castagnoli.specs.Castagnoli.{name_hash}
 use Rattle.vol_block.specs.declared.ids.Ids.{Ids}
 use Rattle.btr_keys.specs.DirEntry.{dir_entry_bytes}

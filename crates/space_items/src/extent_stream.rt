@@ -8,10 +8,10 @@ ghost use Rattle.space_items.specs.Nodes.{AreNodes};
 ghost use Rattle.space_items.specs.Stream.{ArePieces};
 
 use crate::groups::{Group, Groups, groups_of};
+use crate::items::key_of;
 use crate::node::{NodeList, TreeNode};
 use crate::refs::{Body, node_body, piece_body};
 use btr_keys::Key;
-use crate::items::key_of;
 use outside::Memory;
 use std::alloc::Global;
 use unit_plan::{Piece, PieceList, Plan, chunks_of};
@@ -72,11 +72,7 @@ impl Next {
     /// The key of its item.
     fn key(&self) -> Key {
         match self {
-            Next::Group(group) => key_of(
-                4096 * group.chunk.start,
-                192,
-                4096 * group.chunk.length,
-            ),
+            Next::Group(group) => key_of(4096 * group.chunk.start, 192, 4096 * group.chunk.length),
             Next::Node(node) => key_of(node.address, 169, node.level as u64),
             Next::Piece(piece) => key_of(4096 * piece.place, 168, 4096 * piece.count),
         }

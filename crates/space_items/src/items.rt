@@ -2,8 +2,8 @@ ghost use Rattle.std.specs.Prelude.{◌≡◌, ◌<◌, ◌++◌, ◌∷◌, [],
 ghost use Rattle.btr_keys.specs.Key.{make_key};
 ghost use Rattle.space_items.specs.Inodes.{inode_item, ref_item};
 
-use item_list::{ItemList, put_inode_ref};
 use btr_keys::{Inode, InodeRef, Key};
+use item_list::{ItemList, put_inode_ref};
 use outside::Memory;
 
 /// The key of an item.

@@ -10,6 +10,7 @@ mod extent_stream;
 mod groups;
 mod inode;
 mod items;
+mod laws;
 mod node;
 mod own_count;
 mod refs;
@@ -18,6 +19,7 @@ mod sum_stream;
 
 pub use chunk_lists::{chunk_body, chunks, device_body, devices};
 pub use extent_stream::{ExtentStream, extents};
+pub use laws::chunks_are_one;
 pub use node::{NodeList, RootList, TreeNode, TreeRoot};
 pub use own_count::{add_nodes, merged, own_nodes, with_own};
 pub use root_list::roots;

@@ -2,12 +2,12 @@ ghost use Rattle.std.specs.Prelude.{◌≡◌, ◌≤◌, ◌<◌, ◌*◌, ◌^
 ghost use Rattle.space_items.specs.Inodes.{inode_item, ref_item};
 ghost use Rattle.space_items.specs.Roots.{root_items, root_item, root_body, root_inode, is_file_tree, other_root_items, saved_ref};
 
+use crate::inode::{inode_made, new_inode, stamp_of};
+use crate::items::{add_inode, add_ref, key_of};
 use crate::node::{RootList, TreeRoot};
 use btr_keys::{DirEntry, Inode, InodeRef, Key};
 use btr_space_items::{RootItem, RootRef};
 use castagnoli::name_hash;
-use crate::inode::{inode_made, new_inode, stamp_of};
-use crate::items::{add_inode, add_ref, key_of};
 use item_list::{ItemList, put_dir_entry};
 use outside::Memory;
 use std::alloc::Global;

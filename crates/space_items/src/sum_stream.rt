@@ -6,9 +6,9 @@ ghost use Rattle.unit_plan.specs.Sums.{sums_in_item};
 ghost use Rattle.space_items.specs.Stream.{ArePieces};
 ghost use Rattle.space_items.specs.Sums.{block_sum, sum_items};
 
+use crate::items::key_of;
 use btr_keys::Key;
 use csum_kinds::{SumKind, kind_sum, kind_width};
-use crate::items::key_of;
 use outside::{BlockSource, Fault, Memory};
 use std::alloc::Global;
 use unit_plan::{Piece, PieceList, sums_in_item};
