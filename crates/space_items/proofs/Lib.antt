@@ -1,1 +1,2 @@
+pub mod ChunkLists
 pub mod OneList

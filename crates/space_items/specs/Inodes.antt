@@ -1,5 +1,5 @@
 -- What the inodes of a new tree have.
-use Rattle.std.specs.Prelude.{ℕ, pos, List, [], ◌∷◌}
+use Rattle.std.specs.Prelude.{ℕ, pos, List}
 use Rattle.btr_keys.specs.declared.inode.Inode.{Inode}
 use Rattle.btr_keys.specs.declared.stamp.Stamp.{Stamp}
 use Rattle.btr_keys.specs.Inode.{inode_bytes}
