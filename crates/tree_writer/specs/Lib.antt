@@ -1,0 +1,4 @@
+pub mod Answers
+pub mod Source
+pub mod Trees
+pub mod Writer
