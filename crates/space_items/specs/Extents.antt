@@ -36,13 +36,13 @@ abbrev pub put_ref : InlineRef → List InlineRef → List InlineRef
 put_ref r [] = r ∷ []
 put_ref r (next ∷ refs) = if nat_lt (hash_of_ref r) (hash_of_ref next) then next ∷ put_ref r refs else r ∷ (next ∷ refs)
 
+abbrev pub put_refs : List InlineRef → List InlineRef → List InlineRef
+put_refs [] refs = refs
+put_refs (r ∷ rs) refs = put_ref r (put_refs rs refs)
+
 -- The references to a piece. Tree 5 is before tree 256, so of equal hashes its reference stands first.
 abbrev pub piece_refs : Piece → List InlineRef
-piece_refs p = put_all (owner_refs p.owner) (image_refs p.from)
-  where
-    put_all : List InlineRef → List InlineRef → List InlineRef
-    put_all [] refs = refs
-    put_all (r ∷ rs) refs = put_ref r (put_all rs refs)
+piece_refs p = put_refs (owner_refs p.owner) (image_refs p.from)
 
 -- what an extent's item has: how many references there are, and these
 abbrev pub extent_body : ℕ → List InlineRef → List ℕ
@@ -60,11 +60,16 @@ node_item n = (make_key n.address 169 n.level, extent_body 2 (TreeBlock n.owner 
 abbrev pub is_in_chunk : Chunk → ℕ → Bool
 is_in_chunk c address = nat_le (4096 * c.start) address && nat_lt address (4096 * (c.start + c.length))
 
--- the bytes of the extents of a chunk: those of pieces and those of nodes
+-- the bytes of the extents of pieces in a chunk, and of those of nodes
+abbrev pub bytes_of_pieces : List Piece → Chunk → ℕ
+bytes_of_pieces pieces c = sum_by (λ p. 4096 * p.count) (filter (λ p. is_in_chunk c (4096 * p.place)) pieces)
+
+abbrev pub bytes_of_nodes : List TreeNode → ℕ → Chunk → ℕ
+bytes_of_nodes nodes nodesize c = sum_by (λ n. nodesize) (filter (λ n. is_in_chunk c n.address) nodes)
+
+-- the bytes of the extents of a chunk
 abbrev pub used_in : List Piece → List TreeNode → ℕ → Chunk → ℕ
-used_in pieces nodes nodesize c =
-    sum_by (λ p. 4096 * p.count) (filter (λ p. is_in_chunk c (4096 * p.place)) pieces)
-    + sum_by (λ n. nodesize) (filter (λ n. is_in_chunk c n.address) nodes)
+used_in pieces nodes nodesize c = bytes_of_pieces pieces c + bytes_of_nodes nodes nodesize c
 
 -- the block group of a chunk
 abbrev pub group_item : ℕ → Chunk → Item

@@ -1,11 +1,12 @@
-ghost use Rattle.std.specs.Prelude.{◌≡◌, ◌≤◌, ◌<◌, ◌+◌, ◌*◌, ◌^◌, List, map, IfOk};
+ghost use Rattle.std.specs.Prelude.{◌≡◌, ◌≤◌, ◌<◌, ◌+◌, ◌*◌, ◌^◌, ◌∷◌, [], List, map, slice_get, IfOk, IfSome};
+ghost use Rattle.std.specs.Option.{MatchOption, option_map};
 ghost use Rattle.std.specs.List.{sum_by};
 ghost use Rattle.btr_node.specs.NodeSize.{IsNodeSize};
 ghost use Rattle.unit_plan.specs.Chunks.{AreChunks, FitsVolume};
 ghost use Rattle.unit_plan.specs.declared.chunk.Chunk.{Chunk as ChunkOf};
 ghost use Rattle.space_items.specs.Extents.{extent_items, used_in};
 ghost use Rattle.space_items.specs.Nodes.{AreNodes};
-ghost use Rattle.space_items.specs.Stream.{ArePieces};
+ghost use Rattle.space_items.specs.Stream.{ArePieces, FitsExtents, IsSmallNext, extents_ahead, first_of, group_of};
 
 use crate::groups::{Group, Groups, groups_of};
 use crate::items::key_of;
@@ -69,8 +70,13 @@ pub fn extents<P: PieceList>(
 }
 
 impl Next {
+    ghost use Rattle.space_items.specs.Stream.{IsSmallNext, item_of_next};
+
     /// The key of its item.
-    fn key(&self) -> Key {
+    fn key(&self) -> Key
+        requires { IsSmallNext self.now }
+        ensures { result ≡ (item_of_next self.now).0 }
+    {
         match self {
             Next::Group(group) => key_of(4096 * group.chunk.start, 192, 4096 * group.chunk.length),
             Next::Node(node) => key_of(node.address, 169, node.level as u64),
@@ -79,7 +85,10 @@ impl Next {
     }
 
     /// The body of its item.
-    fn body(&self) -> Body {
+    fn body(&self) -> Body
+        requires { IsSmallNext self.now }
+        ensures { result ≡ (item_of_next self.now).1 }
+    {
         match self {
             Next::Group(group) => Body::of(&group.body()),
             Next::Node(node) => node_body(*node),
@@ -89,7 +98,11 @@ impl Next {
 }
 
 /// The first of two by key.
-fn first_of(a: Option<Next>, b: Option<Next>) -> Option<Next> {
+fn first_of(a: Option<Next>, b: Option<Next>) -> Option<Next>
+    requires a { IfSome a IsSmallNext }
+    requires b { IfSome b IsSmallNext }
+    ensures { result ≡ first_of a b }
+{
     match (a, b) {
         (None, other) | (other, None) => other,
         (Some(a), Some(b)) => Some(if a.key() < b.key() { a } else { b }),
@@ -97,7 +110,8 @@ fn first_of(a: Option<Next>, b: Option<Next>) -> Option<Next> {
 }
 
 impl ExtentStream {
-    ghost use Rattle.space_items.specs.Stream.{ComesTo, FitsExtents, extents_ahead, extent_standing, group_of};
+    ghost use Rattle.space_items.specs.Stream.{ComesTo, IsSmallNext, extent_standing, item_of_next, passed, place_of};
+    ghost use Rattle.space_items.specs.declared.extent_stream.Next.TheVariants as next;
 
     /// Goes to the next item, which stands then; false after the last one.
     pub fn advance<P: PieceList>(&mut self, pieces: &P, nodes: &NodeList) -> bool
@@ -116,27 +130,58 @@ impl ExtentStream {
     }
 
     /// The first item that was not given yet.
-    fn next_of<P: PieceList>(&self, pieces: &P, nodes: &NodeList) -> Option<Next> {
-        let group = if self.group < self.groups.len() {
+    fn next_of<P: PieceList>(&self, pieces: &P, nodes: &NodeList) -> Option<Next>
+        requires fits { FitsExtents self.now (P.pieces pieces.now) nodes.now }
+        ensures small { IfSome result IsSmallNext }
+        ensures room { IfSome result (λ n. place_of self.now n + 1 < 2 ^ 64) }
+        ensures fits { IfSome result (λ n. FitsExtents (passed self.now n) (P.pieces pieces.now) nodes.now) }
+        ensures next { MatchOption result (extents_ahead self.now (P.pieces pieces.now) nodes.now ≡ []) (λ n. extents_ahead self.now (P.pieces pieces.now) nodes.now ≡ item_of_next n ∷ extents_ahead (passed self.now n) (P.pieces pieces.now) nodes.now) }
+    {
+        let other = first_of(self.next_node(nodes), self.next_piece(pieces));
+        first_of(self.next_group(), other)
+    }
+
+    /// The next block group.
+    fn next_group(&self) -> Option<Next>
+        ensures there { result ≡ option_map next.Group (slice_get self.now.groups self.now.group) }
+        ensures room { IfSome result (λ _. self.now.group + 1 < 2 ^ 64) }
+    {
+        if self.group < self.groups.len() {
             Some(Next::Group(self.groups.get(self.group)))
         } else {
             None
-        };
-        let node = if self.node < nodes.len() {
+        }
+    }
+
+    /// The next node.
+    fn next_node(&self, nodes: &NodeList) -> Option<Next>
+        ensures there { result ≡ option_map next.Node (slice_get nodes.now self.now.node) }
+        ensures room { IfSome result (λ _. self.now.node + 1 < 2 ^ 64) }
+    {
+        if self.node < nodes.len() {
             Some(Next::Node(nodes.get(self.node)))
         } else {
             None
-        };
-        let piece = if self.piece < pieces.len() {
+        }
+    }
+
+    /// The next piece.
+    fn next_piece<P: PieceList>(&self, pieces: &P) -> Option<Next>
+        ensures there { result ≡ option_map next.Piece (slice_get (P.pieces pieces.now) self.now.piece) }
+        ensures room { IfSome result (λ _. self.now.piece + 1 < 2 ^ 64) }
+    {
+        if self.piece < pieces.len() {
             Some(Next::Piece(*pieces.get(self.piece)))
         } else {
             None
-        };
-        first_of(group, first_of(node, piece))
+        }
     }
 
     /// The item is given.
-    fn pass(&mut self, next: Next) {
+    fn pass(&mut self, next: Next)
+        requires { place_of self.old next + 1 < 2 ^ 64 }
+        ensures { self.new ≡ passed self.old next }
+    {
         match next {
             Next::Group(_) => self.group += 1,
             Next::Node(_) => self.node += 1,

@@ -1,7 +1,7 @@
 ghost use Rattle.std.specs.Prelude.{◌≡◌, ◌≤◌, ◌<◌, ◌+◌, ◌*◌, ◌^◌, map, All, AllPairs, IfOk};
-ghost use Rattle.space_items.specs.Extents.{group_item};
+ghost use Rattle.space_items.specs.Extents.{group_item, bytes_of_nodes, bytes_of_pieces};
 ghost use Rattle.space_items.specs.Nodes.{AreNodes};
-ghost use Rattle.space_items.specs.Stream.{ArePieces, IsSmallGroup, group_of};
+ghost use Rattle.space_items.specs.Stream.{ArePieces, IsSmallGroup, LieBefore, group_of};
 
 use crate::chunk_lists::chunk_kind;
 use crate::node::NodeList;
@@ -70,8 +70,16 @@ pub fn groups_of<P: PieceList>(
     Ok(groups)
 }
 
-/// Adds the pieces from one on that lie in the group, and tells which is the next.
-fn count_pieces<P: PieceList>(pieces: &P, first: usize, group: &mut Group) -> usize {
+/// Adds the pieces from one on that lie in the group, and tells which is the next. Those before it lie before the group.
+fn count_pieces<P: PieceList>(pieces: &P, first: usize, group: &mut Group) -> usize
+    requires small { IsSmallGroup group.old }
+    requires pieces { ArePieces (P.pieces pieces.now) }
+    requires none { group.old.used ≡ 0 }
+    requires before { LieBefore (λ p. p.place) group.old.chunk.start (P.pieces pieces.now) first }
+    ensures chunk { group.new.chunk ≡ group.old.chunk }
+    ensures used { group.new.used ≡ bytes_of_pieces (P.pieces pieces.now) group.old.chunk }
+    ensures before { LieBefore (λ p. p.place) (group.old.chunk.start + group.old.chunk.length) (P.pieces pieces.now) result }
+{
     let mut next = first;
     while next < pieces.len() && 4096 * pieces.get(next).place < group.end() {
         let piece = pieces.get(next);
@@ -83,8 +91,17 @@ fn count_pieces<P: PieceList>(pieces: &P, first: usize, group: &mut Group) -> us
     next
 }
 
-/// Adds the nodes from one on that lie in the group, and tells which is the next.
-fn count_nodes(nodes: &NodeList, first: usize, nodesize: u32, group: &mut Group) -> usize {
+/// Adds the nodes from one on that lie in the group, and tells which is the next. Those before it lie before the group.
+fn count_nodes(nodes: &NodeList, first: usize, nodesize: u32, group: &mut Group) -> usize
+    requires size { nodesize ≤ 65536 }
+    requires small { IsSmallGroup group.old }
+    requires nodes { AreNodes nodes.now }
+    requires few { group.old.used ≤ 2 ^ 42 }
+    requires before { LieBefore (λ n. n.address) (4096 * group.old.chunk.start) nodes.now first }
+    ensures chunk { group.new.chunk ≡ group.old.chunk }
+    ensures used { group.new.used ≡ group.old.used + bytes_of_nodes nodes.now nodesize group.old.chunk }
+    ensures before { LieBefore (λ n. n.address) (4096 * (group.old.chunk.start + group.old.chunk.length)) nodes.now result }
+{
     let mut next = first;
     while next < nodes.len() && nodes.get(next).address < group.end() {
         if nodes.get(next).address >= 4096 * group.chunk.start {

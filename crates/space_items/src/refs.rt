@@ -46,15 +46,18 @@ impl Body {
         requires { length bytes.now ≤ 82 }
         ensures { result ≡ bytes.now }
     {
-        let mut body = Body::empty();
-        body.bytes[..bytes.len()].copy_from_slice(bytes);
-        body.length = bytes.len();
-        body
+        let mut room = [0; LONGEST];
+        room[..bytes.len()].copy_from_slice(bytes);
+        Body {
+            bytes: room,
+            length: bytes.len(),
+        }
     }
 
     /// The head of an extent, before its references.
     fn begun(refs: u64, flags: u64) -> Body
-        ensures { result ≡ extent_head_bytes (record { refs = refs; generation = 1; flags = flags }) }
+        ensures bytes { result ≡ extent_head_bytes (record { refs = refs; generation = 1; flags = flags }) }
+        ensures length { length result ≡ 24 }
     {
         let head = ExtentHead {
             refs,
@@ -67,10 +70,12 @@ impl Body {
     /// One reference more.
     fn with(mut self, reference: InlineRef) -> Body
         requires { length self + inline_ref_size reference ≤ 82 }
-        ensures { result ≡ self ++ inline_ref_bytes reference }
+        ensures bytes { result ≡ self ++ inline_ref_bytes reference }
+        ensures length { length result ≡ length self + inline_ref_size reference }
     {
-        let end = self.length + reference.size();
-        reference.write(&mut self.bytes[self.length..end]);
+        let start = self.length;
+        let end = start + reference.size();
+        reference.write(&mut self.bytes[start..end]);
         self.length = end;
         self
     }

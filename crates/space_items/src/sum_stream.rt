@@ -1,10 +1,11 @@
-ghost use Rattle.std.specs.Prelude.{◌≡◌, ◌≤◌, ◌<◌, ◌+◌, ◌*◌, false, is_err, length, take, All, IsTrue, IfOk, OnOk};
+ghost use Rattle.std.specs.Prelude.{◌≡◌, ◌≤◌, ◌<◌, ◌+◌, ◌*◌, ◌^◌, false, is_err, length, take, All, IfOk, OnOk};
+ghost use Rattle.std.specs.List.{flat_map, range_with_len};
 ghost use Rattle.outside.specs.Fault.{HasCause};
-ghost use Rattle.outside.specs.History.{Image};
+ghost use Rattle.outside.specs.History.{Image, OverTold};
 ghost use Rattle.csum_kinds.specs.Kind.{kind_width};
 ghost use Rattle.unit_plan.specs.Sums.{sums_in_item};
-ghost use Rattle.space_items.specs.Stream.{ArePieces};
-ghost use Rattle.space_items.specs.Sums.{block_sum, sum_items};
+ghost use Rattle.space_items.specs.Stream.{ArePieces, FitsSums, IsSmallPiece, sums_ahead};
+ghost use Rattle.space_items.specs.Sums.{block_sum, sum_items, sums_item};
 
 use crate::items::key_of;
 use btr_keys::Key;
@@ -64,7 +65,7 @@ fn room_for(alloc: Global, sums: SumKind) -> Result<Vec<u8>, Memory>
 }
 
 impl SumStream {
-    ghost use Rattle.space_items.specs.Stream.{ComesTo, FitsSums, sums_ahead, sum_standing};
+    ghost use Rattle.space_items.specs.Stream.{ComesTo, IsAsBefore, IsTaken, sum_standing, taken};
 
     /// Goes to the next item, which stands then; false after the last one. After an error it is spent.
     pub fn advance<S: BlockSource, P: PieceList>(
@@ -79,8 +80,7 @@ impl SumStream {
         ensures cause { HasCause (S.faults src.old) (S.faults src.new) result }
         ensures spent { self.new.spent ≡ is_err result }
         ensures fits { OnOk result (FitsSums self.new (P.pieces pieces.now)) }
-        ensures next { IsTrue S.tells → (image : Image) → S.blocks src.old ≡ image
-            → IfOk result (λ more. ComesTo more (sums_ahead self.old (P.pieces pieces.now) image) (sum_standing self.new) (sums_ahead self.new (P.pieces pieces.now) image)) }
+        ensures next { OverTold S.tells (S.blocks src.old) (λ image. IfOk result (λ more. ComesTo more (sums_ahead self.old (P.pieces pieces.now) image) (sum_standing self.new) (sums_ahead self.new (P.pieces pieces.now) image))) }
     {
         if self.piece >= pieces.len() {
             return Ok(false);
@@ -93,7 +93,18 @@ impl SumStream {
     }
 
     /// Makes the next item of a piece.
-    fn take<S: BlockSource>(&mut self, src: &mut S, piece: Piece) -> Result<(), Fault> {
+    fn take<S: BlockSource>(&mut self, src: &mut S, piece: Piece) -> Result<(), Fault>
+        requires small { IsSmallPiece piece }
+        requires some { self.old.done < piece.count }
+        requires next { self.old.piece + 1 < 2 ^ 64 }
+        requires wide { length self.old.bytes.items ≡ kind_width self.old.sums * sums_in_item self.old.sums }
+        requires inside { piece.place + piece.count ≤ S.size src.old }
+        ensures kept { S.kept src.old src.new }
+        ensures cause { HasCause (S.faults src.old) (S.faults src.new) result }
+        ensures spent { self.new.spent ≡ self.old.spent }
+        ensures taken { OnOk result (IsTaken self.old self.new piece) }
+        ensures stands { OverTold S.tells (S.blocks src.old) (λ image. OnOk result (sum_standing self.new ≡ sums_item self.old.sums image (piece.place + self.old.done) (taken self.old piece))) }
+    {
         let first = piece.place + self.done;
         let count = (piece.count - self.done).min(sums_in_item(self.sums));
         self.fill(src, first, count)?;
@@ -107,7 +118,16 @@ impl SumStream {
     }
 
     /// Puts the checksums of so many blocks into the body.
-    fn fill<S: BlockSource>(&mut self, src: &mut S, first: u64, count: u64) -> Result<(), Fault> {
+    fn fill<S: BlockSource>(&mut self, src: &mut S, first: u64, count: u64) -> Result<(), Fault>
+        requires room { kind_width self.old.sums * count ≤ length self.old.bytes.items }
+        requires inside { first + count ≤ S.size src.old }
+        requires small { first + count < 2 ^ 64 }
+        ensures kept { S.kept src.old src.new }
+        ensures cause { HasCause (S.faults src.old) (S.faults src.new) result }
+        ensures still { IsAsBefore self.old self.new }
+        ensures length { OnOk result (self.new.length ≡ kind_width self.old.sums * count) }
+        ensures sums { OverTold S.tells (S.blocks src.old) (λ image. OnOk result (take self.new.length self.new.bytes.items ≡ flat_map (block_sum self.old.sums image) (range_with_len first count))) }
+    {
         let width = kind_width(self.sums);
         let mut block = Block::zero();
         let mut length = 0;
