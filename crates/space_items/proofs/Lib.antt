@@ -1,2 +1,3 @@
 pub mod ChunkLists
+pub mod Counting
 pub mod OneList

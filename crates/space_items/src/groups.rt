@@ -75,10 +75,11 @@ fn count_pieces<P: PieceList>(pieces: &P, first: usize, group: &mut Group) -> us
     requires small { IsSmallGroup group.old }
     requires pieces { ArePieces (P.pieces pieces.now) }
     requires none { group.old.used ≡ 0 }
-    requires before { LieBefore (λ p. p.place) group.old.chunk.start (P.pieces pieces.now) first }
+    requires before { LieBefore (λ p. 4096 * p.place) (4096 * group.old.chunk.start) (P.pieces pieces.now) first }
     ensures chunk { group.new.chunk ≡ group.old.chunk }
     ensures used { group.new.used ≡ bytes_of_pieces (P.pieces pieces.now) group.old.chunk }
-    ensures before { LieBefore (λ p. p.place) (group.old.chunk.start + group.old.chunk.length) (P.pieces pieces.now) result }
+    ensures few { group.new.used ≤ 2 ^ 41 }
+    ensures before { LieBefore (λ p. 4096 * p.place) (4096 * (group.old.chunk.start + group.old.chunk.length)) (P.pieces pieces.now) result }
 {
     let mut next = first;
     while next < pieces.len() && 4096 * pieces.get(next).place < group.end() {
