@@ -1,3 +1,6 @@
 pub mod ChunkLists
 pub mod Counting
+pub mod Levels
+pub mod Merges
+pub mod NodeMerge
 pub mod OneList

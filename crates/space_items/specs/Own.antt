@@ -1,5 +1,5 @@
 -- How many nodes the extent tree has. It has an extent for each of them, so their number describes itself.
-use Rattle.std.specs.Prelude.{◌≡◌, ◌≢◌, ◌<◌, ℕ, ◌+◌, ◌*◌, List, length, map, take}
+use Rattle.std.specs.Prelude.{◌≡◌, ◌≢◌, ◌<◌, ℕ, ◌+◌, ◌*◌, List, length, take}
 use Rattle.btr_node.specs.Leaf.{Item}
 use Rattle.btr_tree.specs.Counting.{tree_nodes, node_bound}
 use Rattle.btr_tree.specs.Roots.{lengths_of}
@@ -7,11 +7,11 @@ use Rattle.unit_plan.specs.declared.chunk.Chunk.{Chunk}
 use Rattle.unit_plan.specs.declared.piece.Piece.{Piece}
 use Rattle.space_items.specs.declared.node.TreeNode.{TreeNode}
 use Rattle.space_items.specs.Extents.{extent_items}
-use Rattle.space_items.specs.Nodes.{merged_nodes, nodes_of_tree}
+use Rattle.space_items.specs.Nodes.{merged_nodes, nodes_at, nodes_of_tree}
 
 -- nodes of the extent tree at the first x slots; how long their items are goes by no level
 abbrev pub own_at : List ℕ → ℕ → List TreeNode
-own_at slots x = map (λ a. record { address = a; level = 0; owner = 2 }) (take x slots)
+own_at slots x = nodes_at 2 0 (take x slots)
 
 -- the lengths of the items of the extent tree that has x nodes of its own
 abbrev pub own_lengths : List Chunk → List Piece → List TreeNode → List ℕ → ℕ → ℕ → List ℕ

@@ -1,10 +1,12 @@
 ghost use Rattle.std.specs.Prelude.{◌≡◌, ◌≤◌, ◌<◌, ◌+◌, ◌^◌, ◌++◌, ◌∷◌, [], ℕ, List, length, take, drop, map, AllPairs, IfOk, OnOk};
 ghost use Rattle.btr_node.specs.NodeSize.{IsNodeSize};
-ghost use Rattle.btr_tree.specs.Counting.{Counted, tree_nodes};
+ghost use Rattle.btr_tree.specs.Counting.{Counted};
+ghost use Rattle.btr_tree.specs.Roots.{lengths_of};
 ghost use Rattle.unit_plan.specs.Chunks.{AreChunks, FitsVolume};
 ghost use Rattle.unit_plan.specs.declared.chunk.Chunk.{Chunk as ChunkOf};
-ghost use Rattle.space_items.specs.Nodes.{AreNodes, merged_nodes, nodes_of_tree};
-ghost use Rattle.space_items.specs.Own.{IsOwnCount, own_at, own_bound, own_lengths, nodes_with_own};
+ghost use Rattle.space_items.specs.Extents.{extent_items};
+ghost use Rattle.space_items.specs.Nodes.{AreNodes, HasSlots, merged_nodes, nodes_at, nodes_of_tree};
+ghost use Rattle.space_items.specs.Own.{IsOwnCount, own_at, own_bound, nodes_with_own};
 ghost use Rattle.space_items.specs.Stream.{ArePieces};
 
 use crate::extent_stream::extents;
@@ -36,6 +38,7 @@ pub fn own_nodes<P: PieceList>(
     requires pieces { ArePieces (P.pieces pieces.now) }
     requires nodes { AreNodes others.now }
     requires slots { AllPairs (λ a b. a < b) rest.now }
+    requires few { length others.now + length rest.now < 2 ^ 44 }
     requires enough { (chunks : List ChunkOf) → AreChunks plan.now blocks chunks → own_bound chunks (P.pieces pieces.now) others.now nodesize ≤ length rest.now }
     ensures count { (chunks : List ChunkOf) → AreChunks plan.now blocks chunks → IfOk result (λ x. IsOwnCount chunks (P.pieces pieces.now) others.now rest.now nodesize x) }
     ensures bound { (chunks : List ChunkOf) → AreChunks plan.now blocks chunks → IfOk result (λ x. x ≤ own_bound chunks (P.pieces pieces.now) others.now nodesize) }
@@ -69,8 +72,11 @@ pub fn with_own<P: PieceList>(
     requires pieces { ArePieces (P.pieces pieces.now) }
     requires nodes { AreNodes others.now }
     requires own { (chunks : List ChunkOf) → AreChunks plan.now blocks chunks → IsOwnCount chunks (P.pieces pieces.now) others.now rest.now nodesize count }
+    requires slots { AllPairs (λ a b. a < b) rest.now }
+    requires few { length others.now + length rest.now < 2 ^ 44 }
     requires enough { count ≤ length rest.now }
-    ensures { (chunks : List ChunkOf) → AreChunks plan.now blocks chunks → IfOk result (λ nodes. nodes ≡ nodes_with_own chunks (P.pieces pieces.now) others.now rest.now nodesize count) }
+    ensures fit { IfOk result AreNodes }
+    ensures nodes { (chunks : List ChunkOf) → AreChunks plan.now blocks chunks → IfOk result (λ nodes. nodes ≡ nodes_with_own chunks (P.pieces pieces.now) others.now rest.now nodesize count) }
 {
     let nodes = with_leaves(alloc, others, rest, count)?;
     let counter = counted(alloc, plan, pieces, &nodes, blocks, nodesize)?;
@@ -88,33 +94,29 @@ pub fn add_nodes(
     counter: &Counter,
     owner: u64,
 ) -> Result<(), Memory>
-    requires { (lengths : List ℕ) → Counted counter.now lengths → first + tree_nodes counter.now.nodesize lengths ≤ length slots.now }
+    requires { HasSlots counter.now first slots.now }
     ensures { (lengths : List ℕ) → Counted counter.now lengths → OnOk result (nodes.new ≡ nodes.old ++ nodes_of_tree owner counter.now.nodesize lengths (drop first slots.now)) }
 {
+    let slots = slots.as_slice();
     let mut at = first;
     for level in 0..=255 {
-        let count = counter.level_nodes(level);
-        add_level(nodes, slots, at, count, level, owner)?;
-        at += count as usize;
+        let count = counter.level_nodes(level) as usize;
+        if count == 0 {
+            break;
+        }
+        add_level(nodes, &slots[at..at + count], level, owner)?;
+        at += count;
     }
     Ok(())
 }
 
-/// Appends nodes of one level at so many slots from number `first` on.
-fn add_level(
-    nodes: &mut NodeList,
-    slots: &Slots,
-    first: usize,
-    count: u64,
-    level: u8,
-    owner: u64,
-) -> Result<(), Memory>
-    requires { first + count ≤ length slots.now }
-    ensures { OnOk result (nodes.new ≡ nodes.old ++ map (λ a. record { address = a; level = level; owner = owner }) (take count (drop first slots.now))) }
+/// Appends nodes of one level, at these slots.
+fn add_level(nodes: &mut NodeList, slots: &[u64], level: u8, owner: u64) -> Result<(), Memory>
+    ensures { OnOk result (nodes.new ≡ nodes.old ++ nodes_at owner level slots.now) }
 {
-    for i in 0..count as usize {
+    for &address in slots {
         nodes.add(TreeNode {
-            address: slots.get(first + i),
+            address,
             level,
             owner,
         })?;
@@ -133,7 +135,7 @@ fn with_leaves(
     ensures { IfOk result (λ nodes. nodes ≡ merged_nodes others.now (own_at rest.now count)) }
 {
     let mut own = NodeList::new(alloc);
-    add_level(&mut own, rest, 0, count, 0, EXTENT_TREE)?;
+    add_level(&mut own, &rest.as_slice()[..count as usize], 0, EXTENT_TREE)?;
     merged(alloc, others, &own)
 }
 
@@ -156,17 +158,17 @@ pub fn merged(alloc: Global, nodes: &NodeList, others: &NodeList) -> Result<Node
             j += 1;
         }
     }
-    add_from(&mut all, nodes, i)?;
-    add_from(&mut all, others, j)?;
+    add_all(&mut all, &nodes.as_slice()[i..])?;
+    add_all(&mut all, &others.as_slice()[j..])?;
     Ok(all)
 }
 
-/// Appends the nodes from number `first` on.
-fn add_from(all: &mut NodeList, nodes: &NodeList, first: usize) -> Result<(), Memory>
-    ensures { OnOk result (all.new ≡ all.old ++ drop first nodes.now) }
+/// Appends these nodes.
+fn add_all(all: &mut NodeList, nodes: &[TreeNode]) -> Result<(), Memory>
+    ensures { OnOk result (all.new ≡ all.old ++ nodes.now) }
 {
-    for i in first..nodes.len() {
-        all.add(nodes.get(i))?;
+    for node in nodes {
+        all.add(*node)?;
     }
     Ok(())
 }
@@ -185,6 +187,8 @@ fn counted<P: PieceList>(
     requires units { FitsVolume plan.now blocks }
     requires pieces { ArePieces (P.pieces pieces.now) }
     requires nodes { AreNodes nodes.now }
+    ensures size { IfOk result (λ c. c.nodesize ≡ nodesize) }
+    ensures lengths { (chunks : List ChunkOf) → AreChunks plan.now blocks chunks → IfOk result (λ c. Counted c (lengths_of (extent_items chunks (P.pieces pieces.now) nodes.now nodesize))) }
 {
     let mut stream = extents(alloc, plan, pieces, nodes, blocks, nodesize)?;
     let mut counter = Counter::new(nodesize);
