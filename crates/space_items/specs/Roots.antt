@@ -1,9 +1,10 @@
 -- The root tree: where each tree begins, and the subvolume of the saved image.
-use Rattle.std.specs.Prelude.{ℕ, ◌*◌, ◌^◌, ◌-◌, ◌==◌, nat_le, Bool, ◌||◌, if◌then◌else◌, List, [], ◌∷◌, length, map, codes, replicate}
+use Rattle.std.specs.Prelude.{ℕ, ◌*◌, ◌^◌, ◌-◌, ◌==◌, ◌≤◌, ◌<◌, nat_le, Bool, ◌||◌, if◌then◌else◌, List, [], ◌∷◌, length, map, codes, replicate, slice_index_or}
 use Rattle.castagnoli.specs.Castagnoli.{name_hash}
 use Rattle.vol_block.specs.declared.ids.Ids.{Ids}
 use Rattle.btr_keys.specs.DirEntry.{dir_entry_bytes}
-use Rattle.btr_keys.specs.Key.{make_key}
+use Rattle.btr_keys.specs.Key.{make_key, IsBefore}
+use Rattle.btr_keys.specs.declared.key.Key.{Key}
 use Rattle.btr_keys.specs.declared.inode.Inode.{Inode}
 use Rattle.btr_node.specs.Leaf.{Item}
 use Rattle.btr_space_items.specs.RootItem.{root_item_bytes}
@@ -17,6 +18,10 @@ use Rattle.space_items.specs.declared.node.TreeRoot.{TreeRoot}
 abbrev pub is_file_tree : ℕ → Bool
 is_file_tree tree = (tree == 5) || nat_le 256 tree
 
+-- such a tree has a root directory
+abbrev pub root_dirid : ℕ → ℕ
+root_dirid tree = if is_file_tree tree then 256 else 0
+
 -- a root item has the inode of a directory in it, of which a kernel reads nothing
 abbrev pub root_inode : ℕ → Inode
 root_inode nodesize = record new_inode { generation = 0; transid = 0; size = 3; nbytes = nodesize; mode = 0x41ED }
@@ -24,11 +29,15 @@ root_inode nodesize = record new_inode { generation = 0; transid = 0; size = 3; 
 abbrev pub zero_uuid : List ℕ
 zero_uuid = replicate 16 0
 
+-- the subvolume of the image has an identifier
+abbrev pub tree_uuid : Ids → ℕ → List ℕ
+tree_uuid ids tree = if tree == 256 then ids.subvolume else zero_uuid
+
 abbrev pub root_body : Ids → ℕ → TreeRoot → RootItem
 root_body ids nodesize r = record {
   inode = root_inode nodesize;
   generation = 1;
-  root_dirid = if is_file_tree r.tree then 256 else 0;
+  root_dirid = root_dirid r.tree;
   bytenr = r.root.address;
   byte_limit = 0;
   bytes_used = nodesize * r.root.nodes;
@@ -39,7 +48,7 @@ root_body ids nodesize r = record {
   drop_level = 0;
   level = r.root.level;
   generation_v2 = 1;
-  uuid = if r.tree == 256 then ids.subvolume else zero_uuid;
+  uuid = tree_uuid ids r.tree;
   parent_uuid = zero_uuid;
   received_uuid = zero_uuid;
   ctransid = 0;
@@ -69,15 +78,25 @@ default_name = codes "default"
 abbrev pub default_entry : List ℕ
 default_entry = dir_entry_bytes (record { location = make_key 5 132 (2 ^ 64 - 1); transid = 1; data_length = 0; kind = 2; name = default_name })
 
+abbrev pub default_item : Item
+default_item = (make_key 6 84 (name_hash default_name), default_entry)
+
 -- The subvolume's references from and to tree 5, and directory 6 with the entry `default`.
 abbrev pub other_root_items : ℕ → ℕ → List Item
 other_root_items index now =
     (make_key 5 156 256, saved_ref index)
     ∷ (inode_item 6 (inode_made now 0x41ED 0 0 0)
     ∷ (ref_item 6 6 0 (codes "..")
-    ∷ ((make_key 6 84 (name_hash default_name), default_entry)
+    ∷ (default_item
     ∷ ((make_key 256 144 5, saved_ref index) ∷ []))))
 
 -- the whole of it
 abbrev pub root_items : List TreeRoot → ℕ → Ids → ℕ → ℕ → List Item
 root_items list index ids now nodesize = merged (map (root_item ids nodesize) list) (other_root_items index now)
+
+-- those of the items from one on that are before a key end before the next
+pub record AreBefore (items : List Item) (first : ℕ) (key : Key) (next : ℕ) : Type 0 where
+  pub low : first ≤ next
+  pub within : next ≤ length items
+  pub before : (k : ℕ) (d : Item) → first ≤ k → k < next → IsBefore (slice_index_or items k d).0 key
+  pub behind : (d : Item) → next < length items → IsBefore (slice_index_or items next d).0 key → ⊥

@@ -1,6 +1,6 @@
-ghost use Rattle.std.specs.Prelude.{◌≡◌, ◌≤◌, ◌<◌, ◌*◌, ◌^◌, ◌++◌, ◌∷◌, [], drop, length, All, AllPairs, IfOk, OnOk};
+ghost use Rattle.std.specs.Prelude.{◌≡◌, ◌≤◌, ◌<◌, ◌*◌, ◌^◌, ◌++◌, ◌∷◌, [], drop, slice_range, length, All, AllPairs, IfOk, OnOk};
 ghost use Rattle.space_items.specs.Inodes.{inode_item, ref_item};
-ghost use Rattle.space_items.specs.Roots.{root_items, root_item, root_body, root_inode, is_file_tree, other_root_items, saved_ref};
+ghost use Rattle.space_items.specs.Roots.{AreBefore, root_items, root_item, root_body, root_inode, root_dirid, tree_uuid, other_root_items, saved_ref, default_item};
 
 use crate::inode::{inode_made, new_inode, stamp_of};
 use crate::items::{add_inode, add_ref, key_of};
@@ -56,9 +56,13 @@ fn add_before(
     others: &ItemList,
     first: usize,
     key: Key,
-) -> Result<usize, Memory> {
+) -> Result<usize, Memory>
+    requires { first ≤ length others.now }
+    ensures passed { IfOk result (AreBefore others.now first key) }
+    ensures added { IfOk result (λ next. items.new ≡ items.old ++ slice_range others.now first next) }
+{
     let mut next = first;
-    while next < others.len() && others.key(next) < key {
+    while next < others.len() && others.key(next).is_before(&key) {
         items.add(others.key(next), others.body(next))?;
         next += 1;
     }
@@ -94,7 +98,7 @@ fn root_body(ids: &Ids, nodesize: u32, root: TreeRoot) -> RootItem
     RootItem {
         inode: root_inode(nodesize),
         generation: 1,
-        root_dirid: if is_file_tree(root.tree) { 256 } else { 0 },
+        root_dirid: root_dirid(root.tree),
         bytenr: root.root.address,
         byte_limit: 0,
         bytes_used: nodesize as u64 * root.root.nodes,
@@ -120,15 +124,17 @@ fn root_body(ids: &Ids, nodesize: u32, root: TreeRoot) -> RootItem
 }
 
 /// The subvolume of the image has an identifier.
-fn uuid_of(ids: &Ids, tree: u64) -> [u8; 16] {
+fn uuid_of(ids: &Ids, tree: u64) -> [u8; 16]
+    ensures { result ≡ tree_uuid ids.now tree }
+{
     if tree == 256 { ids.subvolume } else { [0; 16] }
 }
 
-/// Whether the tree holds files: tree 5, and those from 256 on.
-fn is_file_tree(tree: u64) -> bool
-    ensures { result ≡ is_file_tree tree }
+/// The inode of the root directory of a tree that holds files, as tree 5 and those from 256 on; 0 for others.
+fn root_dirid(tree: u64) -> u64
+    ensures { result ≡ root_dirid tree }
 {
-    tree == 5 || tree >= 256
+    if tree == 5 || tree >= 256 { 256 } else { 0 }
 }
 
 /// A root item has the inode of a directory in it, of which a kernel reads nothing.
@@ -180,7 +186,9 @@ fn saved_ref(index: u64) -> [u8; 32]
 }
 
 /// Appends the entry `default` of directory 6, which names tree 5.
-fn add_default(items: &mut ItemList, body: &mut Vec<u8>) -> Result<(), Memory> {
+fn add_default(items: &mut ItemList, body: &mut Vec<u8>) -> Result<(), Memory>
+    ensures { OnOk result (items.new ≡ items.old ++ default_item ∷ []) }
+{
     let entry = DirEntry {
         location: key_of(5, 132, u64::MAX),
         transid: 1,

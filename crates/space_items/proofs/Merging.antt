@@ -1,0 +1,97 @@
+-- Lists of items, put together by their keys.
+use Rattle.std.proofs.Common.{◌≡◌, ◌≢◌, ◌≤◌, ◌<◌, ◌⊎◌, ℕ, zero, suc, ◌+◌, ◌-◌, List, [], ◌∷◌, ◌++◌, length, take, drop, get_or, Some, refl, sym, ap, subst, ◌∙◌, append_assoc, arith, ⊎_elim, inl, inr}
+use Rattle.std.specs.Prelude.{slice_get, slice_range}
+use Rattle.std.specs.Cmp.{IsTotalOrder}
+use Rattle.std.specs.Ordering.{nat_cmp, ordering_then, ordering_reverse}
+use Rattle.std.specs.declared.cmp.Ordering.{Ordering}
+use Rattle.std.specs.declared.cmp.Ordering.TheVariants.{Less, Equal, Greater}
+use Rattle.std.proofs.lemmas.Bool.{cases_eq}
+use Rattle.std.proofs.lemmas.Cmp.{nat_cmp_total, on_total, then_total}
+use Rattle.std.proofs.lemmas.List.{length-drop, take_all}
+use Rattle.std.proofs.lemmas.Map.Lookups.{exact_unsigned}
+use Rattle.std.proofs.lemmas.Option.{slice_get-get_or}
+use Rattle.btr_keys.specs.declared.key.Key.{Key}
+use Rattle.btr_keys.specs.Key.{key_cmp, IsBefore}
+use Rattle.btr_node.specs.Leaf.{Item}
+use Rattle.item_list.proofs.Joining.{no_item, range_push}
+use Rattle.space_items.specs.Merging.{merged}
+
+pub key_total : IsTotalOrder key_cmp
+key_total = then_total (on_total (λ (k : Key). k.objectid) nat_cmp_total) (then_total (on_total (λ (k : Key). k.kind) nat_cmp_total) (on_total (λ (k : Key). k.offset) nat_cmp_total))
+
+-- one key is before another, or they are equal, or the other is before it
+cases_Ordering : (o : Ordering) → (o ≡ Less) ⊎ ((o ≡ Equal) ⊎ (o ≡ Greater))
+cases_Ordering Less = inl refl
+cases_Ordering Equal = inr (inl refl)
+cases_Ordering Greater = inr (inr refl)
+
+then_equal : (a b : Ordering) → ordering_then a b ≡ Equal → (a ≡ Equal) × (b ≡ Equal)
+then_equal Less b e = (e, absurd (not_equal e))
+  where
+    not_equal : Less ≡ Equal → ⊥
+    not_equal e = cc
+then_equal Equal b e = (refl, e)
+then_equal Greater b e = absurd (not_equal e)
+  where
+    not_equal : Greater ≡ Equal → ⊥
+    not_equal e = cc
+
+pub same_kind : (a b : Key) → key_cmp a b ≡ Equal → a.kind ≡ b.kind
+same_kind a b e = exact_unsigned a.kind b.kind (then_equal (nat_cmp a.kind b.kind) (nat_cmp a.offset b.offset) (then_equal (nat_cmp a.objectid b.objectid) _ e).1).0
+
+-- the first of one list, where it is before those of the other
+pub merged_first : (x : Item) (xs : List Item) (y : Item) (ys : List Item) → IsBefore x.0 y.0 → merged (x ∷ xs) (y ∷ ys) ≡ x ∷ merged xs (y ∷ ys)
+merged_first x xs y ys e = rw e refl
+
+-- the first of the other
+pub merged_second : (x : Item) (xs : List Item) (y : Item) (ys : List Item) → IsBefore y.0 x.0 → merged (x ∷ xs) (y ∷ ys) ≡ y ∷ merged (x ∷ xs) ys
+merged_second x xs y ys e = let f : key_cmp x.0 y.0 ≡ Greater = key_total.antisymm x.0 y.0 ∙ ap ordering_reverse e in rw f refl
+
+pub merged_nil : (xs : List Item) → merged xs [] ≡ xs
+merged_nil [] = refl
+merged_nil (x ∷ xs) = refl
+
+-- those of the other list that are before it
+pub merged_behind : (x : Item) (xs ys : List Item) (n : ℕ) → n ≤ length ys → ((k : ℕ) (d : Item) → k < n → IsBefore (get_or ys k d).0 x.0) → merged (x ∷ xs) ys ≡ take n ys ++ merged (x ∷ xs) (drop n ys)
+merged_behind x xs ys zero within before = refl
+merged_behind x xs [] (suc n) within before = absurd (omega (arith, within))
+merged_behind x xs (y ∷ ys) (suc n) within before =
+    merged_second x xs y ys (before 0 y (omega arith))
+    ∙ ap (λ (l : List Item). y ∷ l) (merged_behind x xs ys n (omega (arith, within)) (λ k d h. before (suc k) d (omega (arith, h))))
+
+-- an item that is behind none of the other list, and has a kind of its own
+pub merged_ahead : (x : Item) (xs ys : List Item) → ((d : Item) → 0 < length ys → IsBefore (get_or ys 0 d).0 x.0 → ⊥) → ((d : Item) → 0 < length ys → (get_or ys 0 d).0.kind ≢ x.0.kind) → merged (x ∷ xs) ys ≡ x ∷ merged xs ys
+merged_ahead x xs [] low apart = ap (λ (l : List Item). x ∷ l) (sym (merged_nil xs))
+merged_ahead x xs (y ∷ ys) low apart =
+    ⊎_elim (λ (less : key_cmp x.0 y.0 ≡ Less). merged_first x xs y ys less)
+    (λ rest. ⊎_elim (λ (equal : key_cmp x.0 y.0 ≡ Equal). absurd (apart y (omega arith) (sym (same_kind x.0 y.0 equal))))
+    (λ (greater : key_cmp x.0 y.0 ≡ Greater). absurd (low y (omega arith) (key_total.antisymm y.0 x.0 ∙ ap ordering_reverse greater)))
+    rest)
+    (cases_Ordering (key_cmp x.0 y.0))
+
+-- one item more of a range of another list
+pub range_more : (initial old new more : List Item) (first i : ℕ) (key : Key) (body : List ℕ) → first ≤ i → i < length more → old ≡ initial ++ slice_range more first i
+    → ((item : Item) → slice_get more i ≡ Some item → key ≡ item.0) → ((item : Item) → slice_get more i ≡ Some item → body ≡ item.1) → new ≡ old ++ (key, body) ∷ []
+    → new ≡ initial ++ slice_range more first (i + 1)
+range_more initial old new more first i key body low within built key_is body_is new_is =
+    let item : Item = get_or more i no_item in
+    let there = slice_get-get_or more i no_item within in
+    new_is ∙ (ap (λ (l : List Item). l ++ (key, body) ∷ []) built ∙ (append_assoc initial (slice_range more first i) ((key, body) ∷ [])
+    ∙ ap (λ (l : List Item). initial ++ l) (ap (λ (k : Key). slice_range more first i ++ (k, body) ∷ []) (key_is item there) ∙ (ap (λ (b : List ℕ). slice_range more first i ++ (item.0, b) ∷ []) (body_is item there)
+    ∙ sym (range_push first i more no_item low within)))))
+
+-- all of them from one on
+pub range_all : (more : List Item) (first i : ℕ) → length more ≤ i → slice_range more first i ≡ drop first more
+range_all more first i past = take_all (i - first) (drop first more) (omega (arith, length-drop first more, past))
+
+-- what is told of an item, by its place
+pub key_at : (items : List Item) (i : ℕ) (key : Key) → i < length items → ((item : Item) → slice_get items i ≡ Some item → key ≡ item.0) → (d : Item) → key ≡ (get_or items i d).0
+key_at items i key within is d = is (get_or items i d) (slice_get-get_or items i d within)
+
+-- one more that is before a key
+pub before_more : (items : List Item) (first i : ℕ) (key own : Key) → ((k : ℕ) (d : Item) → first ≤ k → k < i → IsBefore (get_or items k d).0 key) → ((d : Item) → own ≡ (get_or items i d).0) → IsBefore own key
+    → (k : ℕ) (d : Item) → first ≤ k → k < i + 1 → IsBefore (get_or items k d).0 key
+before_more items first i key own before is this k d low high =
+    ⊎_elim (λ (same : k ≡ i). subst (λ (n : ℕ). IsBefore (get_or items n d).0 key) (sym same) (subst (λ (own : Key). IsBefore own key) (is d) this))
+    (λ (other : k ≡ i → ⊥). before k d low (omega arith))
+    (cases_eq k i)
