@@ -3,6 +3,7 @@ pub mod Counting
 pub mod Levels
 pub mod Merges
 pub mod Merging
+pub mod Nexts
 pub mod NodeMerge
 pub mod OneList
 pub mod Rooting
