@@ -163,8 +163,8 @@ extents_next s pieces nodes =
     merge_ahead (group_here s) (first_of (node_here s nodes) (piece_here s pieces)) (map item_of_group (drop s.group s.groups)) (below_ahead s pieces nodes) by_groups (λ n. below_ahead (passed s n) pieces nodes) (λ n. extents_ahead (passed s n) pieces nodes)
     (list_ahead next.Group item_of_group s.groups s.group by_groups (λ x. refl) (λ x. refl)) (nodes_ahead s pieces nodes)
     (λ m n is_group is_below.
-        let x = mapped next.Group (slice_get s.groups s.group) m is_group in
-        subst (λ (k : Next). key_cmp (item_of_next k).0 (item_of_next n).0 ≡ Equal → ⊥) (sym x.1) ((below n is_below).apart x.0))
+    let x = mapped next.Group (slice_get s.groups s.group) m is_group in
+    subst (λ (k : Next). key_cmp (item_of_next k).0 (item_of_next n).0 ≡ Equal → ⊥) (sym x.1) ((below n is_below).apart x.0))
     (λ m is. let x = mapped next.Group (slice_get s.groups s.group) m is in subst (λ (n : Next). extents_ahead (passed s n) pieces nodes ≡ merged (by_groups n) (below_ahead s pieces nodes)) (sym x.1) refl)
     (λ n is. ap (λ (l : List Item). merged l (below_ahead (passed s n) pieces nodes)) (below n is).same)
   where

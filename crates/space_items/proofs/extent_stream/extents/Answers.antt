@@ -18,9 +18,9 @@ groups_small : (plan : Plan) (blocks : ℕ) (chunks : List Chunk) (f : Chunk →
 groups_small plan blocks chunks f same small are =
     All-map IsSmallGroup f chunks
     (λ k d inside.
-        let c = are.each k d inside in
-        let ends = c.ends in
-        record { small = subst (λ (x : Chunk). x.start + x.length ≤ 2 ^ 29) (sym (same _)) (omega (arith, ends, small)) })
+    let c = are.each k d inside in
+    let ends = c.ends in
+    record { small = subst (λ (x : Chunk). x.start + x.length ≤ 2 ^ 29) (sym (same _)) (omega (arith, ends, small)) })
 
 items_of_groups : (pieces : List Piece) (nodes : List TreeNode) (nodesize : ℕ) (chunks : List Chunk) → map item_of_group (map (group_of pieces nodes nodesize) chunks) ≡ map (λ c. group_item (used_in pieces nodes nodesize c) c) chunks
 items_of_groups pieces nodes nodesize chunks = twice chunks
@@ -35,7 +35,7 @@ returns-clause-fits g c =
     record {
       pieces_small = c.requires.pieces.small;
       groups_small = subst (All IsSmallGroup) (sym c.in_ok-groups.ensures)
-      (groups_small c.args.plan.now c.args.blocks c.in_ok-chunks.chunks (group_of pieces c.args.nodes.now c.args.nodesize) (λ x. refl) c.requires.small c.in_ok-chunks.ensures);
+          (groups_small c.args.plan.now c.args.blocks c.in_ok-chunks.chunks (group_of pieces c.args.nodes.now c.args.nodesize) (λ x. refl) c.requires.small c.in_ok-chunks.ensures);
       group_within = omega arith;
       node_within = omega arith;
       piece_within = omega arith;

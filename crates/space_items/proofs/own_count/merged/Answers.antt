@@ -45,8 +45,8 @@ returns c =
     let i = c.loop-i.i in
     let j = c.loop-i.j in
     let ends : (all ++ drop i nodes) ++ drop j others ≡ merged_nodes nodes others = elim c.loop-i-test.branch [
-      then-loop-i-test+else-j-len w ↦ second_ends nodes others all i j c.loop-i.invariant (omega arith)
-    | else-loop-i-test w ↦ first_ends nodes others all i j c.loop-i.invariant (omega arith)
+      | then-loop-i-test+else-j-len w ↦ second_ends nodes others all i j c.loop-i.invariant (omega arith)
+      | else-loop-i-test w ↦ first_ends nodes others all i j c.loop-i.invariant (omega arith)
     ] in
     let first : c.add_all.new.all ≡ all ++ drop i nodes = sliced c.as_slice.result.now nodes c.add_all.new.all all i c.as_slice.ensures c.in_ok-add_all.ensures in
     let second : c.add_all-2.new.all ≡ c.add_all.new.all ++ drop j others = sliced c.as_slice-2.result.now others c.add_all-2.new.all c.add_all.new.all j c.as_slice-2.ensures c.in_ok-add_all-2.ensures in
