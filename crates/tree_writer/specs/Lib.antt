@@ -1,4 +1,5 @@
 pub mod Answers
+pub mod Row
 pub mod Source
 pub mod Trees
 pub mod Writer

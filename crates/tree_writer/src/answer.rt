@@ -1,5 +1,5 @@
 use btr_tree::TreeAnswer;
-use outside::{VolAnswer, VolumeRefusal};
+use outside::{Memory, VolAnswer, VolumeRefusal};
 use thiserror::Error;
 
 /// Why a tree was not written.
@@ -47,5 +47,16 @@ impl From<TreeAnswer> for WriteAnswer {
             TreeAnswer::Fault => WriteAnswer::Fault,
             TreeAnswer::Memory => WriteAnswer::Memory,
         }
+    }
+}
+
+impl From<Memory> for WriteAnswer {
+    ghost use Rattle.std.specs.Prelude.{◌≡◌};
+    ghost use Rattle.tree_writer.specs.declared.answer.WriteAnswer.TheVariants as answer;
+
+    ghost from_gives = { λ _ e. e ≡ answer.Memory };
+
+    fn from(_: Memory) -> Self {
+        WriteAnswer::Memory
     }
 }

@@ -9,6 +9,7 @@ mod form;
 mod laws;
 mod list;
 mod source;
+mod trees;
 mod write;
 mod writer;
 
@@ -17,5 +18,6 @@ pub use form::NodeForm;
 pub use laws::trees_stand_by_nodes;
 pub use list::ListItems;
 pub use source::ItemSource;
+pub use trees::Trees;
 pub use write::{WrittenTree, write_tree};
 

@@ -60,10 +60,7 @@ pub fn write_tree<D: Disk, I: ItemSource>(
     ensures only { IsTrue D.tells → WritesOnly (λ b _. IsInSlots form.nodesize slots b) (D.history disk.old) (D.history disk.new) }
     ensures cause { HasCauseOf WriteAnswer.Fault (D.faults disk.old) (D.faults disk.new) result }
 {
-    let mut writer = match TreeWriter::new(alloc, owner, form, slots) {
-        Ok(writer) => writer,
-        Err(_) => return Err(WriteAnswer::Memory),
-    };
+    let mut writer = TreeWriter::new(alloc, owner, form, slots)?;
     while items.advance(disk)? {
         writer.push(disk, items.key(), items.body())?;
     }
