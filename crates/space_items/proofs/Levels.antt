@@ -53,7 +53,7 @@ node_of owner p = record { address = p.address; level = p.level; owner = owner }
 abbrev pub upper : ℕ → List ℕ → ℕ → ℕ → List ℕ → List TreeNode
 upper owner slots level skip sizes = map (node_of owner) (level_pointers 1 level skip slots sizes)
 
-map-map : {A B C : Type 0} (f : B → C) (g : A → B) (xs : List A) → map f (map g xs) ≡ map (λ x. f (g x)) xs
+pub map-map : {A B C : Type 0} (f : B → C) (g : A → B) (xs : List A) → map f (map g xs) ≡ map (λ x. f (g x)) xs
 map-map f g [] = refl
 map-map f g (x ∷ xs) = ap (λ zs. f (g x) ∷ zs) (map-map f g xs)
 

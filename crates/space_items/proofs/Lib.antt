@@ -1,3 +1,4 @@
+pub mod BodyLengths
 pub mod ChunkLists
 pub mod Counting
 pub mod Levels
@@ -6,4 +7,6 @@ pub mod Merging
 pub mod Nexts
 pub mod NodeMerge
 pub mod OneList
+pub mod OwnBound
 pub mod Rooting
+pub mod Shapes

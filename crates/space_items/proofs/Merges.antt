@@ -9,7 +9,8 @@ use Rattle.std.specs.declared.cmp.Ordering.TheVariants.{Less, Equal, Greater}
 use Rattle.std.proofs.lemmas.List.{drop_more, drop_all, length_push}
 use Rattle.std.proofs.lemmas.List.Elements.{All-cons, All-head, All-tail}
 use Rattle.std.proofs.lemmas.List.Sums.{sum_by-cons}
-use Rattle.std.specs.Prelude.{All}
+use Rattle.std.proofs.lemmas.List.Kept.{AllPairs-cons}
+use Rattle.std.specs.Prelude.{All, AllPairs}
 
 by_order : {P : Type 0} (k : Ordering) → (k ≡ Less → P) → (k ≡ Equal → P) → (k ≡ Greater → P) → P
 by_order Less a b c = a refl
@@ -26,7 +27,7 @@ pub nat_greater : (a b : ℕ) → b < a → nat_cmp a b ≡ Greater
 nat_greater a b h = rw (le-ltb a b (omega arith), ne_eqb a b (λ e. omega arith)) refl
 
 module _ {K : Type 0} (cmp : K → K → Ordering) where
-  abbrev merge : List K → List K → List K
+  abbrev pub merge : List K → List K → List K
   merge xs ys = sorted_merge cmp true xs ys
 
   pub merge-nil : (xs : List K) → merge xs [] ≡ xs
@@ -54,6 +55,18 @@ module _ {K : Type 0} (cmp : K → K → Ordering) where
   pub sum-merge : (f : K → ℕ) (xs ys : List K) → sum_by f (merge xs ys) ≤ sum_by f xs + sum_by f ys
   sum-merge f [] ys = omega arith
   sum-merge f (x ∷ xs) ys = sum_at f x xs (sum-merge f xs) ys
+
+  length_at : (x : K) (xs : List K) → ((ys : List K) → length (merge xs ys) ≤ length xs + length ys) → (ys : List K) → length (merge (x ∷ xs) ys) ≤ suc (length xs) + length ys
+  length_at x xs on [] = omega arith
+  length_at x xs on (y ∷ ys) =
+      by_order (cmp x y)
+      (λ e. omega (arith, ap length (merge-less x xs y ys e), on (y ∷ ys)))
+      (λ e. omega (arith, ap length (merge-equal x xs y ys e), on ys))
+      (λ e. omega (arith, ap length (merge-greater x xs y ys e), length_at x xs on ys))
+
+  pub length-merge : (xs ys : List K) → length (merge xs ys) ≤ length xs + length ys
+  length-merge [] ys = omega arith
+  length-merge (x ∷ xs) ys = length_at x xs (length-merge xs) ys
 
   all_at : (P : K → Type 0) (x : K) (xs : List K) → P x → All P xs → ((ys : List K) → All P ys → All P (merge xs ys)) → (ys : List K) → All P ys → All P (merge (x ∷ xs) ys)
   all_at P x xs p ps on [] qs = All-cons P x xs p ps
@@ -184,6 +197,52 @@ module _ {K : Type 0} (cmp : K → K → Ordering) where
     pub more_first : (y : K) (l r ps : List K) → IsAbove cmp y r → IsApart y ps → IsMore cmp y (merge cmp (l ++ r) ps) (merge cmp (l ++ y ∷ r) ps)
     more_first y [] r ps above apart = first_now y r ps above apart
     more_first y (z ∷ l) r ps above apart = first_at y z l r (λ qs. more_first y l r qs above) above ps apart
+
+    pub more_in_first : (y : K) (xs ys ps : List K) → IsMore cmp y xs ys → IsApart y ps → IsMore cmp y (merge cmp xs ps) (merge cmp ys ps)
+    more_in_first y xs ys ps more apart =
+        ⊎_elim
+        (λ (same : xs ≡ ys). inl (ap (λ zs. merge cmp zs ps) same))
+        (λ (put : IsPut cmp y xs ys).
+        subst₂ (λ us vs. IsMore cmp y (merge cmp us ps) (merge cmp vs ps)) (sym put.without) (sym put.with) (more_first y put.before put.after ps put.above apart))
+        more
+
+    pub more_in_second : (y : K) (zs xs ys : List K) → IsMore cmp y xs ys → IsMore cmp y (merge cmp zs xs) (merge cmp zs ys)
+    more_in_second y zs xs ys more =
+        ⊎_elim
+        (λ (same : xs ≡ ys). inl (ap (merge cmp zs) same))
+        (λ (put : IsPut cmp y xs ys). subst₂ (λ us vs. IsMore cmp y (merge cmp zs us) (merge cmp zs vs)) (sym put.without) (sym put.with) (more_second y zs put.before put.after put.above))
+        more
+
+    lower_all : (x y : K) (ys : List K) → cmp x y ≡ Less → All (λ z. cmp y z ≡ Less) ys → All (λ z. cmp x z ≡ Less) (y ∷ ys)
+    lower_all x y ys less below = All-cons (λ z. cmp x z ≡ Less) y ys less (λ k d h. o.trans x y (get_or ys k d) less (below k d h))
+
+    alike_all : (x y : K) (ys : List K) → cmp x y ≡ Equal → All (λ z. cmp y z ≡ Less) ys → All (λ z. cmp x z ≡ Less) ys
+    alike_all x y ys same below = λ k d h. o.congr x y (get_or ys k d) same ∙ below k d h
+
+    -- ascending lists, each element below all later ones
+    abbrev pub Rises : List K → Type 0
+    Rises xs = AllPairs (λ x y. cmp x y ≡ Less) xs
+
+    rises_head : (x : K) (xs : List K) → Rises (x ∷ xs) → All (λ z. cmp x z ≡ Less) xs
+    rises_head x xs up = λ k d h. up 0 (suc k) d (omega arith) (omega arith)
+
+    rises_tail : (x : K) (xs : List K) → Rises (x ∷ xs) → Rises xs
+    rises_tail x xs up = λ i j d l h. up (suc i) (suc j) d (omega arith) (omega arith)
+
+    rises_at : (x : K) (xs : List K) → Rises (x ∷ xs) → ((ys : List K) → Rises ys → Rises (merge cmp xs ys)) → (ys : List K) → Rises ys → Rises (merge cmp (x ∷ xs) ys)
+    rises_at x xs up on [] also = up
+    rises_at x xs up on (y ∷ ys) also =
+        by_order (cmp x y)
+        (λ e. subst Rises (sym (merge-less cmp x xs y ys e))
+        (AllPairs-cons (λ a b. cmp a b ≡ Less) x (merge cmp xs (y ∷ ys)) (all-merge cmp (λ z. cmp x z ≡ Less) xs (y ∷ ys) (rises_head x xs up) (lower_all x y ys e (rises_head y ys also))) (on (y ∷ ys) also)))
+        (λ e. subst Rises (sym (merge-equal cmp x xs y ys e))
+        (AllPairs-cons (λ a b. cmp a b ≡ Less) x (merge cmp xs ys) (all-merge cmp (λ z. cmp x z ≡ Less) xs ys (rises_head x xs up) (alike_all x y ys e (rises_head y ys also))) (on ys (rises_tail y ys also))))
+        (λ e. subst Rises (sym (merge-greater cmp x xs y ys e))
+        (AllPairs-cons (λ a b. cmp a b ≡ Less) y (merge cmp (x ∷ xs) ys) (all-merge cmp (λ z. cmp y z ≡ Less) (x ∷ xs) ys (lower_all y x xs (turned x y e) (rises_head x xs up)) (rises_head y ys also)) (rises_at x xs up on ys (rises_tail y ys also))))
+
+    pub rises-merge : (xs ys : List K) → Rises xs → Rises ys → Rises (merge cmp xs ys)
+    rises-merge [] ys up also = also
+    rises-merge (x ∷ xs) ys up also = rises_at x xs up (λ zs zup. rises-merge xs zs (rises_tail x xs up) zup) ys also
 
 -- another form of the elements, which the order goes by
 module _ {K L : Type 0} (cmp : K → K → Ordering) (cmp' : L → L → Ordering) (f : K → L) (same : (x y : K) → cmp x y ≡ cmp' (f x) (f y)) where
