@@ -10,3 +10,6 @@ pub mod OneList
 pub mod OwnBound
 pub mod Rooting
 pub mod Shapes
+pub mod ChunksExist
+pub mod Describing
+pub mod Tallying
