@@ -1,6 +1,8 @@
 pub mod BodyLengths
 pub mod ChunkLists
+pub mod ChunksExist
 pub mod Counting
+pub mod Describing
 pub mod Levels
 pub mod Merges
 pub mod Merging
@@ -10,6 +12,5 @@ pub mod OneList
 pub mod OwnBound
 pub mod Rooting
 pub mod Shapes
-pub mod ChunksExist
-pub mod Describing
+pub mod Summing
 pub mod Tallying

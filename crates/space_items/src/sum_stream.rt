@@ -1,8 +1,8 @@
-ghost use Rattle.std.specs.Prelude.{◌≡◌, ◌≤◌, ◌<◌, ◌+◌, ◌*◌, ◌^◌, false, is_err, length, take, All, IfOk, OnOk};
+ghost use Rattle.std.specs.Prelude.{◌≡◌, ◌≤◌, ◌<◌, ◌+◌, ◌*◌, ◌^◌, ◌++◌, false, is_err, length, take, All, IfOk, OnOk};
 ghost use Rattle.std.specs.List.{flat_map, range_with_len};
 ghost use Rattle.outside.specs.Fault.{HasCause};
 ghost use Rattle.outside.specs.History.{Image, OverTold};
-ghost use Rattle.csum_kinds.specs.Kind.{kind_width};
+ghost use Rattle.csum_kinds.specs.Kind.{kind_sum, kind_width};
 ghost use Rattle.unit_plan.specs.Sums.{sums_in_item};
 ghost use Rattle.space_items.specs.Stream.{ArePieces, FitsSums, IsSmallPiece, sums_ahead};
 ghost use Rattle.space_items.specs.Sums.{block_sum, sum_items, sums_item};
@@ -62,6 +62,17 @@ fn room_for(alloc: Global, sums: SumKind) -> Result<Vec<u8>, Memory>
     let mut room = Vec::new(alloc);
     room.resize(kind_width(sums) * sums_in_item(sums) as usize, 0)?;
     Ok(room)
+}
+
+/// Puts the checksum of a block into a body from byte `at` on.
+fn put_sum(body: &mut Vec<u8>, at: usize, sums: SumKind, block: &Block)
+    requires { at + kind_width sums ≤ length body.old.items }
+    ensures long { length body.new.items ≡ length body.old.items }
+    ensures sum { take (at + kind_width sums) body.new.items ≡ take at body.old.items ++ take (kind_width sums) (kind_sum sums block.now.bytes) }
+{
+    let width = kind_width(sums);
+    let sum = kind_sum(sums, &block.bytes);
+    body[at..at + width].copy_from_slice(&sum[..width]);
 }
 
 impl SumStream {
@@ -133,8 +144,7 @@ impl SumStream {
         let mut length = 0;
         for b in first..first + count {
             src.read(b, &mut block)?;
-            let sum = kind_sum(self.sums, &block.bytes);
-            self.bytes[length..length + width].copy_from_slice(&sum[..width]);
+            put_sum(&mut self.bytes, length, self.sums, &block);
             length += width;
         }
         self.length = length;
