@@ -1,7 +1,8 @@
-ghost use Rattle.std.specs.Prelude.{◌≡◌, ◌≤◌, ◌<◌, ◌+◌, ◌^◌, ◌++◌, [], length};
+ghost use Rattle.std.specs.Prelude.{◌≡◌, ◌≤◌, ◌<◌, ◌+◌, ◌^◌, ◌++◌, ◌∷◌, [], length};
+ghost use Rattle.std.specs.Option.{option_to_list};
 ghost use Rattle.btr_space_items.specs.ExtentHead.{extent_head_bytes};
 ghost use Rattle.btr_space_items.specs.InlineRef.{inline_ref_bytes, inline_ref_size};
-ghost use Rattle.space_items.specs.Extents.{data_ref, hash_of_ref, node_item, piece_item};
+ghost use Rattle.space_items.specs.Extents.{data_ref, extent_body, hash_of_ref, image_refs, node_item, owner_refs, piece_item, put_ref};
 ghost use Rattle.space_items.specs.Stream.{IsSmallPiece};
 
 use crate::node::TreeNode;
@@ -100,18 +101,41 @@ pub fn piece_body(piece: &Piece) -> Body
     requires { IsSmallPiece piece.now }
     ensures { result ≡ (piece_item piece.now).1 }
 {
-    let image = piece.from.map(|block| data_ref(256, 257, block));
-    let owner = piece.owner.map(|(inode, block)| data_ref(5, inode, block));
-    match (owner, image) {
+    match (owner_ref(piece), image_ref(piece)) {
         (None, None) => Body::begun(0, 1),
         (Some(one), None) | (None, Some(one)) => Body::begun(1, 1).with(one),
-        (Some(owner), Some(image)) => {
-            if hash_of(owner) < hash_of(image) {
-                Body::begun(2, 1).with(image).with(owner)
-            } else {
-                Body::begun(2, 1).with(owner).with(image)
-            }
-        }
+        (Some(owner), Some(image)) => two_refs(owner, image),
+    }
+}
+
+/// The reference of the file that a piece belongs to.
+fn owner_ref(piece: &Piece) -> Option<InlineRef>
+    requires { IsSmallPiece piece.now }
+    ensures { option_to_list result ≡ owner_refs piece.now.owner }
+{
+    let (inode, block) = piece.owner?;
+    Some(data_ref(5, inode, block))
+}
+
+/// The reference of the image, where a piece holds blocks of it.
+fn image_ref(piece: &Piece) -> Option<InlineRef>
+    requires { IsSmallPiece piece.now }
+    ensures { option_to_list result ≡ image_refs piece.now.from }
+{
+    let block = piece.from?;
+    Some(data_ref(256, 257, block))
+}
+
+/// The body of an extent of data with two references, by descending hash. Of equal hashes the first one stands first.
+fn two_refs(first: InlineRef, other: InlineRef) -> Body
+    requires { inline_ref_size first + inline_ref_size other ≤ 58 }
+    ensures { result ≡ extent_body 1 (put_ref first (other ∷ [])) }
+{
+    let body = Body::begun(2, 1);
+    if hash_of(first) < hash_of(other) {
+        body.with(other).with(first)
+    } else {
+        body.with(first).with(other)
     }
 }
 
