@@ -6,7 +6,7 @@ use Rattle.std.proofs.lemmas.Cmp.{nat_cmp_total, on_total}
 use Rattle.std.proofs.lemmas.List.{take_more, take_all, map_push, length-map, length-take}
 use Rattle.std.specs.Cmp.{IsTotalOrder}
 use Rattle.btr_node.specs.NodeSize.{IsNodeSize}
-use Rattle.btr_tree.specs.Counting.{bytes_of, node_bound, tree_nodes}
+use Rattle.btr_tree.specs.Counting.{Counted, Tally, bytes_of, node_bound, tree_nodes}
 use Rattle.btr_tree.specs.Roots.{lengths_of}
 use Rattle.unit_plan.specs.declared.chunk.Chunk.{Chunk}
 use Rattle.unit_plan.specs.declared.piece.Piece.{Piece}
@@ -21,6 +21,12 @@ use Rattle.space_items.proofs.Shapes.{bytes-le, more_nodes}
 
 pub node_total : IsTotalOrder node_cmp
 node_total = on_total (λ (n : TreeNode). n.address) nat_cmp_total
+
+-- A count that was taken so far. No number below it describes itself.
+pub record IsCounting (chunks : List Chunk) (pieces : List Piece) (others : List TreeNode) (slots : List ℕ) (nodesize count : ℕ) : Type 0 where
+  pub rising : count ≤ nodes_with chunks pieces others slots nodesize count
+  pub least : (y : ℕ) → nodes_with chunks pieces others slots nodesize y ≡ y → count ≤ y
+  pub bounded : count ≤ own_bound chunks pieces others nodesize
 
 module _ (chunks : List Chunk) (pieces : List Piece) (others : List TreeNode) (slots : List ℕ) (nodesize : ℕ) (size : IsNodeSize nodesize) where
   abbrev count_with : ℕ → ℕ
@@ -60,17 +66,11 @@ module _ (chunks : List Chunk) (pieces : List Piece) (others : List TreeNode) (s
         length-take x slots,
       )
 
-  -- A count that was taken so far. No number below it describes itself.
-  pub record IsCounting (count : ℕ) : Type 0 where
-    pub rising : count ≤ count_with count
-    pub least : (y : ℕ) → count_with y ≡ y → count ≤ y
-    pub bounded : count ≤ own_bound chunks pieces others nodesize
-
-  pub counting_begins : IsCounting 0
+  pub counting_begins : IsCounting chunks pieces others slots nodesize 0
   counting_begins = record { rising = omega arith; least = λ y e. omega arith; bounded = omega arith }
 
-  module _ (count next : ℕ) (so_far : IsCounting count) (is : next ≡ count_with count) where
-    pub counting_goes_on : next ≤ node_bound (bytes_of (own_lengths chunks pieces others slots nodesize count)) nodesize → IsCounting next
+  module _ (count next : ℕ) (so_far : IsCounting chunks pieces others slots nodesize count) (is : next ≡ count_with count) where
+    pub counting_goes_on : next ≤ node_bound (bytes_of (own_lengths chunks pieces others slots nodesize count)) nodesize → IsCounting chunks pieces others slots nodesize next
     counting_goes_on low =
         let bytes : ℕ = extent_bytes (length pieces) (length chunks) (length others) in
         record {
@@ -89,3 +89,19 @@ module _ (chunks : List Chunk) (pieces : List Piece) (others : List TreeNode) (s
 
     pub counting_ends : next ≡ count → IsOwnCount chunks pieces others slots nodesize count
     counting_ends same = record { same = sym is ∙ same; least = λ y low e. absurd (omega (arith, low, so_far.least y e)) }
+
+-- what the counter tells of the next count
+pub record IsNextCount (chunks : List Chunk) (pieces : List Piece) (others : List TreeNode) (slots : List ℕ) (nodesize count next : ℕ) : Type 0 where
+  pub is : next ≡ nodes_with chunks pieces others slots nodesize count
+  pub low : next ≤ node_bound (bytes_of (own_lengths chunks pieces others slots nodesize count)) nodesize
+
+pub counted_next : (chunks : List Chunk) (pieces : List Piece) (others nodes : List TreeNode) (slots : List ℕ) (nodesize count next : ℕ) (tally : Tally) → nodes ≡ merged_nodes others (own_at slots count) → tally.nodesize ≡ nodesize
+    → Counted tally (lengths_of (extent_items chunks pieces nodes nodesize)) → ((lengths : List ℕ) → Counted tally lengths → next ≡ tree_nodes tally.nodesize lengths) → next ≤ node_bound tally.bytes tally.nodesize
+    → IsNextCount chunks pieces others slots nodesize count next
+counted_next chunks pieces others nodes slots nodesize count next tally same size counted exact low =
+    let lengths : List ℕ = own_lengths chunks pieces others slots nodesize count in
+    let known : Counted tally lengths = subst (λ ns. Counted tally (lengths_of (extent_items chunks pieces ns nodesize))) same counted in
+    record {
+      is = exact lengths known ∙ ap (λ (n : ℕ). tree_nodes n lengths) size;
+      low = subst₂ (λ (b n : ℕ). next ≤ node_bound b n) known.total size low;
+    }

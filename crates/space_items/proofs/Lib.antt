@@ -14,3 +14,4 @@ pub mod Rooting
 pub mod Shapes
 pub mod Summing
 pub mod Tallying
+pub mod Ascending
