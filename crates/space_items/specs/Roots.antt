@@ -94,7 +94,7 @@ other_root_items index now =
 abbrev pub root_items : List TreeRoot → ℕ → Ids → ℕ → ℕ → List Item
 root_items list index ids now nodesize = merged (map (root_item ids nodesize) list) (other_root_items index now)
 
--- those of the items from one on that are before a key end before the next
+-- from `first` on, the items up to `next` are before the key, and the one at `next` is not
 pub record AreBefore (items : List Item) (first : ℕ) (key : Key) (next : ℕ) : Type 0 where
   pub low : first ≤ next
   pub within : next ≤ length items

@@ -28,11 +28,16 @@ pub fn chunk_body(ids: &Ids, chunk: Chunk) -> ChunkBody
     requires { chunk.start + chunk.length ≤ 2 ^ 29 }
     ensures { result ≡ chunk_body ids.now chunk }
 {
+    let Chunk {
+        start,
+        length,
+        role,
+    } = chunk;
     ChunkBody {
-        length: 4096 * chunk.length,
+        length: 4096 * length,
         owner: 2,
         stripe_len: 65536,
-        kind: chunk_kind(chunk.role),
+        kind: chunk_kind(role),
         io_align: 4096,
         io_width: 4096,
         sector_size: 4096,
@@ -40,7 +45,7 @@ pub fn chunk_body(ids: &Ids, chunk: Chunk) -> ChunkBody
         sub_stripes: 0,
         stripe: Stripe {
             devid: 1,
-            offset: 4096 * chunk.start,
+            offset: 4096 * start,
             device_uuid: ids.device,
         },
     }
