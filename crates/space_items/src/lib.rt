@@ -26,4 +26,6 @@ pub use root_list::roots;
 pub use sum_stream::{SumStream, checksums};
 
 #[cfg(test)]
+mod stream_tests;
+#[cfg(test)]
 mod tests;
