@@ -1,3 +1,4 @@
+pub mod Ascending
 pub mod BodyLengths
 pub mod ChunkLists
 pub mod ChunksExist
@@ -14,4 +15,3 @@ pub mod Rooting
 pub mod Shapes
 pub mod Summing
 pub mod Tallying
-pub mod Ascending
