@@ -10,6 +10,7 @@ pub mod Merging
 pub mod Nexts
 pub mod NodeMerge
 pub mod OneList
+pub mod Ordered
 pub mod OwnBound
 pub mod Rooting
 pub mod Shapes
