@@ -161,10 +161,7 @@ impl TreeWalker {
             Some(p) => p,
             None => return Ok(false),
         };
-        match read_node(src, ranges, p.address, &mut self.bytes) {
-            Ok(()) => {}
-            Err(e) => return Err(e),
-        }
+        read_node(src, ranges, p.address, &mut self.bytes)?;
         match self.open(p) {
             Ok(()) => Ok(true),
             Err(refusal) => Err(BtrAnswer::Refused(refusal)),
@@ -211,10 +208,8 @@ impl TreeWalker {
             MatchResult result (λ more. Comes more self.old.tree self.new image ranges.now given) (Blames (wrong image ranges.now self.old.tree))) }
     {
         while self.at.left == 0 {
-            match self.descend(src, ranges) {
-                Ok(true) => {}
-                Ok(false) => return Ok(false),
-                Err(e) => return Err(e),
+            if !self.descend(src, ranges)? {
+                return Ok(false);
             }
         }
         match self.take_item() {

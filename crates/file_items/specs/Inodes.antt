@@ -1,14 +1,11 @@
 -- The inode of an object of a ReiserFS volume.
-use Rattle.std.specs.Prelude.{ℕ, ◌+◌, ◌*◌, ◌^◌, pos, Bool, not, ◌&&◌, if◌then◌else◌}
+use Rattle.std.specs.Prelude.{ℕ, ◌+◌, ◌*◌, ◌^◌, Bool, not, ◌&&◌, if◌then◌else◌}
 use Rattle.btr_keys.specs.declared.inode.Inode.{Inode}
-use Rattle.btr_keys.specs.declared.stamp.Stamp.{Stamp}
 use Rattle.fs_rows.specs.Kinds.{is_device, is_file, is_symlink}
 use Rattle.fs_rows.specs.declared.row.Kind.{Kind}
+use Rattle.item_list.specs.Inodes.{stamp_of, new_inode}
 use Rattle.reiser_objects.specs.declared.stat.ObjectStat.{ObjectStat}
 use Rattle.reiser_volume.specs.Rows.{flag, major_of, minor_of}
-
-abbrev pub stamp_of : ℕ → Stamp
-stamp_of sec = record { sec = pos sec; nsec = 0 }
 
 abbrev pub if_set : Bool → ℕ → ℕ
 if_set test bit = if test then bit else 0
@@ -28,27 +25,6 @@ inode_flags datasum flags stat kind =
 abbrev pub device_number : ObjectStat → Kind → ℕ
 device_number stat kind = if is_device kind then major_of stat.fields.rdev * 2 ^ 20 + minor_of stat.fields.rdev else 0
 
--- what each inode of a new tree has
-abbrev pub new_inode : Inode
-new_inode = record {
-  generation = 1;
-  transid = 1;
-  size = 0;
-  nbytes = 0;
-  block_group = 0;
-  nlink = 1;
-  uid = 0;
-  gid = 0;
-  mode = 0;
-  rdev = 0;
-  flags = 0;
-  sequence = 0;
-  atime = stamp_of 0;
-  ctime = stamp_of 0;
-  mtime = stamp_of 0;
-  otime = stamp_of 0;
-}
-
 -- the inode of an object with this stat data
 abbrev pub inode_from : Bool → ℕ → ObjectStat → Kind → ℕ → ℕ → ℕ → Inode
 inode_from datasum flags stat kind size nbytes nlink = record new_inode {
@@ -63,16 +39,4 @@ inode_from datasum flags stat kind size nbytes nlink = record new_inode {
   atime = stamp_of stat.fields.atime;
   ctime = stamp_of stat.fields.ctime;
   mtime = stamp_of stat.fields.mtime;
-}
-
--- a directory or a file that no object of the volume is, as it is made at a time
-abbrev pub inode_made : ℕ → ℕ → ℕ → ℕ → ℕ → Inode
-inode_made now mode size nbytes flags = record new_inode {
-  size = size;
-  nbytes = nbytes;
-  mode = mode;
-  flags = flags;
-  atime = stamp_of now;
-  ctime = stamp_of now;
-  mtime = stamp_of now;
 }

@@ -14,6 +14,7 @@ use Rattle.reiser_objects.specs.declared.key.ObjectKey.{ObjectKey}
 use Rattle.reiser_objects.specs.declared.naming.Naming.{Naming}
 use Rattle.reiser_objects.specs.Keys.{root, same_key}
 use Rattle.item_list.specs.Groups.{grouped, ascending}
+use Rattle.item_list.specs.Inodes.{ref_item}
 
 -- A link with the index that it gets in its directory. It is extended where the names of its object in its directory, up
 -- to it, take more than an inode ref holds.
@@ -74,7 +75,7 @@ extrefs keys links key =
 
 -- the root directory of a tree names itself
 abbrev pub root_ref : Item
-root_ref = (make_key 256 12 256, inode_ref_bytes (record { index = 0; name = 46 ∷ 46 ∷ [] }))
+root_ref = ref_item 256 256 0 (46 ∷ 46 ∷ [])
 
 -- the kind in a directory's entry; Linux has a subvolume as a directory
 abbrev pub entry_kind : Kind → ℕ

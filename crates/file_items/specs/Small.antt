@@ -1,14 +1,11 @@
 -- The items of the tree of the saved image, and of the relocation tree.
 use Rattle.std.specs.Prelude.{ℕ, ◌*◌, List, [], ◌∷◌, ◌++◌, codes, if◌then◌else◌, Bool}
-use Rattle.btr_keys.specs.Inode.{inode_bytes}
-use Rattle.btr_keys.specs.InodeRef.{inode_ref_bytes}
-use Rattle.btr_keys.specs.Key.{make_key}
 use Rattle.btr_node.specs.Leaf.{Item}
 use Rattle.fs_rows.specs.declared.row.Kind.TheVariants.{File}
 use Rattle.unit_plan.specs.declared.piece.Piece.{Piece}
 use Rattle.file_items.specs.Extents.{pieces_of_volume, source_block, piece_bytes, extents_at}
-use Rattle.file_items.specs.Inodes.{inode_made}
 use Rattle.file_items.specs.Names.{root_ref, entry_to, entry_items, Indexed, letters}
+use Rattle.item_list.specs.Inodes.{inode_made, inode_item, ref_item}
 
 -- the name of the image
 abbrev pub image_name : List ℕ
@@ -20,7 +17,7 @@ image_entries = (2, entry_to 257 File image_name) ∷ []
 
 -- a root directory made at a time, of mode 040755, with these entries
 abbrev pub root_items : ℕ → List Indexed → List Item
-root_items now list = (make_key 256 1 0, inode_bytes (inode_made now 0x41ED (2 * letters list) 0 0)) ∷ root_ref ∷ entry_items 256 list
+root_items now list = inode_item 256 (inode_made now 0x41ED (2 * letters list) 0 0) ∷ root_ref ∷ entry_items 256 list
 
 -- The relocation tree: an empty root directory.
 unfoldable pub relocation_items : ℕ → List Item
@@ -35,8 +32,8 @@ image_flags datasum = if datasum then 4 else 5
 unfoldable pub image_head : ℕ → ℕ → Bool → ℕ → List Item
 image_head blocks nbytes datasum now =
     root_items now image_entries
-    ++ ((make_key 257 1 0, inode_bytes (inode_made now 0x8100 (4096 * blocks) nbytes (image_flags datasum)))
-    ∷ ((make_key 257 12 256, inode_ref_bytes (record { index = 2; name = image_name })) ∷ []))
+    ++ (inode_item 257 (inode_made now 0x8100 (4096 * blocks) nbytes (image_flags datasum))
+    ∷ (ref_item 257 256 2 image_name ∷ []))
 
 -- The whole of it: an extent for each piece that holds blocks of the volume, from the block on that it holds.
 unfoldable pub image_items : ℕ → List Piece → Bool → ℕ → List Item

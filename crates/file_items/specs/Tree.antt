@@ -3,8 +3,6 @@ use Rattle.std.specs.Prelude.{ℕ, ◌*◌, Bool, List, [], ◌∷◌, ◌++◌,
 use Rattle.std.specs.List.{flat_map}
 use Rattle.indexmap.specs.IndexMap.{keys}
 use Rattle.outside.specs.History.{Image}
-use Rattle.btr_keys.specs.Inode.{inode_bytes}
-use Rattle.btr_keys.specs.Key.{make_key}
 use Rattle.btr_keys.specs.declared.inode.Inode.{Inode}
 use Rattle.btr_node.specs.Leaf.{Item}
 use Rattle.fs_rows.specs.Kinds.{is_directory}
@@ -26,6 +24,7 @@ use Rattle.unit_plan.specs.declared.piece.Piece.{Piece}
 use Rattle.reiser_volume.specs.Numbers.{by_inode}
 use Rattle.file_items.specs.Names.{inode_refs, extrefs, root_ref, indexed_in, letters, entry_items}
 use Rattle.item_list.specs.Extents.{inline_extent, extent_item}
+use Rattle.item_list.specs.Inodes.{inode_item}
 use Rattle.file_items.specs.Extents.{pieces_of, file_block, piece_bytes, extents_at}
 use Rattle.file_items.specs.Inodes.{inode_from}
 
@@ -115,7 +114,7 @@ content_items s key Subvolume = []
 
 -- the items of an object
 unfoldable pub object_items : Source → ObjectKey → List Item
-object_items s key = (make_key (number_of s key) 1 0, inode_bytes (inode_in s key)) ∷ (name_items s key ++ content_items s key (kind_in s key))
+object_items s key = inode_item (number_of s key) (inode_in s key) ∷ (name_items s key ++ content_items s key (kind_in s key))
 
 -- The items of the tree.
 unfoldable pub tree_items : Source → List Item

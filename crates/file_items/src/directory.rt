@@ -14,11 +14,10 @@ ghost use Rattle.file_items.specs.Spots.{IsAt};
 ghost use Rattle.file_items.specs.Names.{entry_kind, entry_to, entry_items, Indexed, indexed, indexed_in, names_in, saved_entry};
 
 use crate::link_index::{LinkIndex, index_at};
-use crate::names::key_of;
 use btr_keys::{DirEntry, Key};
 use castagnoli::name_hash;
 use fs_rows::Kind;
-use item_list::{ItemList, put_dir_entry, short};
+use item_list::{ItemList, key_of, put_dir_entry, short};
 use outside::Memory;
 use reiser_objects::kind_of_mode;
 use reiser_volume::{Numbers, Volume};

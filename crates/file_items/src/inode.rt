@@ -1,9 +1,10 @@
 ghost use Rattle.std.specs.Prelude.{◌≡◌, ◌≤◌, ◌<◌};
 ghost use Rattle.reiser_volume.specs.Rows.{flag};
-ghost use Rattle.file_items.specs.Inodes.{stamp_of, if_set, inode_flags, device_number, new_inode, inode_from};
+ghost use Rattle.file_items.specs.Inodes.{if_set, inode_flags, device_number, inode_from};
 
-use btr_keys::{Inode, Stamp};
+use btr_keys::Inode;
 use fs_rows::Kind;
+use item_list::{new_inode, stamp_of};
 use reiser_objects::ObjectStat;
 
 // Flags of an inode.
@@ -45,44 +46,10 @@ pub fn inode_from(datasum: bool, flags: u32, stat: &ObjectStat, kind: Kind, size
         mode: fields.mode as u32,
         rdev: device_number(stat, kind),
         flags: inode_flags(datasum, flags, stat, kind),
-        atime: stamp_of(fields.atime),
-        ctime: stamp_of(fields.ctime),
-        mtime: stamp_of(fields.mtime),
+        atime: stamp_of(fields.atime as u64),
+        ctime: stamp_of(fields.ctime as u64),
+        mtime: stamp_of(fields.mtime as u64),
         ..new_inode()
-    }
-}
-
-/// What each inode of a new tree has.
-pub fn new_inode() -> Inode
-    ensures { result ≡ new_inode }
-{
-    Inode {
-        generation: 1,
-        transid: 1,
-        size: 0,
-        nbytes: 0,
-        block_group: 0,
-        nlink: 1,
-        uid: 0,
-        gid: 0,
-        mode: 0,
-        rdev: 0,
-        flags: 0,
-        sequence: 0,
-        atime: stamp_of(0),
-        ctime: stamp_of(0),
-        mtime: stamp_of(0),
-        otime: stamp_of(0),
-    }
-}
-
-/// These seconds since the start of 1970.
-fn stamp_of(sec: u32) -> Stamp
-    ensures { result ≡ stamp_of sec }
-{
-    Stamp {
-        sec: sec as i64,
-        nsec: 0,
     }
 }
 

@@ -1,6 +1,5 @@
 ghost use Rattle.std.specs.Prelude.{◌≡◌, ◌<◌, ◌++◌, ◌∷◌, [], length, slice_get, Some, OnOk, if◌then◌else◌};
 ghost use Rattle.indexmap.specs.IndexMap.{keys};
-ghost use Rattle.btr_keys.specs.Key.{make_key};
 ghost use Rattle.outside.specs.History.{Image};
 ghost use Rattle.reiser_objects.specs.declared.key.ObjectKey.{ObjectKey as KeyOf};
 ghost use Rattle.reiser_volume.specs.Opened.{links_in};
@@ -9,9 +8,9 @@ ghost use Rattle.file_items.specs.Spots.{IsAt};
 ghost use Rattle.file_items.specs.Names.{Entry, entries, names_of, inode_refs, extrefs};
 
 use crate::link_index::LinkIndex;
-use btr_keys::{Extref, InodeRef, Key};
+use btr_keys::{Extref, InodeRef};
 use castagnoli::extref_hash;
-use item_list::{ItemList, put_extref, put_inode_ref, short};
+use item_list::{ItemList, key_of, put_extref, put_inode_ref, short};
 use outside::Memory;
 use reiser_volume::{Numbers, Volume};
 use std::alloc::Global;
@@ -130,16 +129,5 @@ impl Names {
             self.extrefs.add(key_of(ino, 13, hash), self.far.body(i))?;
         }
         Ok(())
-    }
-}
-
-/// The key of an item.
-pub fn key_of(objectid: u64, kind: u8, offset: u64) -> Key
-    ensures { result ≡ make_key objectid kind offset }
-{
-    Key {
-        objectid,
-        kind,
-        offset,
     }
 }

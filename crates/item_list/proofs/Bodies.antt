@@ -1,5 +1,5 @@
 -- Items as parts of one list of bytes.
-use Rattle.std.proofs.Common.{◌≡◌, ℕ, ◌+◌, ◌-◌, ◌≤◌, List, [], ◌∷◌, ◌++◌, length, take, drop, map, All, refl, sym, ap, subst, ◌∙◌, arith}
+use Rattle.std.proofs.Common.{◌≡◌, ℕ, ◌+◌, ◌-◌, ◌≤◌, List, [], ◌∷◌, ◌++◌, length, take, drop, map, All, refl, ap, ◌∙◌, arith}
 use Rattle.std.specs.List.{slice_range}
 use Rattle.std.proofs.lemmas.List.{drop-append-le, take-append-le, length-drop, map-append, length-append, take_all}
 use Rattle.std.proofs.lemmas.List.Elements.{All-head, All-tail}

@@ -7,7 +7,7 @@ use Rattle.std.proofs.lemmas.Option.{slice_get-get_or}
 use Rattle.btr_keys.specs.declared.key.Key.{Key}
 use Rattle.btr_keys.specs.Key.{make_key}
 use Rattle.btr_node.specs.Leaf.{Item}
-use Rattle.item_list.specs.Groups.{grouped, ascending}
+use Rattle.item_list.specs.Groups.{ascending}
 use Rattle.item_list.specs.Lists.{offset_of, joined, joined_item}
 use Rattle.item_list.proofs.Sorting.{Sorted, ascending_sorted, ascending_of_sorted, grouped_ascending}
 use Rattle.item_list.proofs.Runs.{first_run, sorted_drop}

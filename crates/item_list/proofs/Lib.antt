@@ -2,7 +2,7 @@ pub mod Before
 pub mod Bodies
 pub mod Grouping
 pub mod Joining
-pub mod Middle
+pub mod Parting
 pub mod Placing
 pub mod Runs
 pub mod Sorting

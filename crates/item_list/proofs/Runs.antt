@@ -1,5 +1,5 @@
 -- Runs of one number in a list in order are its groups.
-use Rattle.std.proofs.Common.{◌≡◌, ◌≢◌, ◌<◌, ◌≤◌, ℕ, zero, suc, ◌+◌, ◌-◌, ◌==◌, Bool, true, false, cond, List, [], ◌∷◌, ◌++◌, length, filter, map, take, drop, get_or, refl, sym, ap, subst, ◌∙◌, true≢false, nat_lt, nat_eq, if◌then◌else◌, ⊎_elim, is_lt, not, ◌&&◌, append_assoc, arith}
+use Rattle.std.proofs.Common.{◌≡◌, ◌≢◌, ◌<◌, ◌≤◌, ℕ, zero, suc, ◌==◌, Bool, true, false, cond, List, [], ◌∷◌, ◌++◌, length, filter, map, take, drop, get_or, refl, sym, ap, subst, ◌∙◌, nat_lt, if◌then◌else◌, ⊎_elim, is_lt, not, ◌&&◌, arith}
 use Rattle.std.specs.List.{All, AllByRecursion, flat_map}
 use Rattle.std.specs.List.Sorted.{IsNonDecreasingBy, IsSortedByKey, IsStableByKey, ties}
 use Rattle.std.specs.Ordering.{nat_cmp}
@@ -8,7 +8,7 @@ use Rattle.std.proofs.lemmas.Bool.Decides.{nat_tests}
 use Rattle.std.proofs.lemmas.List.{map-append}
 use Rattle.std.proofs.lemmas.List.Sorted.{IsNonDecreasingBy-from_sort}
 use Rattle.item_list.specs.Groups.{in_group, grouped, ascending}
-use Rattle.item_list.proofs.Grouping.{Above, equal, smaller, greater, other, above_in}
+use Rattle.item_list.proofs.Grouping.{Above, other, above_in}
 use Rattle.item_list.proofs.Sorting.{Sorted, Same, ascending_is}
 
 self : (n : ℕ) → (n == n) ≡ true

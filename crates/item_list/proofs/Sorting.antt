@@ -1,12 +1,8 @@
 -- Lists by a number: a stable order is one list, and groups are the same of it.
-use Rattle.std.proofs.Common.{◌≡◌, ◌<◌, ◌≤◌, ℕ, zero, suc, ◌+◌, ◌==◌, Bool, true, false, cond, List, [], ◌∷◌, ◌++◌, length, filter, map, get_or, refl, sym, ap, subst, ◌∙◌, true≢false, nat_lt, nat_le, nat_eq, if◌then◌else◌, ⊎_elim, is_lt, not, ◌&&◌, sum_by, arith}
-use Rattle.std.specs.List.{All, AllByRecursion, flat_map}
-use Rattle.std.specs.List.Sorted.{IsNonDecreasingBy, IsStableByKey, ties}
-use Rattle.std.specs.Ordering.{nat_cmp}
+use Rattle.std.proofs.Common.{◌≡◌, ◌<◌, ◌≤◌, ℕ, ◌+◌, ◌==◌, Bool, true, false, cond, List, [], ◌∷◌, ◌++◌, length, filter, refl, sym, ap, subst, ◌∙◌, true≢false, nat_lt, nat_le, if◌then◌else◌, ⊎_elim, sum_by, arith}
+use Rattle.std.specs.List.{AllByRecursion, flat_map}
 use Rattle.std.proofs.lemmas.Bool.{cases_lt}
 use Rattle.std.proofs.lemmas.Bool.Decides.{nat_tests}
-use Rattle.std.proofs.lemmas.List.{append-nil, append_assoc}
-use Rattle.std.proofs.lemmas.List.Elements.{filter-append}
 use Rattle.std.proofs.lemmas.List.Sums.{sum_by-cons}
 use Rattle.item_list.specs.Groups.{in_group, grouped, ascending, of_number}
 use Rattle.item_list.proofs.Grouping.{Above, Rising, HasNoneEmpty, equal, smaller, greater, other, same_test, rising_grouped, none_below, of_number_grouped, some_grouped}

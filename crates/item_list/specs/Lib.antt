@@ -1,5 +1,6 @@
 pub mod Extents
 pub mod Groups
+pub mod Inodes
 pub mod Lists
 pub mod Places
 pub mod Spots

@@ -1,8 +1,10 @@
-//! Items of a Btrfs tree in memory, and what makes them: records that are appended to a body, records of one number that
-//! become one item, file extents, and numbers of things under numbers.
+//! Items of a Btrfs tree in memory, and what makes them: inodes and their names, records that are appended to a body, records
+//! of one number that become one item, file extents, and numbers of things under numbers.
 #![tactic(auto)]
 
 mod extent;
+mod inode;
+mod items;
 mod join;
 mod laws;
 mod list;
@@ -12,6 +14,8 @@ mod spots;
 mod under;
 
 pub use extent::{Extent, add_extent, add_inline};
+pub use inode::{inode_made, new_inode, stamp_of};
+pub use items::{add_inode, add_ref, key_of};
 pub use laws::groups_are_groups;
 pub use list::ItemList;
 pub use records::{put_dir_entry, put_extref, put_inode_ref, short};

@@ -1,114 +1,21 @@
 -- The links of a directory, where they stand together.
-use Rattle.std.proofs.Common.{◌≡◌, ℕ, ◌+◌, ◌-◌, ◌<◌, ◌≤◌, Bool, true, false, cond, List, [], ◌∷◌, ◌++◌, length, get_or, take, drop, filter, All, Ordering, Less, Equal, Greater, is_lt, is_le, is_eq, refl, sym, ap, ◌∙◌, ⊎_elim, true≢false, leb, ltb, get_or-take, get_or-drop, arith}
+use Rattle.std.proofs.Common.{◌≡◌, List, is_eq, arith}
 use Rattle.std.specs.Cmp.{IsTotalOrder}
-use Rattle.std.specs.List.{AllWithin}
-use Rattle.std.specs.List.Sorted.{IsPartitionedBy, IsPartitionPoint, IsNonDecreasingBy}
+use Rattle.std.specs.List.Sorted.{IsNonDecreasingBy}
 use Rattle.std.specs.Ordering.{ordering_index}
-use Rattle.std.proofs.lemmas.Bool.{cases_lt}
 use Rattle.std.proofs.lemmas.Bool.Decides.{nat_tests}
 use Rattle.std.proofs.lemmas.Cmp.{nat_cmp_total, on_total, then_total}
-use Rattle.std.proofs.lemmas.List.{take-append-drop, length-take, length-drop, append-nil}
-use Rattle.std.proofs.lemmas.List.Elements.{All-head, All-tail, filter-append}
-use Rattle.std.proofs.lemmas.List.Sorted.{searchable_from_sorted, IsPartitionedBy-leb, IsPartitionedBy-ltb}
+use Rattle.std.proofs.lemmas.List.Sorted.{searchable_from_sorted}
 use Rattle.path_list.specs.declared.link.Link.{Link}
 use Rattle.path_list.specs.declared.node.NodeId.{NodeId}
 use Rattle.path_list.specs.Links.{same_node}
-use Rattle.path_list.specs.Spread.{node_cmp, AscendByDirectory, is_of}
+use Rattle.path_list.specs.Spread.{node_cmp, AscendByDirectory}
 
 pub node_cmp_total : IsTotalOrder node_cmp
 node_cmp_total = then_total (on_total (λ (n : NodeId). n.space) nat_cmp_total) (on_total (λ (n : NodeId). n.number) nat_cmp_total)
 
-same_node_cmp : (a b : NodeId) → same_node b a ≡ is_eq (node_cmp a b)
+pub same_node_cmp : (a b : NodeId) → same_node b a ≡ is_eq (node_cmp a b)
 same_node_cmp a b = grind (arith, nat_tests)
 
-lt_index : (o : Ordering) → ltb (ordering_index o) 1 ≡ is_lt o
-lt_index Less = refl
-lt_index Equal = refl
-lt_index Greater = refl
-
-le_index : (o : Ordering) → leb (ordering_index o) 1 ≡ is_le o
-le_index Less = refl
-le_index Equal = refl
-le_index Greater = refl
-
-module _ (links : List Link) (dir : NodeId) (ascend : AscendByDirectory links) where
-  rises : IsNonDecreasingBy (λ (link : Link). ordering_index (node_cmp link.dir dir)) links
-  rises = searchable_from_sorted node_cmp_total (λ (link : Link). link.dir) links dir ascend.sorted
-
-  pub parted_lt : IsPartitionedBy (λ (link : Link). is_lt (node_cmp link.dir dir)) links
-  parted_lt i j d before within later =
-      sym (lt_index (node_cmp (get_or links i d).dir dir))
-      ∙ IsPartitionedBy-ltb (λ (link : Link). ordering_index (node_cmp link.dir dir)) links 1 rises i j d before within (lt_index (node_cmp (get_or links j d).dir dir) ∙ later)
-
-  pub parted_le : IsPartitionedBy (λ (link : Link). is_le (node_cmp link.dir dir)) links
-  parted_le i j d before within later =
-      sym (le_index (node_cmp (get_or links i d).dir dir))
-      ∙ IsPartitionedBy-leb (λ (link : Link). ordering_index (node_cmp link.dir dir)) links 1 rises i j d before within (le_index (node_cmp (get_or links j d).dir dir) ∙ later)
-
-filter_all : {X : Type 0} (p : X → Bool) (xs : List X) → All (λ x. p x ≡ true) xs → filter p xs ≡ xs
-filter_all p [] all = refl
-filter_all p (x ∷ xs) all =
-    ap (λ (b : Bool). cond b (x ∷ filter p xs) (filter p xs)) (All-head (λ y. p y ≡ true) x xs all) ∙ ap (λ t. x ∷ t) (filter_all p xs (All-tail (λ y. p y ≡ true) x xs all))
-
-filter_none : {X : Type 0} (p : X → Bool) (xs : List X) → All (λ x. p x ≡ false) xs → filter p xs ≡ []
-filter_none p [] none = refl
-filter_none p (x ∷ xs) none =
-    ap (λ (b : Bool). cond b (x ∷ filter p xs) (filter p xs)) (All-head (λ y. p y ≡ false) x xs none) ∙ filter_none p xs (All-tail (λ y. p y ≡ false) x xs none)
-
--- What passes stands in the middle.
-filter_middle : {X : Type 0} (p : X → Bool) (xs : List X) (i j : ℕ) → i ≤ j → j ≤ length xs → AllWithin (λ x. p x ≡ false) xs 0 i → AllWithin (λ x. p x ≡ true) xs i j → AllWithin (λ x. p x ≡ false) xs j (length xs)
-    → take (j - i) (drop i xs) ≡ filter p xs
-filter_middle {X} p xs i j below within front middle back = sym (split xs i ∙ (ap (λ (t : List X). t ++ filter p (drop i xs)) none_front ∙ (split (drop i xs) (j - i) ∙ (ap (λ (t : List X). t ++ filter p (drop (j - i) (drop i xs))) all_middle ∙ (ap (λ (t : List X). take (j - i) (drop i xs) ++ t) none_back ∙ append-nil (take (j - i) (drop i xs)))))))
-  where
-    split : (ys : List X) (n : ℕ) → filter p ys ≡ filter p (take n ys) ++ filter p (drop n ys)
-    split ys n = ap (filter p) (sym (take-append-drop n ys)) ∙ filter-append p (take n ys) (drop n ys)
-
-    none_front : filter p (take i xs) ≡ []
-    none_front = filter_none p (take i xs) (λ k d h. let long = length-take i xs in let less : k < i = omega arith in rw (get_or-take i xs k d less) (front k d (omega arith) less))
-
-    all_middle : filter p (take (j - i) (drop i xs)) ≡ take (j - i) (drop i xs)
-    all_middle = filter_all p (take (j - i) (drop i xs)) (λ k d h.
-        let long = length-take (j - i) (drop i xs) in
-        let less : k < j - i = omega arith in
-        rw (get_or-take (j - i) (drop i xs) k d less, get_or-drop i xs k d) (middle (i + k) d (omega arith) (omega arith)))
-
-    none_back : filter p (drop (j - i) (drop i xs)) ≡ []
-    none_back = filter_none p (drop (j - i) (drop i xs)) (λ k d h.
-        let long = length-drop (j - i) (drop i xs) in
-        let rest = length-drop i xs in
-        rw (get_or-drop (j - i) (drop i xs) k d, get_or-drop i xs (j - i + k) d) (back (i + (j - i + k)) d (omega arith) (omega arith)))
-
-module _ (links : List Link) (dir : NodeId) (first end : ℕ) (within_first : first ≤ length links) (within_end : end ≤ length links)
-    (parts_first : IsPartitionPoint (λ (link : Link). is_lt (node_cmp link.dir dir) ≡ true) (λ (link : Link). is_lt (node_cmp link.dir dir) ≡ false) links first)
-    (parts_end : IsPartitionPoint (λ (link : Link). is_le (node_cmp link.dir dir) ≡ true) (λ (link : Link). is_le (node_cmp link.dir dir) ≡ false) links end) where
-  lt_le : (o : Ordering) → is_lt o ≡ true → is_le o ≡ false → ⊥
-  lt_le Less lt le = true≢false le
-  lt_le Equal lt le = true≢false (sym lt)
-  lt_le Greater lt le = true≢false (sym lt)
-
-  lt_other : (o : Ordering) → is_lt o ≡ true → is_eq o ≡ false
-  lt_other Less lt = refl
-  lt_other Equal lt = absurd (true≢false (sym lt))
-  lt_other Greater lt = refl
-
-  gt_other : (o : Ordering) → is_le o ≡ false → is_eq o ≡ false
-  gt_other Less le = refl
-  gt_other Equal le = absurd (true≢false le)
-  gt_other Greater le = refl
-
-  eq_both : (o : Ordering) → is_lt o ≡ false → is_le o ≡ true → is_eq o ≡ true
-  eq_both Less lt le = absurd (true≢false lt)
-  eq_both Equal lt le = refl
-  eq_both Greater lt le = absurd (true≢false (sym le))
-
-  pub in_order : first ≤ end
-  in_order = ⊎_elim (λ less. absurd (crossed less)) (λ not_less. not_less) (cases_lt end first)
-    where
-      crossed : end < first → ⊥
-      crossed less = let any : Link = record { dir = dir; target = dir; name = [] } in lt_le (node_cmp (get_or links end any).dir dir) (parts_first.0 end any (omega arith) less) (parts_end.1 end any (omega arith) (omega arith))
-
-  pub middle_is : take (end - first) (drop first links) ≡ filter (is_of dir) links
-  middle_is = filter_middle (is_of dir) links first end in_order within_end
-      (λ k d low high. same_node_cmp (get_or links k d).dir dir ∙ lt_other (node_cmp (get_or links k d).dir dir) (parts_first.0 k d low high))
-      (λ k d low high. same_node_cmp (get_or links k d).dir dir ∙ eq_both (node_cmp (get_or links k d).dir dir) (parts_first.1 k d low (omega arith)) (parts_end.0 k d (omega arith) high))
-      (λ k d low high. same_node_cmp (get_or links k d).dir dir ∙ gt_other (node_cmp (get_or links k d).dir dir) (parts_end.1 k d low high))
+pub rises : (links : List Link) (dir : NodeId) → AscendByDirectory links → IsNonDecreasingBy (λ (link : Link). ordering_index (node_cmp link.dir dir)) links
+rises links dir ascend = searchable_from_sorted node_cmp_total (λ (link : Link). link.dir) links dir ascend.sorted

@@ -1,4 +1,4 @@
-use Rattle.std.proofs.Common.{◌≡◌, ◌++◌, List, ap, subst, OnOk}
+use Rattle.std.proofs.Common.{◌≡◌, ◌++◌, List, subst, OnOk}
 use Rattle.btr_node.specs.Leaf.{Item}
 use Rattle.item_list.proofs.Joining.{order_again, joined_again}
 use Rattle.item_list.proofs.list.ItemList.add_joined.Goals as goal

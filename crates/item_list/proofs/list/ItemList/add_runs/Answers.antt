@@ -1,4 +1,4 @@
-use Rattle.std.proofs.Common.{◌∙◌, sym, ap}
+use Rattle.std.proofs.Common.{◌∙◌}
 use Rattle.item_list.proofs.Joining.{run_added}
 use Rattle.item_list.proofs.list.ItemList.add_runs.Goals as goal
 

@@ -1,4 +1,4 @@
-use Rattle.std.proofs.Common.{List, map, sym, ap, ◌∙◌, rules}
+use Rattle.std.proofs.Common.{map, sym, ap, ◌∙◌, rules}
 use Rattle.std.proofs.lemmas.List.Sorted.{All-permutation, answers_always}
 use Rattle.item_list.specs.declared.list.Head.{Head}
 use Rattle.item_list.specs.Groups.{ascending}
