@@ -1,6 +1,5 @@
 pub mod Chunks
 pub mod Extents
-pub mod Inodes
 pub mod Laws
 pub mod Merging
 pub mod Nodes

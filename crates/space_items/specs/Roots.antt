@@ -10,7 +10,7 @@ use Rattle.btr_node.specs.Leaf.{Item}
 use Rattle.btr_space_items.specs.RootItem.{root_item_bytes}
 use Rattle.btr_space_items.specs.RootRef.{root_ref_bytes}
 use Rattle.btr_space_items.specs.declared.root_item.RootItem.{RootItem}
-use Rattle.space_items.specs.Inodes.{stamp_of, new_inode, inode_made, inode_item, ref_item}
+use Rattle.item_list.specs.Inodes.{stamp_of, new_inode, inode_made, inode_item, ref_item}
 use Rattle.space_items.specs.Merging.{merged}
 use Rattle.space_items.specs.declared.node.TreeRoot.{TreeRoot}
 

@@ -4,9 +4,8 @@ ghost use Rattle.unit_plan.specs.Chunks.{AreChunks, FitsVolume};
 ghost use Rattle.unit_plan.specs.declared.chunk.Chunk.{Chunk as ChunkOf};
 ghost use Rattle.space_items.specs.Chunks.{chunk_kind, chunk_body, chunk_item, chunk_items, device_body, dev_extent_item, device_items};
 
-use crate::items::key_of;
 use btr_space_items::{Chunk as ChunkBody, DevExtent, Device, Stripe};
-use item_list::ItemList;
+use item_list::{ItemList, key_of};
 use outside::Memory;
 use std::alloc::Global;
 use unit_plan::{Chunk, Chunks, Plan, Role, chunks_of};

@@ -9,10 +9,10 @@ ghost use Rattle.space_items.specs.Nodes.{AreNodes};
 ghost use Rattle.space_items.specs.Stream.{ArePieces, FitsExtents, IsSmallNext, extents_ahead, first_of, group_of};
 
 use crate::groups::{Group, Groups, groups_of};
-use crate::items::key_of;
 use crate::node::{NodeList, TreeNode};
 use crate::refs::{Body, node_body, piece_body};
 use btr_keys::Key;
+use item_list::key_of;
 use outside::Memory;
 use std::alloc::Global;
 use unit_plan::{Piece, PieceList, Plan, chunks_of};

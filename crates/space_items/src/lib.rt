@@ -8,8 +8,6 @@
 mod chunk_lists;
 mod extent_stream;
 mod groups;
-mod inode;
-mod items;
 mod laws;
 mod node;
 mod own_count;

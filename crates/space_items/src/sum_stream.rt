@@ -7,9 +7,9 @@ ghost use Rattle.unit_plan.specs.Sums.{sums_in_item};
 ghost use Rattle.space_items.specs.Stream.{ArePieces, FitsSums, IsSmallPiece, sums_ahead};
 ghost use Rattle.space_items.specs.Sums.{block_sum, sum_items, sums_item};
 
-use crate::items::key_of;
 use btr_keys::Key;
 use csum_kinds::{SumKind, kind_sum, kind_width};
+use item_list::key_of;
 use outside::{BlockSource, Fault, Memory};
 use std::alloc::Global;
 use unit_plan::{Piece, PieceList, sums_in_item};
