@@ -5,16 +5,16 @@ use Rattle.btr_super.specs.Super.{super_bytes, mirror_bytes}
 use Rattle.object_files.specs.Laws.{SameUsed}
 use Rattle.reiser_bitmap.specs.Bits.{has}
 use Rattle.reiser_volume.specs.Volume.{used_of}
-use Rattle.file_laws.specs.Source.{made_from}
+use Rattle.conversion.specs.Source.{made_from}
 use Rattle.file_items.specs.Tree.{number_of, size_in}
 use Rattle.reiser_files.specs.Bytes.{tail_block}
 use Rattle.reiser_objects.specs.Keys.{items_of}
 use Rattle.reiser_objects.specs.declared.key.ObjectKey.{ObjectKey}
 use Rattle.space_items.specs.declared.node.TreeNode.{TreeNode}
 use Rattle.unit_plan.specs.declared.piece.Piece.{Piece}
-use Rattle.convert_core.specs.Making.{Making, IsMaking}
-use Rattle.convert_core.specs.Standing.{Roots, HasTrees}
-use Rattle.convert_core.specs.Superblock.{new_super}
+use Rattle.conversion.specs.Making.{Making, IsMaking}
+use Rattle.convert_core.specs.Standing.{Roots, HasTrees, used_bytes}
+use Rattle.conversion.specs.Superblock.{new_super}
 
 -- the blocks of the copies of a superblock
 abbrev pub IsMirror : ℕ → Type 0
@@ -45,13 +45,13 @@ pub record IsSwitched (image other : Image) (m : Making) (r : Roots) (nodes : Li
   pub written : Image
   pub prepared : IsPrepared image written m r nodes
   pub size : length other ≡ length written
-  pub superblock : block_at other 16 ≡ super_bytes (new_super m r nodes)
+  pub superblock : block_at other 16 ≡ super_bytes (new_super m r.chunk r.root (used_bytes m nodes))
   pub others : (b : ℕ) → b ≢ 16 → ¬ IsMirror b → block_at other b ≡ block_at written b
 
 -- The volume is converted: the copies stand too.
 pub record IsConverted (image other : Image) (m : Making) (r : Roots) (nodes : List TreeNode) : Type 0 where
   pub switched : IsSwitched image other m r nodes
-  pub mirrors : (b : ℕ) → IsMirror b → b < m.volume.sup.blocks → block_at other b ≡ mirror_bytes b (super_bytes (new_super m r nodes))
+  pub mirrors : (b : ℕ) → IsMirror b → b < m.volume.sup.blocks → block_at other b ≡ mirror_bytes b (super_bytes (new_super m r.chunk r.root (used_bytes m nodes)))
 
 -- What a crash may leave: the old volume, or the new one with some of its copies.
 abbrev pub IsEither : Image → Image → Making → Roots → List TreeNode → Type 0

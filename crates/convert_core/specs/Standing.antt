@@ -8,7 +8,7 @@ use Rattle.btr_tree.specs.declared.climb.Root.{Root}
 use Rattle.btr_walk.specs.declared.tree.Form.{Form}
 use Rattle.file_items.specs.Small.{image_items, relocation_items}
 use Rattle.file_items.specs.Tree.{tree_items}
-use Rattle.file_laws.specs.Source.{made_from}
+use Rattle.conversion.specs.Source.{made_from}
 use Rattle.space_items.specs.Chunks.{chunk_items, device_items}
 use Rattle.space_items.specs.Extents.{extent_items, used_in}
 use Rattle.space_items.specs.Nodes.{merged_nodes, nodes_of_tree}
@@ -17,7 +17,7 @@ use Rattle.space_items.specs.Sums.{sum_items}
 use Rattle.space_items.specs.declared.node.TreeNode.{TreeNode}
 use Rattle.space_items.specs.declared.node.TreeRoot.{TreeRoot}
 use Rattle.tree_writer.specs.Trees.{TreeStands}
-use Rattle.convert_core.specs.Making.{Making, new_ids, chunk_slots, slots, saved_index}
+use Rattle.conversion.specs.Making.{Making, new_ids, chunk_slots, slots, saved_index}
 
 -- where each tree begins
 pub record Roots : Type 0 where

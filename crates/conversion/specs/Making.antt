@@ -4,7 +4,7 @@ use Rattle.std.specs.List.{take_while}
 use Rattle.indexmap.specs.IndexMap.{keys}
 use Rattle.outside.specs.History.{Image}
 use Rattle.vol_block.specs.declared.ids.Ids.{Ids}
-use Rattle.file_laws.specs.Source.{HasPieces}
+use Rattle.conversion.specs.Source.{HasPieces}
 use Rattle.reiser_objects.specs.Keys.{root, same_key}
 use Rattle.reiser_super.specs.declared.superblock.Super.{Super}
 use Rattle.reiser_volume.specs.Opened.{links_in}

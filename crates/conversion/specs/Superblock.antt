@@ -5,12 +5,11 @@ use Rattle.btr_keys.specs.Key.{key_bytes}
 use Rattle.btr_node.specs.Leaf.{Item}
 use Rattle.btr_super.specs.declared.superblock.Super.{Super}
 use Rattle.space_items.specs.Chunks.{chunk_item, device_body}
-use Rattle.space_items.specs.declared.node.TreeNode.{TreeNode}
+use Rattle.btr_tree.specs.declared.climb.Root.{Root}
 use Rattle.unit_plan.specs.declared.chunk.Chunk.{Chunk}
 use Rattle.unit_plan.specs.declared.chunk.Role.{Role}
 use Rattle.unit_plan.specs.declared.chunk.Role.TheVariants.{System, Metadata, Data}
-use Rattle.convert_core.specs.Making.{Making, new_ids, label_by, label_field}
-use Rattle.convert_core.specs.Standing.{Roots, used_bytes}
+use Rattle.conversion.specs.Making.{Making, new_ids, label_by, label_field}
 
 abbrev pub is_system : Chunk → Bool
 is_system c = system c.role
@@ -32,18 +31,19 @@ boot_bytes m = flat_map (λ c. record_bytes (chunk_item (new_ids m) c)) (filter 
 abbrev pub features : ℕ → ℕ
 features nodesize = if nodesize == 4096 then 0x341 else 0x361
 
-unfoldable pub new_super : Making → Roots → List TreeNode → Super
-new_super m r nodes = record {
+-- the chunk tree and the root tree begin there, and extents have so many bytes
+unfoldable pub new_super : Making → Root → Root → ℕ → Super
+new_super m chunk root used = record {
   fsid = (new_ids m).fsid;
   bytenr = 65536;
   flags = 1;
   generation = 1;
-  root = r.root.address;
-  chunk_root = r.chunk.address;
+  root = root.address;
+  chunk_root = chunk.address;
   log_root = 0;
   log_root_transid = 0;
   total_bytes = 4096 * m.volume.sup.blocks;
-  bytes_used = used_bytes m nodes;
+  bytes_used = used;
   root_dir_objectid = 6;
   num_devices = 1;
   sectorsize = 4096;
@@ -56,8 +56,8 @@ new_super m r nodes = record {
   compat_ro = 0;
   incompat = features m.options.nodesize;
   csum_type = 0;
-  root_level = r.root.level;
-  chunk_root_level = r.chunk.level;
+  root_level = root.level;
+  chunk_root_level = chunk.level;
   log_root_level = 0;
   dev_item = device_body (new_ids m) m.volume.sup.blocks m.chunks;
   label = label_field (label_by m.volume.sup m.options.label);

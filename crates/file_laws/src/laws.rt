@@ -1,0 +1,49 @@
+ghost use Rattle.file_laws.specs.Kept.{BytesAreKept, NamesAreKept, NamesKeepRules, RowsAreKept};
+ghost use Rattle.file_laws.specs.Keys.{FileKeysAscend, ImageKeysAscend, ItemsAreShort};
+ghost use Rattle.file_laws.specs.Held.{FilesAreHeld};
+ghost use Rattle.file_laws.specs.Used.{ItemsByUsedBlocks};
+
+/// What is still to come of a stream of the file tree depends on the volume's used blocks alone.
+pub fn items_by_used_blocks()
+    ensures { ItemsByUsedBlocks }
+{}
+
+/// The pieces of an accepted volume hold its files: each block of a file in one piece.
+pub fn files_are_held()
+    ensures { FilesAreHeld }
+{}
+
+/// The keys of the file tree's items ascend.
+pub fn file_keys_ascend()
+    ensures { FileKeysAscend }
+{}
+
+/// The keys of the items of the image's tree ascend, and those of the relocation tree.
+pub fn image_keys_ascend()
+    ensures { ImageKeysAscend }
+{}
+
+/// Each item of these trees fits into a leaf of the smallest node size.
+pub fn items_are_short()
+    ensures { ItemsAreShort }
+{}
+
+/// The paths of the tree are those of the volume, and lead to the inodes of the same objects.
+pub fn names_are_kept()
+    ensures { NamesAreKept }
+{}
+
+/// The names of the tree keep the rules of a Btrfs tree.
+pub fn names_keep_rules()
+    ensures { NamesKeepRules }
+{}
+
+/// A file or the target of a symlink has the bytes that it had.
+pub fn bytes_are_kept()
+    ensures { BytesAreKept }
+{}
+
+/// The rows of the tree are the rows of the volume.
+pub fn rows_are_kept()
+    ensures { RowsAreKept }
+{}
