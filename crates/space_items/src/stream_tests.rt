@@ -1,7 +1,6 @@
 // The items of a small volume's pieces and nodes. Each checksum is that of the same items as an independent program writes
 // them.
-ghost use Rattle.std.specs.Prelude.{◌≡◌, false, IfOk};
-ghost use Rattle.unit_plan.specs.declared.piece.Piece.{Piece as PieceOf};
+ghost use Rattle.std.specs.Prelude.{◌≡◌, ◌+◌, ◌≤◌, false, length, All, IfOk, OnOk};
 ghost use Rattle.space_items.specs.Nodes.{AreNodes};
 ghost use Rattle.space_items.specs.Stream.{ArePieces, FitsExtents, FitsSums};
 
@@ -75,7 +74,8 @@ impl PieceList for Sample {
 }
 
 fn all_pieces() -> Sample
-    ensures { ArePieces result.items }
+    ensures pieces { ArePieces result.items }
+    ensures inside { All (λ p. p.place + p.count ≤ 12288) result.items }
 {
     Sample { items: PIECES }
 }
@@ -101,6 +101,17 @@ fn sample_nodes(alloc: Global) -> Result<NodeList, Memory>
     Ok(nodes)
 }
 
+/// The bitmap of the volume.
+fn sample_map(alloc: Global) -> Result<Bitmap, Memory> {
+    let mut map = Bitmap::new(alloc, BLOCKS)?;
+    for b in 0..8212 {
+        if b < map.len() {
+            map.insert(b);
+        }
+    }
+    Ok(map)
+}
+
 /// The stream of the extent tree's items. Units 1 to 32 hold data, unit 33 is for the chunk tree, units 34 and 35 are for the
 /// other trees and unit 36 is for copies.
 fn sample_extents(
@@ -113,12 +124,7 @@ fn sample_extents(
     ensures { IfOk result (λ s. FitsExtents s pieces.now.items nodes.now) }
 {
     plans_fit();
-    let mut map = Bitmap::new(alloc, BLOCKS)?;
-    for b in 0..8212 {
-        if b < map.len() {
-            map.insert(b);
-        }
-    }
+    let map = sample_map(alloc)?;
     let blocks = map.len();
     if blocks > 1 << 29 {
         return Err(PlanAnswer::Memory);
@@ -163,6 +169,7 @@ impl Sum {
 /// Goes over the extent tree's items.
 fn sum_extents(stream: &mut ExtentStream, pieces: &Sample, nodes: &NodeList) -> (u64, u32)
     requires { FitsExtents stream.old pieces.now.items nodes.now }
+    ensures { FitsExtents stream.new pieces.now.items nodes.now }
 {
     let mut sum = Sum::new();
     for _ in 0..100 {
@@ -187,13 +194,25 @@ fn extents_of_a_sample(rt: HostRuntime) -> Result<(), PlanAnswer> {
     Ok(())
 }
 
+/// Fills a block of a disk with a number, if there is such a block.
+fn fill_block(disk: &mut MemDisk, b: u64) -> Result<(), Memory>
+    requires { length disk.old.history.start ≡ 12288 }
+    ensures size { length disk.new.history.start ≡ 12288 }
+    ensures opened { OnOk result (disk.new.opened ≡ disk.old.opened) }
+{
+    if b >= BLOCKS {
+        return Ok(());
+    }
+    let mut block = Block::zero();
+    block.bytes.fill((b % 251) as u8);
+    disk.set_block(b, &block)
+}
+
 /// A disk whose blocks are zeros but for some.
 fn sample_disk(alloc: Global) -> Result<MemDisk, Fail> {
     let mut disk = MemDisk::new(alloc, BLOCKS)?;
     for b in [256, 1255, 1256, 2155, 2156, 3001, 9216, 9300] {
-        let mut block = Block::zero();
-        block.bytes.fill((b % 251) as u8);
-        disk.set_block(b, &block)?;
+        fill_block(&mut disk, b)?;
     }
     disk.open("", Access::Read)?;
     Ok(disk)
@@ -207,7 +226,8 @@ fn sum_sums(
 ) -> Result<(u64, u32), Fault>
     requires live { stream.old.spent ≡ false }
     requires fits { FitsSums stream.old pieces.now.items }
-    requires inside { All (λ p. p.place + p.count ≤ ⟦<MemDisk as BlockSource>⟧.size disk.old) pieces.now.items }
+    requires size { 12288 ≤ ⟦<MemDisk as BlockSource>⟧.size disk.old }
+    requires inside { All (λ p. p.place + p.count ≤ 12288) pieces.now.items }
 {
     let mut sum = Sum::new();
     for _ in 0..100 {
@@ -223,7 +243,11 @@ fn sum_sums(
 fn checksums_of_a_sample(rt: HostRuntime) -> Result<(), Fail> {
     let pieces = all_pieces();
     let mut disk = sample_disk(rt.alloc())?;
+    assert_eq!(rt; disk.len(), BLOCKS);
     let mut stream = checksums(rt.alloc(), &pieces, SumKind::Crc32c)?;
-    assert_eq!(rt; sum_sums(&mut stream, &mut disk, &pieces)?, (7, 891_564_161));
+    assert_eq!(rt;
+        sum_sums(&mut stream, &mut disk, &pieces)?,
+        (7, 891_564_161)
+    );
     Ok(())
 }
