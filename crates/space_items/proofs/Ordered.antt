@@ -1,8 +1,8 @@
 -- The items of the small lists ascend, and are short.
-use Rattle.std.proofs.Common.{◌≡◌, ◌≤◌, ◌<◌, ◌⊎◌, ℕ, zero, suc, ◌+◌, ◌*◌, true, false, List, [], ◌∷◌, length, map, get_or, refl, sym, ap, ◌∙◌, arith, ⊎_elim}
-use Rattle.std.specs.Prelude.{All, AllPairs}
+use Rattle.std.proofs.Common.{◌≡◌, ◌≤◌, ◌<◌, ℕ, zero, suc, ◌+◌, ◌*◌, true, List, [], ◌∷◌, ◌++◌, length, length-append, map, get_or, refl, ap, arith, eqb, cond, Bool, false}
+use Rattle.std.specs.Prelude.{All, AllPairs, codes}
 use Rattle.std.specs.Cmp.{IsTotalOrder}
-use Rattle.std.specs.Ordering.{is_lt}
+use Rattle.std.specs.Ordering.{is_lt, nat_cmp, ordering_then}
 use Rattle.std.specs.declared.cmp.Ordering.{Ordering}
 use Rattle.std.specs.declared.cmp.Ordering.TheVariants.{Less, Equal, Greater}
 use Rattle.std.proofs.lemmas.Bool.{and_parts, and_from, false≢true}
@@ -10,9 +10,19 @@ use Rattle.std.proofs.lemmas.Cmp.{on_total}
 use Rattle.std.proofs.lemmas.List.Elements.{All-cons, All-nil}
 use Rattle.std.proofs.lemmas.List.Kept.{AllPairs-cons}
 use Rattle.vol_block.specs.declared.ids.Ids.{Ids}
-use Rattle.btr_keys.specs.Key.{key_cmp, IsBefore, make_key}
+use Rattle.btr_keys.specs.Key.{key_cmp, key_layout, IsBefore, make_key}
+use Rattle.btr_keys.specs.DirEntry.{dir_entry_head}
+use Rattle.btr_keys.specs.InodeRef.{inode_ref_bytes, inode_ref_head}
+use Rattle.btr_keys.specs.Stamp.{stamp_layout}
+use Rattle.item_list.specs.Inodes.{inode_made}
 use Rattle.btr_keys.specs.declared.inode.Inode.{Inode}
 use Rattle.btr_keys.specs.Inode.{inode_layout, inode_bytes}
+use Rattle.btr_space_items.specs.Chunk.{chunk_layout}
+use Rattle.btr_space_items.specs.RootItem.{root_item_layout}
+use Rattle.btr_space_items.specs.RootRef.{root_ref_head}
+use Rattle.btr_space_items.specs.Stripe.{stripe_layout}
+use Rattle.btr_space_items.specs.DevExtent.{dev_extent_layout}
+use Rattle.btr_space_items.specs.Device.{device_layout, device_bytes}
 use Rattle.btr_node.specs.Leaf.{Item, keys_of}
 use Rattle.btr_node.specs.Order.{Ascends, ascends, is_before}
 use Rattle.unit_plan.specs.declared.chunk.Chunk.{Chunk}
@@ -20,9 +30,9 @@ use Rattle.unit_plan.specs.declared.plan.Plan.{Plan}
 use Rattle.unit_plan.specs.Chunks.{IsChunk, AreChunks, role_of, usable_end}
 use Rattle.space_items.specs.Merging.{merged, item_cmp}
 use Rattle.space_items.specs.declared.node.TreeRoot.{TreeRoot}
-use Rattle.space_items.specs.Chunks.{chunk_item, chunk_items, dev_extent_item, device_items}
-use Rattle.space_items.specs.Roots.{root_item, root_items, other_root_items}
-use Rattle.space_items.specs.Laws.{AreTreeItems, ChunkItemsAreItems, RootItemsAreItems}
+use Rattle.space_items.specs.Chunks.{chunk_item, chunk_items, device_body, dev_extent_item, device_items}
+use Rattle.space_items.specs.Roots.{root_item, other_root_items, saved_ref, default_entry, tree_uuid, zero_uuid}
+use Rattle.space_items.specs.Laws.{AreIds, ChunkItemsFit, RootItemsFit}
 use Rattle.space_items.proofs.Merges.{nat_less, rises-merge, all-merge}
 use Rattle.space_items.proofs.Merging.{key_total}
 
@@ -81,3 +91,85 @@ module _ (plan : Plan) (blocks : ℕ) (chunks : List Chunk) (are : AreChunks pla
 
   extents_rise : (ids : Ids) → Rise (map (dev_extent_item ids) chunks)
   extents_rise ids = rise_mapped (dev_extent_item ids) chunks (λ i j d l h. nat_less (4096 * (get_or chunks i d).start) (4096 * (get_or chunks j d).start) (starts_rise i j d l h))
+
+-- bodies
+
+short_chunk : (ids : Ids) (c : Chunk) → AreIds ids → length (chunk_item ids c).1 ≤ 439
+unfolding chunk_layout stripe_layout
+short_chunk ids c are = omega (arith, are.device, length-append (ids.device ++ []) [], length-append ids.device [])
+
+short_extent : (ids : Ids) (c : Chunk) → AreIds ids → length (dev_extent_item ids c).1 ≤ 439
+unfolding dev_extent_layout
+short_extent ids c are = omega (arith, are.chunk_tree, length-append ids.chunk_tree [])
+
+short_device : (ids : Ids) (blocks : ℕ) (chunks : List Chunk) → AreIds ids → length (device_bytes (device_body ids blocks chunks)) ≤ 439
+unfolding device_layout
+short_device ids blocks chunks are = omega (arith, are.device, are.fsid, length-append ids.device (ids.fsid ++ []), length-append ids.fsid [])
+
+device_first : (item : Item) (chunks : List Chunk) (f : Chunk → Item) → ((c : Chunk) → IsBefore item.0 (f c).0) → Rise (map f chunks) → Rise (item ∷ map f chunks)
+device_first item chunks f low up = AllPairs-cons (λ a b. item_cmp a b ≡ Less) item (map f chunks) (all_mapped f (λ b. item_cmp item b ≡ Less) chunks (λ k d h. low (get_or chunks k d))) up
+
+pub chunk_items_fit : ChunkItemsFit
+chunk_items_fit plan blocks ids chunks are chunked =
+    let device : Item = (make_key 1 216 1, device_bytes (device_body ids blocks chunks)) in (
+      record {
+        ascend = rise_ascends (chunk_items ids blocks chunks) (device_first device chunks (chunk_item ids) (λ c. refl) (chunks_rise plan blocks chunks chunked ids));
+        short = All-cons (λ i. length i.1 ≤ 439) device (map (chunk_item ids) chunks) (short_device ids blocks chunks are) (all_mapped (chunk_item ids) (λ i. length i.1 ≤ 439) chunks (λ k d h. short_chunk ids (get_or chunks k d) are));
+      },
+      record {
+        ascend = rise_ascends (device_items ids chunks) (extents_rise plan blocks chunks chunked ids);
+        short = all_mapped (dev_extent_item ids) (λ i. length i.1 ≤ 439) chunks (λ k d h. short_extent ids (get_or chunks k d) are);
+      },
+    )
+
+uuid_long : (ids : Ids) (tree : ℕ) → AreIds ids → length (tree_uuid ids tree) ≡ 16
+uuid_long ids tree are = by_test (eqb tree 256)
+  where
+    by_test : (t : Bool) → length (cond t ids.subvolume zero_uuid) ≡ 16
+    by_test true = are.subvolume
+    by_test false = refl
+
+short_root : (ids : Ids) (nodesize : ℕ) (r : TreeRoot) → AreIds ids → length (root_item ids nodesize r).1 ≤ 439
+unfolding root_item_layout inode_layout key_layout stamp_layout
+short_root ids nodesize r are = omega (arith, uuid_long ids r.tree are, length-append {A = ℕ})
+
+short_saved : (index : ℕ) → length (saved_ref index) ≤ 439
+unfolding root_ref_head
+short_saved index = omega arith
+
+short_inode : (i : Inode) → length (inode_bytes i) ≤ 439
+unfolding inode_layout stamp_layout
+short_inode i = omega arith
+
+short_name : (index : ℕ) → length (inode_ref_bytes (record { index = index; name = codes ".." })) ≤ 439
+unfolding inode_ref_head
+short_name index = omega arith
+
+short_default : length default_entry ≤ 439
+unfolding dir_entry_head key_layout
+short_default = omega arith
+
+short_others : (index now k : ℕ) (d : Item) → k < length (other_root_items index now) → length (get_or (other_root_items index now) k d).1 ≤ 439
+short_others index now zero d h = short_saved index
+short_others index now (suc zero) d h = short_inode (inode_made now 0x41ED 0 0 0)
+short_others index now (suc (suc zero)) d h = short_name 0
+short_others index now (suc (suc (suc zero))) d h = short_default
+short_others index now (suc (suc (suc (suc zero)))) d h = short_saved index
+short_others index now (suc (suc (suc (suc (suc k))))) d h = absurd (omega (arith, h))
+
+others_rise : (index now : ℕ) → Rise (other_root_items index now)
+others_rise index now = ascends_rise (other_root_items index now) refl
+
+roots_rise : (ids : Ids) (nodesize : ℕ) (list : List TreeRoot) → AllPairs (λ r s. r.tree < s.tree) list → Rise (map (root_item ids nodesize) list)
+roots_rise ids nodesize list up =
+    rise_mapped (root_item ids nodesize) list
+    (λ i j d l h. ap (λ (o : Ordering). ordering_then o (ordering_then (nat_cmp 132 132) (nat_cmp 0 0))) (nat_less (get_or list i d).tree (get_or list j d).tree (up i j d l h)))
+
+pub root_items_fit : RootItemsFit
+root_items_fit list index ids now nodesize are up =
+    let roots : List Item = map (root_item ids nodesize) list in
+    let others : List Item = other_root_items index now in
+    record {
+      ascend = rise_ascends (merged roots others) (rises-merge item_cmp item_total roots others (roots_rise ids nodesize list up) (others_rise index now));
+      short = all-merge item_cmp (λ i. length i.1 ≤ 439) roots others (all_mapped (root_item ids nodesize) (λ i. length i.1 ≤ 439) list (λ k d h. short_root ids nodesize (get_or list k d) are)) (short_others index now);
+    }

@@ -14,18 +14,25 @@ use Rattle.space_items.specs.declared.node.TreeRoot.{TreeRoot}
 abbrev pub ChunksAreOne : Type 0
 ChunksAreOne = (plan : Plan) (blocks : ℕ) (chunks others : List Chunk) → AreChunks plan blocks chunks → AreChunks plan blocks others → chunks ≡ others
 
+-- identifiers of 16 bytes each
+pub record AreIds (ids : Ids) : Type 0 where
+  pub fsid : length ids.fsid ≡ 16
+  pub device : length ids.device ≡ 16
+  pub chunk_tree : length ids.chunk_tree ≡ 16
+  pub subvolume : length ids.subvolume ≡ 16
+
 -- Items of which a tree can be made: their keys ascend, and none is longer than a root item.
-pub record AreTreeItems (items : List Item) : Type 0 where
+pub record FitTree (items : List Item) : Type 0 where
   pub ascend : Ascends (keys_of items)
   pub short : All (λ i. length i.1 ≤ 439) items
 
 -- so are those of the chunk tree and of the device tree
-abbrev pub ChunkItemsAreItems : Type 0
-ChunkItemsAreItems =
-    (plan : Plan) (blocks : ℕ) (ids : Ids) (chunks : List Chunk) → AreChunks plan blocks chunks
-    → AreTreeItems (chunk_items ids blocks chunks) × AreTreeItems (device_items ids chunks)
+abbrev pub ChunkItemsFit : Type 0
+ChunkItemsFit =
+    (plan : Plan) (blocks : ℕ) (ids : Ids) (chunks : List Chunk) → AreIds ids → AreChunks plan blocks chunks
+    → FitTree (chunk_items ids blocks chunks) × FitTree (device_items ids chunks)
 
 -- and those of the root tree
-abbrev pub RootItemsAreItems : Type 0
-RootItemsAreItems =
-    (list : List TreeRoot) (index : ℕ) (ids : Ids) (now nodesize : ℕ) → AllPairs (λ r s. r.tree < s.tree) list → AreTreeItems (root_items list index ids now nodesize)
+abbrev pub RootItemsFit : Type 0
+RootItemsFit =
+    (list : List TreeRoot) (index : ℕ) (ids : Ids) (now nodesize : ℕ) → AreIds ids → AllPairs (λ r s. r.tree < s.tree) list → FitTree (root_items list index ids now nodesize)

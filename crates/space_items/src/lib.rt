@@ -17,7 +17,7 @@ mod sum_stream;
 
 pub use chunk_lists::{chunk_body, chunks, device_body, devices};
 pub use extent_stream::{ExtentStream, extents};
-pub use laws::chunks_are_one;
+pub use laws::{chunk_items_fit, chunks_are_one, root_items_fit};
 pub use node::{NodeList, RootList, TreeNode, TreeRoot};
 pub use own_count::{add_nodes, merged, own_nodes, with_own};
 pub use root_list::roots;
