@@ -90,15 +90,15 @@ sum-ge : {A : Type 0} (f : A → ℕ) (xs : List A) → All (λ x. 1 ≤ f x) xs
 sum-ge f [] all = omega arith
 sum-ge f (x ∷ xs) all = omega (arith, sum_by-cons f x xs, sum-ge f xs (All-tail (λ y. 1 ≤ f y) x xs all), All-head (λ y. 1 ≤ f y) x xs all)
 
-few_chunks : (plan : Plan) (blocks : ℕ) (chunks : List Chunk) → blocks ≤ 2 ^ 29 → AreChunks plan blocks chunks → length chunks ≤ 2 ^ 29
-few_chunks plan blocks chunks small are =
+pub few_chunks : (plan : Plan) (blocks : ℕ) (chunks : List Chunk) → AreChunks plan blocks chunks → length chunks ≤ blocks
+few_chunks plan blocks chunks are =
     let start : Chunk → ℕ = λ (c : Chunk). c.start in
     let count : Chunk → ℕ = λ (c : Chunk). c.length in
     omega (
       arith,
       sum-ge count chunks (λ k d h. (are.each k d h).not_empty),
-      apart_fit start count (2 ^ 29) 0 chunks (omega arith) (λ k d h. omega arith) are.ascending
-      (λ k d h. let is = are.each k d h in let ends : (get_or chunks k d).start + (get_or chunks k d).length ≡ min (usable_end blocks) (256 * is.end) = is.ends in omega (arith, ends, small)),
+      apart_fit start count blocks 0 chunks (omega arith) (λ k d h. omega arith) are.ascending
+      (λ k d h. let is = are.each k d h in let ends : (get_or chunks k d).start + (get_or chunks k d).length ≡ min (usable_end blocks) (256 * is.end) = is.ends in omega (arith, ends)),
     )
 
 few_pieces : (pieces : List Piece) → ArePieces pieces → length pieces ≤ 2 ^ 29
@@ -115,5 +115,5 @@ pub are_short : (plan : Plan) (blocks nodesize : ℕ) (chunks : List Chunk) (pie
     → AreShort (extent_items chunks pieces nodes nodesize)
 are_short plan blocks nodesize chunks pieces nodes small are are_pieces are_nodes = record {
   short = bodies_short chunks pieces nodes nodesize;
-  few = omega (arith, items_few chunks pieces nodes nodesize, few_chunks plan blocks chunks small are, few_pieces pieces are_pieces, are_nodes.few);
+  few = omega (arith, items_few chunks pieces nodes nodesize, few_chunks plan blocks chunks are, small, few_pieces pieces are_pieces, are_nodes.few);
 }

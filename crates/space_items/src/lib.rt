@@ -24,6 +24,8 @@ pub use root_list::roots;
 pub use sum_stream::{SumStream, checksums};
 
 #[cfg(test)]
+mod own_tests;
+#[cfg(test)]
 mod stream_tests;
 #[cfg(test)]
 mod tests;
