@@ -22,7 +22,7 @@ const EXTENT_TREE: u64 = 2;
 /// How many nodes the extent tree has: the least number x for which the tree of `others` and of its own nodes at the first
 /// x slots of `rest` has x nodes. It is counted again from none until the number describes itself.
 ///
-/// The slots ascend, and none of the others lies at one of them. There are as many as the bound says.
+/// The slots ascend, and there are as many as the bound says.
 pub fn own_nodes<P: PieceList>(
     alloc: Global,
     plan: &Plan,
@@ -41,6 +41,7 @@ pub fn own_nodes<P: PieceList>(
     requires few { length others.now + length rest.now < 2 ^ 44 }
     requires enough { (chunks : List ChunkOf) → AreChunks plan.now blocks chunks → own_bound chunks (P.pieces pieces.now) others.now nodesize ≤ length rest.now }
     ensures count { (chunks : List ChunkOf) → AreChunks plan.now blocks chunks → IfOk result (λ x. IsOwnCount chunks (P.pieces pieces.now) others.now rest.now nodesize x) }
+    ensures room { IfOk result (λ x. x ≤ length rest.now) }
     ensures bound { (chunks : List ChunkOf) → AreChunks plan.now blocks chunks → IfOk result (λ x. x ≤ own_bound chunks (P.pieces pieces.now) others.now nodesize) }
 {
     let mut count = 0;
@@ -78,8 +79,8 @@ pub fn with_own<P: PieceList>(
     ensures fit { IfOk result AreNodes }
     ensures nodes { (chunks : List ChunkOf) → AreChunks plan.now blocks chunks → IfOk result (λ nodes. nodes ≡ nodes_with_own chunks (P.pieces pieces.now) others.now rest.now nodesize count) }
 {
-    let nodes = with_leaves(alloc, others, rest, count)?;
-    let counter = counted(alloc, plan, pieces, &nodes, blocks, nodesize)?;
+    let leaves = with_leaves(alloc, others, rest, count)?;
+    let counter = counted(alloc, plan, pieces, &leaves, blocks, nodesize)?;
     let mut own = NodeList::new(alloc);
     add_nodes(&mut own, rest, 0, &counter, EXTENT_TREE)?;
     merged(alloc, others, &own)
@@ -134,9 +135,9 @@ fn with_leaves(
     requires { count ≤ length rest.now }
     ensures { IfOk result (λ nodes. nodes ≡ merged_nodes others.now (own_at rest.now count)) }
 {
-    let mut own = NodeList::new(alloc);
-    add_level(&mut own, &rest.as_slice()[..count as usize], 0, EXTENT_TREE)?;
-    merged(alloc, others, &own)
+    let mut leaves = NodeList::new(alloc);
+    add_level(&mut leaves, &rest.as_slice()[..count as usize], 0, EXTENT_TREE)?;
+    merged(alloc, others, &leaves)
 }
 
 /// The nodes of two lists that ascend by address, ascending.

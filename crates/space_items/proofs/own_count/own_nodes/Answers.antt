@@ -30,6 +30,9 @@ returns-then-next-count-clause-count g c =
     subst (λ cs. IsOwnCount cs pieces others rest nodesize count) (chunks_one c.args.plan.now c.args.blocks own chunks are theirs)
     (counting_ends own pieces others rest nodesize c.requires.size count c.finish-next.result c.loop-nodes.invariant next.is c.if-next-count.true)
 
+pub returns-then-next-count-clause-room : goal.returns-then-next-count-clause-room
+returns-then-next-count-clause-room g c = omega (arith, c.requires.enough (the_chunks c.args.plan.now c.args.blocks) (are_the_chunks c.args.plan.now c.args.blocks), c.loop-nodes.invariant.bounded)
+
 pub returns-then-next-count-clause-bound : goal.returns-then-next-count-clause-bound
 returns-then-next-count-clause-bound g c =
     let pieces = g.P.PieceList.pieces c.args.pieces.now in

@@ -15,7 +15,7 @@ use Rattle.space_items.proofs.ChunksExist.{the_chunks, are_the_chunks}
 use Rattle.space_items.proofs.own_count.with_own.Goals as goal
 
 pub counted-requires-clause-nodes : goal.counted-requires-clause-nodes
-counted-requires-clause-nodes g c = subst AreNodes (sym c.in_ok-nodes.ensures) (with_leaves c.args.others.now c.args.rest.now c.requires.nodes c.requires.slots c.requires.few c.args.count)
+counted-requires-clause-nodes g c = subst AreNodes (sym c.in_ok-leaves.ensures) (with_leaves c.args.others.now c.args.rest.now c.requires.nodes c.requires.slots c.requires.few c.args.count)
 
 -- there are as many slots as the counter tells
 has_slots : (chunks : List Chunk) (pieces : List Piece) (others nodes : List TreeNode) (slots : List ℕ) (nodesize count : ℕ) (tally : Tally) → IsNodeSize nodesize → tally.nodesize ≡ nodesize → nodes ≡ merged_nodes others (own_at slots count)
@@ -33,7 +33,7 @@ pub add_nodes-requires : goal.add_nodes-requires
 add_nodes-requires g c =
     let chunks = the_chunks c.args.plan.now c.args.blocks in
     let are = are_the_chunks c.args.plan.now c.args.blocks in
-    has_slots chunks (g.P.PieceList.pieces c.args.pieces.now) c.args.others.now c.in_ok-nodes.nodes c.args.rest.now c.args.nodesize c.args.count c.in_ok-counter.counter c.requires.size c.in_ok-counter.ensures.size c.in_ok-nodes.ensures
+    has_slots chunks (g.P.PieceList.pieces c.args.pieces.now) c.args.others.now c.in_ok-leaves.leaves c.args.rest.now c.args.nodesize c.args.count c.in_ok-counter.counter c.requires.size c.in_ok-counter.ensures.size c.in_ok-leaves.ensures
     (c.in_ok-counter.ensures.lengths chunks are) (c.requires.own chunks are) c.requires.enough
 
 -- they lie at the slots in their order
@@ -51,7 +51,7 @@ returns-clause-fit g c =
     let rest = c.args.rest.now in
     let chunks = the_chunks c.args.plan.now c.args.blocks in
     let are = are_the_chunks c.args.plan.now c.args.blocks in
-    let lengths = lengths_of (extent_items chunks pieces c.in_ok-nodes.nodes c.args.nodesize) in
+    let lengths = lengths_of (extent_items chunks pieces c.in_ok-leaves.leaves c.args.nodesize) in
     let own : c.add_nodes.new.nodes ≡ nodes_of_tree 2 c.in_ok-counter.counter.nodesize lengths rest = c.in_ok-add_nodes.ensures lengths (c.in_ok-counter.ensures.lengths chunks are) ∙ ap (λ (ns : List TreeNode). ns ++ nodes_of_tree 2 c.in_ok-counter.counter.nodesize lengths rest) c.new-own.ensures in
     told c.merged.result (merged_nodes others c.add_nodes.new.nodes) c.merged.ensures
     (with_others others rest c.requires.nodes c.requires.slots c.requires.few (tree_nodes c.in_ok-counter.counter.nodesize lengths) c.add_nodes.new.nodes (ap addresses own ∙ tree_at 2 c.in_ok-counter.counter.nodesize lengths rest))
