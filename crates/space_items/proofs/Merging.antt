@@ -14,7 +14,8 @@ use Rattle.btr_keys.specs.declared.key.Key.{Key}
 use Rattle.btr_keys.specs.Key.{key_cmp, IsBefore}
 use Rattle.btr_node.specs.Leaf.{Item}
 use Rattle.item_list.proofs.Joining.{no_item, range_push}
-use Rattle.space_items.specs.Merging.{merged}
+use Rattle.space_items.specs.Merging.{merged, item_cmp}
+use Rattle.space_items.proofs.Merges.{merge-nil, merge-less, merge-greater}
 
 pub key_total : IsTotalOrder key_cmp
 key_total = then_total (on_total (λ (k : Key). k.objectid) nat_cmp_total) (then_total (on_total (λ (k : Key). k.kind) nat_cmp_total) (on_total (λ (k : Key). k.offset) nat_cmp_total))
@@ -26,44 +27,26 @@ cases_Ordering Equal = inr (inl refl)
 cases_Ordering Greater = inr (inr refl)
 
 then_equal : (a b : Ordering) → ordering_then a b ≡ Equal → (a ≡ Equal) × (b ≡ Equal)
-then_equal Less b e = (e, absurd (not_equal e))
-  where
-    not_equal : Less ≡ Equal → ⊥
-    not_equal e = cc
+then_equal Less b e = absurd cc
 then_equal Equal b e = (refl, e)
-then_equal Greater b e = absurd (not_equal e)
-  where
-    not_equal : Greater ≡ Equal → ⊥
-    not_equal e = cc
+then_equal Greater b e = absurd cc
 
 pub same_kind : (a b : Key) → key_cmp a b ≡ Equal → a.kind ≡ b.kind
 same_kind a b e = exact_unsigned a.kind b.kind (then_equal (nat_cmp a.kind b.kind) (nat_cmp a.offset b.offset) (then_equal (nat_cmp a.objectid b.objectid) _ e).1).0
-
--- the first of one list, where it is before those of the other
-pub merged_first : (x : Item) (xs : List Item) (y : Item) (ys : List Item) → IsBefore x.0 y.0 → merged (x ∷ xs) (y ∷ ys) ≡ x ∷ merged xs (y ∷ ys)
-merged_first x xs y ys e = rw e refl
-
--- the first of the other
-pub merged_second : (x : Item) (xs : List Item) (y : Item) (ys : List Item) → IsBefore y.0 x.0 → merged (x ∷ xs) (y ∷ ys) ≡ y ∷ merged (x ∷ xs) ys
-merged_second x xs y ys e = let f : key_cmp x.0 y.0 ≡ Greater = key_total.antisymm x.0 y.0 ∙ ap ordering_reverse e in rw f refl
-
-pub merged_nil : (xs : List Item) → merged xs [] ≡ xs
-merged_nil [] = refl
-merged_nil (x ∷ xs) = refl
 
 -- those of the other list that are before it
 pub merged_behind : (x : Item) (xs ys : List Item) (n : ℕ) → n ≤ length ys → ((k : ℕ) (d : Item) → k < n → IsBefore (get_or ys k d).0 x.0) → merged (x ∷ xs) ys ≡ take n ys ++ merged (x ∷ xs) (drop n ys)
 merged_behind x xs ys zero within before = refl
 merged_behind x xs [] (suc n) within before = absurd (omega (arith, within))
 merged_behind x xs (y ∷ ys) (suc n) within before =
-    merged_second x xs y ys (before 0 y (omega arith))
+    merge-greater item_cmp x xs y ys (key_total.antisymm x.0 y.0 ∙ ap ordering_reverse (before 0 y (omega arith)))
     ∙ ap (λ (l : List Item). y ∷ l) (merged_behind x xs ys n (omega (arith, within)) (λ k d h. before (suc k) d (omega (arith, h))))
 
 -- an item that is behind none of the other list, and has a kind of its own
 pub merged_ahead : (x : Item) (xs ys : List Item) → ((d : Item) → 0 < length ys → IsBefore (get_or ys 0 d).0 x.0 → ⊥) → ((d : Item) → 0 < length ys → (get_or ys 0 d).0.kind ≢ x.0.kind) → merged (x ∷ xs) ys ≡ x ∷ merged xs ys
-merged_ahead x xs [] low apart = ap (λ (l : List Item). x ∷ l) (sym (merged_nil xs))
+merged_ahead x xs [] low apart = ap (λ (l : List Item). x ∷ l) (sym (merge-nil item_cmp xs))
 merged_ahead x xs (y ∷ ys) low apart =
-    ⊎_elim (λ (less : key_cmp x.0 y.0 ≡ Less). merged_first x xs y ys less)
+    ⊎_elim (λ (less : key_cmp x.0 y.0 ≡ Less). merge-less item_cmp x xs y ys less)
     (λ rest. ⊎_elim (λ (equal : key_cmp x.0 y.0 ≡ Equal). absurd (apart y (omega arith) (sym (same_kind x.0 y.0 equal))))
     (λ (greater : key_cmp x.0 y.0 ≡ Greater). absurd (low y (omega arith) (key_total.antisymm y.0 x.0 ∙ ap ordering_reverse greater)))
     rest)
