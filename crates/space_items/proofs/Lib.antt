@@ -16,3 +16,4 @@ pub mod Rooting
 pub mod Shapes
 pub mod Summing
 pub mod Tallying
+pub mod Staying

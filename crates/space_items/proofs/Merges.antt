@@ -257,3 +257,25 @@ module _ {K L : Type 0} (cmp : K → K → Ordering) (cmp' : L → L → Orderin
   pub map-merge : (xs ys : List K) → map f (merge cmp xs ys) ≡ merge cmp' (map f xs) (map f ys)
   map-merge [] ys = refl
   map-merge (x ∷ xs) ys = map_at x xs (map-merge xs) ys
+
+-- the same, where the order goes by the other form at least between elements of the two lists
+module _ {K L : Type 0} (cmp : K → K → Ordering) (cmp' : L → L → Ordering) (f : K → L) where
+  abbrev pub Across : List K → List K → Type 0
+  Across xs ys = All (λ x. All (λ y. cmp x y ≡ cmp' (f x) (f y)) ys) xs
+
+  across_tail : (xs : List K) (y : K) (ys : List K) → Across xs (y ∷ ys) → Across xs ys
+  across_tail xs y ys across = λ k d h. All-tail (λ z. cmp (get_or xs k d) z ≡ cmp' (f (get_or xs k d)) (f z)) y ys (across k d h)
+
+  across_at : (x : K) (xs : List K) → ((ys : List K) → Across xs ys → map f (merge cmp xs ys) ≡ merge cmp' (map f xs) (map f ys)) → (ys : List K) → Across (x ∷ xs) ys → map f (merge cmp (x ∷ xs) ys) ≡ merge cmp' (f x ∷ map f xs) (map f ys)
+  across_at x xs on [] across = refl
+  across_at x xs on (y ∷ ys) across =
+      let same : cmp x y ≡ cmp' (f x) (f y) = All-head (λ z. cmp x z ≡ cmp' (f x) (f z)) y ys (All-head (λ w. All (λ z. cmp w z ≡ cmp' (f w) (f z)) (y ∷ ys)) x xs across) in
+      let rest : Across xs (y ∷ ys) = All-tail (λ w. All (λ z. cmp w z ≡ cmp' (f w) (f z)) (y ∷ ys)) x xs across in
+      by_order (cmp x y)
+      (λ e. ap (map f) (merge-less cmp x xs y ys e) ∙ (ap (λ zs. f x ∷ zs) (on (y ∷ ys) rest) ∙ sym (merge-less cmp' (f x) (map f xs) (f y) (map f ys) (sym same ∙ e))))
+      (λ e. ap (map f) (merge-equal cmp x xs y ys e) ∙ (ap (λ zs. f x ∷ zs) (on ys (across_tail xs y ys rest)) ∙ sym (merge-equal cmp' (f x) (map f xs) (f y) (map f ys) (sym same ∙ e))))
+      (λ e. ap (map f) (merge-greater cmp x xs y ys e) ∙ (ap (λ zs. f y ∷ zs) (across_at x xs on ys (across_tail (x ∷ xs) y ys across)) ∙ sym (merge-greater cmp' (f x) (map f xs) (f y) (map f ys) (sym same ∙ e))))
+
+  pub map-merge-across : (xs ys : List K) → Across xs ys → map f (merge cmp xs ys) ≡ merge cmp' (map f xs) (map f ys)
+  map-merge-across [] ys across = refl
+  map-merge-across (x ∷ xs) ys across = across_at x xs (λ zs zacross. map-merge-across xs zs zacross) ys across

@@ -38,3 +38,14 @@ own_bound chunks pieces others nodesize = 2 * node_bound (extent_bytes (length p
 abbrev pub nodes_with_own : List Chunk → List Piece → List TreeNode → List ℕ → ℕ → ℕ → List TreeNode
 nodes_with_own chunks pieces others slots nodesize x =
     merged_nodes others (nodes_of_tree 2 nodesize (own_lengths chunks pieces others slots nodesize x) slots)
+
+-- With these nodes the items of the extent tree make a tree whose own nodes are just those among them.
+pub record DescribesItself (chunks : List Chunk) (pieces : List Piece) (others : List TreeNode) (slots : List ℕ) (nodesize x : ℕ) (all : List TreeNode) : Type 0 where
+  pub nodes : all ≡ merged_nodes others (nodes_of_tree 2 nodesize (lengths_of (extent_items chunks pieces all nodesize)) slots)
+  pub count : tree_nodes nodesize (lengths_of (extent_items chunks pieces all nodesize)) ≡ x
+
+-- the number describes itself whatever the levels of the nodes are
+abbrev pub OwnNodesStay : Type 0
+OwnNodesStay =
+    (chunks : List Chunk) (pieces : List Piece) (others : List TreeNode) (slots : List ℕ) (nodesize x : ℕ) → IsOwnCount chunks pieces others slots nodesize x
+    → DescribesItself chunks pieces others slots nodesize x (nodes_with_own chunks pieces others slots nodesize x)

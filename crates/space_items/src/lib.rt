@@ -11,6 +11,7 @@ mod groups;
 mod laws;
 mod node;
 mod own_count;
+mod own_laws;
 mod refs;
 mod root_list;
 mod sum_stream;
@@ -20,6 +21,7 @@ pub use extent_stream::{ExtentStream, extents};
 pub use laws::{chunk_items_fit, chunks_are_one, root_items_fit};
 pub use node::{NodeList, RootList, TreeNode, TreeRoot};
 pub use own_count::{add_nodes, merged, own_nodes, with_own};
+pub use own_laws::own_nodes_stay;
 pub use root_list::roots;
 pub use sum_stream::{SumStream, checksums};
 
