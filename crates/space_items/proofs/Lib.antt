@@ -14,6 +14,7 @@ pub mod Ordered
 pub mod OwnBound
 pub mod Rooting
 pub mod Shapes
+pub mod StreamOrder
 pub mod Summing
 pub mod Tallying
 pub mod Staying

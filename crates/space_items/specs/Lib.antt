@@ -6,4 +6,5 @@ pub mod Nodes
 pub mod Own
 pub mod Roots
 pub mod Stream
+pub mod StreamLaws
 pub mod Sums

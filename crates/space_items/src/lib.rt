@@ -14,6 +14,7 @@ mod own_count;
 mod own_laws;
 mod refs;
 mod root_list;
+mod stream_laws;
 mod sum_stream;
 
 pub use chunk_lists::{chunk_body, chunks, device_body, devices};
@@ -23,6 +24,7 @@ pub use node::{NodeList, RootList, TreeNode, TreeRoot};
 pub use own_count::{add_nodes, merged, own_nodes, with_own};
 pub use own_laws::own_nodes_stay;
 pub use root_list::roots;
+pub use stream_laws::{extent_items_are_items, sum_items_are_items};
 pub use sum_stream::{SumStream, checksums};
 
 #[cfg(test)]
