@@ -18,3 +18,4 @@ pub mod StreamOrder
 pub mod Summing
 pub mod Tallying
 pub mod Staying
+pub mod OwnLaws

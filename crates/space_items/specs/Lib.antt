@@ -4,6 +4,7 @@ pub mod Laws
 pub mod Merging
 pub mod Nodes
 pub mod Own
+pub mod OwnLaws
 pub mod Roots
 pub mod Stream
 pub mod StreamLaws
