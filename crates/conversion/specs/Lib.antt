@@ -1,3 +1,2 @@
 pub mod Making
 pub mod Source
-pub mod Superblock

@@ -14,7 +14,6 @@ use Rattle.space_items.specs.declared.node.TreeNode.{TreeNode}
 use Rattle.unit_plan.specs.declared.piece.Piece.{Piece}
 use Rattle.conversion.specs.Making.{Making, IsMaking}
 use Rattle.convert_core.specs.Standing.{Roots, HasTrees, used_bytes}
-use Rattle.conversion.specs.Superblock.{new_super}
 
 -- the blocks of the copies of a superblock
 abbrev pub IsMirror : ℕ → Type 0

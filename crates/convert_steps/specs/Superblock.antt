@@ -1,0 +1,65 @@
+-- The superblock of a converted volume.
+use Rattle.std.specs.Prelude.{ℕ, ◌*◌, ◌-◌, ◌==◌, List, ◌++◌, length, replicate, if◌then◌else◌, Bool, true, false, filter}
+use Rattle.std.specs.List.{flat_map}
+use Rattle.vol_block.specs.declared.ids.Ids.{Ids}
+use Rattle.btr_keys.specs.Key.{key_bytes}
+use Rattle.btr_node.specs.Leaf.{Item}
+use Rattle.btr_super.specs.declared.superblock.Super.{Super}
+use Rattle.space_items.specs.Chunks.{chunk_item, device_body}
+use Rattle.unit_plan.specs.declared.chunk.Chunk.{Chunk}
+use Rattle.unit_plan.specs.declared.chunk.Role.{Role}
+use Rattle.unit_plan.specs.declared.chunk.Role.TheVariants.{System, Metadata, Data}
+use Rattle.convert_steps.specs.declared.superblock.NewRoots.{NewRoots}
+
+abbrev pub is_system_role : Role → Bool
+is_system_role System = true
+is_system_role Metadata = false
+is_system_role Data = false
+
+-- the bootstrap array: the system chunks, each with its key
+abbrev pub record_bytes : Item → List ℕ
+record_bytes item = key_bytes item.0 ++ item.1
+
+abbrev pub boot_bytes : Ids → List Chunk → List ℕ
+boot_bytes ids chunks = flat_map (λ c. record_bytes (chunk_item ids c)) (filter (λ c. is_system_role c.role) chunks)
+
+-- The features that the volume has: mixed back references, extended inode refs, no holes and skinny metadata, and big nodes
+-- where a node is larger than a page of 4096 bytes.
+abbrev pub features : ℕ → ℕ
+features nodesize = if nodesize == 4096 then 0x341 else 0x361
+
+-- The superblock of a volume of so many blocks, with these identifiers, this field of a label, and these chunks.
+unfoldable pub new_super : Ids → ℕ → ℕ → List ℕ → List Chunk → NewRoots → Super
+new_super ids blocks nodesize label chunks roots = record {
+  fsid = ids.fsid;
+  bytenr = 65536;
+  flags = 1;
+  generation = 1;
+  root = roots.root.address;
+  chunk_root = roots.chunk.address;
+  log_root = 0;
+  log_root_transid = 0;
+  total_bytes = 4096 * blocks;
+  bytes_used = roots.used;
+  root_dir_objectid = 6;
+  num_devices = 1;
+  sectorsize = 4096;
+  nodesize = nodesize;
+  leafsize = nodesize;
+  stripesize = 4096;
+  sys_chunk_array_size = length (boot_bytes ids chunks);
+  chunk_root_generation = 1;
+  compat = 0;
+  compat_ro = 0;
+  incompat = features nodesize;
+  csum_type = 0;
+  root_level = roots.root.level;
+  chunk_root_level = roots.chunk.level;
+  log_root_level = 0;
+  dev_item = device_body ids blocks chunks;
+  label = label;
+  cache_generation = 0;
+  uuid_tree_generation = 0;
+  sys_chunk_array = boot_bytes ids chunks ++ replicate (2048 - length (boot_bytes ids chunks)) 0;
+  backup_roots = replicate 672 0;
+}

@@ -1,0 +1,28 @@
+-- What the switch to a Btrfs superblock leaves.
+use Rattle.std.specs.Prelude.{◌≡◌, ◌≢◌, ◌⊎◌, ℕ, ◌<◌, List, length}
+use Rattle.outside.specs.History.{Image, block_at, IsBlock}
+use Rattle.btr_super.specs.Super.{mirror_bytes}
+
+-- the blocks of the copies of a superblock, at 64 MiB and at 256 GiB, as the Btrfs on-disk format documentation has them
+abbrev pub IsMirror : ℕ → Type 0
+IsMirror b = (b ≡ 16384) ⊎ (b ≡ 67108864)
+
+-- a copy of the superblock, on a volume of so many blocks
+pub record IsCopy (superblock : List ℕ) (blocks b : ℕ) (bytes : List ℕ) : Type 0 where
+  pub mirror : IsMirror b
+  pub within : b < blocks
+  pub bytes_are : bytes ≡ mirror_bytes b superblock
+
+-- what a switch writes
+abbrev pub IsPart : List ℕ → ℕ → ℕ → List ℕ → Type 0
+IsPart superblock blocks b bytes = IsBlock 16 superblock b bytes ⊎ IsCopy superblock blocks b bytes
+
+-- the new superblock, and all else as it was but for the copies' blocks
+pub record IsSwitched (superblock : List ℕ) (old image : Image) : Type 0 where
+  pub size : length image ≡ length old
+  pub superblock_is : block_at image 16 ≡ superblock
+  pub others : (b : ℕ) → b ≢ 16 → ¬ IsMirror b → block_at image b ≡ block_at old b
+
+-- all copies stand
+abbrev pub HasCopies : List ℕ → ℕ → Image → Type 0
+HasCopies superblock blocks image = (b : ℕ) → IsMirror b → b < blocks → block_at image b ≡ mirror_bytes b superblock

@@ -1,0 +1,51 @@
+// What goes into each node and the superblock by the options.
+ghost use Rattle.std.specs.Prelude.{◌≡◌, ◌≤◌, length};
+ghost use Rattle.conversion.specs.Making.{before_zero, ids_by, label_by, label_field};
+
+use reiser_super::Super;
+use unit_plan::{LabelChoice, Options, UuidChoice};
+use vol_block::Ids;
+
+/// The identifiers of the converted volume: that of the file system is a new one, the old volume's or a given one.
+pub fn ids_of(ids: &Ids, sup: &Super, options: &Options) -> Ids
+    ensures { result ≡ ids_by ids.now sup.now options.now }
+{
+    let fsid = match options.uuid {
+        UuidChoice::New => ids.fsid,
+        UuidChoice::Copy => sup.uuid,
+        UuidChoice::Given(uuid) => uuid,
+    };
+    Ids { fsid, ..*ids }
+}
+
+/// The label of the converted volume, filled up with zeros.
+pub fn label_of(sup: &Super, options: &Options) -> [u8; 256]
+    ensures { result ≡ label_field (label_by sup.now options.now.label) }
+{
+    match &options.label {
+        LabelChoice::Empty => [0; 256],
+        LabelChoice::Text(label) => filled_up(label.bytes()),
+        LabelChoice::Copy => filled_up(before_zero(&sup.label)),
+    }
+}
+
+/// The bytes before the first zero.
+fn before_zero(label: &[u8; 16]) -> &[u8]
+    ensures { result.now ≡ before_zero label.now }
+{
+    let mut end = 0;
+    while end < label.len() && label[end] != 0 {
+        end += 1;
+    }
+    &label[..end]
+}
+
+/// At most 256 bytes, and zeros behind them.
+fn filled_up(bytes: &[u8]) -> [u8; 256]
+    requires { length bytes.now ≤ 256 }
+    ensures { result ≡ label_field bytes.now }
+{
+    let mut field = [0; 256];
+    field[..bytes.len()].copy_from_slice(bytes);
+    field
+}

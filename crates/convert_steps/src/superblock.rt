@@ -1,0 +1,130 @@
+ghost use Rattle.std.specs.Prelude.{◌≡◌, ◌≤◌, ◌<◌, ◌+◌, ◌*◌, ◌-◌, ◌^◌, ◌++◌, List, length, take, replicate, All, AllPairs, IfOk};
+ghost use Rattle.std.specs.List.{sum_by};
+ghost use Rattle.btr_super.specs.Super.{super_bytes};
+ghost use Rattle.convert_steps.specs.Superblock.{boot_bytes, new_super, record_bytes};
+ghost use Rattle.space_items.specs.Chunks.{chunk_item};
+ghost use Rattle.unit_plan.specs.Chunks.{AreChunks, FitsVolume};
+ghost use Rattle.unit_plan.specs.declared.chunk.Chunk.{Chunk as ChunkOf};
+
+use btr_keys::Key;
+use btr_super::Super;
+use btr_tree::Root;
+use outside::Memory;
+use space_items::{chunk_body, device_body};
+use std::alloc::Global;
+use unit_plan::{Chunk, Chunks, Plan, Role, chunks_of};
+use vol_block::{Block, Ids};
+
+/// The bytes of the bootstrap array.
+const ARRAY_SIZE: usize = 2048;
+
+/// The bytes of a key.
+const KEY_SIZE: usize = 17;
+
+/// The bytes of a key and of the body of a chunk of one stripe.
+const RECORD_SIZE: usize = 97;
+
+/// What the superblock says of the trees.
+#[derive(Clone, Copy, Debug, PartialEq, Eq)]
+pub struct NewRoots {
+    /// The chunk tree.
+    pub chunk: Root,
+    /// The root tree.
+    pub root: Root,
+    /// The bytes of all extents and nodes.
+    pub used: u64,
+}
+
+/// The superblock of a converted volume of so many blocks, with this field of its label.
+pub fn superblock(
+    alloc: Global,
+    plan: &Plan,
+    blocks: u64,
+    ids: &Ids,
+    label: [u8; 256],
+    nodesize: u32,
+    roots: &NewRoots,
+) -> Result<Block, Memory>
+    requires small { blocks ≤ 2 ^ 29 }
+    requires units { FitsVolume plan.now blocks }
+    requires boot { (chunks : List ChunkOf) → AreChunks plan.now blocks chunks → length (boot_bytes ids.now chunks) ≤ 2048 }
+    ensures { (chunks : List ChunkOf) → AreChunks plan.now blocks chunks → IfOk result (λ block. block.bytes ≡ super_bytes (new_super ids.now blocks nodesize label chunks roots.now)) }
+{
+    let chunks = chunks_of(alloc, plan, blocks)?;
+    let (array, size) = boot_array(ids, &chunks);
+    let value = Super {
+        fsid: ids.fsid,
+        bytenr: 65536,
+        flags: 1,
+        generation: 1,
+        root: roots.root.address,
+        chunk_root: roots.chunk.address,
+        log_root: 0,
+        log_root_transid: 0,
+        total_bytes: 4096 * blocks,
+        bytes_used: roots.used,
+        root_dir_objectid: 6,
+        num_devices: 1,
+        sectorsize: 4096,
+        nodesize,
+        leafsize: nodesize,
+        stripesize: 4096,
+        sys_chunk_array_size: size as u32,
+        chunk_root_generation: 1,
+        compat: 0,
+        compat_ro: 0,
+        incompat: features(nodesize),
+        csum_type: 0,
+        root_level: roots.root.level,
+        chunk_root_level: roots.chunk.level,
+        log_root_level: 0,
+        dev_item: device_body(ids, blocks, &chunks),
+        label,
+        cache_generation: 0,
+        uuid_tree_generation: 0,
+        sys_chunk_array: array,
+        backup_roots: [0; 672],
+    };
+    let mut block = Block::zero();
+    value.encode(&mut block);
+    Ok(block)
+}
+
+/// The features that the volume has. Nodes larger than a page of 4096 bytes are one.
+fn features(nodesize: u32) -> u64 {
+    if nodesize == 4096 { 0x341 } else { 0x361 }
+}
+
+/// The bootstrap array, which has the system chunks, each with its key, and how many bytes of it are used.
+fn boot_array(ids: &Ids, chunks: &Chunks) -> ([u8; ARRAY_SIZE], usize)
+    requires small { All (λ c. c.start + c.length ≤ 2 ^ 29) chunks.now }
+    requires fits { length (boot_bytes ids.now chunks.now) ≤ 2048 }
+    ensures array { result.0 ≡ boot_bytes ids.now chunks.now ++ replicate (2048 - length (boot_bytes ids.now chunks.now)) 0 }
+    ensures size { result.1 ≡ length (boot_bytes ids.now chunks.now) }
+{
+    let mut array = [0; ARRAY_SIZE];
+    let mut end = 0;
+    for i in 0..chunks.len() {
+        let chunk = chunks.get(i);
+        if chunk.role == Role::System {
+            write_record(ids, chunk, &mut array[end..end + RECORD_SIZE]);
+            end += RECORD_SIZE;
+        }
+    }
+    (array, end)
+}
+
+/// Writes a chunk's key and body.
+fn write_record(ids: &Ids, chunk: Chunk, into: &mut [u8])
+    requires small { chunk.start + chunk.length ≤ 2 ^ 29 }
+    requires room { length into.old ≡ 97 }
+    ensures { into.new ≡ record_bytes (chunk_item ids.now chunk) }
+{
+    let key = Key {
+        objectid: 256,
+        kind: 228,
+        offset: 4096 * chunk.start,
+    };
+    key.write(&mut into[..KEY_SIZE]);
+    chunk_body(ids, chunk).write(&mut into[KEY_SIZE..]);
+}
