@@ -98,7 +98,7 @@ few_chunks plan blocks chunks are =
       arith,
       sum-ge count chunks (λ k d h. (are.each k d h).not_empty),
       apart_fit start count blocks 0 chunks (omega arith) (λ k d h. omega arith) are.ascending
-      (λ k d h. let is = are.each k d h in let ends : (get_or chunks k d).start + (get_or chunks k d).length ≡ min (usable_end blocks) (256 * is.end) = is.ends in omega (arith, ends)),
+          (λ k d h. let is = are.each k d h in let ends : (get_or chunks k d).start + (get_or chunks k d).length ≡ min (usable_end blocks) (256 * is.end) = is.ends in omega (arith, ends)),
     )
 
 few_pieces : (pieces : List Piece) → ArePieces pieces → length pieces ≤ 2 ^ 29

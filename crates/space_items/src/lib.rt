@@ -22,7 +22,7 @@ pub use extent_stream::{ExtentStream, extents};
 pub use laws::{chunk_items_fit, chunks_are_one, root_items_fit};
 pub use node::{NodeList, RootList, TreeNode, TreeRoot};
 pub use own_count::{add_nodes, merged, own_nodes, with_own};
-pub use own_laws::{extent_items_fit, own_nodes_are_needed, own_nodes_stay};
+pub use own_laws::{own_nodes_are_needed, own_nodes_stay};
 pub use root_list::roots;
 pub use stream_laws::{extent_items_are_items, sum_items_are_items};
 pub use sum_stream::{SumStream, checksums};

@@ -136,7 +136,12 @@ fn with_leaves(
     ensures { IfOk result (λ nodes. nodes ≡ merged_nodes others.now (own_at rest.now count)) }
 {
     let mut leaves = NodeList::new(alloc);
-    add_level(&mut leaves, &rest.as_slice()[..count as usize], 0, EXTENT_TREE)?;
+    add_level(
+        &mut leaves,
+        &rest.as_slice()[..count as usize],
+        0,
+        EXTENT_TREE,
+    )?;
     merged(alloc, others, &leaves)
 }
 

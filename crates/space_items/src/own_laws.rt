@@ -1,16 +1,11 @@
-// Laws of the extent tree, each the contract of a function that does nothing.
+// Laws of the extent tree's own nodes, each the contract of a function that does nothing.
 ghost use Rattle.space_items.specs.Own.{OwnNodesStay};
-ghost use Rattle.space_items.specs.OwnLaws.{ExtentItemsFit, OwnNodesAreNeeded};
+ghost use Rattle.space_items.specs.OwnLaws.{OwnNodesAreNeeded};
 
 /// With the extent tree's own nodes among all nodes, its items make a tree that has just these nodes: as many as were
 /// counted, and each at its slot.
 pub fn own_nodes_stay()
     ensures { OwnNodesStay }
-{}
-
-/// The items of the extent tree ascend by their keys, and none is longer than a root item.
-pub fn extent_items_fit()
-    ensures { ExtentItemsFit }
 {}
 
 /// The space that a conversion needs has room for as many nodes as the bound of the extent tree's own nodes says.

@@ -18,7 +18,7 @@ loop-counter-init g c =
     record {
       fits = c.in_ok-stream.ensures.fits;
       tallied = tally_begins c.args.nodesize (extent_items chunks pieces c.args.nodes.now c.args.nodesize) (are_short c.args.plan.now c.args.blocks c.args.nodesize chunks pieces c.args.nodes.now c.requires.small are c.requires.pieces c.requires.nodes)
-      (extents_ahead c.in_ok-stream.stream pieces c.args.nodes.now) c.new-counter.result (c.in_ok-stream.ensures.all chunks are) c.new-counter.ensures.size c.new-counter.ensures.counted;
+          (extents_ahead c.in_ok-stream.stream pieces c.args.nodes.now) c.new-counter.result (c.in_ok-stream.ensures.all chunks are) c.new-counter.ensures.size c.new-counter.ensures.counted;
     }
 
 pub add-requires-clause-fits : goal.add-requires-clause-fits
@@ -50,7 +50,7 @@ loop-counter-preserved g c =
     record {
       fits = c.loop-counter-test.ensures.fits;
       tallied = tally_goes_on c.args.nodesize (extent_items chunks pieces nodes c.args.nodesize) short (extents_ahead c.loop-counter.stream pieces nodes) (extents_ahead c.advance.new.self pieces nodes) c.loop-counter.counter (extent_standing c.advance.new.self)
-      c.loop-counter.invariant.tallied c.loop-counter-test.ensures.next c.add.new.self c.add.ensures.size on;
+          c.loop-counter.invariant.tallied c.loop-counter-test.ensures.next c.add.new.self c.add.ensures.size on;
     }
 
 pub returns-clause-lengths : goal.returns-clause-lengths
