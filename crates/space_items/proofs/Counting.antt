@@ -1,5 +1,5 @@
 -- How much of a list lies between two places.
-use Rattle.std.proofs.Common.{◌≡◌, ◌<◌, ◌≤◌, ℕ, zero, suc, ◌+◌, ◌-◌, ◌*◌, ◌^◌, Bool, true, false, not, cond, List, [], ◌∷◌, ◌++◌, length, filter, take, drop, get_or, sum_by, Some, refl, sym, ap, subst, ◌∙◌, ◌&&◌, arith, length-drop}
+use Rattle.std.proofs.Common.{◌≡◌, ◌<◌, ◌≤◌, ℕ, zero, suc, ◌+◌, ◌*◌, ◌^◌, Bool, true, false, not, cond, List, [], ◌∷◌, ◌++◌, length, filter, take, drop, get_or, sum_by, Some, refl, sym, ap, subst, ◌∙◌, ◌&&◌, arith, length-drop}
 use Rattle.std.specs.Prelude.{nat_le, nat_lt, slice_get, All, AllPairs}
 use Rattle.std.proofs.lemmas.Bool.Decides.{nat_tests}
 use Rattle.std.proofs.lemmas.List.{take_all, take-append-drop, get_or-drop}

@@ -1,6 +1,6 @@
 -- The item that comes next where lists are put together by key.
-use Rattle.std.proofs.Common.{◌≡◌, ◌<◌, ◌≤◌, ℕ, zero, suc, ◌+◌, ◌*◌, ◌^◌, Bool, true, false, cond, List, [], ◌∷◌, length, drop, map, Option, Some, None, refl, sym, ap, subst, ◌∙◌, arith}
-use Rattle.std.specs.Prelude.{slice_get, IfSome, All}
+use Rattle.std.proofs.Common.{◌≡◌, ◌<◌, ℕ, zero, suc, ◌+◌, ◌*◌, ◌^◌, Bool, true, false, cond, List, [], ◌∷◌, drop, map, Option, Some, None, refl, sym, ap, subst, ◌∙◌, arith}
+use Rattle.std.specs.Prelude.{slice_get, IfSome}
 use Rattle.std.specs.Option.{MatchOption, option_map}
 use Rattle.std.specs.Ordering.{nat_cmp, ordering_then, is_lt, match_ordering}
 use Rattle.std.specs.declared.cmp.Ordering.{Ordering}
@@ -11,7 +11,7 @@ use Rattle.btr_node.specs.Leaf.{Item}
 use Rattle.btr_node.specs.Order.{is_before}
 use Rattle.unit_plan.specs.declared.piece.Piece.{Piece}
 use Rattle.space_items.specs.Extents.{node_item, piece_item}
-use Rattle.space_items.specs.Merging.{item_cmp, merged}
+use Rattle.space_items.specs.Merging.{merged}
 use Rattle.space_items.specs.Stream.{FitsExtents, IsSmallGroup, IsSmallNext, IsSmallPiece, extents_ahead, first_of, item_of_group, item_of_next, passed, place_of}
 use Rattle.space_items.specs.declared.extent_stream.ExtentStream.{ExtentStream}
 use Rattle.space_items.specs.declared.extent_stream.Next.{Next}

@@ -1,11 +1,11 @@
 -- The items of the extent tree and of the checksum tree ascend, and are short.
-use Rattle.std.proofs.Common.{◌≡◌, ◌≤◌, ◌<◌, ℕ, zero, suc, ◌+◌, ◌-◌, ◌*◌, ◌^◌, min, List, [], ◌∷◌, ◌++◌, length, map, take, get_or, refl, sym, ap, subst, ◌∙◌, arith, length-append, length-take}
+use Rattle.std.proofs.Common.{◌≡◌, ◌≤◌, ◌<◌, ℕ, zero, suc, ◌+◌, ◌-◌, ◌*◌, ◌^◌, min, List, [], ◌∷◌, ◌++◌, length, map, get_or, refl, sym, ap, subst, ◌∙◌, arith, length-append, length-take}
 use Rattle.std.specs.Prelude.{All, AllPairs}
 use Rattle.std.specs.Int.{div_ceil}
 use Rattle.std.specs.List.{flat_map, range_with_len}
 use Rattle.std.specs.Ordering.{ordering_then, nat_cmp}
 use Rattle.std.specs.declared.cmp.Ordering.{Ordering}
-use Rattle.std.specs.declared.cmp.Ordering.TheVariants.{Less, Equal, Greater}
+use Rattle.std.specs.declared.cmp.Ordering.TheVariants.{Less}
 use Rattle.std.proofs.Math.Nat.{mul-add, mul-le-mul_left, mul_comm}
 use Rattle.std.proofs.lemmas.Grind.{div_ceil_times}
 use Rattle.std.proofs.lemmas.List.FromFn.{get_or-range_with_len, length-range_with_len}
@@ -23,11 +23,10 @@ use Rattle.unit_plan.specs.declared.chunk.Chunk.{Chunk}
 use Rattle.unit_plan.specs.declared.piece.Piece.{Piece}
 use Rattle.unit_plan.specs.declared.plan.Plan.{Plan}
 use Rattle.space_items.specs.Extents.{group_item, node_item, piece_item, used_in, extent_items}
-use Rattle.space_items.specs.Laws.{AreTreeItems}
 use Rattle.space_items.specs.Merging.{item_cmp, merged}
 use Rattle.space_items.specs.Nodes.{AreNodes}
 use Rattle.space_items.specs.Stream.{ArePieces, IsSmallPiece}
-use Rattle.space_items.specs.StreamLaws.{ExtentItemsAreItems, SumItemsAreItems}
+use Rattle.space_items.specs.StreamLaws.{ExtentItemsFit, SumItemsFit}
 use Rattle.space_items.specs.Sums.{block_sum, run_items, sum_items, sums_item}
 use Rattle.space_items.specs.declared.node.TreeNode.{TreeNode}
 use Rattle.space_items.proofs.BodyLengths.{length-group, length-node, length-piece}
@@ -55,32 +54,32 @@ groups_rise : (plan : Plan) (blocks : ℕ) (chunks : List Chunk) (used : Chunk �
 groups_rise plan blocks chunks used are =
     rise_of (λ c. group_item (used c) c) chunks
     (λ i j d l h.
-        let is : IsChunk (role_of plan blocks) (usable_end blocks) (get_or chunks i d) = are.each i d (omega (arith, l, h)) in
-        let some = is.not_empty in
-        let apart = are.ascending i j d l h in
-        less_first (4096 * (get_or chunks i d).start) (4096 * (get_or chunks j d).start) _ (omega (arith, some, apart)))
+    let is : IsChunk (role_of plan blocks) (usable_end blocks) (get_or chunks i d) = are.each i d (omega (arith, l, h)) in
+    let some = is.not_empty in
+    let apart = are.ascending i j d l h in
+    less_first (4096 * (get_or chunks i d).start) (4096 * (get_or chunks j d).start) _ (omega (arith, some, apart)))
 
 pieces_rise : (pieces : List Piece) → ArePieces pieces → Rise (map piece_item pieces)
 pieces_rise pieces are =
     rise_of piece_item pieces
     (λ i j d l h.
-        let small : IsSmallPiece (get_or pieces i d) = are.small i d (omega (arith, l, h)) in
-        let some = small.some in
-        let apart = are.ascending i j d l h in
-        less_first (4096 * (get_or pieces i d).place) (4096 * (get_or pieces j d).place) _ (omega (arith, some, apart)))
+    let small : IsSmallPiece (get_or pieces i d) = are.small i d (omega (arith, l, h)) in
+    let some = small.some in
+    let apart = are.ascending i j d l h in
+    less_first (4096 * (get_or pieces i d).place) (4096 * (get_or pieces j d).place) _ (omega (arith, some, apart)))
 
 nodes_rise : (nodes : List TreeNode) → AreNodes nodes → Rise (map node_item nodes)
 nodes_rise nodes are = rise_of node_item nodes (λ i j d l h. less_first (get_or nodes i d).address (get_or nodes j d).address _ (are.ascending i j d l h))
 
-pub extents_are : ExtentItemsAreItems
-extents_are plan blocks chunks pieces nodes nodesize are_chunks are_pieces are_nodes = record {
+pub extent_items_fit : ExtentItemsFit
+extent_items_fit plan blocks chunks pieces nodes nodesize are_chunks are_pieces are_nodes = record {
   ascend = rise_ascends (extent_items chunks pieces nodes nodesize)
-  (rises-merge item_cmp item_total groups (merged others last) (groups_rise plan blocks chunks (used_in pieces nodes nodesize) are_chunks)
-  (rises-merge item_cmp item_total others last (nodes_rise nodes are_nodes) (pieces_rise pieces are_pieces)));
+      (rises-merge item_cmp item_total groups (merged others last) (groups_rise plan blocks chunks (used_in pieces nodes nodesize) are_chunks)
+      (rises-merge item_cmp item_total others last (nodes_rise nodes are_nodes) (pieces_rise pieces are_pieces)));
   short = all-merge item_cmp (λ i. length i.1 ≤ 439) groups (merged others last)
-  (all_of (λ c. group_item (used_in pieces nodes nodesize c) c) (λ i. length i.1 ≤ 439) chunks (λ k d h. let long = length-group (used_in pieces nodes nodesize (get_or chunks k d)) (get_or chunks k d) in omega (arith, long)))
-  (all-merge item_cmp (λ i. length i.1 ≤ 439) others last (all_of node_item (λ i. length i.1 ≤ 439) nodes (λ k d h. let long = length-node (get_or nodes k d) in omega (arith, long)))
-  (all_of piece_item (λ i. length i.1 ≤ 439) pieces (λ k d h. let long = length-piece (get_or pieces k d) in omega (arith, long))));
+      (all_of (λ c. group_item (used_in pieces nodes nodesize c) c) (λ i. length i.1 ≤ 439) chunks (λ k d h. let long = length-group (used_in pieces nodes nodesize (get_or chunks k d)) (get_or chunks k d) in omega (arith, long)))
+      (all-merge item_cmp (λ i. length i.1 ≤ 439) others last (all_of node_item (λ i. length i.1 ≤ 439) nodes (λ k d h. let long = length-node (get_or nodes k d) in omega (arith, long)))
+      (all_of piece_item (λ i. length i.1 ≤ 439) pieces (λ k d h. let long = length-piece (get_or pieces k d) in omega (arith, long))));
 }
   where
     groups : List Item
@@ -157,25 +156,25 @@ module _ (sums : SumKind) (image : Image) where
   runs_at first count =
       all_of (item_at first count) (IsSumAt (4096 * first) (4096 * (first + count))) (range_with_len 0 (div_ceil count (sums_in_item sums)))
       (λ k d h.
-          let long = length-range_with_len 0 (div_ceil count (sums_in_item sums)) in
-          let here : k < div_ceil count (sums_in_item sums) = omega (arith, h, long) in
-          let in_it = part_within count k here in
-          subst (λ (i : ℕ). IsSumAt (4096 * first) (4096 * (first + count)) (item_at first count i)) (sym (number_at count k d here))
-          (record { objectid = refl; kind = refl; from = omega arith; to = omega (arith, in_it) }))
+      let long = length-range_with_len 0 (div_ceil count (sums_in_item sums)) in
+      let here : k < div_ceil count (sums_in_item sums) = omega (arith, h, long) in
+      let in_it = part_within count k here in
+      subst (λ (i : ℕ). IsSumAt (4096 * first) (4096 * (first + count)) (item_at first count i)) (sym (number_at count k d here))
+      (record { objectid = refl; kind = refl; from = omega arith; to = omega (arith, in_it) }))
 
   runs_rise : (first count : ℕ) → Rise (run_items sums image first count)
   runs_rise first count =
       rise_of (item_at first count) (range_with_len 0 (div_ceil count (sums_in_item sums)))
       (λ i j d l h.
-          let long = length-range_with_len 0 (div_ceil count (sums_in_item sums)) in
-          let high : j < div_ceil count (sums_in_item sums) = omega (arith, h, long) in
-          let low : i < div_ceil count (sums_in_item sums) = omega (arith, high, l) in
-          let up = part_rises i j l in
-          subst (λ (k : ℕ). item_cmp (item_at first count k) (item_at first count (get_or (range_with_len 0 (div_ceil count (sums_in_item sums))) j d)) ≡ Less) (sym (number_at count i d low))
-          (subst (λ (k : ℕ). item_cmp (item_at first count i) (item_at first count k) ≡ Less) (sym (number_at count j d high))
-          (sum_before (item_at first count i) (item_at first count j) 0 (4096 * (first + sums_in_item sums * j)) (4096 * (first + sums_in_item sums * j) + 1)
-          (record { objectid = refl; kind = refl; from = omega arith; to = omega (arith, up) })
-          (record { objectid = refl; kind = refl; from = omega arith; to = omega arith }))))
+      let long = length-range_with_len 0 (div_ceil count (sums_in_item sums)) in
+      let high : j < div_ceil count (sums_in_item sums) = omega (arith, h, long) in
+      let low : i < div_ceil count (sums_in_item sums) = omega (arith, high, l) in
+      let up = part_rises i j l in
+      subst (λ (k : ℕ). item_cmp (item_at first count k) (item_at first count (get_or (range_with_len 0 (div_ceil count (sums_in_item sums))) j d)) ≡ Less) (sym (number_at count i d low))
+      (subst (λ (k : ℕ). item_cmp (item_at first count i) (item_at first count k) ≡ Less) (sym (number_at count j d high))
+      (sum_before (item_at first count i) (item_at first count j) 0 (4096 * (first + sums_in_item sums * j)) (4096 * (first + sums_in_item sums * j) + 1)
+      (record { objectid = refl; kind = refl; from = omega arith; to = omega (arith, up) })
+      (record { objectid = refl; kind = refl; from = omega arith; to = omega arith }))))
 
   sums_at : (low : ℕ) (pieces : List Piece) → All (λ p. low ≤ p.place) pieces → All IsSmallPiece pieces → All (IsSumAt (4096 * low) (2 ^ 41)) (sum_items sums image pieces)
   sums_at low [] above small = All-nil (IsSumAt (4096 * low) (2 ^ 41))
@@ -228,5 +227,5 @@ module _ (sums : SumKind) (image : Image) where
   sums_short [] = All-nil (λ i. length i.1 + 126 ≤ 4096)
   sums_short (p ∷ pieces) = All-append (λ i. length i.1 + 126 ≤ 4096) (run_items sums image p.place p.count) (sum_items sums image pieces) (runs_short p.place p.count) (sums_short pieces)
 
-pub sums_are : SumItemsAreItems
-sums_are sums image pieces are = record { ascend = rise_ascends (sum_items sums image pieces) (sums_rise sums image pieces are.small are.ascending); short = sums_short sums image pieces }
+pub sum_items_fit : SumItemsFit
+sum_items_fit sums image pieces are = record { ascend = rise_ascends (sum_items sums image pieces) (sums_rise sums image pieces are.small are.ascending); short = sums_short sums image pieces }

@@ -1,23 +1,19 @@
 -- Checksums of blocks, one behind the other, and the items that have them.
-use Rattle.std.proofs.Common.{◌≡◌, ◌<◌, ◌≤◌, ℕ, zero, suc, ◌+◌, ◌-◌, ◌*◌, ◌/◌, ◌%◌, min, Bool, true, false, cond, List, [], ◌∷◌, ◌++◌, length, map, drop, Some, None, Option, refl, sym, ap, subst, ◌∙◌, append_assoc, arith, ⊎_elim, eq-eqb, ne_eqb}
+use Rattle.std.proofs.Common.{◌≡◌, ◌<◌, ◌≤◌, ℕ, zero, suc, ◌+◌, ◌-◌, ◌*◌, ◌/◌, ◌%◌, min, Bool, true, false, cond, List, [], ◌∷◌, ◌++◌, map, drop, Some, refl, sym, ap, ◌∙◌, append_assoc, arith, ⊎_elim, eq-eqb, ne_eqb}
 use Rattle.std.specs.Prelude.{slice_get, ◌==◌}
 use Rattle.std.specs.Int.{div_ceil}
 use Rattle.std.specs.List.{flat_map, range_with_len}
 use Rattle.std.proofs.Math.Nat.{add-div_left, div-eq_of_lt, div_self, eq-or-lt_of_le, mod-eq_of_lt, mod_self, mul-add, mul-add-mod_self_left, zero-div, zero-mod}
 use Rattle.std.proofs.lemmas.List.{append-nil}
 use Rattle.std.proofs.lemmas.Bool.{cases_lt}
-use Rattle.std.proofs.lemmas.Option.{slice_get_within}
 use Rattle.outside.specs.History.{Image}
 use Rattle.btr_node.specs.Leaf.{Item}
-use Rattle.csum_kinds.specs.Kind.{kind_width}
 use Rattle.csum_kinds.specs.declared.kind.SumKind.{SumKind}
 use Rattle.csum_kinds.specs.declared.kind.SumKind.TheVariants.{Crc32c}
 use Rattle.unit_plan.specs.Sums.{sums_in_item}
 use Rattle.unit_plan.specs.declared.piece.Piece.{Piece}
-use Rattle.space_items.specs.Stream.{FitsSums, IsSmallPiece, IsTaken, left_of, taken}
+use Rattle.space_items.specs.Stream.{left_of}
 use Rattle.space_items.specs.Sums.{run_items, sum_items, sums_item}
-use Rattle.space_items.specs.declared.sum_stream.SumStream.{SumStream}
-use Rattle.space_items.proofs.Counting.{all_at}
 use Rattle.space_items.proofs.Nexts.{drop_next}
 
 -- the parts of one number more

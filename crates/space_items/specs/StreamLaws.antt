@@ -9,24 +9,24 @@ use Rattle.unit_plan.specs.declared.chunk.Chunk.{Chunk}
 use Rattle.unit_plan.specs.declared.piece.Piece.{Piece}
 use Rattle.unit_plan.specs.declared.plan.Plan.{Plan}
 use Rattle.space_items.specs.Extents.{extent_items}
-use Rattle.space_items.specs.Laws.{AreTreeItems}
+use Rattle.space_items.specs.Laws.{FitTree}
 use Rattle.space_items.specs.Nodes.{AreNodes}
 use Rattle.space_items.specs.Stream.{ArePieces}
 use Rattle.space_items.specs.Sums.{sum_items}
 use Rattle.space_items.specs.declared.node.TreeNode.{TreeNode}
 
 -- of the extent tree's items a tree can be made
-abbrev pub ExtentItemsAreItems : Type 0
-ExtentItemsAreItems =
+abbrev pub ExtentItemsFit : Type 0
+ExtentItemsFit =
     (plan : Plan) (blocks : ℕ) (chunks : List Chunk) (pieces : List Piece) (nodes : List TreeNode) (nodesize : ℕ) → AreChunks plan blocks chunks → ArePieces pieces → AreNodes nodes
-    → AreTreeItems (extent_items chunks pieces nodes nodesize)
+    → FitTree (extent_items chunks pieces nodes nodesize)
 
 -- Items of which a tree can be made, though some are longer: their keys ascend, and each fits into a leaf of the smallest
 -- nodes, behind a head of 101 bytes and with one of 25 bytes of its own.
-pub record AreLeafItems (items : List Item) : Type 0 where
+pub record FitLeaves (items : List Item) : Type 0 where
   pub ascend : Ascends (keys_of items)
   pub short : All (λ i. length i.1 + 126 ≤ 4096) items
 
 -- the checksum tree's are such items
-abbrev pub SumItemsAreItems : Type 0
-SumItemsAreItems = (sums : SumKind) (image : Image) (pieces : List Piece) → ArePieces pieces → AreLeafItems (sum_items sums image pieces)
+abbrev pub SumItemsFit : Type 0
+SumItemsFit = (sums : SumKind) (image : Image) (pieces : List Piece) → ArePieces pieces → FitLeaves (sum_items sums image pieces)

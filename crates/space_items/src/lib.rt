@@ -24,7 +24,7 @@ pub use node::{NodeList, RootList, TreeNode, TreeRoot};
 pub use own_count::{add_nodes, merged, own_nodes, with_own};
 pub use own_laws::{own_nodes_are_needed, own_nodes_stay};
 pub use root_list::roots;
-pub use stream_laws::{extent_items_are_items, sum_items_are_items};
+pub use stream_laws::{extent_items_fit, sum_items_fit};
 pub use sum_stream::{SumStream, checksums};
 
 #[cfg(test)]

@@ -1,4 +1,4 @@
-use Rattle.std.proofs.Common.{◌≡◌, ◌+◌, ◌*◌, Some, map, take}
+use Rattle.std.proofs.Common.{◌≡◌, ◌*◌, Some, map, take}
 use Rattle.std.specs.Prelude.{slice_get}
 use Rattle.unit_plan.specs.declared.chunk.Chunk.{Chunk}
 use Rattle.space_items.specs.Stream.{LieBefore, group_of}

@@ -4,7 +4,6 @@ use Rattle.unit_plan.specs.declared.piece.Piece.{Piece}
 use Rattle.space_items.specs.Stream.{FitsExtents, IsSmallNext, extents_ahead, first_of, passed, place_of}
 use Rattle.space_items.specs.declared.extent_stream.ExtentStream.{ExtentStream}
 use Rattle.space_items.specs.declared.extent_stream.Next.{Next}
-use Rattle.space_items.specs.declared.node.TreeNode.{TreeNode}
 use Rattle.space_items.proofs.Nexts.{Ahead, group_here, node_here, piece_here, extents_next, next_small, below_small, next_fits, next_room}
 use Rattle.space_items.proofs.extent_stream.ExtentStream.next_of.Goals as goal
 

@@ -1,6 +1,5 @@
 use Rattle.std.proofs.Common.{◌≡◌, ◌∙◌, ◌∷◌, ℕ, List, Result, Ok, Err, ◌+◌, drop, sym, ap, refl}
 use Rattle.std.specs.Prelude.{OnOk}
-use Rattle.outside.specs.declared.fault.Fault.{Fault}
 use Rattle.btr_node.specs.Leaf.{Item}
 use Rattle.csum_kinds.specs.declared.kind.SumKind.{SumKind}
 use Rattle.unit_plan.specs.declared.piece.Piece.{Piece}
