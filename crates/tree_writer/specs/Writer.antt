@@ -1,5 +1,5 @@
 -- What a writer of a tree holds.
-use Rattle.std.specs.Prelude.{◌≡◌, ◌⊎◌, ℕ, ◌+◌, ◌*◌, ◌-◌, ◌^◌, ◌≤◌, ◌<◌, false, List, [], ◌∷◌, ◌++◌, length, Option, Some, None, slice_get}
+use Rattle.std.specs.Prelude.{◌≡◌, ◌⊎◌, ℕ, ◌+◌, ◌*◌, ◌-◌, ◌^◌, ◌≤◌, ◌<◌, false, List, [], ◌∷◌, ◌++◌, length, Option, Some, None, slice_get, All}
 use Rattle.outside.specs.History.{Image}
 use Rattle.btr_keys.specs.Key.{IsBefore}
 use Rattle.btr_keys.specs.declared.key.Key.{Key}
@@ -29,6 +29,7 @@ pub record Writes (w : TreeWriter) (form : Form) (owner : ℕ) (slots : List ℕ
   pub generation : w.builder.made.generation ≡ 1
   pub slots_are : w.builder.made.slots ≡ slots
   pub few : length slots < 2 ^ 43
+  pub short : All (λ i. length i.1 + 126 ≤ form.nodesize) items
   pub room : bytes_of (lengths_of items) ≤ capacity form.nodesize * length slots
   pub unspent : w.builder.spent ≡ false
   pub going : w.builder.done ≡ false
