@@ -1,6 +1,6 @@
 -- Nodes that ascend by address.
-use Rattle.std.proofs.Common.{◌≡◌, ℕ, zero, suc, ◌+◌, ◌*◌, ◌^◌, ◌<◌, ◌≤◌, List, [], ◌∷◌, ◌++◌, length, map, take, drop, get_or, refl, sym, ◌∙◌, ap, ap₂, subst, arith, map-id, min, sum}
-use Rattle.std.specs.Prelude.{All, AllPairs}
+use Rattle.std.proofs.Common.{◌≡◌, ℕ, suc, ◌+◌, ◌^◌, ◌<◌, List, [], ◌∷◌, ◌++◌, length, map, take, drop, get_or, refl, sym, ◌∙◌, ap, ap₂, subst, arith, map-id, min, sum}
+use Rattle.std.specs.Prelude.{AllPairs}
 use Rattle.std.specs.declared.cmp.Ordering.TheVariants.{Less}
 use Rattle.std.proofs.lemmas.Cmp.{ranked}
 use Rattle.std.proofs.lemmas.List.{get_or-map, get_or-take, length-map, length-take, map-append, drop-drop}
@@ -8,7 +8,7 @@ use Rattle.std.proofs.lemmas.List.Sums.{sum_by-cons}
 use Rattle.std.proofs.Math.Seq.{take-add}
 use Rattle.btr_walk.specs.declared.tree.Pointer.{Pointer}
 use Rattle.btr_tree.specs.Roots.{level_pointers}
-use Rattle.space_items.specs.Nodes.{AreNodes, merged_nodes, nodes_at}
+use Rattle.space_items.specs.Nodes.{AreNodes, merged_nodes}
 use Rattle.space_items.specs.Own.{own_at}
 use Rattle.space_items.specs.declared.node.TreeNode.{TreeNode}
 use Rattle.space_items.proofs.Describing.{node_total}

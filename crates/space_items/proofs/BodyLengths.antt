@@ -1,5 +1,5 @@
 -- How long the bodies of the extent tree's items are.
-use Rattle.std.proofs.Common.{◌≡◌, ℕ, suc, ◌+◌, ◌*◌, ◌<◌, ◌≤◌, List, [], ◌∷◌, ◌++◌, length, map, Bool, true, false, Option, Some, None, refl, sym, ◌∙◌, ap, arith, length-append, cond, ltb}
+use Rattle.std.proofs.Common.{◌≡◌, ℕ, suc, ◌+◌, ◌*◌, ◌≤◌, List, [], ◌∷◌, length, Bool, true, false, Option, Some, None, refl, arith, length-append, cond, ltb}
 use Rattle.std.specs.List.{flat_map}
 use Rattle.btr_space_items.specs.BlockGroup.{block_group_bytes, block_group_layout}
 use Rattle.btr_space_items.specs.ExtentHead.{extent_head_bytes, extent_head_layout}
@@ -10,7 +10,7 @@ use Rattle.btr_space_items.specs.declared.inline_ref.InlineRef.{InlineRef}
 use Rattle.btr_space_items.specs.declared.inline_ref.InlineRef.TheVariants.{TreeBlock, DataRef}
 use Rattle.unit_plan.specs.declared.chunk.Chunk.{Chunk}
 use Rattle.unit_plan.specs.declared.piece.Piece.{Piece}
-use Rattle.space_items.specs.Extents.{extent_body, group_item, node_item, piece_item, piece_refs, put_ref, owner_refs, image_refs, hash_of_ref, data_ref}
+use Rattle.space_items.specs.Extents.{group_item, node_item, piece_item, piece_refs, put_ref, image_refs, hash_of_ref, data_ref}
 use Rattle.space_items.specs.declared.node.TreeNode.{TreeNode}
 
 length-group_bytes : (g : BlockGroup) → length (block_group_bytes g) ≡ 24

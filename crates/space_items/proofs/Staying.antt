@@ -1,5 +1,5 @@
 -- How many nodes the extent tree has goes by the addresses of nodes alone.
-use Rattle.std.proofs.Common.{◌≡◌, ℕ, ◌+◌, ◌*◌, ◌≤◌, List, [], ◌∷◌, ◌++◌, length, map, take, refl, sym, ◌∙◌, ap, ap₂, map-id}
+use Rattle.std.proofs.Common.{◌≡◌, ℕ, List, length, map, take, refl, sym, ◌∙◌, ap, map-id}
 use Rattle.std.specs.Ordering.{nat_cmp}
 use Rattle.std.specs.Prelude.{All}
 use Rattle.btr_keys.specs.Key.{make_key}
@@ -9,8 +9,8 @@ use Rattle.btr_tree.specs.Roots.{lengths_of}
 use Rattle.unit_plan.specs.declared.chunk.Chunk.{Chunk}
 use Rattle.unit_plan.specs.declared.piece.Piece.{Piece}
 use Rattle.space_items.specs.Extents.{extent_items}
-use Rattle.space_items.specs.Nodes.{merged_nodes, nodes_at, nodes_of_tree}
-use Rattle.space_items.specs.Own.{DescribesItself, IsOwnCount, OwnNodesStay, nodes_with_own, own_at, own_lengths}
+use Rattle.space_items.specs.Nodes.{merged_nodes, nodes_of_tree}
+use Rattle.space_items.specs.Own.{OwnNodesStay, nodes_with_own, own_at, own_lengths}
 use Rattle.space_items.specs.declared.node.TreeNode.{TreeNode}
 use Rattle.space_items.proofs.Ascending.{addresses, upper_at}
 use Rattle.space_items.proofs.Levels.{map-map}

@@ -1,9 +1,9 @@
 -- The items of the extent tree are counted, one after the other.
-use Rattle.std.proofs.Common.{◌≡◌, ⊎_elim, ℕ, zero, suc, ◌+◌, ◌-◌, ◌*◌, ◌/◌, ◌^◌, ◌<◌, ◌≤◌, Bool, true, false, min, List, [], ◌∷◌, ◌++◌, length, map, get_or, refl, sym, ◌∙◌, ap, subst, arith, append_assoc, append-nil, length-append, sum_by}
-use Rattle.std.specs.Prelude.{All, AllPairs}
-use Rattle.std.proofs.lemmas.List.{get_or_at, map-append, length-map}
+use Rattle.std.proofs.Common.{◌≡◌, ℕ, ◌+◌, ◌-◌, ◌*◌, ◌^◌, ◌<◌, ◌≤◌, min, List, [], ◌∷◌, ◌++◌, length, get_or, refl, sym, ◌∙◌, ap, subst, arith, append_assoc, append-nil, length-append, sum_by}
+use Rattle.std.specs.Prelude.{All}
+use Rattle.std.proofs.lemmas.List.{get_or_at, map-append}
 use Rattle.std.proofs.lemmas.List.Elements.{All-head, All-tail, All-cons, All-nil}
-use Rattle.std.proofs.lemmas.List.Sums.{sum_by-append, sum_by-cons, sum_by-le, sum_by_push}
+use Rattle.std.proofs.lemmas.List.Sums.{sum_by-cons}
 use Rattle.btr_node.specs.Leaf.{Item}
 use Rattle.btr_tree.specs.Counting.{Tally, Counted, bytes_of}
 use Rattle.btr_tree.specs.Packing.{weight}
@@ -14,8 +14,7 @@ use Rattle.unit_plan.specs.declared.piece.Piece.{Piece}
 use Rattle.unit_plan.specs.declared.plan.Plan.{Plan}
 use Rattle.space_items.specs.Extents.{extent_items}
 use Rattle.space_items.specs.Nodes.{AreNodes}
-use Rattle.space_items.specs.Stream.{ArePieces, ComesTo, FitsExtents, extents_ahead, extent_standing}
-use Rattle.space_items.specs.declared.extent_stream.ExtentStream.{ExtentStream}
+use Rattle.space_items.specs.Stream.{ArePieces}
 use Rattle.space_items.specs.declared.node.TreeNode.{TreeNode}
 use Rattle.space_items.proofs.Counting.{apart_fit}
 use Rattle.space_items.proofs.Shapes.{bodies_short, items_few}

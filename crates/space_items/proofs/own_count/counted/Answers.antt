@@ -1,6 +1,5 @@
-use Rattle.std.proofs.Common.{◌≡◌, ⊎_elim, ℕ, List, ◌++◌, ◌∷◌, [], ◌+◌, ◌^◌, ◌<◌, ◌≤◌, length, arith, subst, sym, ◌∙◌, ap}
-use Rattle.btr_node.specs.NodeSize.{IsNodeSize}
-use Rattle.btr_tree.specs.Counting.{Tally, Counted}
+use Rattle.std.proofs.Common.{◌≡◌, ℕ, List, ◌++◌, ◌∷◌, [], length, arith, subst, ap}
+use Rattle.btr_tree.specs.Counting.{Counted}
 use Rattle.btr_tree.specs.Roots.{lengths_of}
 use Rattle.space_items.specs.Extents.{extent_items}
 use Rattle.space_items.specs.Stream.{extents_ahead, extent_standing}

@@ -1,9 +1,9 @@
-use Rattle.std.proofs.Common.{◌≡◌, ⊎_elim, ℕ, List, ◌+◌, ◌-◌, ◌^◌, ◌<◌, ◌≤◌, length, arith, subst, sym, ◌∙◌, ap}
-use Rattle.space_items.specs.Nodes.{AreNodes, merged_nodes}
-use Rattle.space_items.specs.Own.{IsOwnCount, own_at, own_bound}
+use Rattle.std.proofs.Common.{ℕ, ◌-◌, ◌<◌, ◌≤◌, arith, subst, sym}
+use Rattle.space_items.specs.Nodes.{AreNodes}
+use Rattle.space_items.specs.Own.{IsOwnCount, own_bound}
 use Rattle.space_items.proofs.Ascending.{with_leaves}
 use Rattle.space_items.proofs.ChunksExist.{the_chunks, are_the_chunks}
-use Rattle.space_items.proofs.Describing.{IsCounting, IsNextCount, counted_next, counting_ends, counting_goes_on, counting_rises}
+use Rattle.space_items.proofs.Describing.{counted_next, counting_ends, counting_goes_on, counting_rises}
 use Rattle.space_items.proofs.OneList.{chunks_one}
 use Rattle.space_items.proofs.own_count.own_nodes.Goals as goal
 

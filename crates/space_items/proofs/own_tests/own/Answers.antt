@@ -1,4 +1,4 @@
-use Rattle.std.proofs.Common.{◌≡◌, inl, ℕ, List, ◌+◌, ◌*◌, ◌^◌, ◌<◌, ◌≤◌, length, map, refl, arith, subst, sym, ◌∙◌, ap, map-id}
+use Rattle.std.proofs.Common.{◌≡◌, inl, ℕ, List, ◌≤◌, length, map, refl, arith, subst, sym, ◌∙◌, ap, map-id}
 use Rattle.std.proofs.lemmas.List.{length-map}
 use Rattle.btr_tree.specs.Counting.{node_bound}
 use Rattle.unit_plan.specs.Chunks.{AreChunks, FitsVolume}
@@ -8,7 +8,7 @@ use Rattle.unit_plan.specs.declared.plan.Plan.{Plan}
 use Rattle.space_items.specs.Nodes.{AreNodes, nodes_at}
 use Rattle.space_items.specs.Own.{extent_bytes, own_bound}
 use Rattle.space_items.specs.declared.node.TreeNode.{TreeNode}
-use Rattle.space_items.proofs.Ascending.{Ascend, addresses, nodes_ascend}
+use Rattle.space_items.proofs.Ascending.{Ascend, nodes_ascend}
 use Rattle.space_items.proofs.Levels.{map-map}
 use Rattle.space_items.proofs.OwnBound.{bound_up}
 use Rattle.space_items.proofs.Tallying.{few_chunks}
