@@ -1,15 +1,18 @@
 -- How much of a list lies between two places.
-use Rattle.std.proofs.Common.{◌≡◌, ◌<◌, ◌≤◌, ℕ, zero, suc, ◌+◌, ◌*◌, ◌^◌, Bool, true, false, not, cond, List, [], ◌∷◌, ◌++◌, length, filter, take, drop, get_or, sum_by, Some, refl, sym, ap, subst, ◌∙◌, ◌&&◌, arith, length-drop}
+use Rattle.std.proofs.Common.{◌≡◌, ◌<◌, ◌≤◌, ℕ, zero, suc, ◌+◌, ◌*◌, ◌^◌, Bool, true, false, not, cond, List, [], ◌∷◌, ◌++◌, length, filter, map, take, drop, get_or, sum_by, Some, refl, sym, ap, subst, ◌∙◌, ◌&&◌, arith, length-drop}
 use Rattle.std.specs.Prelude.{nat_le, nat_lt, slice_get, All, AllPairs}
 use Rattle.std.proofs.lemmas.Bool.Decides.{nat_tests}
-use Rattle.std.proofs.lemmas.List.{take_all, take-append-drop, get_or-drop}
+use Rattle.std.proofs.lemmas.List.{take_all, take-append-drop, get_or-drop, map_more}
 use Rattle.std.proofs.lemmas.List.Elements.{All-head, All-tail, All-more, All-weaker, filter_more, filter-append}
 use Rattle.std.proofs.lemmas.List.Filters.{sum_by-filter_both}
 use Rattle.std.proofs.lemmas.List.Sums.{sum_by-cons, sum_by-append, sum_by-le, sum_by-take-le}
 use Rattle.std.proofs.lemmas.Option.{slice_get_within, get_or_from_slice_get}
 use Rattle.space_items.specs.Nodes.{AreNodes}
-use Rattle.space_items.specs.Stream.{ArePieces, LieBefore}
+use Rattle.space_items.specs.Extents.{bytes_of_nodes, bytes_of_pieces, used_in}
+use Rattle.space_items.specs.Stream.{ArePieces, LieBefore, group_of}
+use Rattle.space_items.specs.declared.groups.Group.{Group}
 use Rattle.space_items.specs.declared.node.TreeNode.{TreeNode}
+use Rattle.unit_plan.specs.declared.chunk.Chunk.{Chunk}
 use Rattle.unit_plan.specs.declared.piece.Piece.{Piece}
 
 pub not_in_below : (low high a : ℕ) → a < low → (nat_le low a && nat_lt a high) ≡ false
@@ -167,3 +170,94 @@ nodes_rise nodes are = λ i j d order inside. let h = are.ascending i j d order 
 
 abbrev pub node_place : TreeNode → ℕ
 node_place n = n.address
+
+-- one group more
+pub groups_more : (f : Chunk → Group) (chunks : List Chunk) (i : ℕ) (c : Chunk) (g : Group) (old new : List Group) → slice_get chunks i ≡ Some c → g ≡ f c → old ≡ map f (take i chunks) → new ≡ old ++ g ∷ [] → new ≡ map f (take (i + 1) chunks)
+groups_more f chunks i c g old new there is so_far added =
+    added
+    ∙ (ap (λ (l : List Group). l ++ g ∷ []) so_far
+    ∙ (ap (λ (h : Group). map f (take i chunks) ++ h ∷ []) is
+    ∙ sym (map_more f chunks i c (slice_get_within chunks i c there) ∙ ap (λ (d : Chunk). map f (take i chunks) ++ f d ∷ []) (get_or_from_slice_get chunks i c c there))))
+
+-- of one element, in an interval and behind it
+in_or_behind : (a n low mid : ℕ) → low ≤ mid → cond (nat_le low a && nat_lt a mid) n 0 + cond (nat_le mid a) n 0 ≤ cond (nat_le low a) n 0
+in_or_behind a n low mid h = grind (arith, nat_tests)
+
+lower_from : (a n low mid : ℕ) → low ≤ mid → cond (nat_le mid a) n 0 ≤ cond (nat_le low a) n 0
+lower_from a n low mid h = grind (arith, nat_tests)
+
+-- What lies in intervals that lie one behind the other is no more than all.
+module _ {A : Type 0} (place amount : A → ℕ) where
+  abbrev from_on : ℕ → List A → ℕ
+  from_on low xs = sum_by amount (filter (λ x. nat_le low (place x)) xs)
+
+  one_more : (test : A → Bool) (x : A) (xs : List A) → sum_by amount (filter test (x ∷ xs)) ≡ cond (test x) (amount x) 0 + sum_by amount (filter test xs)
+  one_more test x xs = by (test x)
+    where
+      by : (b : Bool) → sum_by amount (cond b (x ∷ filter test xs) (filter test xs)) ≡ cond b (amount x) 0 + sum_by amount (filter test xs)
+      by true = sum_by-cons amount x (filter test xs)
+      by false = omega arith
+
+  cut_off : (low mid : ℕ) → low ≤ mid → (xs : List A) → counted place amount low mid xs + from_on mid xs ≤ from_on low xs
+  cut_off low mid h [] = omega arith
+  cut_off low mid h (x ∷ xs) =
+      let here = in_or_behind (place x) (amount x) low mid h in
+      let rest = cut_off low mid h xs in
+      let first = one_more (λ y. nat_le low (place y) && nat_lt (place y) mid) x xs in
+      let second = one_more (λ y. nat_le mid (place y)) x xs in
+      let all = one_more (λ y. nat_le low (place y)) x xs in
+      omega (arith, here, rest, first, second, all)
+
+  from_lower : (low mid : ℕ) → low ≤ mid → (xs : List A) → from_on mid xs ≤ from_on low xs
+  from_lower low mid h [] = omega arith
+  from_lower low mid h (x ∷ xs) =
+      let here = lower_from (place x) (amount x) low mid h in
+      let rest = from_lower low mid h xs in
+      let first = one_more (λ y. nat_le mid (place y)) x xs in
+      let all = one_more (λ y. nat_le low (place y)) x xs in
+      omega (arith, here, rest, first, all)
+
+  apart_from : {C : Type 0} (start end : C → ℕ) (low : ℕ) (xs : List A) (cs : List C) → All (λ c. low ≤ start c) cs → ((c : C) → start c ≤ end c) → AllPairs (λ c d. end c ≤ start d) cs → sum_by (λ c. counted place amount (start c) (end c) xs) cs ≤ from_on low xs
+  apart_from start end low xs [] above forward apart = omega arith
+  apart_from start end low xs (c ∷ cs) above forward apart =
+      let all = sum_by-cons (λ d. counted place amount (start d) (end d) xs) c cs in
+      let rest = apart_from start end (end c) xs cs (λ k d inside. apart zero (suc k) d (omega arith) (omega arith)) forward (λ i j d order inside. apart (suc i) (suc j) d (omega arith) (omega arith)) in
+      let both = cut_off (start c) (end c) (forward c) xs in
+      let down = from_lower low (start c) (All-head (λ d. low ≤ start d) c cs above) xs in
+      omega (arith, all, rest, both, down)
+
+  pub apart_counted : {C : Type 0} (start end : C → ℕ) (xs : List A) (cs : List C) → ((c : C) → start c ≤ end c) → AllPairs (λ c d. end c ≤ start d) cs → sum_by (λ c. counted place amount (start c) (end c) xs) cs ≤ sum_by amount xs
+  apart_counted start end xs cs forward apart =
+      let part = apart_from start end 0 xs cs (λ k d inside. omega arith) forward apart in
+      let all = sum_by-filter_both (λ y. nat_le 0 (place y)) (λ y. not (nat_le 0 (place y))) (λ y. refl) amount xs in
+      omega (arith, part, all)
+
+sum_both : {A : Type 0} (f g : A → ℕ) (xs : List A) → sum_by (λ x. f x + g x) xs ≡ sum_by f xs + sum_by g xs
+sum_both f g [] = refl
+sum_both f g (x ∷ xs) =
+    let all = sum_by-cons (λ y. f y + g y) x xs in
+    let first = sum_by-cons f x xs in
+    let second = sum_by-cons g x xs in
+    let rest = sum_both f g xs in
+    omega (arith, all, first, second, rest)
+
+sum_of_groups : (pieces : List Piece) (nodes : List TreeNode) (nodesize : ℕ) (cs : List Chunk) → sum_by (λ g. g.used) (map (group_of pieces nodes nodesize) cs) ≡ sum_by (used_in pieces nodes nodesize) cs
+sum_of_groups pieces nodes nodesize [] = refl
+sum_of_groups pieces nodes nodesize (c ∷ cs) =
+    let all = sum_by-cons (λ g. g.used) (group_of pieces nodes nodesize c) (map (group_of pieces nodes nodesize) cs) in
+    let some = sum_by-cons (used_in pieces nodes nodesize) c cs in
+    let rest = sum_of_groups pieces nodes nodesize cs in
+    omega (arith, all, some, rest)
+
+-- what extents take of chunks that do not overlap
+pub used_within : (pieces : List Piece) (nodes : List TreeNode) (nodesize : ℕ) (cs : List Chunk) → nodesize ≤ 65536 → ArePieces pieces → AreNodes nodes → AllPairs (λ c d. c.start + c.length ≤ d.start) cs
+    → sum_by (λ g. g.used) (map (group_of pieces nodes nodesize) cs) < 2 ^ 64
+used_within pieces nodes nodesize cs small are_pieces are_nodes apart =
+    let all = sum_of_groups pieces nodes nodesize cs in
+    let both = sum_both (bytes_of_pieces pieces) (bytes_of_nodes nodes nodesize) cs in
+    let behind : AllPairs (λ c d. 4096 * (c.start + c.length) ≤ 4096 * d.start) cs = λ i j d order inside. let h = apart i j d order inside in omega (arith, h) in
+    let of_pieces : sum_by (bytes_of_pieces pieces) cs ≤ sum_by piece_bytes pieces = apart_counted piece_place piece_bytes (λ (c : Chunk). 4096 * c.start) (λ (c : Chunk). 4096 * (c.start + c.length)) pieces cs (λ c. omega arith) behind in
+    let of_nodes : sum_by (bytes_of_nodes nodes nodesize) cs ≤ sum_by (λ n. nodesize) nodes = apart_counted node_place (λ n. nodesize) (λ (c : Chunk). 4096 * c.start) (λ (c : Chunk). 4096 * (c.start + c.length)) nodes cs (λ c. omega arith) behind in
+    let few = pieces_fit pieces are_pieces in
+    let some = nodes_fit nodes nodesize small are_nodes in
+    omega (arith, all, both, of_pieces, of_nodes, few, some)

@@ -12,10 +12,10 @@ pub mod NodeMerge
 pub mod OneList
 pub mod Ordered
 pub mod OwnBound
+pub mod OwnLaws
 pub mod Rooting
 pub mod Shapes
+pub mod Staying
 pub mod StreamOrder
 pub mod Summing
 pub mod Tallying
-pub mod Staying
-pub mod OwnLaws

@@ -56,6 +56,7 @@ pub fn extents<P: PieceList>(
     ensures fits { IfOk result (λ s. FitsExtents s (P.pieces pieces.now) nodes.now) }
     ensures all { (chunks : List ChunkOf) → AreChunks plan.now blocks chunks → IfOk result (λ s. extents_ahead s (P.pieces pieces.now) nodes.now ≡ extent_items chunks (P.pieces pieces.now) nodes.now nodesize) }
     ensures groups { (chunks : List ChunkOf) → AreChunks plan.now blocks chunks → IfOk result (λ s. s.groups ≡ map (group_of (P.pieces pieces.now) nodes.now nodesize) chunks) }
+    ensures used { IfOk result (λ s. sum_by (λ g. g.used) s.groups < 2 ^ 64) }
 {
     let chunks = chunks_of(alloc, plan, blocks)?;
     let groups = groups_of(alloc, &chunks, pieces, nodes, nodesize)?;

@@ -1,6 +1,7 @@
-use Rattle.std.proofs.Common.{◌≡◌, ◌≤◌, ◌∙◌, ℕ, ◌+◌, ◌^◌, List, [], ◌∷◌, map, refl, sym, ap, subst, arith}
+use Rattle.std.proofs.Common.{◌≡◌, ◌<◌, ◌≤◌, ◌∙◌, ℕ, ◌+◌, ◌^◌, List, [], ◌∷◌, map, refl, sym, ap, subst, sum_by, arith}
 use Rattle.std.specs.Prelude.{All}
 use Rattle.std.proofs.lemmas.List.Elements.{All-map}
+use Rattle.btr_node.proofs.NodeBack.{size_within}
 use Rattle.unit_plan.specs.Chunks.{AreChunks}
 use Rattle.unit_plan.specs.declared.chunk.Chunk.{Chunk}
 use Rattle.unit_plan.specs.declared.piece.Piece.{Piece}
@@ -11,6 +12,7 @@ use Rattle.space_items.specs.Merging.{merged}
 use Rattle.space_items.specs.Stream.{IsSmallGroup, group_of, item_of_group}
 use Rattle.space_items.specs.declared.groups.Group.{Group}
 use Rattle.space_items.specs.declared.node.TreeNode.{TreeNode}
+use Rattle.space_items.proofs.Counting.{used_within}
 use Rattle.space_items.proofs.OneList.{chunks_one}
 use Rattle.space_items.proofs.extent_stream.extents.Goals as goal
 
@@ -54,3 +56,9 @@ returns-clause-all g c = λ chunks are.
     ap (λ (l : List Group). merged (map item_of_group l) others)
     (c.in_ok-groups.ensures ∙ ap (map (group_of pieces nodes c.args.nodesize)) (chunks_one c.args.plan.now c.args.blocks c.in_ok-chunks.chunks chunks c.in_ok-chunks.ensures are))
     ∙ ap (λ (l : List Item). merged l others) (items_of_groups pieces nodes c.args.nodesize chunks)
+
+pub returns-clause-used : goal.returns-clause-used
+returns-clause-used g c =
+    let pieces : List Piece = g.P.PieceList.pieces c.args.pieces.now in
+    subst (λ (l : List Group). sum_by (λ h. h.used) l < 2 ^ 64) (sym c.in_ok-groups.ensures)
+    (used_within pieces c.args.nodes.now c.args.nodesize c.in_ok-chunks.chunks (size_within c.args.nodesize c.requires.size).1 c.requires.pieces c.requires.nodes c.in_ok-chunks.ensures.ascending)

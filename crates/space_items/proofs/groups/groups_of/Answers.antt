@@ -1,13 +1,11 @@
-use Rattle.std.proofs.Common.{◌≡◌, ◌≤◌, ℕ, ◌+◌, ◌*◌, ◌++◌, ◌∷◌, ◌∙◌, [], List, map, take, sym, ap, arith}
-use Rattle.std.proofs.lemmas.List.{map_more}
-use Rattle.std.proofs.lemmas.Option.{slice_get_within, get_or_from_slice_get}
+use Rattle.std.proofs.Common.{◌≡◌, ◌≤◌, ℕ, ◌+◌, ◌*◌, ◌∙◌, List, ap, arith}
 use Rattle.unit_plan.specs.declared.chunk.Chunk.{Chunk}
 use Rattle.unit_plan.specs.declared.piece.Piece.{Piece}
 use Rattle.space_items.specs.Extents.{bytes_of_pieces, bytes_of_nodes, used_in}
 use Rattle.space_items.specs.Stream.{group_of}
 use Rattle.space_items.specs.declared.groups.Group.{Group}
 use Rattle.space_items.specs.declared.node.TreeNode.{TreeNode}
-use Rattle.space_items.proofs.Counting.{lies_weaker, node_place, pairs_next, piece_place}
+use Rattle.space_items.proofs.Counting.{groups_more, lies_weaker, node_place, pairs_next, piece_place}
 use Rattle.space_items.proofs.groups.groups_of.Goals as goal
 
 group_is : (g : Group) (c : Chunk) (used : ℕ) → g.chunk ≡ c → g.used ≡ used → g ≡ record { chunk = c; used = used }
@@ -28,12 +26,7 @@ loop-i-preserved g c =
     ∙ ap (λ (d : Chunk). bytes_of_pieces pieces chunk + bytes_of_nodes nodes c.args.nodesize d) with_pieces) in
     let is : group ≡ group_of pieces nodes c.args.nodesize chunk = group_is group chunk (used_in pieces nodes c.args.nodesize chunk) with_nodes used in
     record {
-      groups =
-          c.in_ok-add.ensures.ok
-          ∙ (ap (λ (l : List Group). l ++ group ∷ []) c.loop-i.invariant.groups
-          ∙ (ap (λ (h : Group). map (group_of pieces nodes c.args.nodesize) (take c.loop-i.i c.args.chunks.now) ++ h ∷ []) is
-          ∙ sym (map_more (group_of pieces nodes c.args.nodesize) c.args.chunks.now c.loop-i.i chunk (slice_get_within c.args.chunks.now c.loop-i.i chunk c.get-chunk.ensures)
-          ∙ ap (λ (d : Chunk). map (group_of pieces nodes c.args.nodesize) (take c.loop-i.i c.args.chunks.now) ++ group_of pieces nodes c.args.nodesize d ∷ []) (get_or_from_slice_get c.args.chunks.now c.loop-i.i chunk chunk c.get-chunk.ensures))));
+      groups = groups_more (group_of pieces nodes c.args.nodesize) c.args.chunks.now c.loop-i.i chunk group c.loop-i.groups c.add.new.self c.get-chunk.ensures is c.loop-i.invariant.groups c.in_ok-add.ensures.ok;
       piece = λ d there.
           let up = pairs_next (λ a b. a.start + a.length ≤ b.start) c.args.chunks.now c.loop-i.i chunk d c.requires.chunks c.get-chunk.ensures there in
           lies_weaker piece_place piece_place (4096 * (chunk.start + chunk.length)) (4096 * d.start) pieces c.count_pieces-piece.result c.count_pieces-piece.ensures.before (omega (arith, up));

@@ -1,12 +1,10 @@
-use Rattle.std.proofs.Common.{◌≡◌, ◌∙◌, ◌∷◌, ℕ, List, Result, Ok, Err, ◌+◌, drop, sym, ap, refl}
+use Rattle.std.proofs.Common.{◌≡◌, List, Result, Ok, Err, ◌+◌}
 use Rattle.std.specs.Prelude.{OnOk}
-use Rattle.btr_node.specs.Leaf.{Item}
-use Rattle.csum_kinds.specs.declared.kind.SumKind.{SumKind}
 use Rattle.unit_plan.specs.declared.piece.Piece.{Piece}
-use Rattle.space_items.specs.Stream.{IsTaken, behind, left_of, sum_standing, taken}
+use Rattle.space_items.specs.Stream.{IsTaken, sum_standing, taken}
 use Rattle.space_items.specs.Sums.{sums_item}
 use Rattle.space_items.specs.declared.sum_stream.SumStream.{SumStream}
-use Rattle.space_items.proofs.Summing.{sums_next}
+use Rattle.space_items.proofs.Summing.{taken_next}
 use Rattle.space_items.proofs.sum_stream.SumStream.advance.Goals as goal
 
 on_ok : {T E : Type 0} (r : Result T E) (x : T) (P : Type 0) → r ≡ Ok x → OnOk r P → P
@@ -21,8 +19,4 @@ returns-clause-next g c = λ tells image is.
     let p : Piece = c.get-piece.result.now in
     let got = on_ok c.take-answer.result c.in_ok-answer.field-0 (IsTaken old new p) c.in_ok-answer.was c.take-answer.ensures.taken in
     let stands = on_ok c.take-answer.result c.in_ok-answer.field-0 (sum_standing new ≡ sums_item old.sums image (p.place + old.done) (taken old p)) c.in_ok-answer.was (c.take-answer.ensures.stands tells image is) in
-    let at : (new.piece, new.done) ≡ behind old p = got.at in
-    sums_next old.sums image all old.piece old.done (taken old p) p c.get-piece.ensures (c.requires.fits.done_within p c.get-piece.ensures) refl
-    ∙ (ap (λ (i : Item). i ∷ left_of old.sums image (behind old p).1 (drop (behind old p).0 all)) (sym stands)
-    ∙ (ap (λ (t : ℕ × ℕ). sum_standing new ∷ left_of old.sums image t.1 (drop t.0 all)) (sym at)
-    ∙ ap (λ (s : SumKind). sum_standing new ∷ left_of s image new.done (drop new.piece all)) (sym got.sums)))
+    taken_next old new image all p c.get-piece.ensures (c.requires.fits.done_within p c.get-piece.ensures) got stands
