@@ -7,8 +7,10 @@ use Rattle.std.proofs.lemmas.List.{get_or-map, get_or-take, length-map, length-t
 use Rattle.std.proofs.lemmas.List.Sums.{sum_by-cons}
 use Rattle.std.proofs.Math.Seq.{take-add}
 use Rattle.btr_walk.specs.declared.tree.Pointer.{Pointer}
+use Rattle.btr_tree.specs.Counting.{tree_nodes}
+use Rattle.btr_tree.specs.Packing.{leaves, tree_levels}
 use Rattle.btr_tree.specs.Roots.{level_pointers}
-use Rattle.space_items.specs.Nodes.{AreNodes, merged_nodes}
+use Rattle.space_items.specs.Nodes.{AreNodes, merged_nodes, nodes_of_tree}
 use Rattle.space_items.specs.Own.{own_at}
 use Rattle.space_items.specs.declared.node.TreeNode.{TreeNode}
 use Rattle.space_items.proofs.Describing.{node_total}
@@ -65,3 +67,28 @@ upper_at owner level skip slots (n ∷ sizes) =
     ∙ (map-append place (map (λ a. record { address = a; level = level; generation = 1 }) own) rest
     ∙ (ap₂ (λ xs ys. xs ++ ys) first second
     ∙ (sym (take-add n (sum sizes) (drop skip slots)) ∙ ap (λ (k : ℕ). take k (drop skip slots)) (sym total))))
+
+-- those of a whole tree
+pub tree_at : (owner nodesize : ℕ) (lengths slots : List ℕ) → addresses (nodes_of_tree owner nodesize lengths slots) ≡ take (tree_nodes nodesize lengths) slots
+tree_at owner nodesize lengths slots = upper_at owner 0 0 slots (tree_levels nodesize (length (leaves nodesize lengths)))
+
+-- The nodes of a tree behind those of others, where all of them lie at the first slots.
+pub tree_behind : (owner nodesize n : ℕ) (lengths slots : List ℕ) (old : List TreeNode) → addresses old ≡ take n slots
+    → addresses (old ++ nodes_of_tree owner nodesize lengths (drop n slots)) ≡ take (n + tree_nodes nodesize lengths) slots
+tree_behind owner nodesize n lengths slots old at =
+    map-append (λ (m : TreeNode). m.address) old (nodes_of_tree owner nodesize lengths (drop n slots))
+    ∙ (ap₂ (λ xs ys. xs ++ ys) at (tree_at owner nodesize lengths (drop n slots)) ∙ sym (take-add n (tree_nodes nodesize lengths) slots))
+
+-- nodes at the first slots
+pub nodes_at_slots : (nodes : List TreeNode) (slots : List ℕ) (n : ℕ) → addresses nodes ≡ take n slots → Ascend slots → length slots < 2 ^ 44 → AreNodes nodes
+nodes_at_slots nodes slots n at up few = record {
+  ascending = nodes_ascend nodes (subst Ascend (sym at) (take_ascends n slots up));
+  few = omega (arith, few, length-map nodes (λ m. m.address), ap (λ (xs : List ℕ). length xs) at, length-take n slots);
+}
+
+-- the nodes of two lists
+pub merged_are_nodes : (nodes others : List TreeNode) → AreNodes nodes → AreNodes others → length nodes + length others < 2 ^ 44 → AreNodes (merged_nodes nodes others)
+merged_are_nodes nodes others are also few = record {
+  ascending = merged_ascend nodes others are.ascending also.ascending;
+  few = omega (arith, few, length-merge node_cmp nodes others);
+}

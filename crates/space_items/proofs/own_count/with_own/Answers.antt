@@ -1,7 +1,6 @@
-use Rattle.std.proofs.Common.{◌≡◌, ℕ, List, ◌++◌, ◌≤◌, Result, Ok, Err, IfOk, length, take, arith, subst, sym, ◌∙◌, ap}
+use Rattle.std.proofs.Common.{◌≡◌, ℕ, List, ◌++◌, ◌≤◌, Result, Ok, Err, IfOk, length, arith, subst, sym, ◌∙◌, ap}
 use Rattle.btr_node.specs.NodeSize.{IsNodeSize}
 use Rattle.btr_tree.specs.Counting.{Counted, Tally, tree_nodes}
-use Rattle.btr_tree.specs.Packing.{leaves, tree_levels}
 use Rattle.btr_tree.specs.Roots.{lengths_of}
 use Rattle.unit_plan.specs.declared.chunk.Chunk.{Chunk}
 use Rattle.unit_plan.specs.declared.piece.Piece.{Piece}
@@ -10,7 +9,7 @@ use Rattle.space_items.specs.Nodes.{AreNodes, HasSlots, merged_nodes, nodes_of_t
 use Rattle.space_items.specs.Own.{IsOwnCount, own_at, own_lengths}
 use Rattle.space_items.specs.declared.node.TreeNode.{TreeNode}
 use Rattle.outside.specs.declared.fault.Memory.{Memory}
-use Rattle.space_items.proofs.Ascending.{addresses, with_leaves, with_others, upper_at}
+use Rattle.space_items.proofs.Ascending.{addresses, with_leaves, with_others, tree_at}
 use Rattle.space_items.proofs.ChunksExist.{the_chunks, are_the_chunks}
 use Rattle.space_items.proofs.own_count.with_own.Goals as goal
 
@@ -35,10 +34,6 @@ add_nodes-requires g c =
     let are = are_the_chunks c.args.plan.now c.args.blocks in
     has_slots chunks (g.P.PieceList.pieces c.args.pieces.now) c.args.others.now c.in_ok-leaves.leaves c.args.rest.now c.args.nodesize c.args.count c.in_ok-counter.counter c.requires.size c.in_ok-counter.ensures.size c.in_ok-leaves.ensures
     (c.in_ok-counter.ensures.lengths chunks are) (c.requires.own chunks are) c.requires.enough
-
--- they lie at the slots in their order
-tree_at : (owner nodesize : ℕ) (lengths slots : List ℕ) → addresses (nodes_of_tree owner nodesize lengths slots) ≡ take (tree_nodes nodesize lengths) slots
-tree_at owner nodesize lengths slots = upper_at owner 0 0 slots (tree_levels nodesize (length (leaves nodesize lengths)))
 
 told : (r : Result (List TreeNode) Memory) (nodes : List TreeNode) → IfOk r (λ all. all ≡ nodes) → AreNodes nodes → IfOk r AreNodes
 told (Ok all) nodes is are = subst AreNodes (sym is) are
