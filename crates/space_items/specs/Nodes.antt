@@ -1,5 +1,5 @@
 -- Nodes of trees that were written.
-use Rattle.std.specs.Prelude.{◌≡◌, ◌<◌, ◌≤◌, ℕ, ◌+◌, ◌^◌, true, List, length, map, AllPairs}
+use Rattle.std.specs.Prelude.{◌<◌, ◌≤◌, ℕ, ◌+◌, ◌^◌, true, List, length, map, AllPairs}
 use Rattle.std.specs.Ordering.{nat_cmp}
 use Rattle.std.specs.Set.{sorted_merge}
 use Rattle.btr_node.specs.NodeSize.{IsNodeSize}

@@ -1,6 +1,5 @@
 -- How many nodes the extent tree has. It has an extent for each of them, so their number describes itself.
 use Rattle.std.specs.Prelude.{◌≡◌, ◌≢◌, ◌<◌, ℕ, ◌+◌, ◌*◌, List, length, take}
-use Rattle.btr_node.specs.Leaf.{Item}
 use Rattle.btr_tree.specs.Counting.{tree_nodes, node_bound}
 use Rattle.btr_tree.specs.Roots.{lengths_of}
 use Rattle.unit_plan.specs.declared.chunk.Chunk.{Chunk}

@@ -1,4 +1,4 @@
-use Rattle.std.proofs.Common.{◌≡◌, ◌≤◌, false, length}
+use Rattle.std.proofs.Common.{◌≡◌, ◌≤◌, false}
 use Rattle.outside_mem.specs.Laws.{readable_len}
 use Rattle.space_items.specs.Stream.{FitsSums}
 use Rattle.space_items.proofs.stream_tests.sum_sums.Given as goal
