@@ -1,3 +1,4 @@
 pub mod Others
 pub mod Pushing
 pub mod Steps
+pub mod Rows

@@ -89,6 +89,7 @@ impl Trees {
     pub fn take(&mut self, counter: &Counter, owner: u64) -> Result<(), WriteAnswer>
         requires row { IsRow self.old }
         requires size { counter.now.nodesize ≡ self.old.form.nodesize }
+        requires counted { (lengths : List ℕ) × Counted counter.now lengths }
         ensures row { OnOk result (IsRow self.new) }
         ensures same { (self.new.form ≡ self.old.form) × (self.new.slots ≡ self.old.slots) }
         ensures taken { (lengths : List ℕ) → Counted counter.now lengths

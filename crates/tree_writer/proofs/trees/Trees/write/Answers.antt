@@ -1,0 +1,46 @@
+use Rattle.std.proofs.Common.{◌≡◌, ◌≤◌, ◌+◌, ℕ, List, length, drop, sym, subst, ap, ◌∙◌, arith, length-drop}
+use Rattle.outside.specs.History.{reads, WritesOnly}
+use Rattle.btr_tree.specs.Roots.{lengths_of}
+use Rattle.btr_tree.specs.Writing.{IsInSlots}
+use Rattle.tree_writer.specs.Source.{SameOutside}
+use Rattle.tree_writer.specs.Trees.{AreWritable, TreeStands, form_of}
+use Rattle.tree_writer.proofs.Rows.{memory_cause, same_left, still_enough}
+use Rattle.tree_writer.proofs.trees.Trees.write.Goals as goal
+
+pub write_tree-requires-clause-stable : goal.write_tree-requires-clause-stable
+write_tree-requires-clause-stable g c = λ tells s image other same fits.
+    c.requires.stable tells s image other
+    (same_left c.args.self.now.form.nodesize c.args.self.now.taken c.args.self.now.slots image other
+    (subst (λ (x : List ℕ). SameOutside c.args.self.now.form.nodesize x image other) c.in_ok-slots.ensures same))
+    fits
+
+pub returns-in_err-tree-clause-only : goal.returns-in_err-tree-clause-only
+returns-in_err-tree-clause-only g c = λ tells.
+    subst (λ (x : List ℕ). WritesOnly (λ b _. IsInSlots c.args.self.now.form.nodesize x b) (g.D.Disk.history c.args.disk.now) (g.D.Disk.history c.write_tree.new.disk)) c.in_ok-slots.ensures
+    (c.write_tree.ensures.only tells)
+
+pub returns-in_err-take-clause-only : goal.returns-in_err-take-clause-only
+returns-in_err-take-clause-only g c = λ tells.
+    subst (λ (x : List ℕ). WritesOnly (λ b _. IsInSlots c.args.self.now.form.nodesize x b) (g.D.Disk.history c.args.disk.now) (g.D.Disk.history c.write_tree.new.disk)) c.in_ok-slots.ensures
+    (c.write_tree.ensures.only tells)
+
+pub returns-in_err-take-clause-cause : goal.returns-in_err-take-clause-cause
+returns-in_err-take-clause-cause g c =
+    let counted = c.in_ok-tree.ensures.counted in
+    memory_cause c.from_residual-in_err-take.result c.in_err-take.field-0.0 _ _ (c.in_ok-tree.ensures.cause.kept (λ e. absurd cc)) c.from_residual-in_err-take.ensures.1
+    (c.in_err-take.ensures.misfit counted.0 counted.1
+    (still_enough c.args.self.now.taken _ c.in_ok-tree.tree.root.nodes c.args.self.now.slots c.in_ok-slots.slots c.in_ok-slots.ensures c.requires.row.within counted.2 c.in_ok-tree.ensures.few))
+
+pub returns-clause-tree : goal.returns-clause-tree
+returns-clause-tree g c = λ tells image is fits all are writable.
+    let form = c.args.self.now.form in
+    let at = c.in_ok-slots.ensures in
+    let told = c.in_ok-tree.ensures.tree tells image is fits all are (subst (λ (x : List ℕ). AreWritable form.nodesize x all) (sym at) writable) in (
+      subst (λ (x : List ℕ). TreeStands (reads (g.D.Disk.history c.write_tree.new.disk)) (form_of form) c.args.owner x all c.in_ok-tree.tree.root) at told.0,
+      (c.in_ok-take.ensures.taken (lengths_of all) told.1).1,
+    )
+
+pub returns-clause-only : goal.returns-clause-only
+returns-clause-only g c = λ tells.
+    subst (λ (x : List ℕ). WritesOnly (λ b _. IsInSlots c.args.self.now.form.nodesize x b) (g.D.Disk.history c.args.disk.now) (g.D.Disk.history c.write_tree.new.disk)) c.in_ok-slots.ensures
+    (c.write_tree.ensures.only tells)
