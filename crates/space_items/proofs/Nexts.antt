@@ -11,7 +11,7 @@ use Rattle.btr_node.specs.Leaf.{Item}
 use Rattle.btr_node.specs.Order.{is_before}
 use Rattle.unit_plan.specs.declared.piece.Piece.{Piece}
 use Rattle.space_items.specs.Extents.{node_item, piece_item}
-use Rattle.space_items.specs.Merging.{merged}
+use Rattle.space_items.specs.Merging.{item_cmp, merged}
 use Rattle.space_items.specs.Stream.{FitsExtents, IsSmallGroup, IsSmallNext, IsSmallPiece, extents_ahead, first_of, item_of_group, item_of_next, passed, place_of}
 use Rattle.space_items.specs.declared.extent_stream.ExtentStream.{ExtentStream}
 use Rattle.space_items.specs.declared.extent_stream.Next.{Next}
@@ -19,6 +19,7 @@ use Rattle.space_items.specs.declared.extent_stream.Next.TheVariants as next
 use Rattle.space_items.specs.declared.groups.Group.{Group}
 use Rattle.space_items.specs.declared.node.TreeNode.{TreeNode}
 use Rattle.space_items.proofs.Counting.{all_at}
+use Rattle.space_items.proofs.Merges.{merge-nil}
 
 pub drop_next : {A : Type 0} (xs : List A) (n : ℕ) (x : A) → slice_get xs n ≡ Some x → drop n xs ≡ x ∷ drop (n + 1) xs
 drop_next [] n x there = absurd cc
@@ -48,10 +49,6 @@ merge_second x y xs ys = by (key_cmp x.0 y.0)
     by Equal is apart = absurd (apart refl)
     by Greater is apart = refl
 
-merge_alone : (xs : List Item) → merged xs [] ≡ xs
-merge_alone [] = refl
-merge_alone (x ∷ xs) = refl
-
 -- what comes next of a list, and the list behind it
 abbrev pub Ahead : Option Next → List Item → (Next → List Item) → Type 0
 Ahead r now after = MatchOption r (now ≡ []) (λ n. now ≡ item_of_next n ∷ after n)
@@ -63,8 +60,8 @@ merge_ahead None (Some n) xs ys fore hind after first second apart by_first by_s
     ap (λ (l : List Item). merged l ys) first ∙ (second ∙ ap (λ (l : List Item). item_of_next n ∷ l) (sym (by_second n refl ∙ ap (λ (l : List Item). merged l (hind n)) first)))
 merge_ahead (Some m) None xs ys fore hind after first second apart by_first by_second =
     ap (merged xs) second
-    ∙ (merge_alone xs
-    ∙ (first ∙ ap (λ (l : List Item). item_of_next m ∷ l) (sym (by_first m refl ∙ (ap (merged (fore m)) second ∙ merge_alone (fore m))))))
+    ∙ (merge-nil item_cmp xs
+    ∙ (first ∙ ap (λ (l : List Item). item_of_next m ∷ l) (sym (by_first m refl ∙ (ap (merged (fore m)) second ∙ merge-nil item_cmp (fore m))))))
 merge_ahead (Some m) (Some n) xs ys fore hind after first second apart by_first by_second =
     by (is_before (item_of_next m).0 (item_of_next n).0) refl
   where
