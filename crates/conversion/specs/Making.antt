@@ -1,5 +1,5 @@
 -- What a conversion is made from, and what it decides before its first write.
-use Rattle.std.specs.Prelude.{◌≡◌, ℕ, ◌+◌, ◌*◌, ◌-◌, ◌==◌, not, count_by, List, length, map, take, filter, replicate, ◌++◌}
+use Rattle.std.specs.Prelude.{◌≡◌, ℕ, ◌+◌, ◌*◌, ◌-◌, ◌==◌, not, count_by, List, [], length, map, take, filter, replicate, ◌++◌}
 use Rattle.std.specs.List.{take_while}
 use Rattle.indexmap.specs.IndexMap.{keys}
 use Rattle.outside.specs.History.{Image}
