@@ -13,7 +13,7 @@ use Rattle.reiser_objects.specs.declared.key.ObjectKey.{ObjectKey}
 use Rattle.space_items.specs.declared.node.TreeNode.{TreeNode}
 use Rattle.unit_plan.specs.declared.piece.Piece.{Piece}
 use Rattle.conversion.specs.Making.{Making, IsMaking}
-use Rattle.convert_core.specs.Standing.{Roots, HasTrees, used_bytes}
+use Rattle.volume_trees.specs.Standing.{ HasTrees, used_bytes}
 
 -- the blocks of the copies of a superblock
 abbrev pub IsMirror : ℕ → Type 0
@@ -33,14 +33,14 @@ pub record HoldPieces (image other : Image) (m : Making) : Type 0 where
       → block_at other p.place ≡ tail_block (items_of key (made_from m.volume image m.options m.pieces).items) (size_in (made_from m.volume image m.options m.pieces) key) k
 
 -- All but the superblock is written.
-pub record IsPrepared (image other : Image) (m : Making) (r : Roots) (nodes : List TreeNode) : Type 0 where
+pub record IsPrepared (image other : Image) (m : Making) (r : VolumeTrees) (nodes : List TreeNode) : Type 0 where
   pub making : IsMaking image m
   pub before : IsBefore image other
   pub pieces : HoldPieces image other m
   pub trees : HasTrees image other m r nodes
 
 -- Block 16 is the superblock, and all else but the copies' blocks is as it was prepared.
-pub record IsSwitched (image other : Image) (m : Making) (r : Roots) (nodes : List TreeNode) : Type 0 where
+pub record IsSwitched (image other : Image) (m : Making) (r : VolumeTrees) (nodes : List TreeNode) : Type 0 where
   pub written : Image
   pub prepared : IsPrepared image written m r nodes
   pub size : length other ≡ length written
@@ -48,10 +48,10 @@ pub record IsSwitched (image other : Image) (m : Making) (r : Roots) (nodes : Li
   pub others : (b : ℕ) → b ≢ 16 → ¬ IsMirror b → block_at other b ≡ block_at written b
 
 -- The volume is converted: the copies stand too.
-pub record IsConverted (image other : Image) (m : Making) (r : Roots) (nodes : List TreeNode) : Type 0 where
+pub record IsConverted (image other : Image) (m : Making) (r : VolumeTrees) (nodes : List TreeNode) : Type 0 where
   pub switched : IsSwitched image other m r nodes
   pub mirrors : (b : ℕ) → IsMirror b → b < m.volume.sup.blocks → block_at other b ≡ mirror_bytes b (super_bytes (new_super m r.chunk r.root (used_bytes m nodes)))
 
 -- What a crash may leave: the old volume, or the new one with some of its copies.
-abbrev pub IsEither : Image → Image → Making → Roots → List TreeNode → Type 0
+abbrev pub IsEither : Image → Image → Making → VolumeTrees → List TreeNode → Type 0
 IsEither image other m r nodes = IsBefore image other ⊎ IsSwitched image other m r nodes

@@ -1,4 +1,3 @@
 pub mod Converted
 pub mod Laws
-pub mod Standing
 pub mod Surveyed

@@ -1,0 +1,10 @@
+//! Writes the trees of a converted volume: the chunk tree to its own units, and all others one behind the other to those for
+//! metadata. Only the slots of nodes are written.
+#![tactic(auto)]
+
+mod sources;
+mod trees;
+mod write;
+
+pub use trees::VolumeTrees;
+pub use write::write_trees;
