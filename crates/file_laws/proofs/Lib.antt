@@ -1,2 +1,4 @@
+mod Apart
 mod Rising
 mod Same
+mod SmallTrees

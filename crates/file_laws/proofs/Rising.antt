@@ -1,5 +1,5 @@
 -- Items whose keys rise.
-use Rattle.std.proofs.Common.{◌≡◌, ◌≤◌, ◌<◌, ℕ, ◌+◌, ◌*◌, ◌==◌, Bool, true, false, cond, List, [], ◌∷◌, ◌++◌, length, map, filter, refl, sym, ap, ◌∙◌, arith}
+use Rattle.std.proofs.Common.{◌≡◌, ◌≤◌, ◌<◌, ℕ, ◌*◌, ◌==◌, Bool, true, false, cond, List, [], ◌∷◌, ◌++◌, length, map, filter, refl, sym, ap, ◌∙◌, arith}
 use Rattle.std.specs.List.{AllByRecursion, flat_map}
 use Rattle.std.specs.Ordering.{is_lt, nat_cmp, ordering_then}
 use Rattle.std.specs.declared.cmp.Ordering.{Ordering}
@@ -7,10 +7,9 @@ use Rattle.std.specs.declared.cmp.Ordering.TheVariants.{Less, Equal}
 use Rattle.std.proofs.lemmas.Bool.{and_from, lt-ltb, le-ltb, eq-eqb}
 use Rattle.std.proofs.lemmas.Bool.Decides.{nat_tests}
 use Rattle.btr_keys.specs.Key.{make_key}
-use Rattle.btr_keys.specs.declared.key.Key.{Key}
 use Rattle.btr_node.specs.Leaf.{Item, keys_of}
 use Rattle.btr_node.specs.Order.{Ascends, ascends, is_before}
-use Rattle.item_list.proofs.Grouping.{Above, Rising}
+use Rattle.item_list.proofs.Grouping.{Rising}
 use Rattle.item_list.proofs.Sorting.{Sorted}
 
 abbrev pub Before : Item → Item → Type 0
@@ -94,14 +93,14 @@ climb_push f (x ∷ xs) y up below = (all_append (λ z. f x < f z) xs (y ∷ [])
 module _ {A : Type 0} (number : A → ℕ) where
   strict : (n : ℕ) (ys : List A) → AllByRecursion (λ y. n ≤ number y) ys → length (filter (λ y. number y == n) ys) ≤ 0 → AllByRecursion (λ y. n < number y) ys
   strict n [] low none = tt
-  strict n (y ∷ ys) low none = by (number y == n) refl none
+  strict n (y ∷ ys) low none = by (strict n ys low.1) (number y == n) refl none
     where
       apart : n ≤ number y → (number y == n) ≡ false → n < number y
       apart le is = grind (arith, nat_tests)
 
-      by : (b : Bool) → (number y == n) ≡ b → length (cond b (y ∷ filter (λ z. number z == n) ys) (filter (λ z. number z == n) ys)) ≤ 0 → AllByRecursion (λ z. n < number z) (y ∷ ys)
-      by true is many = absurd (omega (arith, many))
-      by false is many = (apart low.0 is, strict n ys low.1 many)
+      by : (length (filter (λ z. number z == n) ys) ≤ 0 → AllByRecursion (λ z. n < number z) ys) → (b : Bool) → (number y == n) ≡ b → length (cond b (y ∷ filter (λ z. number z == n) ys) (filter (λ z. number z == n) ys)) ≤ 0 → AllByRecursion (λ z. n < number z) (y ∷ ys)
+      by later true is many = absurd (omega (arith, many))
+      by later false is many = (apart low.0 is, later many)
 
   self : (n : ℕ) → (n == n) ≡ true
   self n = grind (arith, nat_tests)
@@ -150,19 +149,20 @@ part_append n a b c d xs ys low between high first second = record {
       first.each);
 }
 
--- items of one kind under numbers that rise
-pub part_of_kind : {A : Type 0} (n kind : ℕ) (number : A → ℕ) (bytes : A → List ℕ) (xs : List A) → Climb number xs → IsPart n kind kind (map (λ x. (make_key n kind (number x), bytes x)) xs)
-part_of_kind {A} n kind number bytes xs up = record {
-  each = all_mapped (IsOf n kind kind) item xs (all_true (λ x. IsOf n kind kind (item x)) xs (λ x. record { object = refl; low = omega arith; high = omega arith }));
-  rise = rises xs up;
-}
-  where
-    abbrev item : A → Item
-    item x = (make_key n kind (number x), bytes x)
+module _ {A : Type 0} (n kind : ℕ) (number : A → ℕ) (bytes : A → List ℕ) where
+  abbrev numbered : A → Item
+  numbered x = (make_key n kind (number x), bytes x)
 
-    rises : (ys : List A) → Climb number ys → Rise (map item ys)
-    rises [] climb = tt
-    rises (y ∷ ys) climb = (all_mapped (λ i. Before (item y) i) item ys (all_each (λ z. number y < number z) (λ z. Before (item y) (item z)) ys (λ z h. before_offset n kind (number y) (number z) h) climb.0), rises ys climb.1)
+  rises : (ys : List A) → Climb number ys → Rise (map numbered ys)
+  rises [] climb = tt
+  rises (y ∷ ys) climb = (all_mapped (λ i. Before (numbered y) i) numbered ys (all_each (λ z. number y < number z) (λ z. Before (numbered y) (numbered z)) ys (λ z h. before_offset n kind (number y) (number z) h) climb.0), rises ys climb.1)
+
+  -- items of one kind under numbers that rise
+  pub part_of_kind : (xs : List A) → Climb number xs → IsPart n kind kind (map numbered xs)
+  part_of_kind xs up = record {
+    each = all_mapped (IsOf n kind kind) numbered xs (all_true (λ x. IsOf n kind kind (numbered x)) xs (λ x. record { object = refl; low = omega arith; high = omega arith }));
+    rise = rises xs up;
+  }
 
 pub part_one : (n kind offset : ℕ) (bytes : List ℕ) → IsPart n kind kind ((make_key n kind offset, bytes) ∷ [])
 part_one n kind offset bytes = record { each = (record { object = refl; low = omega arith; high = omega arith }, tt); rise = (tt, tt) }

@@ -1,11 +1,10 @@
 -- What a tree of the items tells of the volume that they were made from.
-use Rattle.std.specs.Prelude.{◌≡◌, ◌↔◌, ℕ, List, map, Bool, true, Contains, Some}
+use Rattle.std.specs.Prelude.{◌≡◌, ◌↔◌, ℕ, List, map, Bool, true, Contains}
 use Rattle.outside.specs.History.{Image}
 use Rattle.btr_files.specs.Extents.{file_bytes as bytes_on}
-use Rattle.btr_names.specs.Inodes.{inode_on}
 use Rattle.btr_names.specs.Links.{inode, Leads as LeadsOn, Target}
 use Rattle.btr_names.specs.Rules.{KeepsNames}
-use Rattle.btr_reader.specs.Rows.{AreRows, HasInode, top}
+use Rattle.btr_reader.specs.Rows.{AreRows, top}
 use Rattle.btr_walk.specs.Events.{TreeItem}
 use Rattle.btr_walk.specs.Tree.{bare_item}
 use Rattle.btr_walk.specs.declared.map.MapRange.{MapRange}
@@ -14,13 +13,13 @@ use Rattle.fs_rows.specs.Rows.{NameList, WholeRow}
 use Rattle.reiser_files.specs.Bytes.{file_bytes}
 use Rattle.reiser_objects.specs.declared.key.ObjectKey.{ObjectKey}
 use Rattle.reiser_objects.specs.Keys.{root, items_of}
-use Rattle.reiser_volume.specs.Rows.{Leads, HasStat}
+use Rattle.reiser_volume.specs.Rows.{Leads}
 use Rattle.reiser_volume.specs.Volume.{AreRowsOf}
 use Rattle.reiser_volume.specs.declared.volume.Volume.{Volume}
 use Rattle.unit_plan.specs.declared.options.Options.{Options}
 use Rattle.unit_plan.specs.declared.piece.Piece.{Piece}
 use Rattle.unit_plan.specs.declared.plan.Plan.{Plan}
-use Rattle.file_items.specs.Tree.{Source, tree_items, number_of, kind_in, size_in, stat_in, inode_in}
+use Rattle.file_items.specs.Tree.{Source, tree_items, number_of, kind_in, size_in}
 use Rattle.conversion.specs.Source.{HasPieces, made_from, StandAt}
 
 -- the items of a tree as they are read: with these keys and bodies, in any leaves
