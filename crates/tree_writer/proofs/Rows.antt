@@ -6,7 +6,6 @@ use Rattle.std.proofs.Math.Seq.{take-add}
 use Rattle.std.proofs.lemmas.List.{map-append, get_or-drop}
 use Rattle.std.proofs.lemmas.List.Elements.{All-drop}
 use Rattle.outside.specs.Fault.{HasCauseOf}
-use Rattle.outside.specs.History.{Image, block_at}
 use Rattle.btr_node.specs.NodeSize.{IsNodeSize}
 use Rattle.btr_tree.specs.Building.{AreSlots}
 use Rattle.btr_tree.specs.Counting.{Counted, Tally, tree_nodes}
@@ -15,7 +14,7 @@ use Rattle.btr_tree.specs.Writing.{IsInSlots}
 use Rattle.space_items.specs.Nodes.{HasSlots, nodes_of_tree}
 use Rattle.space_items.specs.declared.node.TreeNode.{TreeNode}
 use Rattle.space_items.proofs.Ascending.{upper_at}
-use Rattle.tree_writer.specs.Source.{SameOutside}
+use Rattle.tree_writer.specs.Source.{LieApart}
 use Rattle.tree_writer.specs.declared.answer.WriteAnswer.{WriteAnswer}
 use Rattle.tree_writer.specs.declared.answer.WriteAnswer.TheVariants as answer
 
@@ -58,8 +57,8 @@ in_left : (nodesize taken : ℕ) (slots : List ℕ) (b : ℕ) → IsInSlots node
 in_left nodesize taken slots b found =
     (taken + found.0, found.1, omega (arith, found.2, length-drop taken slots), sym (get_or-drop taken slots found.0 found.1) ∙ found.3, found.4)
 
-pub same_left : (nodesize taken : ℕ) (slots : List ℕ) (image other : Image) → SameOutside nodesize (drop taken slots) image other → SameOutside nodesize slots image other
-same_left nodesize taken slots image other same = λ b outside. same b (λ inside. outside (in_left nodesize taken slots b inside))
+pub apart_left : (needs : ℕ → Type 0) (nodesize taken : ℕ) (slots : List ℕ) → LieApart needs nodesize slots → LieApart needs nodesize (drop taken slots)
+apart_left needs nodesize taken slots apart = λ b needed inside. apart b needed (in_left nodesize taken slots b inside)
 
 -- the nodes of a tree that was written have slots behind those that were taken
 pub still_enough : (taken count nodes : ℕ) (slots rest : List ℕ) → rest ≡ drop taken slots → taken ≤ length slots → nodes ≡ count → nodes ≤ length rest → taken + count ≤ length slots

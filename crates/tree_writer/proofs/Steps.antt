@@ -6,6 +6,7 @@ use Rattle.std.proofs.lemmas.List.{append-nil}
 use Rattle.std.specs.List.Sorted.{IsPermutation}
 use Rattle.outside.specs.Fault.{HasCauseOf, Rose}
 use Rattle.outside.specs.History.{Image, History, reads, block_at, WritesOnly}
+use Rattle.outside.proofs.Crash.{writes_length}
 use Rattle.outside.proofs.Phases.{reads_outside}
 use Rattle.outside.specs.declared.answer.VolAnswer.{VolAnswer}
 use Rattle.outside.specs.declared.answer.VolAnswer.TheVariants as source
@@ -23,7 +24,7 @@ use Rattle.btr_walk.specs.Map.{identity}
 use Rattle.btr_walk.specs.Tree.{tree_items}
 use Rattle.btr_walk.specs.declared.tree.Form.{Form}
 use Rattle.tree_writer.specs.Answers.{of_source, IsFailure, IsSourceFailure, IsWriteAnswer}
-use Rattle.tree_writer.specs.Source.{SameOutside}
+use Rattle.tree_writer.specs.Source.{LieApart, SameWhere}
 use Rattle.tree_writer.specs.Trees.{TreeStands, AreWritable}
 use Rattle.tree_writer.specs.declared.answer.WriteAnswer.{WriteAnswer}
 use Rattle.tree_writer.specs.declared.answer.WriteAnswer.TheVariants as answer
@@ -59,10 +60,12 @@ answer_fails (Err e) answer.Misfit P told may isnt = absurd (isnt refl)
 answer_fails (Err e) answer.Fault P told may isnt = inl told
 answer_fails (Err e) answer.Memory P told may isnt = inr told
 
-pub same_outside : (size : ℕ) (slots : List ℕ) (old new : History) (image other : Image) → image ≡ reads old → other ≡ reads new → WritesOnly (λ b _. IsInSlots size slots b) old new
-    → SameOutside size slots image other
-same_outside size slots old new image other is is' only = λ b outside.
-    ap (λ (i : Image). block_at i b) is' ∙ (reads_outside (IsInSlots size slots) old new only b outside ∙ sym (ap (λ (i : Image). block_at i b) is))
+pub same_where : (needs : ℕ → Type 0) (size : ℕ) (slots : List ℕ) (old new : History) (image other : Image) → image ≡ reads old → other ≡ reads new → WritesOnly (λ b _. IsInSlots size slots b) old new
+    → LieApart needs size slots → SameWhere needs image other
+same_where needs size slots old new image other is is' only apart = record {
+  as_many = ap length is' ∙ (writes_length (λ b _. IsInSlots size slots b) old new only ∙ sym (ap length is));
+  blocks = λ b needed. ap (λ (i : Image). block_at i b) is' ∙ (reads_outside (IsInSlots size slots) old new only b (apart b needed) ∙ sym (ap (λ (i : Image). block_at i b) is));
+}
 
 pub only_of : (f form : Form) (s slots : List ℕ) (old new : History) → f ≡ form → s ≡ slots → WritesOnly (λ b _. IsInSlots f.nodesize s b) old new → WritesOnly (λ b _. IsInSlots form.nodesize slots b) old new
 only_of f form s slots old new is is' only =

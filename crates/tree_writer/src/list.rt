@@ -24,11 +24,13 @@ impl<'a> ListItems<'a> {
 }
 
 impl<'a> ItemSource for ListItems<'a> {
-    ghost use Rattle.std.specs.Prelude.{◌≡◌, ◌<◌, ℕ, ◌+◌, drop, slice_get, Some};
+    ghost use Rattle.std.specs.Prelude.{◌≡◌, ◌<◌, ℕ, ◌+◌, drop, slice_get, Some, refl};
 
     ghost ahead = { λ s image. drop s.given s.list.now };
 
     ghost fits = { λ s image. Unit {0} };
+
+    ghost needs = { λ s b. ⊥ };
 
     ghost is_live = { λ s. Unit {0} };
 
@@ -53,4 +55,6 @@ impl<'a> ItemSource for ListItems<'a> {
     fn body(&self) -> &[u8] {
         self.list.body(self.given - 1)
     }
+
+    ghost stays = { λ s image other same fits. (fits, refl) };
 }

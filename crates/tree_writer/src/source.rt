@@ -4,20 +4,23 @@ ghost use Rattle.outside.specs.Fault.{HasCauseOf};
 ghost use Rattle.outside.specs.History.{Image, OverTold};
 ghost use Rattle.btr_node.specs.Leaf.{Item};
 ghost use Rattle.tree_writer.specs.Answers.{IsSourceFailure};
-ghost use Rattle.tree_writer.specs.Source.{ComesTo};
+ghost use Rattle.tree_writer.specs.Source.{ComesTo, SameWhere};
 
 use btr_keys::Key;
 use outside::{BlockSource, VolAnswer};
 
 /// Items of a tree, one after the other.
 ///
-/// They may be read off a disk, whose blocks stay as they are but for the nodes of the tree that is written of them.
+/// They may be read off a disk, whose blocks stay as they are where they are needed.
 pub trait ItemSource {
     /// The items that are still to come, over these blocks.
     ghost ahead: { Self → Image → List Item };
 
     /// These are the blocks that it goes over.
     ghost fits: { Self → Image → Type 0 };
+
+    /// A block of those from which the items are made.
+    ghost needs: { Self → ℕ → Type 0 };
 
     /// It may be asked for the next item.
     ghost is_live: { Self → Type 0 };
@@ -39,6 +42,7 @@ pub trait ItemSource {
         ensures cause { HasCauseOf VolAnswer.Fault (S.faults src.old) (S.faults src.new) result }
         ensures live { IfOk result (λ _. is_live self.new) }
         ensures reach { reach self.new ≡ reach self.old }
+        ensures needs { (b : ℕ) → needs self.new b → needs self.old b }
         ensures has_item { IfOk result (λ more. IsTrue more → has_item self.new) }
         ensures next { OverTold S.tells (S.blocks src.old) (λ image. fits self.old image
             → MatchResult result (λ more. fits self.new image × ComesTo stands more (ahead self.old image) self.new (ahead self.new image)) IsSourceFailure) };
@@ -52,4 +56,7 @@ pub trait ItemSource {
     fn body(&self) -> &[u8]
         requires { has_item self.now }
         ensures { (item : Item) → stands self.now item → result.now ≡ item.1 };
+
+    /// Other blocks may be written meanwhile.
+    ghost stays: { (s : Self) (image other : Image) → SameWhere (needs s) image other → fits s image → fits s other × (ahead s other ≡ ahead s image) };
 }

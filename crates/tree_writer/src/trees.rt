@@ -10,7 +10,7 @@ ghost use Rattle.btr_tree.specs.Roots.{lengths_of};
 ghost use Rattle.btr_tree.specs.Writing.{IsInSlots};
 ghost use Rattle.space_items.specs.Nodes.{nodes_of_tree};
 ghost use Rattle.tree_writer.specs.Answers.{IsFailure};
-ghost use Rattle.tree_writer.specs.Source.{SameOutside};
+ghost use Rattle.tree_writer.specs.Source.{LieApart};
 ghost use Rattle.tree_writer.specs.Trees.{AreWritable, TreeStands, form_of};
 
 use crate::answer::WriteAnswer;
@@ -65,11 +65,10 @@ impl Trees {
         requires in_range { All (λ a. a + self.old.form.nodesize ≤ 4096 * D.size disk.old) self.old.slots }
         requires live { I.is_live items.old }
         requires reach { I.reach items.old ≤ D.size disk.old }
-        requires stable { IsTrue D.tells → (s : I) (image other : Image) → SameOutside self.old.form.nodesize self.old.slots image other → I.fits s image → I.fits s other × (I.ahead s other ≡ I.ahead s image) }
         ensures row { OnOk result (IsRow self.new) }
         ensures same { (self.new.form ≡ self.old.form) × (self.new.slots ≡ self.old.slots) }
         ensures taken { IfOk result (λ root. self.new.taken ≡ self.old.taken + root.nodes) }
-        ensures tree { OverTold D.tells (D.blocks disk.old) (λ image. I.fits items.old image → (all : List ItemOf) → I.ahead items.old image ≡ all → AreWritable self.old.form.nodesize (drop self.old.taken self.old.slots) all
+        ensures tree { OverTold D.tells (D.blocks disk.old) (λ image. I.fits items.old image → LieApart (I.needs items.old) self.old.form.nodesize self.old.slots → (all : List ItemOf) → I.ahead items.old image ≡ all → AreWritable self.old.form.nodesize (drop self.old.taken self.old.slots) all
             → MatchResult result (λ root. TreeStands (reads (D.history disk.new)) (form_of self.old.form) owner (drop self.old.taken self.old.slots) all root
                 × (self.new.nodes ≡ self.old.nodes ++ nodes_of_tree owner self.old.form.nodesize (lengths_of all) (drop self.old.taken self.old.slots))) IsFailure) }
         ensures open { D.opened disk.new ≡ D.opened disk.old }

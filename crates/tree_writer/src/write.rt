@@ -9,7 +9,7 @@ ghost use Rattle.btr_tree.specs.Counting.{Counted, tree_nodes};
 ghost use Rattle.btr_tree.specs.Roots.{lengths_of};
 ghost use Rattle.btr_tree.specs.Writing.{IsInSlots};
 ghost use Rattle.tree_writer.specs.Answers.{IsFailure};
-ghost use Rattle.tree_writer.specs.Source.{SameOutside};
+ghost use Rattle.tree_writer.specs.Source.{LieApart};
 ghost use Rattle.tree_writer.specs.Trees.{AreWritable, TreeStands, form_of};
 
 use crate::answer::WriteAnswer;
@@ -31,7 +31,8 @@ pub struct WrittenTree {
 /// Writes the tree with this number, of the items that come, to the first of the slots: addresses in bytes, distinct
 /// multiples of the node size. Transaction 1 makes it.
 ///
-/// Over a disk that tells its blocks, items of which a tree can be written give that tree, or a fault or want of memory.
+/// Over a disk that tells its blocks, items of which a tree can be written give that tree, or a fault or want of memory,
+/// where no block that the source needs is one of a slot.
 /// At any answer only blocks of the slots may have been written.
 pub fn write_tree<D: Disk, I: ItemSource>(
     alloc: Global,
@@ -48,8 +49,7 @@ pub fn write_tree<D: Disk, I: ItemSource>(
     requires in_range { All (λ a. a + form.nodesize ≤ 4096 * D.size disk.old) slots }
     requires live { I.is_live items.old }
     requires reach { I.reach items.old ≤ D.size disk.old }
-    requires stable { IsTrue D.tells → (s : I) (image other : Image) → SameOutside form.nodesize slots image other → I.fits s image → I.fits s other × (I.ahead s other ≡ I.ahead s image) }
-    ensures tree { OverTold D.tells (D.blocks disk.old) (λ image. I.fits items.old image → (all : List Item) → I.ahead items.old image ≡ all → AreWritable form.nodesize slots all
+    ensures tree { OverTold D.tells (D.blocks disk.old) (λ image. I.fits items.old image → LieApart (I.needs items.old) form.nodesize slots → (all : List Item) → I.ahead items.old image ≡ all → AreWritable form.nodesize slots all
         → MatchResult result (λ t. TreeStands (reads (D.history disk.new)) (form_of form) owner slots all t.root × Counted t.counter (lengths_of all)) IsFailure) }
     ensures counted { IfOk result (λ t. (lengths : List ℕ) × Counted t.counter lengths × (t.root.nodes ≡ tree_nodes form.nodesize lengths)) }
     ensures size_is { IfOk result (λ t. t.counter.nodesize ≡ form.nodesize) }

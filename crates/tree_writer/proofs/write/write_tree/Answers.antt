@@ -11,7 +11,7 @@ use Rattle.btr_tree.specs.Writing.{IsInSlots}
 use Rattle.tree_writer.specs.Trees.{AreWritable, TreeStands, form_of}
 use Rattle.tree_writer.specs.Writer.{StandsOn}
 use Rattle.tree_writer.specs.declared.answer.WriteAnswer.{WriteAnswer}
-use Rattle.tree_writer.proofs.Steps.{source_cause, source_fails, answer_fails, same_outside, only_of, range_of, falls, next_of, pushed_of, last_of, answer_cause, ok_cause}
+use Rattle.tree_writer.proofs.Steps.{source_cause, source_fails, answer_fails, same_where, only_of, range_of, falls, next_of, pushed_of, last_of, answer_cause, ok_cause}
 use Rattle.tree_writer.proofs.write.write_tree.Goals as goal
 
 pub loop-writer-init : goal.loop-writer-init
@@ -23,16 +23,17 @@ loop-writer-init g c = record {
   only = λ tells. writes_none (λ b _. IsInSlots c.args.form.nodesize c.args.slots b) _;
   live = c.requires.live;
   reach = refl;
+  needs = λ b needed. needed;
   items = [];
   writes = c.in_ok-writer.ensures.writes;
   stands = λ tells. c.in_ok-writer.ensures.stands _;
-  ahead = λ tells image is fits.
+  ahead = λ tells image is fits apart.
       (subst (λ (i : Image). g.I.ItemSource.fits c.args.items.now i) (sym is) fits, ap (λ (i : Image). g.I.ItemSource.ahead c.args.items.now i) is);
 }
 
 pub returns-in_err-advance-clause-tree : goal.returns-in_err-advance-clause-tree
-returns-in_err-advance-clause-tree g c = λ tells image is fits all are writable.
-    let told = c.loop-writer.invariant.ahead tells image is fits in
+returns-in_err-advance-clause-tree g c = λ tells image is fits apart all are writable.
+    let told = c.loop-writer.invariant.ahead tells image is fits apart in
     source_fails c.from_residual-in_err-advance.result c.in_err-advance.field-0.0 _ c.from_residual-in_err-advance.ensures.1 (c.in_err-advance.ensures.next tells _ refl told.0)
 
 pub returns-in_err-advance-clause-open : goal.returns-in_err-advance-clause-open
@@ -91,31 +92,32 @@ loop-writer-preserved g c =
           (subst (λ (h : History). WritesOnly (λ b _. IsInSlots c.args.form.nodesize c.args.slots b) (g.D.Disk.history c.args.disk.now) h) (sym (held tells)) (before.only tells)) (pushed_only tells);
       live = c.in_ok-advance.ensures.live;
       reach = c.advance.ensures.reach ∙ before.reach;
+      needs = λ b needed. before.needs b (c.advance.ensures.needs b needed);
       items = before.items ++ item ∷ [];
       writes = c.in_ok-push.ensures.writes _ _ _ _ before.writes;
       stands = λ tells. c.in_ok-push.ensures.stands before.items tells (subst (λ (h : History). StandsOn c.loop-writer.writer (reads h) before.items) (sym (held tells)) (before.stands tells));
-      ahead = λ tells image is fits.
-          let told = before.ahead tells image is fits in
+      ahead = λ tells image is fits apart.
+          let told = before.ahead tells image is fits apart in
           let came = rw c.if-branch.true at (c.in_ok-advance.ensures.next tells _ refl told.0) in
           let blocks = g.D.BlockSource.blocks c.loop-writer.disk in
           let new = g.D.BlockSource.blocks c.push.new.disk in
           let rest : List Item = g.I.ItemSource.ahead c.advance.new.self blocks in
           let next = next_of before.items (g.I.ItemSource.ahead c.loop-writer.items blocks) rest _ came.1.0 c.key.result c.body.result.now told.1 came.1.2 (c.key.ensures came.1.0 came.1.1) (c.body.ensures came.1.0 came.1.1) in
           let outside =
-          same_outside c.args.form.nodesize c.args.slots (g.D.Disk.history c.advance.new.src) (g.D.Disk.history c.push.new.disk) blocks new
+          same_where (g.I.ItemSource.needs c.advance.new.self) c.args.form.nodesize c.args.slots (g.D.Disk.history c.advance.new.src) (g.D.Disk.history c.push.new.disk) blocks new
           (g.met.D.Disk.open_blocks c.loop-writer.disk Write tells (before.open_ ∙ c.requires.open) ∙ sym (ap reads (held tells)))
           (g.met.D.Disk.open_blocks c.push.new.disk Write tells (c.in_ok-push.ensures.open ∙ (opened ∙ c.requires.open)))
-          (pushed_only tells) in
-          let stable = c.requires.stable tells c.advance.new.self blocks new outside came.0 in (
+          (pushed_only tells) (λ b needed. apart b (before.needs b (c.advance.ensures.needs b needed))) in
+          let stable = g.met.I.ItemSource.stays c.advance.new.self blocks new outside came.0 in (
             stable.0,
             ap (λ (is : List Item). (before.items ++ item ∷ []) ++ is) stable.1 ∙ pushed_of before.items rest _ item next,
           );
     }
 
 pub returns-in_err-push-clause-tree : goal.returns-in_err-push-clause-tree
-returns-in_err-push-clause-tree g c = λ tells image is fits all are writable.
+returns-in_err-push-clause-tree g c = λ tells image is fits apart all are writable.
     let before = c.loop-writer.invariant in
-    let told = before.ahead tells image is fits in
+    let told = before.ahead tells image is fits apart in
     let came = rw c.if-branch.true at (c.in_ok-advance.ensures.next tells _ refl told.0) in
     let blocks = g.D.BlockSource.blocks c.loop-writer.disk in
     let rest : List Item = g.I.ItemSource.ahead c.advance.new.self blocks in
@@ -162,9 +164,9 @@ finish-requires-clause-in_range g c =
     (g.met.D.BlockSource.kept_size c.loop-writer.disk c.advance.new.src c.advance.ensures.kept ∙ c.loop-writer.invariant.size) c.requires.in_range
 
 pub returns-in_err-root-clause-tree : goal.returns-in_err-root-clause-tree
-returns-in_err-root-clause-tree g c = λ tells image is fits all are writable.
+returns-in_err-root-clause-tree g c = λ tells image is fits apart all are writable.
     let before = c.loop-writer.invariant in
-    let told = before.ahead tells image is fits in
+    let told = before.ahead tells image is fits apart in
     let came = rw c.if-branch.false at (c.in_ok-advance.ensures.next tells _ refl told.0) in
     let last = last_of before.items _ all (told.1 ∙ are) came.1.0 in
     answer_fails c.from_residual-in_err-root.result c.in_err-root.field-0.0 _ c.from_residual-in_err-root.ensures.1 c.in_err-root.ensures.answers
@@ -194,9 +196,9 @@ returns-in_err-root-clause-cause g c =
     answer_cause c.from_residual-in_err-root.result c.in_err-root.field-0.0 _ _ _ (c.in_ok-advance.ensures.cause.kept (λ e. absurd cc) ∙ c.loop-writer.invariant.same) c.from_residual-in_err-root.ensures.1 c.in_err-root.ensures.cause
 
 pub returns-clause-tree : goal.returns-clause-tree
-returns-clause-tree g c = λ tells image is fits all are writable.
+returns-clause-tree g c = λ tells image is fits apart all are writable.
     let before = c.loop-writer.invariant in
-    let told = before.ahead tells image is fits in
+    let told = before.ahead tells image is fits apart in
     let came = rw c.if-branch.false at (c.in_ok-advance.ensures.next tells _ refl told.0) in
     let last = last_of before.items _ all (told.1 ∙ are) came.1.0 in
     let stands = subst (λ (h : History). StandsOn c.loop-writer.writer (reads h) before.items) (sym (g.met.D.Disk.kept_history c.loop-writer.disk c.advance.new.src tells c.advance.ensures.kept)) (before.stands tells) in

@@ -4,6 +4,7 @@ use Rattle.outside.specs.History.{Image, reads, WritesOnly}
 use Rattle.btr_node.specs.Leaf.{Item}
 use Rattle.btr_tree.specs.Packing.{capacity}
 use Rattle.btr_tree.specs.Writing.{IsInSlots}
+use Rattle.tree_writer.specs.Source.{LieApart}
 use Rattle.tree_writer.specs.Trees.{form_of}
 use Rattle.tree_writer.specs.Writer.{Writes, StandsOn}
 use Rattle.tree_writer.proofs.write.write_tree.Given as goal
@@ -17,10 +18,11 @@ invariant-loop-writer g l = record {
   only : IsTrue g.D.BlockSource.tells → WritesOnly (λ b _. IsInSlots l.fn.form.nodesize l.fn.slots b) (g.D.Disk.history l.initial.disk) (g.D.Disk.history l.disk);
   live : g.I.ItemSource.is_live l.items;
   reach : g.I.ItemSource.reach l.items ≡ g.I.ItemSource.reach l.initial.items;
+  needs : (b : ℕ) → g.I.ItemSource.needs l.items b → g.I.ItemSource.needs l.initial.items b;
   items : List Item;
   writes : Writes l.writer (form_of l.fn.form) l.owner l.fn.slots items;
   stands : IsTrue g.D.BlockSource.tells → StandsOn l.writer (reads (g.D.Disk.history l.disk)) items;
-  ahead : IsTrue g.D.BlockSource.tells → (image : Image) → g.D.BlockSource.blocks l.initial.disk ≡ image → g.I.ItemSource.fits l.initial.items image
+  ahead : IsTrue g.D.BlockSource.tells → (image : Image) → g.D.BlockSource.blocks l.initial.disk ≡ image → g.I.ItemSource.fits l.initial.items image → LieApart (g.I.ItemSource.needs l.initial.items) l.fn.form.nodesize l.fn.slots
       → g.I.ItemSource.fits l.items (g.D.BlockSource.blocks l.disk) × (items ++ g.I.ItemSource.ahead l.items (g.D.BlockSource.blocks l.disk) ≡ g.I.ItemSource.ahead l.initial.items image);
 }
 

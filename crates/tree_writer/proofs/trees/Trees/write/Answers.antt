@@ -2,17 +2,10 @@ use Rattle.std.proofs.Common.{◌≡◌, ◌≤◌, ◌+◌, ℕ, List, length, 
 use Rattle.outside.specs.History.{reads, WritesOnly}
 use Rattle.btr_tree.specs.Roots.{lengths_of}
 use Rattle.btr_tree.specs.Writing.{IsInSlots}
-use Rattle.tree_writer.specs.Source.{SameOutside}
+use Rattle.tree_writer.specs.Source.{LieApart}
 use Rattle.tree_writer.specs.Trees.{AreWritable, TreeStands, form_of}
-use Rattle.tree_writer.proofs.Rows.{memory_cause, same_left, still_enough}
+use Rattle.tree_writer.proofs.Rows.{apart_left, memory_cause, still_enough}
 use Rattle.tree_writer.proofs.trees.Trees.write.Goals as goal
-
-pub write_tree-requires-clause-stable : goal.write_tree-requires-clause-stable
-write_tree-requires-clause-stable g c = λ tells s image other same fits.
-    c.requires.stable tells s image other
-    (same_left c.args.self.now.form.nodesize c.args.self.now.taken c.args.self.now.slots image other
-    (subst (λ (x : List ℕ). SameOutside c.args.self.now.form.nodesize x image other) c.in_ok-slots.ensures same))
-    fits
 
 pub returns-in_err-tree-clause-only : goal.returns-in_err-tree-clause-only
 returns-in_err-tree-clause-only g c = λ tells.
@@ -32,10 +25,11 @@ returns-in_err-take-clause-cause g c =
     (still_enough c.args.self.now.taken _ c.in_ok-tree.tree.root.nodes c.args.self.now.slots c.in_ok-slots.slots c.in_ok-slots.ensures c.requires.row.within counted.2 c.in_ok-tree.ensures.few))
 
 pub returns-clause-tree : goal.returns-clause-tree
-returns-clause-tree g c = λ tells image is fits all are writable.
+returns-clause-tree g c = λ tells image is fits apart all are writable.
     let form = c.args.self.now.form in
     let at = c.in_ok-slots.ensures in
-    let told = c.in_ok-tree.ensures.tree tells image is fits all are (subst (λ (x : List ℕ). AreWritable form.nodesize x all) (sym at) writable) in (
+    let needs : ℕ → Type 0 = g.I.ItemSource.needs c.args.items.now in
+    let told = c.in_ok-tree.ensures.tree tells image is fits (subst (λ (x : List ℕ). LieApart needs form.nodesize x) (sym at) (apart_left needs form.nodesize c.args.self.now.taken c.args.self.now.slots apart)) all are (subst (λ (x : List ℕ). AreWritable form.nodesize x all) (sym at) writable) in (
       subst (λ (x : List ℕ). TreeStands (reads (g.D.Disk.history c.write_tree.new.disk)) (form_of form) c.args.owner x all c.in_ok-tree.tree.root) at told.0,
       (c.in_ok-take.ensures.taken (lengths_of all) told.1).1,
     )
