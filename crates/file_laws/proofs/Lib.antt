@@ -1,4 +1,6 @@
 mod Apart
+mod FileBlocks
+mod Keys
 mod Rising
 mod Same
 mod SmallTrees
