@@ -8,7 +8,7 @@ ghost use Rattle.btr_tree.specs.Building.{AreSlots};
 ghost use Rattle.btr_tree.specs.Counting.{Counted, tree_nodes};
 ghost use Rattle.btr_tree.specs.Roots.{lengths_of};
 ghost use Rattle.btr_tree.specs.Writing.{IsInSlots};
-ghost use Rattle.space_items.specs.Nodes.{nodes_of_tree};
+ghost use Rattle.space_items.specs.Nodes.{AreNodes, nodes_of_tree};
 ghost use Rattle.tree_writer.specs.Answers.{IsFailure};
 ghost use Rattle.tree_writer.specs.Source.{LieApart};
 ghost use Rattle.tree_writer.specs.Trees.{AreWritable, TreeStands, form_of};
@@ -123,6 +123,7 @@ impl Trees {
     /// The nodes at the slots that are taken, ascending by address.
     pub fn nodes(&self) -> &NodeList
         ensures same { result.now ≡ self.now.nodes }
+        ensures fit { IsRow self.now → AreNodes result.now }
     {
         &self.nodes
     }
