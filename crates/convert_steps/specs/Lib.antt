@@ -1,4 +1,2 @@
-pub mod Moved
-pub mod Prepared
 pub mod Superblock
 pub mod Switch

@@ -9,7 +9,7 @@ use Rattle.space_items.specs.Chunks.{chunk_item, device_body}
 use Rattle.unit_plan.specs.declared.chunk.Chunk.{Chunk}
 use Rattle.unit_plan.specs.declared.chunk.Role.{Role}
 use Rattle.unit_plan.specs.declared.chunk.Role.TheVariants.{System, Metadata, Data}
-use Rattle.convert_steps.specs.declared.superblock.NewRoots.{NewRoots}
+use Rattle.convert_steps.specs.declared.fields.NewRoots.{NewRoots}
 
 abbrev pub is_system_role : Role → Bool
 is_system_role System = true

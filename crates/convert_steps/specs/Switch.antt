@@ -13,6 +13,10 @@ pub record IsCopy (superblock : List ℕ) (blocks b : ℕ) (bytes : List ℕ) : 
   pub within : b < blocks
   pub bytes_are : bytes ≡ mirror_bytes b superblock
 
+-- the copy at this place
+abbrev pub IsCopyAt : ℕ → List ℕ → ℕ → ℕ → List ℕ → Type 0
+IsCopyAt place superblock blocks b bytes = (b ≡ place) × IsCopy superblock blocks b bytes
+
 -- what a switch writes
 abbrev pub IsPart : List ℕ → ℕ → ℕ → List ℕ → Type 0
 IsPart superblock blocks b bytes = IsBlock 16 superblock b bytes ⊎ IsCopy superblock blocks b bytes

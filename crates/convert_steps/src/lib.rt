@@ -1,14 +1,10 @@
-//! The steps of a conversion: what is decided before the first write, the pieces at their places, the superblock, and the
-//! switch to it.
+//! The steps of a conversion: the identifiers and the label, the superblock, and the switch to it.
 #![tactic(auto)]
 
+mod fields;
 mod form;
-mod pieces;
-mod prepared;
-mod superblock;
 mod switch;
 
-pub use pieces::write_moved;
-pub use prepared::{Prepared, prepare};
-pub use superblock::{NewRoots, superblock};
+pub use fields::{NewRoots, superblock};
+pub use form::{ids_of, label_of};
 pub use switch::switch_to;

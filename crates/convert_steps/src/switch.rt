@@ -1,8 +1,9 @@
 // The switch to the new format.
-ghost use Rattle.std.specs.Prelude.{◌≡◌, ◌≤◌, ◌<◌, ◌⊎◌, Some, IsTrue, OnOk};
+ghost use Rattle.std.specs.Prelude.{◌≡◌, ◌≤◌, ◌<◌, ◌⊎◌, slice_set, Some, IsTrue, OnOk};
 ghost use Rattle.outside.specs.Fault.{HasCause};
-ghost use Rattle.outside.specs.History.{reads, IsSettled, EachCrash, WritesOnly};
-ghost use Rattle.convert_steps.specs.Switch.{IsPart, IsCopy, IsSwitched, HasCopies};
+ghost use Rattle.outside.specs.History.{block_at, reads, IsSettled, IsBlock, EachCrash, WritesOnly};
+ghost use Rattle.btr_super.specs.Super.{mirror_bytes};
+ghost use Rattle.convert_steps.specs.Switch.{IsMirror, IsPart, IsCopy, IsCopyAt, IsSwitched, HasCopies};
 
 use btr_super::mirror;
 use outside::{Access, Disk, Fault};
@@ -11,8 +12,11 @@ use vol_block::{Block, BlockNo};
 /// The block of the superblock.
 const SUPERBLOCK: BlockNo = 16;
 
-/// The blocks of its copies, as the Btrfs on-disk format documentation has them: at 64 MiB and at 256 GiB.
-const COPIES: [BlockNo; 2] = [16384, 67_108_864];
+/// The block of its first copy, as the Btrfs on-disk format documentation has it: at 64 MiB.
+const FIRST_COPY: BlockNo = 16384;
+
+/// The block of its second copy: at 256 GiB.
+const SECOND_COPY: BlockNo = 67_108_864;
 
 /// Writes a Btrfs superblock to block 16, and then its copies, on a volume of so many blocks. Each of the two steps is on
 /// the disk before the next begins.
@@ -33,9 +37,24 @@ pub fn switch_to<D: Disk>(disk: &mut D, superblock: &Block, blocks: u64) -> Resu
     ensures settled { IsTrue D.tells → OnOk result (IsSettled (D.history disk.new)) }
     ensures cause { HasCause (D.faults disk.old) (D.faults disk.new) result }
 {
-    disk.write(SUPERBLOCK, superblock)?;
-    disk.sync()?;
+    write_superblock(disk, superblock)?;
     write_copies(disk, superblock, blocks)
+}
+
+/// Writes a superblock to block 16, and syncs.
+fn write_superblock<D: Disk>(disk: &mut D, superblock: &Block) -> Result<(), Fault>
+    requires open { D.opened disk.old ≡ Some Access.Write }
+    requires in_range { 16 < D.size disk.old }
+    ensures open { D.opened disk.new ≡ D.opened disk.old }
+    ensures size { D.size disk.new ≡ D.size disk.old }
+    ensures borrow { D.borrow disk.new ≡ D.borrow disk.old }
+    ensures only { IsTrue D.tells → WritesOnly (IsBlock 16 superblock.now.bytes) (D.history disk.old) (D.history disk.new) }
+    ensures written { IsTrue D.tells → OnOk result (reads (D.history disk.new) ≡ slice_set (reads (D.history disk.old)) 16 superblock.now.bytes) }
+    ensures settled { IsTrue D.tells → OnOk result (IsSettled (D.history disk.new)) }
+    ensures cause { HasCause (D.faults disk.old) (D.faults disk.new) result }
+{
+    disk.write(SUPERBLOCK, superblock)?;
+    disk.sync()
 }
 
 /// Writes the copies of a superblock to their blocks, where the volume has them, and syncs.
@@ -50,12 +69,32 @@ fn write_copies<D: Disk>(disk: &mut D, superblock: &Block, blocks: u64) -> Resul
     ensures settled { IsTrue D.tells → OnOk result (IsSettled (D.history disk.new)) }
     ensures cause { HasCause (D.faults disk.old) (D.faults disk.new) result }
 {
-    for place in COPIES {
-        if place < blocks {
-            let mut copy = Block::zero();
-            mirror(superblock, place, &mut copy);
-            disk.write(place, &copy)?;
-        }
-    }
+    write_copy(disk, superblock, FIRST_COPY, blocks)?;
+    write_copy(disk, superblock, SECOND_COPY, blocks)?;
     disk.sync()
+}
+
+/// Writes a copy of a superblock to its block, where a volume of so many blocks has it.
+fn write_copy<D: Disk>(
+    disk: &mut D,
+    superblock: &Block,
+    place: BlockNo,
+    blocks: u64,
+) -> Result<(), Fault>
+    requires open { D.opened disk.old ≡ Some Access.Write }
+    requires in_range { blocks ≤ D.size disk.old }
+    requires mirror { IsMirror place }
+    ensures open { D.opened disk.new ≡ D.opened disk.old }
+    ensures size { D.size disk.new ≡ D.size disk.old }
+    ensures borrow { D.borrow disk.new ≡ D.borrow disk.old }
+    ensures only { IsTrue D.tells → WritesOnly (IsCopyAt place superblock.now.bytes blocks) (D.history disk.old) (D.history disk.new) }
+    ensures written { IsTrue D.tells → OnOk result (place < blocks → block_at (reads (D.history disk.new)) place ≡ mirror_bytes place superblock.now.bytes) }
+    ensures cause { HasCause (D.faults disk.old) (D.faults disk.new) result }
+{
+    if place >= blocks {
+        return Ok(());
+    }
+    let mut copy = Block::zero();
+    mirror(superblock, place, &mut copy);
+    disk.write(place, &copy)
 }

@@ -1,7 +1,8 @@
+// The fields of the superblock.
 ghost use Rattle.std.specs.Prelude.{◌≡◌, ◌≤◌, ◌<◌, ◌+◌, ◌*◌, ◌-◌, ◌^◌, ◌++◌, List, length, take, replicate, All, AllPairs, IfOk};
 ghost use Rattle.std.specs.List.{sum_by};
 ghost use Rattle.btr_super.specs.Super.{super_bytes};
-ghost use Rattle.convert_steps.specs.Superblock.{boot_bytes, new_super, record_bytes};
+ghost use Rattle.convert_steps.specs.Superblock.{boot_bytes, features, new_super, record_bytes};
 ghost use Rattle.space_items.specs.Chunks.{chunk_item};
 ghost use Rattle.unit_plan.specs.Chunks.{AreChunks, FitsVolume};
 ghost use Rattle.unit_plan.specs.declared.chunk.Chunk.{Chunk as ChunkOf};
@@ -91,7 +92,9 @@ pub fn superblock(
 }
 
 /// The features that the volume has. Nodes larger than a page of 4096 bytes are one.
-fn features(nodesize: u32) -> u64 {
+fn features(nodesize: u32) -> u64
+    ensures { result ≡ features nodesize }
+{
     if nodesize == 4096 { 0x341 } else { 0x361 }
 }
 
