@@ -39,9 +39,9 @@ label_by sup label.Empty = []
 label_by sup (label.Text text) = text
 label_by sup label.Copy = before_zero sup.label
 
--- a label's field in the superblock: filled up with zeros
+-- a label's field in the superblock: 256 bytes, the label and zeros behind it
 abbrev pub label_field : List ℕ → List ℕ
-label_field bytes = bytes ++ replicate (256 - length bytes) 0
+label_field bytes = take 256 (bytes ++ replicate 256 0)
 
 -- A conversion: the opened volume, the options and identifiers, the time, the plan of space, and the pieces at their places.
 pub record Making : Type 0 where

@@ -1,1 +1,4 @@
+pub mod Booting
+pub mod Labels
+pub mod NewSuper
 pub mod Phases

@@ -2,7 +2,7 @@
 ghost use Rattle.std.specs.Prelude.{◌≡◌, ◌≤◌, ◌<◌, ◌+◌, ◌*◌, ◌-◌, ◌^◌, ◌++◌, List, length, take, replicate, All, AllPairs, IfOk};
 ghost use Rattle.std.specs.List.{sum_by};
 ghost use Rattle.btr_super.specs.Super.{super_bytes};
-ghost use Rattle.convert_steps.specs.Superblock.{boot_bytes, features, new_super, record_bytes};
+ghost use Rattle.convert_steps.specs.Superblock.{boot_bytes, features, is_system_role, new_super, record_bytes};
 ghost use Rattle.space_items.specs.Chunks.{chunk_item};
 ghost use Rattle.unit_plan.specs.Chunks.{AreChunks, FitsVolume};
 ghost use Rattle.unit_plan.specs.declared.chunk.Chunk.{Chunk as ChunkOf};
@@ -102,6 +102,7 @@ fn features(nodesize: u32) -> u64
 fn boot_array(ids: &Ids, chunks: &Chunks) -> ([u8; ARRAY_SIZE], usize)
     requires small { All (λ c. c.start + c.length ≤ 2 ^ 29) chunks.now }
     requires fits { length (boot_bytes ids.now chunks.now) ≤ 2048 }
+    requires device { length ids.now.device ≡ 16 }
     ensures array { result.0 ≡ boot_bytes ids.now chunks.now ++ replicate (2048 - length (boot_bytes ids.now chunks.now)) 0 }
     ensures size { result.1 ≡ length (boot_bytes ids.now chunks.now) }
 {
@@ -109,12 +110,19 @@ fn boot_array(ids: &Ids, chunks: &Chunks) -> ([u8; ARRAY_SIZE], usize)
     let mut end = 0;
     for i in 0..chunks.len() {
         let chunk = chunks.get(i);
-        if chunk.role == Role::System {
+        if is_system(chunk.role) {
             write_record(ids, chunk, &mut array[end..end + RECORD_SIZE]);
             end += RECORD_SIZE;
         }
     }
     (array, end)
+}
+
+/// Whether a chunk has the nodes of the chunk tree.
+fn is_system(role: Role) -> bool
+    ensures { result ≡ is_system_role role }
+{
+    role == Role::System
 }
 
 /// Writes a chunk's key and body.

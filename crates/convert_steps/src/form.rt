@@ -1,5 +1,5 @@
 // What goes into each node and the superblock by the options.
-ghost use Rattle.std.specs.Prelude.{◌≡◌, ◌≤◌, length};
+ghost use Rattle.std.specs.Prelude.{◌≡◌};
 ghost use Rattle.conversion.specs.Making.{before_zero, ids_by, label_by, label_field};
 
 use reiser_super::Super;
@@ -40,12 +40,12 @@ fn before_zero(label: &[u8; 16]) -> &[u8]
     &label[..end]
 }
 
-/// At most 256 bytes, and zeros behind them.
+/// The bytes, and zeros behind them. A label has fewer bytes than its field.
 fn filled_up(bytes: &[u8]) -> [u8; 256]
-    requires { length bytes.now ≤ 256 }
     ensures { result ≡ label_field bytes.now }
 {
+    let count = bytes.len().min(256);
     let mut field = [0; 256];
-    field[..bytes.len()].copy_from_slice(bytes);
+    field[..count].copy_from_slice(&bytes[..count]);
     field
 }

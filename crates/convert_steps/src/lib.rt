@@ -4,6 +4,8 @@
 mod fields;
 mod form;
 mod switch;
+#[cfg(test)]
+mod tests;
 
 pub use fields::{NewRoots, superblock};
 pub use form::{ids_of, label_of};

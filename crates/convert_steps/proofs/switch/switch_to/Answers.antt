@@ -1,4 +1,4 @@
-use Rattle.std.proofs.Common.{◌≡◌, ◌<◌, inr, ⊎_elim, length, ◌∙◌, arith}
+use Rattle.std.proofs.Common.{◌≡◌, ◌<◌, inr, ⊎_elim, length, arith}
 use Rattle.outside.specs.History.{reads, IsBlock}
 use Rattle.outside.proofs.Phases.{left_then, on_ok}
 use Rattle.convert_steps.specs.Switch.{IsCopy}

@@ -1,5 +1,4 @@
-use Rattle.std.proofs.Common.{◌≡◌, sym, subst}
-use Rattle.outside.specs.History.{Image, reads}
+use Rattle.std.proofs.Common.{sym, subst}
 use Rattle.outside.proofs.Crash.{sync_only, writes_then}
 use Rattle.outside.proofs.Phases.{on_ok, sync_reads}
 use Rattle.convert_steps.specs.Switch.{IsCopy, HasCopies}

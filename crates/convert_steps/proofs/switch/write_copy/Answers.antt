@@ -1,6 +1,5 @@
-use Rattle.std.proofs.Common.{◌≡◌, ◌<◌, ◌≤◌, length, refl, ◌∙◌, arith, List, ℕ, subst, Result, Ok, Err, OnOk, set, sym}
+use Rattle.std.proofs.Common.{◌≡◌, ◌<◌, length, arith}
 use Rattle.outside.specs.History.{reads}
-use Rattle.outside.proofs.Crash.{write_only}
 use Rattle.convert_steps.proofs.Phases.{copy_only, copy_stands}
 use Rattle.convert_steps.proofs.switch.write_copy.Goals as goal
 

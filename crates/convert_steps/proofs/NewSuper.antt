@@ -1,0 +1,58 @@
+-- The fields of a new superblock.
+use Rattle.std.proofs.Common.{◌≡◌, ℕ, ◌*◌, ◌-◌, ◌++◌, List, length, replicate, ◌∙◌, ap}
+use Rattle.btr_space_items.specs.declared.device.Device.{Device}
+use Rattle.btr_super.specs.declared.superblock.Super.{Super}
+use Rattle.space_items.specs.Chunks.{device_body}
+use Rattle.unit_plan.specs.declared.chunk.Chunk.{Chunk}
+use Rattle.vol_block.specs.declared.ids.Ids.{Ids}
+use Rattle.convert_steps.specs.Superblock.{boot_bytes, features, new_super}
+use Rattle.convert_steps.specs.declared.fields.NewRoots.{NewRoots}
+
+module _ (ids : Ids) (blocks nodesize : ℕ) (label : List ℕ) (roots : NewRoots) where
+  -- with what is computed for it
+  abbrev pub by_parts : List ℕ → ℕ → ℕ → Device → Super
+  by_parts array size incompat device = record {
+    fsid = ids.fsid;
+    bytenr = 65536;
+    flags = 1;
+    generation = 1;
+    root = roots.root.address;
+    chunk_root = roots.chunk.address;
+    log_root = 0;
+    log_root_transid = 0;
+    total_bytes = 4096 * blocks;
+    bytes_used = roots.used;
+    root_dir_objectid = 6;
+    num_devices = 1;
+    sectorsize = 4096;
+    nodesize = nodesize;
+    leafsize = nodesize;
+    stripesize = 4096;
+    sys_chunk_array_size = size;
+    chunk_root_generation = 1;
+    compat = 0;
+    compat_ro = 0;
+    incompat = incompat;
+    csum_type = 0;
+    root_level = roots.root.level;
+    chunk_root_level = roots.chunk.level;
+    log_root_level = 0;
+    dev_item = device;
+    label = label;
+    cache_generation = 0;
+    uuid_tree_generation = 0;
+    sys_chunk_array = array;
+    backup_roots = replicate 672 0;
+  }
+
+  pub fields_are : (chunks list : List Chunk) (array : List ℕ) (size incompat : ℕ) (device : Device) → chunks ≡ list
+      → array ≡ boot_bytes ids chunks ++ replicate (2048 - length (boot_bytes ids chunks)) 0 → size ≡ length (boot_bytes ids chunks)
+      → incompat ≡ features nodesize → device ≡ device_body ids blocks chunks
+      → by_parts array size incompat device ≡ new_super ids blocks nodesize label list roots
+  unfolding new_super
+  fields_are chunks list array size incompat device same array_is size_is incompat_is device_is =
+      ap (λ (a : List ℕ). by_parts a size incompat device) array_is
+      ∙ (ap (λ (n : ℕ). by_parts (boot_bytes ids chunks ++ replicate (2048 - length (boot_bytes ids chunks)) 0) n incompat device) size_is
+      ∙ (ap (λ (n : ℕ). by_parts (boot_bytes ids chunks ++ replicate (2048 - length (boot_bytes ids chunks)) 0) (length (boot_bytes ids chunks)) n device) incompat_is
+      ∙ (ap (λ (d : Device). by_parts (boot_bytes ids chunks ++ replicate (2048 - length (boot_bytes ids chunks)) 0) (length (boot_bytes ids chunks)) (features nodesize) d) device_is
+      ∙ ap (λ (cs : List Chunk). new_super ids blocks nodesize label cs roots) same)))
