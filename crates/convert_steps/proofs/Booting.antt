@@ -75,8 +75,14 @@ module _ (ids : Ids) where
       pub boot_room : length (boot_bytes ids cs) ≤ 2048 → length (boot_bytes ids (take i cs)) + 97 ≤ 2048
       boot_room fits =
           let apart : boot_bytes ids (take (i + 1) cs ++ drop (i + 1) cs) ≡ boot_bytes ids cs = ap (boot_bytes ids) (take-append-drop (i + 1) cs) in
-          omega (arith, boot_longer, fits, ap (λ (l : List ℕ). length l) apart, ap (λ (l : List ℕ). length l) (boot_append (take (i + 1) cs) (drop (i + 1) cs)),
-          length-append (boot_bytes ids (take (i + 1) cs)) (boot_bytes ids (drop (i + 1) cs)))
+          omega (
+            arith,
+            boot_longer,
+            fits,
+            ap (λ (l : List ℕ). length l) apart,
+            ap (λ (l : List ℕ). length l) (boot_append (take (i + 1) cs) (drop (i + 1) cs)),
+            length-append (boot_bytes ids (take (i + 1) cs)) (boot_bytes ids (drop (i + 1) cs)),
+          )
 
       -- its record goes behind the others
       pub boot_put : (len : ℕ) (array new : List ℕ) → length (boot_bytes ids cs) ≤ 2048 → len ≡ 97 → new ≡ record_bytes (chunk_item ids c)

@@ -27,7 +27,7 @@ superblock_crash superblock h₀ h₁ settled only image left =
     let others : (b : ℕ) → b ≢ 16 → block_at image b ≡ block_at (reads h₀) b = only_not 16 superblock image (reads h₀) each.1 in
     ⊎_elim
     (λ same. inl (ext_get_or [] image (reads h₀) each.0 (λ b below.
-        ⊎_elim (λ kept. kept) (λ is. subst (λ (n : ℕ). block_at image n ≡ block_at (reads h₀) n) (sym is.0) same) (each.1 b))))
+    ⊎_elim (λ kept. kept) (λ is. subst (λ (n : ℕ). block_at image n ≡ block_at (reads h₀) n) (sym is.0) same) (each.1 b))))
     (λ is. inr (switched superblock (reads h₀) image each.0 is.1 others))
     (each.1 16)
 

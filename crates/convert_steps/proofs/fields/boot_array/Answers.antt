@@ -26,23 +26,23 @@ write_record-requires-clause-small c =
 
 pub loop-i-preserved : goal.loop-i-preserved
 loop-i-preserved c = elim c.if-is_system.branch [
-  then-is_system w ↦
-    let system = sym c.is_system.ensures ∙ w.if-is_system.true in
-    let longer = boot_longer c.args.ids.now c.args.chunks.now c.loop-i.i c.get-chunk.result c.get-chunk.ensures c.requires.device system in
-    record {
-      end_ = omega (arith, w.end-is, c.loop-i.invariant.end_, longer);
-      built =
-          w.array-is
-          ∙ (ap (λ (n : ℕ). put_mid n (c.loop-i.end + 97 - c.loop-i.end) c.loop-i.array w.write_record.new.into) c.loop-i.invariant.end_
-          ∙ boot_put c.args.ids.now c.args.chunks.now c.loop-i.i c.get-chunk.result c.get-chunk.ensures c.requires.device system (c.loop-i.end + 97 - c.loop-i.end) c.loop-i.array
-          w.write_record.new.into c.requires.fits (omega arith) w.write_record.ensures c.loop-i.invariant.built);
-    }
+  | then-is_system w ↦
+      let system = sym c.is_system.ensures ∙ w.if-is_system.true in
+      let longer = boot_longer c.args.ids.now c.args.chunks.now c.loop-i.i c.get-chunk.result c.get-chunk.ensures c.requires.device system in
+      record {
+        end_ = omega (arith, w.end-is, c.loop-i.invariant.end_, longer);
+        built =
+            w.array-is
+            ∙ (ap (λ (n : ℕ). put_mid n (c.loop-i.end + 97 - c.loop-i.end) c.loop-i.array w.write_record.new.into) c.loop-i.invariant.end_
+            ∙ boot_put c.args.ids.now c.args.chunks.now c.loop-i.i c.get-chunk.result c.get-chunk.ensures c.requires.device system (c.loop-i.end + 97 - c.loop-i.end) c.loop-i.array
+            w.write_record.new.into c.requires.fits (omega arith) w.write_record.ensures c.loop-i.invariant.built);
+      }
   | else-is_system w ↦
-    let same = boot_same c.args.ids.now c.args.chunks.now c.loop-i.i c.get-chunk.result c.get-chunk.ensures (sym c.is_system.ensures ∙ w.if-is_system.false) in
-    record {
-      end_ = w.end-is ∙ (c.loop-i.invariant.end_ ∙ ap (λ (l : List ℕ). length l) (sym same));
-      built = w.array-is ∙ (c.loop-i.invariant.built ∙ ap (λ (l : List ℕ). l ++ replicate (2048 - length l) 0) (sym same));
-    }
+      let same = boot_same c.args.ids.now c.args.chunks.now c.loop-i.i c.get-chunk.result c.get-chunk.ensures (sym c.is_system.ensures ∙ w.if-is_system.false) in
+      record {
+        end_ = w.end-is ∙ (c.loop-i.invariant.end_ ∙ ap (λ (l : List ℕ). length l) (sym same));
+        built = w.array-is ∙ (c.loop-i.invariant.built ∙ ap (λ (l : List ℕ). l ++ replicate (2048 - length l) 0) (sym same));
+      }
 ]
 
 pub returns-clause-array : goal.returns-clause-array

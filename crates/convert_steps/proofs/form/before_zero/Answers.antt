@@ -14,6 +14,6 @@ loop-end-preserved c = record {
 
 pub returns : goal.returns
 returns c = elim c.loop-end-test.branch [
-  then-loop-end-test+else-label-end-ne0 w ↦ stops c.loop-end.end 0 c.args.label.now (omega (arith, w.loop-end-test.true, c.told-label)) c.loop-end.invariant.goes w.if-label-end-ne0.false
+  | then-loop-end-test+else-label-end-ne0 w ↦ stops c.loop-end.end 0 c.args.label.now (omega (arith, w.loop-end-test.true, c.told-label)) c.loop-end.invariant.goes w.if-label-end-ne0.false
   | else-loop-end-test w ↦ ends c.loop-end.end c.args.label.now (omega (arith, w.loop-end-test.false, c.told-label)) c.loop-end.invariant.goes
 ]
