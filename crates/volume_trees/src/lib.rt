@@ -4,7 +4,5 @@
 
 mod sources;
 mod trees;
-mod write;
 
 pub use trees::VolumeTrees;
-pub use write::write_trees;
