@@ -3,4 +3,6 @@ mod FileBlocks
 mod Keys
 mod Rising
 mod Same
+mod Short
+mod ShortTrees
 mod SmallTrees
