@@ -104,8 +104,8 @@ module _ (all : List ObjectKey) (at : ℕ) (are : AreNumbered at all) where
       let first : inode_of all root ≡ 256 = root_first all root (same_key-self root) in (
         kept_all (inode_of all) (λ key. not (same_key key root)) (inode_of all root) all (λ k d h is. let low = behind_root all (get_or all k d) (not_false (same_key (get_or all k d) root) is) in omega (arith, low, first)),
         climb_kept (inode_of all) (λ key. not (same_key key root)) all
-        (λ i j d order inside in_a in_b. inode_less i j (get_or all i d) (get_or all j d) order (slice_get-get_or all i d (omega (arith, order, inside))) (slice_get-get_or all j d inside)
-        (not_false (same_key (get_or all i d) root) in_a) (not_false (same_key (get_or all j d) root) in_b)),
+            (λ i j d order inside in_a in_b. inode_less i j (get_or all i d) (get_or all j d) order (slice_get-get_or all i d (omega (arith, order, inside))) (slice_get-get_or all j d inside)
+            (not_false (same_key (get_or all i d) root) in_a) (not_false (same_key (get_or all j d) root) in_b)),
       )
 
 -- ---- indexes of entries

@@ -1,5 +1,6 @@
 mod Apart
 mod FileBlocks
+mod Holding
 mod Keys
 mod Rising
 mod Same

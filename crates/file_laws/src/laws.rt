@@ -1,4 +1,3 @@
-ghost use Rattle.file_laws.specs.Kept.{BytesAreKept, NamesAreKept, NamesKeepRules, RowsAreKept};
 ghost use Rattle.file_laws.specs.Keys.{FileKeysAscend, ImageKeysAscend, ItemsAreShort};
 ghost use Rattle.file_laws.specs.Held.{FilesAreHeld};
 ghost use Rattle.file_laws.specs.Used.{ItemsByUsedBlocks};
@@ -26,24 +25,4 @@ pub fn image_keys_ascend()
 /// Each item of these trees fits into a leaf of the smallest node size.
 pub fn items_are_short()
     ensures { ItemsAreShort }
-{}
-
-/// The paths of the tree are those of the volume, and lead to the inodes of the same objects.
-pub fn names_are_kept()
-    ensures { NamesAreKept }
-{}
-
-/// The names of the tree keep the rules of a Btrfs tree.
-pub fn names_keep_rules()
-    ensures { NamesKeepRules }
-{}
-
-/// A file or the target of a symlink has the bytes that it had.
-pub fn bytes_are_kept()
-    ensures { BytesAreKept }
-{}
-
-/// The rows of the tree are the rows of the volume.
-pub fn rows_are_kept()
-    ensures { RowsAreKept }
 {}
