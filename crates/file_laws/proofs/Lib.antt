@@ -1,6 +1,7 @@
 mod Apart
 mod FileBlocks
 mod Holding
+mod Inodes
 mod Keys
 mod Rising
 mod Same

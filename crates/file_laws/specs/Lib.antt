@@ -1,3 +1,4 @@
 pub mod Held
+pub mod Inodes
 pub mod Keys
 pub mod Used

@@ -1,5 +1,6 @@
 ghost use Rattle.file_laws.specs.Keys.{FileKeysAscend, ImageKeysAscend, ItemsAreShort};
 ghost use Rattle.file_laws.specs.Held.{FilesAreHeld};
+ghost use Rattle.file_laws.specs.Inodes.{InodesAreThere};
 ghost use Rattle.file_laws.specs.Used.{ItemsByUsedBlocks};
 
 /// What is still to come of a stream of the file tree depends on the volume's used blocks alone.
@@ -25,4 +26,9 @@ pub fn image_keys_ascend()
 /// Each item of these trees fits into a leaf of the smallest node size.
 pub fn items_are_short()
     ensures { ItemsAreShort }
+{}
+
+/// Each named object has its inode in a tree that has the items of the file tree.
+pub fn inodes_are_there()
+    ensures { InodesAreThere }
 {}

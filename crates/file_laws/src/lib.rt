@@ -7,5 +7,6 @@
 mod laws;
 
 pub use laws::{
-    file_keys_ascend, files_are_held, image_keys_ascend, items_are_short, items_by_used_blocks,
+    file_keys_ascend, files_are_held, image_keys_ascend, inodes_are_there, items_are_short,
+    items_by_used_blocks,
 };
