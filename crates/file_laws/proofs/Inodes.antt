@@ -6,7 +6,6 @@ use Rattle.std.proofs.lemmas.Bool.{cases_Bool, not_from_false}
 use Rattle.std.proofs.lemmas.Bool.Decides.{nat_tests}
 use Rattle.indexmap.specs.IndexMap.{keys}
 use Rattle.path_list.proofs.Lists.{in_filter}
-use Rattle.outside.specs.History.{Image}
 use Rattle.reiser_bitmap.proofs.Ranges.{contains_cases, contains_head, contains_tail}
 use Rattle.btr_names.specs.Inodes.{inode_item as item_of}
 use Rattle.btr_node.specs.Leaf.{Item}
@@ -21,7 +20,7 @@ use Rattle.reiser_objects.specs.declared.key.ObjectKey.{ObjectKey}
 use Rattle.reiser_objects.specs.Keys.{root, same_key}
 use Rattle.reiser_objects.proofs.Tables.{same_key-true}
 use Rattle.reiser_volume.specs.Numbers.{by_inode}
-use Rattle.file_laws.specs.Inodes.{HasInodeOf, InodesAreThere}
+use Rattle.file_laws.specs.Inodes.{InodesAreThere}
 use Rattle.file_laws.proofs.FileBlocks.{starts_none}
 use Rattle.file_laws.proofs.Keys.{inodes_climb, rest_part}
 use Rattle.file_laws.proofs.Rising.{Climb, IsOf, all_each}
