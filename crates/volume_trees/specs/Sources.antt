@@ -21,6 +21,13 @@ pub record FitsFiles (items : Items) (volume : Volume) (pieces : List Piece) (im
   pub placed : ArePlaced (superblock image).blocks pieces
   pub blocks : FitsBlocks items volume image
 
+-- an accepted volume that was opened, whose blocks are all there, and pieces that have their places on it
+pub record HasVolume (volume : Volume) (pieces : List Piece) (image : Image) : Type 0 where
+  pub accepted : IsAccepted image
+  pub opened : IsOpened volume image
+  pub room : (superblock image).blocks ≤ length image
+  pub placed : ArePlaced (superblock image).blocks pieces
+
 -- they are made from the used blocks
 abbrev pub IsUsed : Volume → ℕ → Type 0
 IsUsed volume b = has volume.bitmap b ≡ true

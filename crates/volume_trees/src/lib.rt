@@ -2,7 +2,9 @@
 //! metadata. Only the slots of nodes are written.
 #![tactic(auto)]
 
+mod first;
 mod sources;
 mod trees;
+mod writing;
 
 pub use trees::VolumeTrees;
