@@ -1,5 +1,5 @@
 -- One more tree stands.
-use Rattle.std.proofs.Common.{◌≡◌, ◌∙◌, ℕ, ◌++◌, Bool, true, false, not, List, [], if◌then◌else◌, drop, Result, Ok, Err, refl, sym, ap, subst}
+use Rattle.std.proofs.Common.{◌≡◌, ◌∙◌, ℕ, ◌++◌, Bool, true, false, List, [], if◌then◌else◌, drop, Result, Ok, Err, refl, sym, ap, subst}
 use Rattle.std.specs.Result.{MatchResult}
 use Rattle.outside.specs.History.{Image}
 use Rattle.btr_node.specs.Leaf.{Item}
@@ -37,10 +37,8 @@ pub all_of_list : (given : ℕ) (held list items : List Item) → held ≡ list 
 all_of_list given held list items same none are = ap (λ (n : ℕ). drop n held) none ∙ (same ∙ are)
 
 -- a list of nothing where it is not asked for
-pub none_of : (asked : Bool) (items : List Item) → not asked ≡ true → [] ≡ (if asked then items else [])
-none_of true items isnt = absurd (cc isnt)
-none_of false items isnt = refl
+pub none_of : (asked : Bool) (items : List Item) → asked ≡ false → [] ≡ (if asked then items else [])
+none_of asked items isnt = ap (λ (d : Bool). if d then items else []) (sym isnt)
 
-pub some_of : (asked : Bool) (items : List Item) → not asked ≡ false → items ≡ (if asked then items else [])
-some_of true items is = refl
-some_of false items is = absurd (cc is)
+pub some_of : (asked : Bool) (items : List Item) → asked ≡ true → items ≡ (if asked then items else [])
+some_of asked items is = ap (λ (d : Bool). if d then items else []) (sym is)

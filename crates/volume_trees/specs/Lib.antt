@@ -1,3 +1,4 @@
 pub mod Adding
+pub mod Roots
 pub mod Sources
 pub mod Staying
