@@ -208,7 +208,7 @@ module _ (s : Source) (distinct : IsDistinct starts s.pieces) (key : ObjectKey) 
       (part_of_kind (number_of s key) 12 (λ (g : ℕ × List Entry). g.0) (λ (g : ℕ × List Entry). flat_map (λ (e : Entry). inode_ref_bytes (inode_ref e)) g.1) (grouped (parent_of s.keys) plain) (climb_groups (grouped (parent_of s.keys) plain) (rising_grouped (parent_of s.keys) plain)))
       (part_of_kind (number_of s key) 13 (λ (g : ℕ × List Entry). g.0) (λ (g : ℕ × List Entry). flat_map (λ (e : Entry). extref_bytes (extref s.keys e)) g.1) (grouped hash far) (climb_groups (grouped hash far) (rising_grouped hash far)))
 
-  names_part : IsPart (number_of s key) 12 13 (name_items s key)
+  pub names_part : IsPart (number_of s key) 12 13 (name_items s key)
   names_part = by (same_key key root) refl
     where
       by : (b : Bool) → same_key key root ≡ b → IsPart (number_of s key) 12 13 (name_items s key)

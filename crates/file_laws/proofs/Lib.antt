@@ -1,4 +1,5 @@
 mod Apart
+mod Entries
 mod FileBlocks
 mod Holding
 mod Inodes

@@ -289,7 +289,7 @@ module _ (kind : ObjectKey → Kind) (all : List ObjectKey) (links : List Naming
       last false true h same = absurd (cc)
 
   -- the names are short
-  names_low : ((n : Naming) → Contains links n → length n.name ≤ 255) → AllByRecursion (λ (e : Indexed). length e.1.name ≤ 255) (indexed_in kind all links dir)
+  pub names_low : ((n : Naming) → Contains links n → length n.name ≤ 255) → AllByRecursion (λ (e : Indexed). length e.1.name ≤ 255) (indexed_in kind all links dir)
   names_low short =
       all_append (λ (e : Indexed). length e.1.name ≤ 255) (map told (names_in links dir)) (if same_key dir root then (next_index links dir, saved_entry) ∷ [] else [])
       (all_mapped (λ (e : Indexed). length e.1.name ≤ 255) told (names_in links dir) (kept (entries_behind [] links) (listed [] links short)))

@@ -120,7 +120,7 @@ module _ (volume : Volume) (image : Image) (o : Options) (pieces : List Piece) (
   crowds : (dir : ObjectKey) (m : ℕ) → crowd_of links dir m ≤ 3900
   crowds dir m = subst (λ (ns : List Naming). crowd_of ns dir m ≤ 3900) links_same (names.keeps.crowds dir m)
 
-  short : (n : Naming) → Contains links n → length n.name ≤ 255
+  pub short : (n : Naming) → Contains links n → length n.name ≤ 255
   short n h = names.keeps.short n (subst (λ (ns : List Naming). Contains ns n) (sym links_same) h)
 
   -- what is inline is small

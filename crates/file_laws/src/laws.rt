@@ -1,3 +1,4 @@
+ghost use Rattle.file_laws.specs.Entries.{EntriesAreThere};
 ghost use Rattle.file_laws.specs.Keys.{FileKeysAscend, ImageKeysAscend, ItemsAreShort};
 ghost use Rattle.file_laws.specs.Held.{FilesAreHeld};
 ghost use Rattle.file_laws.specs.Inodes.{InodesAreThere};
@@ -31,4 +32,9 @@ pub fn items_are_short()
 /// Each named object has its inode in a tree that has the items of the file tree.
 pub fn inodes_are_there()
     ensures { InodesAreThere }
+{}
+
+/// The entries that are read of a tree with the items of the file tree are those of the volume's directories.
+pub fn entries_are_there()
+    ensures { EntriesAreThere }
 {}
