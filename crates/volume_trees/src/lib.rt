@@ -3,6 +3,7 @@
 #![tactic(auto)]
 
 mod first;
+mod last;
 mod roots;
 mod sources;
 mod trees;
