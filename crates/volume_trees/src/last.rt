@@ -1,5 +1,5 @@
 // The extent tree and the root tree, which tell of all nodes and trees.
-ghost use Rattle.std.specs.Prelude.{◌≡◌, ◌≤◌, ◌<◌, ◌+◌, ◌-◌, ◌*◌, ◌^◌, ◌++◌, [], ℕ, List, Some, All, drop, take, length, IsTrue, IfOk, IfErr, OnOk};
+ghost use Rattle.std.specs.Prelude.{◌≡◌, ◌≤◌, ◌<◌, ◌+◌, ◌-◌, ◌*◌, ◌^◌, ◌⊎◌, List, Some, All, drop, length, IsTrue, IfOk, IfErr, OnOk};
 ghost use Rattle.std.specs.Result.{MatchResult};
 ghost use Rattle.outside.specs.Fault.{HasCauseOf};
 ghost use Rattle.outside.specs.History.{Image, reads, OverTold, WritesOnly};
@@ -66,6 +66,7 @@ fn all_nodes<P: PieceList>(
     requires nodes { AreNodes chunk_nodes.now }
     requires few { length chunk_nodes.now < 2 ^ 43 }
     ensures nodes { IfOk result AreNodes }
+    ensures answers { IfErr result (λ e. (e ≡ WriteAnswer.Misfit) ⊎ (e ≡ WriteAnswer.Memory)) }
     ensures all { (chunks : List ChunkOf) → AreChunks w.now.plan.now w.now.volume.now.sup.blocks chunks → IfOk result (λ all. all ≡ merged_nodes (merged_nodes row.now.nodes chunk_nodes.now)
         (nodes_of_tree 2 w.now.form.nodesize (lengths_of (extent_items chunks (P.pieces w.now.pieces.now) all w.now.form.nodesize)) (drop row.now.taken row.now.slots))) }
     ensures misfit { (chunks : List ChunkOf) → AreChunks w.now.plan.now w.now.volume.now.sup.blocks chunks

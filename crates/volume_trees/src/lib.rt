@@ -7,6 +7,8 @@ mod last;
 mod roots;
 mod sources;
 mod trees;
+mod write;
 mod writing;
 
 pub use trees::VolumeTrees;
+pub use write::write_trees;
