@@ -1,3 +1,4 @@
 pub mod Adding
 pub mod Coming
+pub mod Placing
 pub mod Sums

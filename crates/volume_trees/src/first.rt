@@ -26,11 +26,12 @@ use btr_tree::Root;
 use file_items::Items;
 use item_list::ItemList;
 use outside::{Access, Disk};
-use space_items::{checksums, devices};
+use space_items::{checksums, chunks, devices};
 use tree_writer::{ListItems, Trees, WriteAnswer};
 use unit_plan::PieceList;
 
 /// The numbers of trees.
+const CHUNK_TREE: u64 = 3;
 const DEVICE_TREE: u64 = 4;
 const FILE_TREE: u64 = 5;
 const SUM_TREE: u64 = 7;
@@ -180,4 +181,30 @@ pub fn write_devices<D: Disk, P: PieceList>(
 {
     let list = devices(w.alloc, w.plan, w.volume.sup().blocks, &w.form.ids)?;
     row.write(w.alloc, disk, DEVICE_TREE, &mut ListItems::new(&list))
+}
+
+/// Writes the chunk tree.
+pub fn write_chunks<D: Disk, P: PieceList>(
+    row: &mut Trees,
+    disk: &mut D,
+    w: &Writing<'_, P>,
+) -> Result<Root, WriteAnswer>
+    requires row { IsRow row.old }
+    requires open { D.opened disk.old ≡ Some Access.Write }
+    requires in_range { All (λ a. a + row.old.form.nodesize ≤ 4096 * D.size disk.old) row.old.slots }
+    requires small { w.now.volume.now.sup.blocks ≤ 2 ^ 29 }
+    requires units { FitsVolume w.now.plan.now w.now.volume.now.sup.blocks }
+    ensures row { OnOk result (IsRow row.new) }
+    ensures same { (row.new.form ≡ row.old.form) × (row.new.slots ≡ row.old.slots) }
+    ensures taken { IfOk result (λ root. row.new.taken ≡ row.old.taken + root.nodes) }
+    ensures tree { OverTold D.tells (D.blocks disk.old) (λ other. (chunks : List ChunkOf) → AreChunks w.now.plan.now w.now.volume.now.sup.blocks chunks → AreWritable row.old.form.nodesize (drop row.old.taken row.old.slots) (chunk_items w.now.form.ids w.now.volume.now.sup.blocks chunks)
+        → MatchResult result (λ root. Adds (reads (D.history disk.new)) row.old row.new 3 (chunk_items w.now.form.ids w.now.volume.now.sup.blocks chunks) root) IsFailure) }
+    ensures open { D.opened disk.new ≡ D.opened disk.old }
+    ensures size { D.size disk.new ≡ D.size disk.old }
+    ensures borrow { D.borrow disk.new ≡ D.borrow disk.old }
+    ensures only { IsTrue D.tells → WritesOnly (λ b _. IsInSlots row.old.form.nodesize (drop row.old.taken row.old.slots) b) (D.history disk.old) (D.history disk.new) }
+    ensures cause { HasCauseOf WriteAnswer.Fault (D.faults disk.old) (D.faults disk.new) result }
+{
+    let list = chunks(w.alloc, w.plan, w.volume.sup().blocks, &w.form.ids)?;
+    row.write(w.alloc, disk, CHUNK_TREE, &mut ListItems::new(&list))
 }

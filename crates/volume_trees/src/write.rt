@@ -1,4 +1,4 @@
-ghost use Rattle.std.specs.Prelude.{◌≡◌, ◌≤◌, ◌<◌, ◌+◌, ◌*◌, ◌^◌, ◌⊎◌, List, Some, length, IsTrue};
+ghost use Rattle.std.specs.Prelude.{◌≡◌, ◌≤◌, ◌<◌, ◌+◌, ◌*◌, ◌^◌, ◌⊎◌, [], List, Some, All, AllPairs, length, take, IsTrue, IfOk, IfErr};
 ghost use Rattle.std.specs.Result.{MatchResult};
 ghost use Rattle.outside.specs.Fault.{HasCauseOf};
 ghost use Rattle.outside.specs.History.{Image, reads, OverTold, WritesOnly};
@@ -8,6 +8,7 @@ ghost use Rattle.conversion.specs.Making.{IsMaking, Making as MakingOf};
 ghost use Rattle.space_items.specs.Stream.{ArePieces};
 ghost use Rattle.space_items.specs.declared.node.TreeNode.{TreeNode as NodeOf};
 ghost use Rattle.tree_writer.specs.Answers.{IsFailure};
+ghost use Rattle.tree_writer.specs.Row.{IsRow};
 ghost use Rattle.unit_plan.specs.Chunks.{FitsVolume};
 ghost use Rattle.unit_plan.specs.Laws.{IsSoundPlan};
 ghost use Rattle.unit_plan.specs.Places.{node_places};
@@ -15,7 +16,7 @@ ghost use Rattle.unit_plan.specs.declared.need.Need.{Need as NeedOf};
 ghost use Rattle.volume_trees.specs.Sources.{end_of};
 ghost use Rattle.volume_trees.specs.Standing.{AllFit, HasTrees, IsFor, SameVolume, used_bytes};
 
-use crate::first::{write_devices, write_files, write_image, write_relocation, write_sums};
+use crate::first::{write_chunks, write_devices, write_files, write_image, write_relocation, write_sums};
 use crate::last::{WrittenExtents, write_extents};
 use crate::roots::{FirstRoots, counted, root_list, saved_index};
 use crate::trees::VolumeTrees;
@@ -23,14 +24,13 @@ use crate::writing::Writing;
 use btr_tree::{Root, Slots};
 use outside::{Access, Disk, Memory};
 use reiser_volume::Volume;
-use space_items::{NodeList, chunks};
+use space_items::NodeList;
 use std::alloc::Global;
 use tree_writer::{ListItems, NodeForm, Trees, WriteAnswer, write_tree};
 use unit_plan::{Options, PieceList, Plan, Units, slots_of};
 use vol_block::Ids;
 
 const ROOT_TREE: u64 = 1;
-const CHUNK_TREE: u64 = 3;
 
 /// Writes all trees of a converted volume: the chunk tree to the plan's units for it, and all others to those for metadata.
 /// `ids` are those of the new volume, and `now` is the time of the conversion in seconds since the start of 1970, below 2^63.
@@ -89,19 +89,18 @@ pub fn write_trees<D: Disk, P: PieceList>(
 }
 
 /// The slots of units, none taken.
-fn row_of<P: PieceList>(w: &Writing<'_, P>, units: &Units) -> Result<Trees, WriteAnswer> {
+fn row_of<P: PieceList>(w: &Writing<'_, P>, units: &Units) -> Result<Trees, WriteAnswer>
+    requires size { IsNodeSize w.now.form.nodesize }
+    requires small { w.now.volume.now.sup.blocks ≤ 2 ^ 29 }
+    requires ascending { AllPairs (λ u v. u < v) units.now }
+    requires within { All (λ u. 256 * u + 256 ≤ w.now.volume.now.sup.blocks) units.now }
+    ensures row { IfOk result IsRow }
+    ensures fields { IfOk result (λ row. (row.form ≡ w.now.form) × (row.slots ≡ node_places w.now.form.nodesize units.now) × (row.taken ≡ 0) × (row.nodes ≡ [])) }
+    ensures in_range { IfOk result (λ row. All (λ a. a + w.now.form.nodesize ≤ 4096 * w.now.volume.now.sup.blocks) row.slots) }
+    ensures answers { IfErr result (λ e. e ≡ WriteAnswer.Memory) }
+{
     let slots = slots_of(w.alloc, units, w.form.nodesize)?;
     Ok(Trees::new(w.alloc, w.form, slots))
-}
-
-/// Writes the chunk tree.
-fn write_chunks<D: Disk, P: PieceList>(
-    row: &mut Trees,
-    disk: &mut D,
-    w: &Writing<'_, P>,
-) -> Result<Root, WriteAnswer> {
-    let list = chunks(w.alloc, w.plan, w.volume.sup().blocks, &w.form.ids)?;
-    row.write(w.alloc, disk, CHUNK_TREE, &mut ListItems::new(&list))
 }
 
 /// Writes the trees whose items are known before any other is written, one behind the other.
@@ -168,7 +167,10 @@ fn keep_roots<P: PieceList>(
 }
 
 /// The first slots of a list, so many.
-fn first_slots(alloc: Global, slots: &Slots, count: usize) -> Result<Slots, Memory> {
+fn first_slots(alloc: Global, slots: &Slots, count: usize) -> Result<Slots, Memory>
+    requires { count ≤ length slots.now }
+    ensures { IfOk result (λ first. first ≡ take count slots.now) }
+{
     let mut first = Slots::new(alloc);
     for &slot in &slots.as_slice()[..count] {
         first.add(slot)?;
