@@ -1,4 +1,4 @@
-ghost use Rattle.std.specs.Prelude.{◌≡◌, ◌≤◌, ◌<◌, ◌+◌, ◌*◌, ◌^◌, ◌⊎◌, [], List, Some, All, AllPairs, length, take, IsTrue, IfOk, IfErr};
+ghost use Rattle.std.specs.Prelude.{◌≡◌, ◌≤◌, ◌<◌, ◌+◌, ◌*◌, ◌^◌, ◌⊎◌, [], List, Some, All, AllPairs, drop, length, take, IsTrue, IfOk, IfErr, OnOk};
 ghost use Rattle.std.specs.Result.{MatchResult};
 ghost use Rattle.outside.specs.Fault.{HasCauseOf};
 ghost use Rattle.outside.specs.History.{Image, reads, OverTold, WritesOnly};
@@ -108,7 +108,24 @@ fn write_first<D: Disk, P: PieceList>(
     row: &mut Trees,
     disk: &mut D,
     w: &Writing<'_, P>,
-) -> Result<FirstRoots, WriteAnswer> {
+) -> Result<FirstRoots, WriteAnswer>
+    requires row { IsRow row.old }
+    requires open { D.opened disk.old ≡ Some Access.Write }
+    requires in_range { All (λ a. a + row.old.form.nodesize ≤ 4096 * D.size disk.old) row.old.slots }
+    requires moment { w.now.time < 2 ^ 63 }
+    requires small { w.now.volume.now.sup.blocks ≤ 2 ^ 29 }
+    requires units { FitsVolume w.now.plan.now w.now.volume.now.sup.blocks }
+    requires pieces { ArePieces (P.pieces w.now.pieces.now) }
+    requires places { end_of (P.pieces w.now.pieces.now) ≤ D.size disk.old }
+    ensures row { OnOk result (IsRow row.new) }
+    ensures same { (row.new.form ≡ row.old.form) × (row.new.slots ≡ row.old.slots) }
+    ensures taken { IfOk result (λ r. row.new.taken ≡ row.old.taken + r.files.nodes + r.image.nodes + r.relocation.nodes + r.sums.nodes + r.device.nodes) }
+    ensures open { D.opened disk.new ≡ D.opened disk.old }
+    ensures size { D.size disk.new ≡ D.size disk.old }
+    ensures borrow { D.borrow disk.new ≡ D.borrow disk.old }
+    ensures only { IsTrue D.tells → WritesOnly (λ b _. IsInSlots row.old.form.nodesize (drop row.old.taken row.old.slots) b) (D.history disk.old) (D.history disk.new) }
+    ensures cause { HasCauseOf WriteAnswer.Fault (D.faults disk.old) (D.faults disk.new) result }
+{
     let files = write_files(row, disk, w)?;
     let image = write_image(row, disk, w)?;
     let relocation = write_relocation(row, disk, w)?;
