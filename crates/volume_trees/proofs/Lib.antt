@@ -2,3 +2,4 @@ pub mod Adding
 pub mod Coming
 pub mod Placing
 pub mod Sums
+pub mod Tallying
