@@ -90,9 +90,9 @@ nodes_from m owner first items = nodes_of_tree owner m.options.nodesize (lengths
 abbrev pub other_nodes : Image → Image → Making → VolumeTrees → List TreeNode
 other_nodes image other m r =
     merged_nodes
-      (nodes_from m 5 0 (file_tree_items image m) ++ (nodes_from m 256 (image_from r) (image_tree_items m) ++ (nodes_from m (2 ^ 64 - 9) (relocation_from r) (relocation_items m.now)
-        ++ (nodes_from m 7 (sums_from r) (sum_tree_items other m) ++ (nodes_from m 4 (device_from r) (device_items (new_ids m) m.chunks) ++ nodes_from m 1 (root_from r) (root_tree_items m r))))))
-      (nodes_of_tree 3 m.options.nodesize (lengths_of (chunk_items (new_ids m) m.volume.sup.blocks m.chunks)) (chunk_slots m))
+    (nodes_from m 5 0 (file_tree_items image m) ++ (nodes_from m 256 (image_from r) (image_tree_items m) ++ (nodes_from m (2 ^ 64 - 9) (relocation_from r) (relocation_items m.now)
+    ++ (nodes_from m 7 (sums_from r) (sum_tree_items other m) ++ (nodes_from m 4 (device_from r) (device_items (new_ids m) m.chunks) ++ nodes_from m 1 (root_from r) (root_tree_items m r))))))
+    (nodes_of_tree 3 m.options.nodesize (lengths_of (chunk_items (new_ids m) m.volume.sup.blocks m.chunks)) (chunk_slots m))
 
 -- The extent tree tells of all nodes, its own among them. How many these are is a number that describes itself.
 pub record AreAllNodes (image other : Image) (m : Making) (r : VolumeTrees) (nodes : List TreeNode) : Type 0 where

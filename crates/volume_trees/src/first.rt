@@ -32,10 +32,15 @@ use unit_plan::PieceList;
 
 /// The numbers of trees.
 const CHUNK_TREE: u64 = 3;
+
 const DEVICE_TREE: u64 = 4;
+
 const FILE_TREE: u64 = 5;
+
 const SUM_TREE: u64 = 7;
+
 const IMAGE_TREE: u64 = 256;
+
 const RELOCATION_TREE: u64 = u64::MAX - 8;
 
 /// Writes the file tree. It is read off the used blocks of the volume.

@@ -47,14 +47,7 @@ pub fn root_list<P: PieceList>(
     add_root(&mut list, 7, first.sums)?;
     add_root(&mut list, 256, first.image)?;
     add_root(&mut list, u64::MAX - 8, first.relocation)?;
-    roots(
-        w.alloc,
-        &list,
-        index,
-        &w.form.ids,
-        w.time,
-        w.form.nodesize,
-    )
+    roots(w.alloc, &list, index, &w.form.ids, w.time, w.form.nodesize)
 }
 
 /// Appends the root of a tree.

@@ -16,7 +16,9 @@ ghost use Rattle.unit_plan.specs.declared.need.Need.{Need as NeedOf};
 ghost use Rattle.volume_trees.specs.Sources.{end_of};
 ghost use Rattle.volume_trees.specs.Standing.{AllFit, HasTrees, IsFor, SameVolume, used_bytes};
 
-use crate::first::{write_chunks, write_devices, write_files, write_image, write_relocation, write_sums};
+use crate::first::{
+    write_chunks, write_devices, write_files, write_image, write_relocation, write_sums,
+};
 use crate::last::{WrittenExtents, write_extents};
 use crate::roots::{FirstRoots, counted, root_list, saved_index};
 use crate::trees::VolumeTrees;
