@@ -1,5 +1,6 @@
 pub mod Adding
 pub mod Coming
+pub mod Few
 pub mod Placing
 pub mod Sums
 pub mod Tallying
