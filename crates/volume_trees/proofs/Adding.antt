@@ -1,6 +1,6 @@
 -- One more tree stands.
 use Rattle.std.proofs.Common.{◌≡◌, ◌∙◌, ℕ, ◌++◌, Bool, true, false, List, [], if◌then◌else◌, drop, Result, Ok, Err, refl, sym, ap, subst}
-use Rattle.std.specs.Result.{MatchResult}
+use Rattle.std.specs.Result.{IsErrAnd, MatchResult}
 use Rattle.outside.specs.History.{Image}
 use Rattle.btr_node.specs.Leaf.{Item}
 use Rattle.btr_tree.specs.Roots.{lengths_of}
@@ -42,3 +42,8 @@ none_of asked items isnt = ap (λ (d : Bool). if d then items else []) (sym isnt
 
 pub some_of : (asked : Bool) (items : List Item) → asked ≡ true → items ≡ (if asked then items else [])
 some_of asked items is = ap (λ (d : Bool). if d then items else []) (sym is)
+
+-- a failure that was handed on is one
+pub failed : {T : Type 0} (r : Result T WriteAnswer) (e : WriteAnswer) (P : T → Type 0) → IsErrAnd r (λ x. x ≡ e) → IsFailure e → MatchResult r P IsFailure
+failed (Ok x) e P told is = absurd told
+failed (Err x) e P told is = subst IsFailure (sym told) is

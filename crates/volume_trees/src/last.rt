@@ -69,6 +69,8 @@ fn all_nodes<P: PieceList>(
     ensures answers { IfErr result (λ e. (e ≡ WriteAnswer.Misfit) ⊎ (e ≡ WriteAnswer.Memory)) }
     ensures all { (chunks : List ChunkOf) → AreChunks w.now.plan.now w.now.volume.now.sup.blocks chunks → IfOk result (λ all. all ≡ merged_nodes (merged_nodes row.now.nodes chunk_nodes.now)
         (nodes_of_tree 2 w.now.form.nodesize (lengths_of (extent_items chunks (P.pieces w.now.pieces.now) all w.now.form.nodesize)) (drop row.now.taken row.now.slots))) }
+    ensures room { (chunks : List ChunkOf) → AreChunks w.now.plan.now w.now.volume.now.sup.blocks chunks
+        → IfOk result (λ all. tree_nodes w.now.form.nodesize (lengths_of (extent_items chunks (P.pieces w.now.pieces.now) all w.now.form.nodesize)) ≤ length row.now.slots - row.now.taken) }
     ensures misfit { (chunks : List ChunkOf) → AreChunks w.now.plan.now w.now.volume.now.sup.blocks chunks
         → own_bound chunks (P.pieces w.now.pieces.now) (merged_nodes row.now.nodes chunk_nodes.now) w.now.form.nodesize ≤ length row.now.slots - row.now.taken → IfErr result (λ e. e ≡ WriteAnswer.Memory) }
 {

@@ -1,5 +1,6 @@
 use Rattle.std.proofs.Common.{◌≡◌, ◌∙◌, ◌+◌, ◌*◌, ◌^◌, ◌<◌, ◌≤◌, ℕ, List, length, drop, sym, ap, ap₂, subst, arith}
 use Rattle.std.proofs.lemmas.List.{length-drop}
+use Rattle.btr_tree.specs.Counting.{tree_nodes}
 use Rattle.btr_tree.specs.Roots.{lengths_of}
 use Rattle.reiser_super.specs.declared.superblock.Super.{Super}
 use Rattle.space_items.specs.Extents.{extent_items}
@@ -63,3 +64,19 @@ returns-clause-all g c = λ chunks are.
     let stay = own_nodes_stay_so chunks pieces c.in_ok-others.others c.in_ok-rest.rest size c.in_ok-own.own (c.in_ok-own.ensures.count chunks known) in
     same_nodes chunks pieces size c.in_ok-with_own.field-0 _ c.in_ok-others.others c.args.row.now.nodes c.args.chunk_nodes.now c.in_ok-rest.rest (drop c.args.row.now.taken c.args.row.now.slots) (c.in_ok-with_own.ensures.nodes chunks known) (c.in_ok-others.ensures ∙ ap (λ (ns : List TreeNode). merged_nodes ns c.args.chunk_nodes.now) c.nodes.ensures.same)
     (c.in_ok-rest.ensures ∙ ap (λ (n : ℕ). drop n c.args.row.now.slots) c.taken.ensures) stay.nodes
+
+pub returns-clause-room : goal.returns-clause-room
+returns-clause-room g c = λ chunks are.
+    let pieces = g.P.PieceList.pieces c.args.w.now.pieces.now in
+    let size = c.args.w.now.form.nodesize in
+    let known = subst (λ (s : Super). AreChunks c.args.w.now.plan.now s.blocks chunks) (sym c.sup.ensures) are in
+    let stay = own_nodes_stay_so chunks pieces c.in_ok-others.others c.in_ok-rest.rest size c.in_ok-own.own (c.in_ok-own.ensures.count chunks known) in
+    omega (
+      arith,
+      ap (λ (ns : List TreeNode). tree_nodes size (lengths_of (extent_items chunks pieces ns size))) (c.in_ok-with_own.ensures.nodes chunks known),
+      stay.count,
+      c.in_ok-own.ensures.room,
+      ap (λ (xs : List ℕ). length xs) c.in_ok-rest.ensures,
+      c.taken.ensures,
+      length-drop c.taken.result c.args.row.now.slots,
+    )
