@@ -1,12 +1,11 @@
 -- Writes to the slots that are left, tree after tree.
 use Rattle.std.proofs.Common.{◌≡◌, ◌∙◌, ℕ, ◌+◌, ◌-◌, ◌≤◌, List, drop, sym, ap, subst, arith}
-use Rattle.std.proofs.lemmas.List.{drop-drop}
+use Rattle.std.proofs.lemmas.List.{drop-drop, get_or-drop, length-drop}
 use Rattle.outside.specs.History.{History, WritesOnly}
 use Rattle.outside.proofs.Crash.{writes_then, writes_weaker}
 use Rattle.btr_tree.specs.Writing.{IsInSlots}
 use Rattle.tree_writer.specs.declared.form.NodeForm.{NodeForm}
 use Rattle.tree_writer.specs.declared.trees.Trees.{Trees}
-use Rattle.tree_writer.proofs.Rows.{in_left}
 
 -- the same row, where maybe more slots are taken
 pub record IsLater (row later : Trees) : Type 0 where
@@ -19,6 +18,11 @@ later_by row later n same taken = record { form = same.0; slots = same.1; more =
 
 pub later_then : (row mid later : Trees) → IsLater row mid → IsLater mid later → IsLater row later
 later_then row mid later first then = record { form = then.form ∙ first.form; slots = then.slots ∙ first.slots; more = omega (arith, first.more, then.more) }
+
+-- a block of the slots behind some is one of all
+in_left : (nodesize taken : ℕ) (slots : List ℕ) (b : ℕ) → IsInSlots nodesize (drop taken slots) b → IsInSlots nodesize slots b
+in_left nodesize taken slots b found =
+    (taken + found.0, found.1, omega (arith, found.2, length-drop taken slots), sym (get_or-drop taken slots found.0 found.1) ∙ found.3, found.4)
 
 -- a block of the slots that are left
 abbrev pub IsInRest : Trees → ℕ → Type 0

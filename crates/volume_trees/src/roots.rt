@@ -13,8 +13,7 @@ use crate::writing::Writing;
 use btr_tree::{Counter, Root};
 use item_list::ItemList;
 use outside::Memory;
-use reiser_objects::ROOT;
-use reiser_volume::Volume;
+use reiser_volume::{Numbers, Volume};
 use space_items::{RootList, TreeRoot, roots};
 use unit_plan::PieceList;
 
@@ -61,10 +60,10 @@ fn add_root(list: &mut RootList, tree: u64, root: Root) -> Result<(), Memory>
 pub fn saved_index(volume: &Volume) -> u64
     ensures { (image : Image) → IsOpened volume.now image → result ≡ 2 + count_by (λ n. same_key n.dir root) (links_in volume.now) }
 {
-    let root = volume.index_of(ROOT).unwrap_or(0);
+    let numbers = Numbers::new(volume);
     let mut index = 2;
     for i in 0..volume.link_count() {
-        if volume.link(i).dir == root {
+        if numbers.is_root(volume.link(i).dir) {
             index += 1;
         }
     }
