@@ -3,6 +3,7 @@ pub mod Behind
 pub mod Coming
 pub mod Extents
 pub mod Few
+pub mod Indexing
 pub mod Placing
 pub mod Sums
 pub mod Tallying
