@@ -5,5 +5,6 @@ pub mod Extents
 pub mod Few
 pub mod Indexing
 pub mod Placing
+pub mod Rooted
 pub mod Sums
 pub mod Tallying

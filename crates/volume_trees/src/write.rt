@@ -1,10 +1,16 @@
-ghost use Rattle.std.specs.Prelude.{◌≡◌, ◌≤◌, ◌<◌, ◌+◌, ◌*◌, ◌^◌, ◌⊎◌, [], List, Some, All, AllPairs, drop, length, take, IsTrue, IfOk, IfErr, OnOk};
+ghost use Rattle.std.specs.Prelude.{◌≡◌, ◌≤◌, ◌<◌, ◌+◌, ◌*◌, ◌^◌, ◌⊎◌, ◌++◌, [], List, Some, All, AllPairs, drop, length, take, IsTrue, IfOk, IfErr, OnOk};
 ghost use Rattle.std.specs.Result.{MatchResult};
 ghost use Rattle.outside.specs.Fault.{HasCauseOf};
 ghost use Rattle.outside.specs.History.{Image, reads, OverTold, WritesOnly};
 ghost use Rattle.btr_node.specs.NodeSize.{IsNodeSize};
+ghost use Rattle.btr_tree.specs.Counting.{tree_nodes};
+ghost use Rattle.btr_tree.specs.Roots.{lengths_of};
 ghost use Rattle.btr_tree.specs.Writing.{IsInSlots};
+ghost use Rattle.btr_tree.specs.declared.climb.Root.{Root as RootOf};
 ghost use Rattle.conversion.specs.Making.{IsMaking, Making as MakingOf};
+ghost use Rattle.space_items.specs.Laws.{AreIds};
+ghost use Rattle.space_items.specs.Nodes.{nodes_of_tree};
+ghost use Rattle.space_items.specs.Roots.{root_items};
 ghost use Rattle.space_items.specs.Stream.{ArePieces};
 ghost use Rattle.space_items.specs.declared.node.TreeNode.{TreeNode as NodeOf};
 ghost use Rattle.tree_writer.specs.Answers.{IsFailure};
@@ -13,6 +19,7 @@ ghost use Rattle.unit_plan.specs.Chunks.{FitsVolume};
 ghost use Rattle.unit_plan.specs.Laws.{IsSoundPlan};
 ghost use Rattle.unit_plan.specs.Places.{node_places};
 ghost use Rattle.unit_plan.specs.declared.need.Need.{Need as NeedOf};
+ghost use Rattle.volume_trees.specs.Roots.{AreFew, listed};
 ghost use Rattle.volume_trees.specs.Sources.{end_of};
 ghost use Rattle.volume_trees.specs.Standing.{AllFit, HasTrees, IsFor, SameVolume, used_bytes};
 
@@ -172,7 +179,19 @@ fn keep_roots<P: PieceList>(
     w: &Writing<'_, P>,
     first: FirstRoots,
     index: u64,
-) -> Result<Slots, WriteAnswer> {
+) -> Result<Slots, WriteAnswer>
+    requires row { IsRow row.old }
+    requires form { row.old.form ≡ w.now.form }
+    requires ids { AreIds w.now.form.ids }
+    requires moment { w.now.time < 2 ^ 63 }
+    requires few { (extents : RootOf) → extents.nodes ≡ 0 → AreFew first extents }
+    ensures row { OnOk result (IsRow row.new) }
+    ensures same { (row.new.form ≡ row.old.form) × (row.new.slots ≡ row.old.slots) }
+    ensures slots { (extents : RootOf) → IfOk result (λ slots. slots ≡ take (tree_nodes w.now.form.nodesize (lengths_of (root_items (listed first extents) index w.now.form.ids w.now.time w.now.form.nodesize))) (drop row.old.taken row.old.slots)) }
+    ensures taken { IfOk result (λ slots. row.new.taken ≡ row.old.taken + length slots) }
+    ensures nodes { (extents : RootOf) → OnOk result (row.new.nodes ≡ row.old.nodes ++ nodes_of_tree 1 w.now.form.nodesize (lengths_of (root_items (listed first extents) index w.now.form.ids w.now.time w.now.form.nodesize)) (drop row.old.taken row.old.slots)) }
+    ensures misfit { (extents : RootOf) → row.old.taken + tree_nodes w.now.form.nodesize (lengths_of (root_items (listed first extents) index w.now.form.ids w.now.time w.now.form.nodesize)) ≤ length row.old.slots → IfErr result (λ e. e ≡ WriteAnswer.Memory) }
+{
     let none = Root {
         address: 0,
         level: 0,
