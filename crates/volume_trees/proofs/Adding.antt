@@ -1,5 +1,6 @@
 -- One more tree stands.
 use Rattle.std.proofs.Common.{◌≡◌, ◌∙◌, ℕ, ◌++◌, Bool, true, false, List, [], if◌then◌else◌, drop, Result, Ok, Err, refl, sym, ap, subst}
+use Rattle.std.specs.Prelude.{IfErr}
 use Rattle.std.specs.Result.{IsErrAnd, MatchResult}
 use Rattle.outside.specs.History.{Image}
 use Rattle.btr_node.specs.Leaf.{Item}
@@ -47,3 +48,8 @@ some_of asked items is = ap (λ (d : Bool). if d then items else []) (sym is)
 pub failed : {T : Type 0} (r : Result T WriteAnswer) (e : WriteAnswer) (P : T → Type 0) → IsErrAnd r (λ x. x ≡ e) → IsFailure e → MatchResult r P IsFailure
 failed (Ok x) e P told is = absurd told
 failed (Err x) e P told is = subst IsFailure (sym told) is
+
+-- so is want of memory
+pub handed : {T : Type 0} (r : Result T WriteAnswer) (e a : WriteAnswer) → IsErrAnd r (λ x. x ≡ e) → e ≡ a → IfErr r (λ x. x ≡ a)
+handed (Ok x) e a told is = absurd told
+handed (Err x) e a told is = told ∙ is
