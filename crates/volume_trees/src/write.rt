@@ -9,7 +9,7 @@ ghost use Rattle.btr_tree.specs.Writing.{IsInSlots};
 ghost use Rattle.btr_tree.specs.declared.climb.Root.{Root as RootOf};
 ghost use Rattle.conversion.specs.Making.{IsMaking, Making as MakingOf};
 ghost use Rattle.space_items.specs.Laws.{AreIds};
-ghost use Rattle.space_items.specs.Nodes.{nodes_of_tree};
+ghost use Rattle.space_items.specs.Nodes.{AreNodes, nodes_of_tree};
 ghost use Rattle.space_items.specs.Roots.{root_items};
 ghost use Rattle.space_items.specs.Stream.{ArePieces};
 ghost use Rattle.space_items.specs.declared.node.TreeNode.{TreeNode as NodeOf};
@@ -157,7 +157,24 @@ fn write_last<D: Disk, P: PieceList>(
     chunk: Root,
     first: FirstRoots,
     chunk_nodes: &NodeList,
-) -> Result<VolumeTrees, WriteAnswer> {
+) -> Result<VolumeTrees, WriteAnswer>
+    requires row { IsRow row.old }
+    requires form { row.old.form ≡ w.now.form }
+    requires ids { AreIds w.now.form.ids }
+    requires open { D.opened disk.old ≡ Some Access.Write }
+    requires in_range { All (λ a. a + row.old.form.nodesize ≤ 4096 * D.size disk.old) row.old.slots }
+    requires moment { w.now.time < 2 ^ 63 }
+    requires small { w.now.volume.now.sup.blocks ≤ 2 ^ 29 }
+    requires units { FitsVolume w.now.plan.now w.now.volume.now.sup.blocks }
+    requires pieces { ArePieces (P.pieces w.now.pieces.now) }
+    requires nodes { AreNodes chunk_nodes.now }
+    requires few { length chunk_nodes.now < 2 ^ 43 }
+    requires roots { (extents : RootOf) → extents.nodes < 2 ^ 43 → AreFew first extents }
+    ensures open { D.opened disk.new ≡ D.opened disk.old }
+    ensures size { D.size disk.new ≡ D.size disk.old }
+    ensures borrow { D.borrow disk.new ≡ D.borrow disk.old }
+    ensures only { IsTrue D.tells → WritesOnly (λ b _. IsInSlots row.old.form.nodesize (drop row.old.taken row.old.slots) b) (D.history disk.old) (D.history disk.new) }
+{
     let index = saved_index(w.volume);
     let slots = keep_roots(row, w, first, index)?;
     let written = write_extents(row, disk, w, chunk_nodes)?;

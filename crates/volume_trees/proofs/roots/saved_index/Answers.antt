@@ -11,13 +11,13 @@ pub loop-i-preserved : goal.loop-i-preserved
 loop-i-preserved c =
     let inside : c.loop-i.i < length (links_in c.args.volume.now) = omega (arith, c.loop-i-test.true, c.link_count-i-end.ensures.exact, c.loop-i.auto.i-end) in
     elim c.if-is_root.branch [
-      then-is_root w ↦ record {
+      | then-is_root w ↦ record {
         few = omega (arith, w.index-is, c.loop-i.invariant.few);
         counted = λ image opened.
             counted_yes (λ (n : Naming). same_key n.dir root) (links_in c.args.volume.now) c.loop-i.i c.loop-i.index c.if-is_root.index inside
             (λ n there. sym (c.is_root.ensures (keys c.args.volume.now.named) n.dir (c.new-numbers.ensures.numbered image opened) (c.link.ensures.ends image opened n there).0) ∙ w.if-is_root.true) w.index-is (c.loop-i.invariant.counted image opened);
       }
-    | else-is_root w ↦ record {
+      | else-is_root w ↦ record {
         few = omega (arith, w.index-is, c.loop-i.invariant.few);
         counted = λ image opened.
             counted_no (λ (n : Naming). same_key n.dir root) (links_in c.args.volume.now) c.loop-i.i c.loop-i.index c.if-is_root.index inside
