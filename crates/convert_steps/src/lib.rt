@@ -3,10 +3,12 @@
 
 mod fields;
 mod form;
+mod pieces;
 mod switch;
 #[cfg(test)]
 mod tests;
 
 pub use fields::{NewRoots, superblock};
 pub use form::{ids_of, label_of};
+pub use pieces::write_moved;
 pub use switch::switch_to;

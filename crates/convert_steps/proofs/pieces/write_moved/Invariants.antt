@@ -1,0 +1,13 @@
+use Rattle.std.proofs.Common.{◌≡◌, IsTrue}
+use Rattle.outside.specs.History.{WritesOnly}
+use Rattle.convert_steps.specs.Moved.{IsPlace}
+use Rattle.convert_steps.proofs.pieces.write_moved.Given as goal
+
+abbrev pub invariant-loop-i : goal.invariant-loop-i
+invariant-loop-i g l = record {
+  open_ : g.D.Disk.opened l.disk ≡ g.D.Disk.opened l.initial.disk;
+  size : g.D.BlockSource.size l.disk ≡ g.D.BlockSource.size l.initial.disk;
+  borrow : g.D.Disk.borrow l.disk ≡ g.D.Disk.borrow l.initial.disk;
+  same : g.D.BlockSource.faults l.disk ≡ g.D.BlockSource.faults l.initial.disk;
+  only : IsTrue g.D.BlockSource.tells → WritesOnly (λ b _. IsPlace (g.P.PieceList.pieces l.pieces) b) (g.D.Disk.history l.initial.disk) (g.D.Disk.history l.disk);
+}

@@ -1,0 +1,43 @@
+-- The pieces that do not lie where they lay.
+use Rattle.std.specs.Prelude.{◌≡◌, ◌≢◌, ℕ, ◌+◌, ◌^◌, ◌<◌, ◌≤◌, List, false, length, All, AllPairs, Any, Contains, Some, None}
+use Rattle.indexmap.specs.IndexMap.{keys}
+use Rattle.outside.specs.History.{Image, block_at}
+use Rattle.reiser_bitmap.specs.Bits.{has}
+use Rattle.reiser_files.specs.Bytes.{tail_block}
+use Rattle.reiser_names.specs.Names.{inode_of}
+use Rattle.reiser_objects.specs.Keys.{items_of}
+use Rattle.reiser_objects.specs.declared.key.ObjectKey.{ObjectKey}
+use Rattle.reiser_volume.specs.Made.{stat_at}
+use Rattle.reiser_volume.specs.Opened.{IsOpened}
+use Rattle.reiser_volume.specs.Volume.{IsAccepted, used_of, volume_items}
+use Rattle.reiser_volume.specs.declared.volume.Volume.{Volume}
+use Rattle.unit_plan.specs.declared.piece.Piece.{Piece}
+use Rattle.std.specs.Prelude.{true}
+
+-- the piece does not lie where it lay, and this is its block
+pub record IsMovedTo (b : ℕ) (p : Piece) : Type 0 where
+  pub moved : p.from ≢ Some p.place
+  pub place : p.place ≡ b
+
+-- the block of such a piece
+abbrev pub IsPlace : List Piece → ℕ → Type 0
+IsPlace pieces b = Any (IsMovedTo b) pieces
+
+-- The pieces of an accepted volume that was opened can be written. Those that move have one block each, to a place of its own
+-- that the volume has and does not use; what they hold are used blocks, or blocks of files with direct items.
+pub record CanMove (volume : Volume) (image : Image) (pieces : List Piece) : Type 0 where
+  pub accepted : IsAccepted image
+  pub opened : IsOpened volume image
+  pub single : All (λ p. p.from ≢ Some p.place → p.count ≡ 1) pieces
+  pub inside : (b : ℕ) → IsPlace pieces b → b < length image
+  pub unused : (b : ℕ) → IsPlace pieces b → has (used_of image) b ≡ false
+  pub apart : AllPairs (λ p q. p.from ≢ Some p.place → q.from ≢ Some q.place → p.place ≢ q.place) pieces
+  pub sources : (p : Piece) (b j : ℕ) → Contains pieces p → p.from ≡ Some b → j < p.count → has (used_of image) (b + j) ≡ true
+  pub owners : (p : Piece) → Contains pieces p → p.from ≡ None
+      → (key : ObjectKey) × (k : ℕ) × Contains (keys volume.named) key × (p.owner ≡ Some (inode_of (keys volume.named) key, k)) × (k < 2 ^ 52)
+
+-- Each piece holds what it is to hold: blocks of the old volume, or the bytes of direct items with zeros behind them.
+pub record HoldMoved (volume : Volume) (image other : Image) (pieces : List Piece) : Type 0 where
+  pub blocks : (p : Piece) (b j : ℕ) → Contains pieces p → p.from ≡ Some b → j < p.count → block_at other (p.place + j) ≡ block_at image (b + j)
+  pub tails : (p : Piece) (key : ObjectKey) (k : ℕ) → Contains pieces p → p.from ≡ None → Contains (keys volume.named) key
+      → p.owner ≡ Some (inode_of (keys volume.named) key, k) → block_at other p.place ≡ tail_block (items_of key (volume_items image)) (stat_at (volume_items image) key).fields.size k
