@@ -1,5 +1,6 @@
 -- Parts 6, 7 and 9: block groups and device extents are the chunks, and the sums are right.
-use Rattle.std.specs.Prelude.{◌≡◌, ◌≤◌, ℕ, ◌+◌, ◌*◌, ◌==◌, nat_le, nat_lt, Bool, ◌&&◌, List, [], ◌∷◌, map, filter, Some, All, AllPairs, Contains}
+use Rattle.std.specs.Option.{option_map_or}
+use Rattle.std.specs.Prelude.{◌≡◌, ◌≤◌, ℕ, ◌+◌, ◌*◌, ◌==◌, nat_le, nat_lt, Bool, ◌&&◌, List, [], ◌∷◌, map, filter, Some, All, AllPairs, Contains, ◌↔◌, ◌⊎◌}
 use Rattle.std.specs.List.{sum_by, flat_map}
 use Rattle.std.specs.List.Sorted.{IsPermutation}
 use Rattle.btr_node.specs.Leaf.{Item}
@@ -19,7 +20,7 @@ chunk_span c = record { start = c.logical; length = c.chunk.length }
 abbrev pub AreRanges : Recount → List Span → Type 0
 AreRanges r spans =
     AllPairs (λ a b. a ≡ b → ⊥) spans
-    × ((s : Span) → Contains spans s Rattle.std.specs.Prelude.↔ ((u : DataUse) × Contains (data_uses r) u × (s ≡ record { start = u.start; length = u.length })))
+    × ((s : Span) → Contains spans s ↔ ((u : DataUse) × Contains (data_uses r) u × (s ≡ record { start = u.start; length = u.length })))
 
 -- the bytes of the extents that begin in a range
 abbrev pub node_bytes_in : Recount → Span → ℕ
@@ -58,7 +59,7 @@ abbrev pub dev_extents : Recount → List Item
 dev_extents r = filter (λ i. i.0.kind == 204) (items_of_tree r 4)
 
 abbrev pub Apart : ℕ → ℕ → ℕ → ℕ → Type 0
-Apart a m b n = (a + m ≤ b) Rattle.std.specs.Prelude.⊎ (b + n ≤ a)
+Apart a m b n = (a + m ≤ b) ⊎ (b + n ≤ a)
 
 -- Part 7: chunks overlap neither by their addresses nor on the device, and device extents are their stripes.
 pub record AreStripes (r : Recount) : Type 0 where
@@ -76,7 +77,7 @@ abbrev pub device_items : Recount → List Item
 device_items r = filter (λ i. i.0.kind == 216) r.chunk_tree.items
 
 abbrev pub group_used : Item → ℕ
-group_used i = Rattle.std.specs.Option.option_map_or (λ g. g.used) (block_group_of i.1) 0
+group_used i = option_map_or (λ g. g.used) (block_group_of i.1) 0
 
 -- Part 9.
 pub record AreTotals (r : Recount) : Type 0 where

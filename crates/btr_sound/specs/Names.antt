@@ -1,5 +1,6 @@
 -- Part 2: in each file tree the directory indexes, the dir items and the references of inodes tell the same names, and inodes
 -- tell their counts.
+use Rattle.fs_rows.specs.declared.row.Kind.TheVariants.{Directory, File}
 use Rattle.std.specs.Prelude.{◌≡◌, ◌⊎◌, ℕ, ◌+◌, ◌*◌, ◌/◌, ◌%◌, ◌==◌, Bool, true, false, not, ◌&&◌, if◌then◌else◌, List, [], ◌∷◌, ◌++◌, length, map, filter, codes, Option, Some, None, is_some, IsTrue, All, Contains}
 use Rattle.std.specs.List.{flat_map, sum_by, count_by}
 use Rattle.std.specs.List.Sorted.{IsPermutation}
@@ -118,10 +119,10 @@ has_no_sums inode = inode.flags % 2 == 1
 
 -- What an inode's item tells is so.
 pub record IsInode (t : TreeOn) (ino : ℕ) (inode : Inode) : Type 0 where
-  pub directory : kind_of_mode inode.mode ≡ Some Rattle.fs_rows.specs.declared.row.Kind.TheVariants.Directory → (inode.nlink ≡ 1) × (inode.size ≡ directory_size t ino)
-  pub other : ¬ (kind_of_mode inode.mode ≡ Some Rattle.fs_rows.specs.declared.row.Kind.TheVariants.Directory) → inode.nlink ≡ name_count t ino
+  pub directory : kind_of_mode inode.mode ≡ Some Directory → (inode.nlink ≡ 1) × (inode.size ≡ directory_size t ino)
+  pub other : ¬ (kind_of_mode inode.mode ≡ Some Directory) → inode.nlink ≡ name_count t ino
   pub bytes : inode.nbytes ≡ inode_nbytes t ino
-  pub files : has_no_sums inode ≡ true → kind_of_mode inode.mode ≡ Some Rattle.fs_rows.specs.declared.row.Kind.TheVariants.File
+  pub files : has_no_sums inode ≡ true → kind_of_mode inode.mode ≡ Some File
 
 -- an inode has an item
 abbrev pub IsThere : TreeOn → ℕ → Type 0

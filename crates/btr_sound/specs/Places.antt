@@ -1,5 +1,6 @@
 -- Parts 4 and 8: extents are apart, each lies in a chunk of its kind, and none touches a reserved block.
-use Rattle.std.specs.Prelude.{◌≡◌, ◌⊎◌, ◌≤◌, ◌<◌, ℕ, ◌+◌, ◌*◌, ◌/◌, ◌==◌, if◌then◌else◌, List, Some, All, Contains}
+use Rattle.std.specs.List.{flat_map}
+use Rattle.std.specs.Prelude.{◌≡◌, ◌⊎◌, ◌≤◌, ◌<◌, ℕ, ◌+◌, ◌*◌, ◌/◌, ◌==◌, if◌then◌else◌, List, Some, All, Contains, ◌≢◌, map, AllPairs}
 use Rattle.vol_block.specs.Volume.{IsReserved}
 use Rattle.btr_walk.specs.Map.{place}
 use Rattle.btr_walk.specs.declared.tree.Pointer.{Pointer}
@@ -27,11 +28,11 @@ pub record LiesIn (c : ChunkAt) (span : Span) : Type 0 where
 -- Two extents are one, or apart; no two nodes are one.
 pub record AreApart (r : Recount) : Type 0 where
   pub apart : (a b : Span) (k l : ℕ) → IsExtent r a k → IsExtent r b l → ((a ≡ b) × (k ≡ l)) ⊎ (EndsBefore a b ⊎ EndsBefore b a)
-  pub nodes : Rattle.std.specs.List.AllPairs (λ p q. Rattle.std.specs.Prelude.◌≢◌ p.address q.address) (Rattle.std.specs.List.flat_map (λ t. t.nodes) (all_trees r))
+  pub nodes : AllPairs (λ p q. p.address ≢ q.address) (flat_map (λ t. t.nodes) (all_trees r))
   pub within : (span : Span) (kind : ℕ) → IsExtent r span kind → (c : ChunkAt) × Contains r.chunks c × LiesIn c span × (c.chunk.kind ≡ kind)
 
 -- no block of the device on which an extent lies is reserved
 abbrev pub AreUnreserved : Recount → Type 0
 AreUnreserved r =
     (span : Span) (kind a p : ℕ) → IsExtent r span kind → span.start ≤ a → a < span.start + span.length
-    → place (Rattle.std.specs.Prelude.map range_of r.chunks) a ≡ Some p → ¬ IsReserved (p / 4096) (r.super.total_bytes / 4096)
+    → place (map range_of r.chunks) a ≡ Some p → ¬ IsReserved (p / 4096) (r.super.total_bytes / 4096)

@@ -1,5 +1,5 @@
 -- Part 3: the extent tree is the recount of all nodes and of all data that files refer to.
-use Rattle.std.specs.Prelude.{◌≡◌, ◌≢◌, ℕ, ◌+◌, ◌==◌, Bool, ◌&&◌, List, [], ◌∷◌, length, filter, drop, Some, All, AllPairs, Contains}
+use Rattle.std.specs.Prelude.{◌≡◌, ◌≢◌, ℕ, ◌+◌, ◌==◌, Bool, ◌&&◌, List, [], ◌∷◌, length, filter, drop, Some, All, AllPairs, Contains, false, ◌⊎◌}
 use Rattle.std.specs.List.{sum_by, count_by}
 use Rattle.btr_keys.specs.declared.key.Key.{Key}
 use Rattle.btr_node.specs.Leaf.{Item}
@@ -46,14 +46,14 @@ same_ref (DataRef root objectid offset count) (DataRef r o f c) = (root ≡ r) �
 
 -- The extent of data has each reference to it once, with its count; all counts together are those of the uses.
 pub record IsDataItem (r : Recount) (i : Item) : Type 0 where
-  pub use : DataUse
-  pub used : Contains (data_uses r) use
-  pub key : i.0 ≡ record { objectid = use.start; kind = 168; offset = use.length }
+  pub is_use : DataUse
+  pub used : Contains (data_uses r) is_use
+  pub key : i.0 ≡ record { objectid = is_use.start; kind = 168; offset = is_use.length }
   pub refs : List InlineRef
-  pub body : HasRefs i.1 1 (count_by (is_of_range use.start use.length) (data_uses r)) refs
-  pub each : All (CountsUses r use.start use.length) refs
+  pub body : HasRefs i.1 1 (count_by (is_of_range is_use.start is_use.length) (data_uses r)) refs
+  pub each : All (CountsUses r is_use.start is_use.length) refs
   pub once : AllPairs (λ a b. ¬ same_ref a b) refs
-  pub whole : (u : DataUse) → Contains (data_uses r) u → u.start ≡ use.start → u.length ≡ use.length
+  pub whole : (u : DataUse) → Contains (data_uses r) u → u.start ≡ is_use.start → u.length ≡ is_use.length
       → (count : ℕ) × Contains refs (DataRef u.tree u.inode u.offset count)
 
 abbrev pub is_group : Item → Bool
@@ -64,6 +64,6 @@ abbrev pub HasKey : List Item → Key → Type 0
 HasKey items key = (body : List ℕ) × Contains items (key, body)
 
 pub record AreReferences (r : Recount) : Type 0 where
-  pub each : (i : Item) → Contains (items_of_tree r 2) i → is_group i ≡ Rattle.std.specs.Prelude.false → IsNodeItem r i Rattle.std.specs.Prelude.⊎ IsDataItem r i
+  pub each : (i : Item) → Contains (items_of_tree r 2) i → is_group i ≡ false → IsNodeItem r i ⊎ IsDataItem r i
   pub nodes : (t : TreeOn) (p : Pointer) → Contains (all_trees r) t → Contains t.nodes p → HasKey (items_of_tree r 2) (record { objectid = p.address; kind = 169; offset = p.level })
   pub data_ : (u : DataUse) → Contains (data_uses r) u → HasKey (items_of_tree r 2) (record { objectid = u.start; kind = 168; offset = u.length })

@@ -1,5 +1,5 @@
 -- Part 5: data has its checksums.
-use Rattle.std.specs.Prelude.{◌≡◌, ◌↔◌, ◌≤◌, ◌<◌, ℕ, ◌+◌, ◌*◌, ◌/◌, ◌%◌, ◌^◌, false, List, length, map, take, drop, Some, All, AllPairs, Contains}
+use Rattle.std.specs.Prelude.{◌≡◌, ◌-◌, ◌↔◌, ◌≤◌, ◌<◌, ℕ, ◌+◌, ◌*◌, ◌/◌, ◌%◌, ◌^◌, false, List, length, map, take, drop, Some, All, AllPairs, Contains}
 use Rattle.outside.specs.History.{Image, block_at}
 use Rattle.csum_kinds.specs.Kind.{kind_sum, kind_width}
 use Rattle.csum_kinds.specs.declared.kind.SumKind.{SumKind}
@@ -33,16 +33,16 @@ pub record HasSum (r : Recount) (sums : SumKind) (a : ℕ) : Type 0 where
 -- The block at an address lies in data that an inode refers to whose data has checksums.
 pub record WantsSum (r : Recount) (a : ℕ) : Type 0 where
   pub tree : TreeOn
-  pub use : DataUse
+  pub is_use : DataUse
   pub inode : Inode
   pub body : List ℕ
   pub of_files : Contains (file_trees r) tree
-  pub used : Contains (uses_in tree) use
-  pub item : Contains tree.items (record { objectid = use.inode; kind = 1; offset = 0 }, body)
+  pub used : Contains (uses_in tree) is_use
+  pub item : Contains tree.items (record { objectid = is_use.inode; kind = 1; offset = 0 }, body)
   pub inode_is : inode_of body ≡ Some inode
   pub with_sums : has_no_sums inode ≡ false
-  pub low : use.start ≤ a
-  pub high : a < use.start + use.length
+  pub low : is_use.start ≤ a
+  pub high : a < is_use.start + is_use.length
 
 -- checksum number k of an item is that of the block at its address
 abbrev pub IsRight : Image → Recount → SumKind → Item → Type 0

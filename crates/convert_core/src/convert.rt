@@ -1,19 +1,15 @@
-use crate::answers::answer_of;
-use crate::pieces::write_pieces;
+use crate::answers::{volume_answer, write_answer};
+use crate::pieces::write_moved;
 use crate::prepared::{Prepared, prepare};
-use crate::superblock::superblock;
-use crate::trees::write_trees;
-use btr_super::mirror;
+use convert_steps::{NewRoots, superblock, switch_to};
 use outside::{Answer, Cached, Disk, Room, VolumeRefusal};
 use std::alloc::Global;
 use unit_plan::Options;
+use volume_trees::{VolumeTrees, write_trees};
 use vol_block::{Block, BlockNo, Format, Ids, format_of};
 
 /// The block of the superblock.
 const SUPERBLOCK: BlockNo = 16;
-
-/// The blocks of the copies of a superblock.
-const MIRRORS: [BlockNo; 2] = [16384, 67108864];
 
 /// How many blocks are kept while the volume is read and its trees are written.
 const CACHED: usize = 1024;
@@ -78,23 +74,62 @@ fn write_volume<D: Disk>(
     };
     let mut cached = Cached::new(disk, &mut room);
     let prepared = prepare(alloc, &mut cached, ids, options)?;
-    let root = prepared.volume.sup().root;
-    match write_all(alloc, &mut cached, &prepared, now, options) {
-        Ok(block) => Ok((summary_of(&prepared), block, prepared.volume.sup().blocks)),
-        Err(stop) => Err(answer_of(stop, root)),
-    }
+    let trees = write_data(alloc, &mut cached, &prepared, now, options)?;
+    let block = superblock_of(alloc, &prepared, options, &trees)?;
+    Ok((summary_of(&prepared), block, prepared.volume.sup().blocks))
 }
 
-fn write_all<D: Disk>(
+/// Writes copies, tails and trees.
+fn write_data<D: Disk>(
     alloc: Global,
     disk: &mut D,
     prepared: &Prepared,
     now: u64,
     options: &Options,
-) -> Result<Block, crate::answers::Stop> {
-    write_pieces(alloc, disk, prepared)?;
-    let written = write_trees(alloc, disk, prepared, options, now)?;
-    Ok(superblock(alloc, prepared, options, &written)?)
+) -> Result<VolumeTrees, Answer> {
+    match write_moved(disk, &prepared.volume, &prepared.pieces) {
+        Ok(()) => {}
+        Err(answer) => return Err(volume_answer(answer)),
+    }
+    match write_trees(
+        alloc,
+        disk,
+        &prepared.volume,
+        &prepared.pieces,
+        &prepared.plan,
+        options,
+        &prepared.ids,
+        now,
+    ) {
+        Ok(trees) => Ok(trees),
+        Err(answer) => Err(write_answer(answer, prepared.volume.sup().root)),
+    }
+}
+
+/// The superblock that names the trees.
+fn superblock_of(
+    alloc: Global,
+    prepared: &Prepared,
+    options: &Options,
+    trees: &VolumeTrees,
+) -> Result<Block, Answer> {
+    let roots = NewRoots {
+        chunk: trees.chunk,
+        root: trees.root,
+        used: trees.used,
+    };
+    match superblock(
+        alloc,
+        &prepared.plan,
+        prepared.volume.sup().blocks,
+        &prepared.ids,
+        prepared.label,
+        options.nodesize,
+        &roots,
+    ) {
+        Ok(block) => Ok(block),
+        Err(_) => Err(Answer::Memory),
+    }
 }
 
 fn summary_of(prepared: &Prepared) -> ConvertSummary {
@@ -108,24 +143,13 @@ fn summary_of(prepared: &Prepared) -> ConvertSummary {
     }
 }
 
-/// Makes the volume a Btrfs volume.
+/// Puts all that was written on the disk, and then makes the volume a Btrfs volume.
 fn switch<D: Disk>(disk: &mut D, block: &Block, blocks: u64) -> Result<(), Answer> {
-    match switch_steps(disk, block, blocks) {
+    if disk.sync().is_err() {
+        return Err(Answer::Fault);
+    }
+    match switch_to(disk, block, blocks) {
         Ok(()) => Ok(()),
         Err(_) => Err(Answer::Fault),
     }
-}
-
-fn switch_steps<D: Disk>(disk: &mut D, block: &Block, blocks: u64) -> Result<(), outside::Fault> {
-    disk.sync()?;
-    disk.write(SUPERBLOCK, block)?;
-    disk.sync()?;
-    for place in MIRRORS {
-        if place < blocks {
-            let mut copy = Block::zero();
-            mirror(block, place, &mut copy);
-            disk.write(place, &copy)?;
-        }
-    }
-    disk.sync()
 }

@@ -6,14 +6,10 @@
 
 mod answers;
 mod convert;
-mod form;
 mod laws;
 mod pieces;
 mod prepared;
-mod superblock;
 mod survey;
-mod tree;
-mod trees;
 
 pub use convert::{ConvertSummary, convert};
 pub use laws::surveys_are_one;

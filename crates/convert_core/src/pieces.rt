@@ -1,63 +1,92 @@
-use crate::answers::Stop;
-use crate::prepared::Prepared;
-use outside::Disk;
-use reiser_objects::ROOT;
-use reiser_volume::Volume;
-use std::alloc::Global;
+// The pieces that do not stay where they lie.
+
+use outside::{Access, BlockSource, Disk, Rule, VolAnswer, VolumeRefusal};
+use reiser_volume::{Numbers, Volume};
 use unit_plan::{Piece, PieceList};
-use vol_block::Block;
+use vol_block::{Block, BlockNo};
 
-/// Writes copies and tails to their places.
-pub fn write_pieces<D: Disk>(
-    alloc: Global,
-    disk: &mut D,
-    prepared: &Prepared,
-) -> Result<(), Stop> {
-    for i in 0..prepared.pieces.len() {
-        let piece = *prepared.pieces.get(i);
-        match piece.from {
-            None => write_tail(alloc, disk, &prepared.volume, piece)?,
-            Some(block) if block != piece.place => write_copy(disk, piece, block)?,
-            Some(_) => {}
-        }
-    }
-    Ok(())
-}
-
-/// Copies a reserved block.
-fn write_copy<D: Disk>(disk: &mut D, piece: Piece, from: u64) -> Result<(), Stop> {
-    let mut block = Block::zero();
-    disk.read(from, &mut block)?;
-    disk.write(piece.place, &block)?;
-    Ok(())
-}
-
-/// Writes a block of a file that lies in direct items.
-fn write_tail<D: Disk>(
-    alloc: Global,
+/// Writes copies and tails to their places. No other block is written.
+///
+/// A refusal names a block that the device has no more, or that reads otherwise than when the volume was opened.
+pub fn write_moved<D: Disk, P: PieceList>(
     disk: &mut D,
     volume: &Volume,
-    piece: Piece,
-) -> Result<(), Stop> {
-    let mut block = Block::zero();
-    let Some((inode, at)) = piece.owner else {
-        return Ok(());
-    };
-    let place = place_of(volume, inode);
-    volume.tail(disk, place, at, &mut block)?;
-    disk.write(piece.place, &block)?;
+    pieces: &P,
+) -> Result<(), VolAnswer>
+{
+    for i in 0..pieces.len() {
+        write_piece(disk, volume, pieces.get(i))?;
+    }
     Ok(())
 }
 
-/// The place of the object with an inode number.
-fn place_of(volume: &Volume, inode: u64) -> usize {
-    let root = volume.index_of(ROOT).unwrap_or(0);
-    let n = (inode - 256) as usize;
-    if n == 0 {
-        root
-    } else if n <= root {
-        n - 1
-    } else {
-        n
+/// Writes a piece to its place, unless it stays where it lies.
+fn write_piece<D: Disk>(disk: &mut D, volume: &Volume, piece: &Piece) -> Result<(), VolAnswer>
+{
+    match (piece.from, piece.owner) {
+        (None, Some((inode, at))) => write_tail(disk, volume, inode, at, piece.place),
+        (None, None) => Ok(()),
+        (Some(block), _) if block == piece.place => Ok(()),
+        (Some(block), _) => copy_block(disk, block, piece.place),
     }
+}
+
+/// Copies a block to a place.
+fn copy_block<D: Disk>(disk: &mut D, from: BlockNo, place: BlockNo) -> Result<(), VolAnswer>
+{
+    if from >= disk.len() {
+        return Err(changed(from));
+    }
+    let mut block = Block::zero();
+    disk.read(from, &mut block)?;
+    put_block(disk, place, &block)
+}
+
+/// Writes a block that the device has to have.
+fn put_block<D: Disk>(disk: &mut D, place: BlockNo, block: &Block) -> Result<(), VolAnswer>
+{
+    if place >= disk.len() {
+        return Err(changed(place));
+    }
+    disk.write(place, block)?;
+    Ok(())
+}
+
+/// Writes block `at` of a file that lies in direct items to a place.
+fn write_tail<D: Disk>(
+    disk: &mut D,
+    volume: &Volume,
+    inode: u64,
+    at: u64,
+    place: BlockNo,
+) -> Result<(), VolAnswer>
+{
+    let Some(object) = place_of(volume, inode) else {
+        return Err(changed(volume.sup().root));
+    };
+    if at >= 1 << 52 {
+        return Err(changed(volume.sup().root));
+    }
+    let mut block = Block::zero();
+    volume.tail(disk, object, at, &mut block)?;
+    put_block(disk, place, &block)
+}
+
+/// The place of the object that has an inode number, where there is one.
+fn place_of(volume: &Volume, inode: u64) -> Option<usize>
+{
+    let n = inode.checked_sub(256)? as usize;
+    if n >= volume.count() {
+        return None;
+    }
+    Some(Numbers::new(volume).place(n))
+}
+
+/// What is answered where the device has not what it had when the volume was opened.
+fn changed(block: BlockNo) -> VolAnswer
+{
+    VolAnswer::Refused(VolumeRefusal::Damaged {
+        block,
+        rule: Rule::Reread,
+    })
 }

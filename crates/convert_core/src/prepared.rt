@@ -1,5 +1,5 @@
 use crate::answers::{plan_answer, volume_answer};
-use crate::form::{ids_of, label_of};
+use convert_steps::{ids_of, label_of};
 use extent_pieces::Pieces;
 use outside::{Answer, BlockSource};
 use reiser_volume::Volume;

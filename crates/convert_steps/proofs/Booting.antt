@@ -1,13 +1,13 @@
 -- The bootstrap array, one chunk after the other.
-use Rattle.std.proofs.Common.{◌≡◌, ℕ, suc, ◌+◌, ◌-◌, ◌≤◌, ◌<◌, Bool, true, false, cond, List, [], ◌∷◌, ◌++◌, length, take, drop, replicate, get_or, filter, Some, refl, sym, ◌∙◌, ap, subst, arith, append_assoc, length-append, take-suc}
+use Rattle.std.proofs.Common.{◌≡◌, ℕ, suc, ◌+◌, ◌-◌, ◌≤◌, Bool, true, false, cond, List, [], ◌∷◌, ◌++◌, length, take, drop, replicate, filter, Some, refl, sym, ◌∙◌, ap, arith, append_assoc, length-append, take-suc}
 use Rattle.std.specs.Prelude.{slice_get}
 use Rattle.std.specs.List.{flat_map}
 use Rattle.std.proofs.lemmas.Grind.{flat_map-append}
-use Rattle.std.proofs.lemmas.List.{append-nil, length-replicate, replicate-append-replicate, take-append-drop, take_all, length-drop}
+use Rattle.std.proofs.lemmas.List.{append-nil, length-replicate, replicate-append-replicate, take-append-drop, take_all}
 use Rattle.std.proofs.lemmas.List.Elements.{filter-append}
 use Rattle.std.proofs.lemmas.Option.{slice_get_within, get_or_from_slice_get}
 use borrow.Rule.Slice.PartMut.{put_mid}
-use Rattle.btr_keys.specs.Key.{key_bytes, key_layout, make_key}
+use Rattle.btr_keys.specs.Key.{key_bytes, key_layout}
 use Rattle.btr_keys.specs.declared.key.Key.{Key}
 use Rattle.btr_node.proofs.Putting.{put_is}
 use Rattle.btr_space_items.specs.Chunk.{chunk_bytes, chunk_layout}

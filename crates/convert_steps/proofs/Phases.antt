@@ -3,7 +3,7 @@ use Rattle.std.proofs.Common.{◌≡◌, ◌≢◌, ◌⊎◌, inl, inr, ⊎_eli
 use Rattle.std.proofs.lemmas.List.{length-set, ext_get_or}
 use Rattle.outside.specs.History.{Image, History, block_at, reads, clock, IsSettled, IsBlock, LeftSince, WritesBlock, WritesOnly}
 use Rattle.outside.proofs.Crash.{left_each, reads_only, write_only, writes_length, writes_then, writes_weaker}
-use Rattle.outside.proofs.Phases.{left_then, only_not, set_stands, write_reads}
+use Rattle.outside.proofs.Phases.{only_not, set_stands, write_reads}
 use Rattle.btr_super.specs.Super.{mirror_bytes}
 use Rattle.convert_steps.specs.Switch.{IsMirror, IsCopy, IsCopyAt, IsPart, IsSwitched, HasCopies}
 

@@ -140,7 +140,7 @@ module _ (image : Image) (found : Pieces) (o : Options) (plan : Plan) (has_plan 
   front : take found.kept found.items.items ≡ kept
   front = ap (λ (n : ℕ). take n found.items.items) has_plan.found_.kept_are ∙ (ap (take (length kept)) old_is ∙ take-append_seam kept rest)
 
-  back : drop found.kept found.items.items ≡ rest
+  pub back : drop found.kept found.items.items ≡ rest
   back = ap (λ (n : ℕ). drop n found.items.items) has_plan.found_.kept_are ∙ (ap (drop (length kept)) old_is ∙ drop-append_seam kept rest)
 
   pub permuted : (placed : List Piece) → ArePlaced found.kept plan.data_ found.items.items placed → IsPermutation (kept ++ at_places rest places) placed

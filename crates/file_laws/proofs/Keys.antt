@@ -99,13 +99,13 @@ module _ (all : List ObjectKey) (at : ℕ) (are : AreNumbered at all) where
       (cases_lt at i))
       (cases_lt j at)
 
-  inodes_climb : Climb (inode_of all) (by_inode all)
+  pub inodes_climb : Climb (inode_of all) (by_inode all)
   inodes_climb =
       let first : inode_of all root ≡ 256 = root_first all root (same_key-self root) in (
         kept_all (inode_of all) (λ key. not (same_key key root)) (inode_of all root) all (λ k d h is. let low = behind_root all (get_or all k d) (not_false (same_key (get_or all k d) root) is) in omega (arith, low, first)),
         climb_kept (inode_of all) (λ key. not (same_key key root)) all
-        (λ i j d order inside in_a in_b. inode_less i j (get_or all i d) (get_or all j d) order (slice_get-get_or all i d (omega (arith, order, inside))) (slice_get-get_or all j d inside)
-        (not_false (same_key (get_or all i d) root) in_a) (not_false (same_key (get_or all j d) root) in_b)),
+            (λ i j d order inside in_a in_b. inode_less i j (get_or all i d) (get_or all j d) order (slice_get-get_or all i d (omega (arith, order, inside))) (slice_get-get_or all j d inside)
+            (not_false (same_key (get_or all i d) root) in_a) (not_false (same_key (get_or all j d) root) in_b)),
       )
 
 -- ---- indexes of entries
@@ -208,7 +208,7 @@ module _ (s : Source) (distinct : IsDistinct starts s.pieces) (key : ObjectKey) 
       (part_of_kind (number_of s key) 12 (λ (g : ℕ × List Entry). g.0) (λ (g : ℕ × List Entry). flat_map (λ (e : Entry). inode_ref_bytes (inode_ref e)) g.1) (grouped (parent_of s.keys) plain) (climb_groups (grouped (parent_of s.keys) plain) (rising_grouped (parent_of s.keys) plain)))
       (part_of_kind (number_of s key) 13 (λ (g : ℕ × List Entry). g.0) (λ (g : ℕ × List Entry). flat_map (λ (e : Entry). extref_bytes (extref s.keys e)) g.1) (grouped hash far) (climb_groups (grouped hash far) (rising_grouped hash far)))
 
-  names_part : IsPart (number_of s key) 12 13 (name_items s key)
+  pub names_part : IsPart (number_of s key) 12 13 (name_items s key)
   names_part = by (same_key key root) refl
     where
       by : (b : Bool) → same_key key root ≡ b → IsPart (number_of s key) 12 13 (name_items s key)
@@ -239,12 +239,15 @@ module _ (s : Source) (distinct : IsDistinct starts s.pieces) (key : ObjectKey) 
   content_part Socket = no_part (number_of s key) 84 108
   content_part Subvolume = no_part (number_of s key) 84 108
 
+  -- what stands behind the item of the inode
+  pub rest_part : IsPart (number_of s key) 12 108 (name_items s key ++ content_items s key (kind_in s key))
+  rest_part = part_append (number_of s key) 12 13 84 108 (name_items s key) (content_items s key (kind_in s key)) (omega arith) (omega arith) (omega arith) names_part (content_part (kind_in s key))
+
   object_part : IsPart (number_of s key) 1 108 (object_items s key)
   unfolding object_items
   object_part =
       part_append (number_of s key) 1 1 12 108 (inode_item (number_of s key) (inode_in s key) ∷ []) (name_items s key ++ content_items s key (kind_in s key)) (omega arith) (omega arith) (omega arith)
-      (part_one (number_of s key) 1 0 (inode_bytes (inode_in s key)))
-      (part_append (number_of s key) 12 13 84 108 (name_items s key) (content_items s key (kind_in s key)) (omega arith) (omega arith) (omega arith) names_part (content_part (kind_in s key)))
+      (part_one (number_of s key) 1 0 (inode_bytes (inode_in s key))) rest_part
 
 tree_rises : (s : Source) (at : ℕ) → AreNumbered at s.keys → IsDistinct starts s.pieces → Rise (tree_items s)
 unfolding tree_items

@@ -1,6 +1,11 @@
 mod Apart
+mod Entries
 mod FileBlocks
+mod Holding
+mod Inodes
 mod Keys
 mod Rising
 mod Same
+mod Short
+mod ShortTrees
 mod SmallTrees

@@ -4,14 +4,12 @@ use Rattle.std.specs.List.{flat_map}
 use Rattle.indexmap.specs.IndexMap.{keys}
 use Rattle.outside.specs.History.{Image}
 use Rattle.btr_node.specs.Leaf.{Item}
-use Rattle.file_items.specs.Stream.{ahead, rest_ahead, tree_ahead, file_ahead}
+use Rattle.file_items.specs.Stream.{rest_ahead, file_ahead}
 use Rattle.file_items.specs.Tree.{Source, object_items}
 use Rattle.file_items.specs.declared.files.FileTree.{FileTree}
-use Rattle.file_items.specs.declared.items.Items.{Items}
 use Rattle.file_items.specs.declared.items.Rest.{Rest}
 use Rattle.file_items.specs.declared.items.Rest.TheVariants as rest
 use Rattle.reiser_names.specs.Links.{AreLinks, AreNamedKeys}
-use Rattle.reiser_objects.specs.declared.key.ObjectKey.{ObjectKey}
 use Rattle.reiser_objects.specs.Items.{stat_of_object}
 use Rattle.reiser_objects.specs.Table.{HasNoted}
 use Rattle.reiser_volume.specs.Laws.{IsSameVolume}

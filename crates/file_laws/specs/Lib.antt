@@ -1,4 +1,5 @@
+pub mod Entries
 pub mod Held
-pub mod Kept
+pub mod Inodes
 pub mod Keys
 pub mod Used

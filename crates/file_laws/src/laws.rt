@@ -1,6 +1,7 @@
-ghost use Rattle.file_laws.specs.Kept.{BytesAreKept, NamesAreKept, NamesKeepRules, RowsAreKept};
+ghost use Rattle.file_laws.specs.Entries.{EntriesAreThere};
 ghost use Rattle.file_laws.specs.Keys.{FileKeysAscend, ImageKeysAscend, ItemsAreShort};
 ghost use Rattle.file_laws.specs.Held.{FilesAreHeld};
+ghost use Rattle.file_laws.specs.Inodes.{InodesAreThere};
 ghost use Rattle.file_laws.specs.Used.{ItemsByUsedBlocks};
 
 /// What is still to come of a stream of the file tree depends on the volume's used blocks alone.
@@ -28,22 +29,12 @@ pub fn items_are_short()
     ensures { ItemsAreShort }
 {}
 
-/// The paths of the tree are those of the volume, and lead to the inodes of the same objects.
-pub fn names_are_kept()
-    ensures { NamesAreKept }
+/// Each named object has its inode in a tree that has the items of the file tree.
+pub fn inodes_are_there()
+    ensures { InodesAreThere }
 {}
 
-/// The names of the tree keep the rules of a Btrfs tree.
-pub fn names_keep_rules()
-    ensures { NamesKeepRules }
-{}
-
-/// A file or the target of a symlink has the bytes that it had.
-pub fn bytes_are_kept()
-    ensures { BytesAreKept }
-{}
-
-/// The rows of the tree are the rows of the volume.
-pub fn rows_are_kept()
-    ensures { RowsAreKept }
+/// The entries that are read of a tree with the items of the file tree are those of the volume's directories.
+pub fn entries_are_there()
+    ensures { EntriesAreThere }
 {}

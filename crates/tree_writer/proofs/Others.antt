@@ -1,5 +1,5 @@
 -- A tree on another disk that has the same blocks where its nodes lie.
-use Rattle.std.proofs.Common.{◌≡◌, ℕ, zero, suc, ◌+◌, ◌-◌, ◌*◌, ◌/◌, ◌^◌, ◌<◌, ◌≤◌, Bool, true, false, List, [], ◌∷◌, ◌++◌, if◌then◌else◌, length, take, drop, get_or, map, Some, None, Option, refl, sym, ◌∙◌, ap, subst, arith, length-drop}
+use Rattle.std.proofs.Common.{◌≡◌, ℕ, zero, suc, ◌+◌, ◌-◌, ◌/◌, ◌^◌, ◌<◌, Bool, true, false, List, [], ◌∷◌, ◌++◌, if◌then◌else◌, length, take, drop, get_or, map, Some, None, refl, sym, ◌∙◌, ap, subst, arith, length-drop}
 use Rattle.std.specs.List.{All, flat_map, sum}
 use Rattle.std.specs.List.Sorted.{IsPermutation}
 use Rattle.std.proofs.lemmas.List.{length-take, get_or-take, get_or-drop, get_or_default}
@@ -24,8 +24,7 @@ use Rattle.btr_walk.proofs.Subtrees.{to}
 use Rattle.btr_tree.specs.Building.{pointer_to}
 use Rattle.btr_tree.specs.Packing.{leaves, tree_levels}
 use Rattle.btr_tree.specs.Roots.{level_pointers, pointers_to, lengths_of}
-use Rattle.btr_tree.specs.Writing.{IsInSlots}
-use Rattle.tree_writer.specs.Trees.{TreeStands, TreesStandByNodes, root_pointer}
+use Rattle.tree_writer.specs.Trees.{TreesStandByNodes, root_pointer}
 
 all_first : {X : Type 0} (P : X → Type 0) (xs ys : List X) → All P (xs ++ ys) → All P xs
 all_first P [] ys all = All-nil P

@@ -1,5 +1,5 @@
 -- Items that are pushed one after the other.
-use Rattle.std.proofs.Common.{◌≡◌, ℕ, ◌+◌, ◌-◌, ◌*◌, ◌<◌, ◌≤◌, Bool, true, false, List, [], ◌∷◌, ◌++◌, length, take, map, Some, Result, Ok, Err, refl, sym, ap, subst, ◌∙◌, arith, append_assoc, length-append, ⊎_elim}
+use Rattle.std.proofs.Common.{◌≡◌, ℕ, ◌+◌, ◌*◌, ◌<◌, ◌≤◌, Bool, true, false, List, [], ◌∷◌, ◌++◌, length, take, Some, Result, Ok, Err, refl, sym, ap, subst, ◌∙◌, arith, append_assoc, ⊎_elim}
 use Rattle.std.specs.List.{All, concat, sum}
 use Rattle.std.specs.Ordering.{is_lt}
 use Rattle.std.specs.declared.cmp.Ordering.{Ordering}
@@ -19,7 +19,7 @@ use Rattle.btr_node.specs.Order.{is_before, ascends, Ascends}
 use Rattle.btr_node.proofs.Ascending.{second_ascends}
 use Rattle.btr_node.proofs.Rows.{both, joined}
 use Rattle.btr_tree.specs.Builder.{leaves_of}
-use Rattle.btr_tree.specs.Counting.{bytes_of, nodes_above, tree_nodes}
+use Rattle.btr_tree.specs.Counting.{bytes_of, tree_nodes}
 use Rattle.btr_tree.specs.Packing.{capacity, fan_out, weight, leaves, level_sizes}
 use Rattle.btr_tree.specs.Roots.{lengths_of}
 use Rattle.btr_tree.specs.Writing.{IsInSlots}

@@ -1,5 +1,5 @@
 -- A step of writing a tree: the next item comes, and is pushed.
-use Rattle.std.proofs.Common.{◌≡◌, ◌⊎◌, inl, inr, ⊎_elim, ℕ, ◌+◌, ◌-◌, ◌*◌, ◌<◌, ◌≤◌, List, [], ◌∷◌, ◌++◌, length, Some, Result, Ok, Err, refl, sym, ap, subst, ◌∙◌, arith, append_assoc}
+use Rattle.std.proofs.Common.{◌≡◌, inl, inr, ⊎_elim, ℕ, ◌+◌, ◌-◌, ◌*◌, ◌<◌, ◌≤◌, List, [], ◌∷◌, ◌++◌, length, Some, Result, Ok, Err, refl, sym, ap, subst, ◌∙◌, arith, append_assoc}
 use Rattle.std.specs.List.{All}
 use Rattle.std.specs.Result.{IsErrAnd, MatchResult}
 use Rattle.std.proofs.lemmas.List.{append-nil}
@@ -25,7 +25,7 @@ use Rattle.btr_walk.specs.Tree.{tree_items}
 use Rattle.btr_walk.specs.declared.tree.Form.{Form}
 use Rattle.tree_writer.specs.Answers.{of_source, IsFailure, IsSourceFailure, IsWriteAnswer}
 use Rattle.tree_writer.specs.Source.{LieApart, SameWhere}
-use Rattle.tree_writer.specs.Trees.{TreeStands, AreWritable}
+use Rattle.tree_writer.specs.Trees.{TreeStands}
 use Rattle.tree_writer.specs.declared.answer.WriteAnswer.{WriteAnswer}
 use Rattle.tree_writer.specs.declared.answer.WriteAnswer.TheVariants as answer
 

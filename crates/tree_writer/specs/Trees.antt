@@ -1,5 +1,5 @@
 -- A tree that stands on a volume: which items it has, and where its nodes lie.
-use Rattle.std.specs.Prelude.{◌≡◌, ℕ, ◌+◌, ◌≤◌, List, [], ◌∷◌, ◌++◌, length, take, All, Some}
+use Rattle.std.specs.Prelude.{◌≡◌, ℕ, ◌+◌, ◌≤◌, List, length, take, All, Some}
 use Rattle.std.specs.List.Sorted.{IsPermutation}
 use Rattle.outside.specs.History.{Image, block_at}
 use Rattle.btr_node.specs.Leaf.{Item, keys_of}

@@ -1,5 +1,5 @@
 -- What a writer of a tree holds.
-use Rattle.std.specs.Prelude.{◌≡◌, ◌⊎◌, ℕ, ◌+◌, ◌*◌, ◌-◌, ◌^◌, ◌≤◌, ◌<◌, false, List, [], ◌∷◌, ◌++◌, length, Option, Some, None, slice_get, All}
+use Rattle.std.specs.Prelude.{◌≡◌, ℕ, ◌+◌, ◌*◌, ◌^◌, ◌≤◌, ◌<◌, false, List, [], ◌∷◌, length, Option, Some, None, All}
 use Rattle.outside.specs.History.{Image}
 use Rattle.btr_keys.specs.Key.{IsBefore}
 use Rattle.btr_keys.specs.declared.key.Key.{Key}

@@ -110,14 +110,7 @@ fn written<D: Disk>(
     ensures size { D.size disk.new ≡ D.size disk.old }
 {
     let slots = slots_in_a_row(alloc, count)?;
-    write_tree(
-        alloc,
-        disk,
-        OWNER,
-        FORM,
-        slots,
-        &mut ListItems::new(list),
-    )
+    write_tree(alloc, disk, OWNER, FORM, slots, &mut ListItems::new(list))
 }
 
 #[test]

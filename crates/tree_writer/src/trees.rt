@@ -70,7 +70,7 @@ impl Trees {
         ensures taken { IfOk result (λ root. self.new.taken ≡ self.old.taken + root.nodes) }
         ensures tree { OverTold D.tells (D.blocks disk.old) (λ image. I.fits items.old image → LieApart (I.needs items.old) self.old.form.nodesize self.old.slots → (all : List ItemOf) → I.ahead items.old image ≡ all → AreWritable self.old.form.nodesize (drop self.old.taken self.old.slots) all
             → MatchResult result (λ root. TreeStands (reads (D.history disk.new)) (form_of self.old.form) owner (drop self.old.taken self.old.slots) all root
-                × (self.new.nodes ≡ self.old.nodes ++ nodes_of_tree owner self.old.form.nodesize (lengths_of all) (drop self.old.taken self.old.slots))) IsFailure) }
+            × (self.new.nodes ≡ self.old.nodes ++ nodes_of_tree owner self.old.form.nodesize (lengths_of all) (drop self.old.taken self.old.slots))) IsFailure) }
         ensures open { D.opened disk.new ≡ D.opened disk.old }
         ensures size { D.size disk.new ≡ D.size disk.old }
         ensures borrow { D.borrow disk.new ≡ D.borrow disk.old }
@@ -93,7 +93,7 @@ impl Trees {
         ensures same { (self.new.form ≡ self.old.form) × (self.new.slots ≡ self.old.slots) }
         ensures taken { (lengths : List ℕ) → Counted counter.now lengths
             → OnOk result ((self.new.taken ≡ self.old.taken + tree_nodes self.old.form.nodesize lengths)
-                × (self.new.nodes ≡ self.old.nodes ++ nodes_of_tree owner self.old.form.nodesize lengths (drop self.old.taken self.old.slots))) }
+            × (self.new.nodes ≡ self.old.nodes ++ nodes_of_tree owner self.old.form.nodesize lengths (drop self.old.taken self.old.slots))) }
         ensures misfit { (lengths : List ℕ) → Counted counter.now lengths → self.old.taken + tree_nodes self.old.form.nodesize lengths ≤ length self.old.slots → IfErr result (λ e. e ≡ WriteAnswer.Memory) }
     {
         let count = counter.finish() as usize;

@@ -1,0 +1,5 @@
+pub mod Adding
+pub mod Coming
+pub mod Placing
+pub mod Sums
+pub mod Tallying

@@ -1,1 +1,5 @@
+pub mod Adding
+pub mod Roots
+pub mod Sources
 pub mod Standing
+pub mod Staying

@@ -2,9 +2,13 @@
 //! metadata. Only the slots of nodes are written.
 #![tactic(auto)]
 
+mod first;
+mod last;
+mod roots;
 mod sources;
 mod trees;
 mod write;
+mod writing;
 
 pub use trees::VolumeTrees;
 pub use write::write_trees;

@@ -1,41 +1,44 @@
-use crate::sources::{ExtentItems, FileItems, SumItems};
-use crate::trees::VolumeTrees;
-use btr_tree::{Counter, Root};
-use file_items::Items;
-use item_list::ItemList;
-use outside::{Disk, Memory};
-use reiser_objects::ROOT;
-use reiser_volume::Volume;
-use space_items::{
-    NodeList, RootList, TreeRoot, add_nodes, checksums, chunks, devices, extents, merged, own_nodes, roots, with_own,
+ghost use Rattle.std.specs.Prelude.{◌≡◌, ◌≤◌, ◌<◌, ◌+◌, ◌*◌, ◌^◌, ◌⊎◌, [], List, Some, All, AllPairs, drop, length, take, IsTrue, IfOk, IfErr, OnOk};
+ghost use Rattle.std.specs.Result.{MatchResult};
+ghost use Rattle.outside.specs.Fault.{HasCauseOf};
+ghost use Rattle.outside.specs.History.{Image, reads, OverTold, WritesOnly};
+ghost use Rattle.btr_node.specs.NodeSize.{IsNodeSize};
+ghost use Rattle.btr_tree.specs.Writing.{IsInSlots};
+ghost use Rattle.conversion.specs.Making.{IsMaking, Making as MakingOf};
+ghost use Rattle.space_items.specs.Stream.{ArePieces};
+ghost use Rattle.space_items.specs.declared.node.TreeNode.{TreeNode as NodeOf};
+ghost use Rattle.tree_writer.specs.Answers.{IsFailure};
+ghost use Rattle.tree_writer.specs.Row.{IsRow};
+ghost use Rattle.unit_plan.specs.Chunks.{FitsVolume};
+ghost use Rattle.unit_plan.specs.Laws.{IsSoundPlan};
+ghost use Rattle.unit_plan.specs.Places.{node_places};
+ghost use Rattle.unit_plan.specs.declared.need.Need.{Need as NeedOf};
+ghost use Rattle.volume_trees.specs.Sources.{end_of};
+ghost use Rattle.volume_trees.specs.Standing.{AllFit, HasTrees, IsFor, SameVolume, used_bytes};
+
+use crate::first::{
+    write_chunks, write_devices, write_files, write_image, write_relocation, write_sums,
 };
+use crate::last::{WrittenExtents, write_extents};
+use crate::roots::{FirstRoots, counted, root_list, saved_index};
+use crate::trees::VolumeTrees;
+use crate::writing::Writing;
+use btr_tree::{Root, Slots};
+use outside::{Access, Disk, Memory};
+use reiser_volume::Volume;
+use space_items::NodeList;
 use std::alloc::Global;
 use tree_writer::{ListItems, NodeForm, Trees, WriteAnswer, write_tree};
-use unit_plan::{Options, PieceList, Plan, slots_of};
+use unit_plan::{Options, PieceList, Plan, Units, slots_of};
 use vol_block::Ids;
 
-/// The numbers of trees.
 const ROOT_TREE: u64 = 1;
-const EXTENT_TREE: u64 = 2;
-const CHUNK_TREE: u64 = 3;
-const DEVICE_TREE: u64 = 4;
-const FILE_TREE: u64 = 5;
-const SUM_TREE: u64 = 7;
-const IMAGE_TREE: u64 = 256;
-const RELOCATION_TREE: u64 = u64::MAX - 8;
 
-/// What the trees are made from.
-struct Writing<'a, P: PieceList> {
-    alloc: Global,
-    volume: &'a Volume,
-    pieces: &'a P,
-    plan: &'a Plan,
-    options: &'a Options,
-    form: NodeForm,
-    now: u64,
-}
-
-/// Writes all trees of a converted volume.
+/// Writes all trees of a converted volume: the chunk tree to the plan's units for it, and all others to those for metadata.
+/// `ids` are those of the new volume, and `now` is the time of the conversion in seconds since the start of 1970, below 2^63.
+///
+/// Over a disk that tells its blocks, which has the used blocks of the volume as they were when it was opened, the trees
+/// stand, or there is a fault or want of memory. At any answer only blocks of these units may have been written.
 pub fn write_trees<D: Disk, P: PieceList>(
     alloc: Global,
     disk: &mut D,
@@ -45,6 +48,166 @@ pub fn write_trees<D: Disk, P: PieceList>(
     options: &Options,
     ids: &Ids,
     now: u64,
+) -> Result<VolumeTrees, WriteAnswer>
+    requires size { IsNodeSize options.now.nodesize }
+    requires small { volume.now.sup.blocks ≤ 2 ^ 29 }
+    requires inside { volume.now.sup.blocks ≤ D.size disk.old }
+    requires units { FitsVolume plan.now volume.now.sup.blocks }
+    requires sound { (need : NeedOf) × IsSoundPlan volume.now.bitmap need plan.now }
+    requires whole { length volume.now.bitmap ≡ volume.now.sup.blocks }
+    requires pieces { ArePieces (P.pieces pieces.now) }
+    requires places { end_of (P.pieces pieces.now) ≤ D.size disk.old }
+    requires moment { now < 2 ^ 63 }
+    requires open { D.opened disk.old ≡ Some Access.Write }
+    ensures trees { OverTold D.tells (D.blocks disk.old) (λ other. (image : Image) (m : MakingOf) → IsMaking image m → IsFor m volume.now options.now ids.now now plan.now (P.pieces pieces.now)
+        → SameVolume image other → AllFit image other m
+        → MatchResult result (λ t. (nodes : List NodeOf) × HasTrees image other (reads (D.history disk.new)) m t nodes × (t.used ≡ used_bytes m nodes)) IsFailure) }
+    ensures open { D.opened disk.new ≡ D.opened disk.old }
+    ensures size { D.size disk.new ≡ D.size disk.old }
+    ensures borrow { D.borrow disk.new ≡ D.borrow disk.old }
+    ensures only { IsTrue D.tells → WritesOnly (λ b _. IsInSlots options.now.nodesize (node_places options.now.nodesize plan.now.system) b
+        ⊎ IsInSlots options.now.nodesize (node_places options.now.nodesize plan.now.metadata) b) (D.history disk.old) (D.history disk.new) }
+    ensures cause { HasCauseOf WriteAnswer.Fault (D.faults disk.old) (D.faults disk.new) result }
+{
+    let form = NodeForm {
+        ids: *ids,
+        nodesize: options.nodesize,
+        sums: options.sums,
+    };
+    let w = Writing {
+        alloc,
+        volume,
+        pieces,
+        plan,
+        options,
+        form,
+        time: now,
+    };
+    let mut chunk_row = row_of(&w, &plan.system)?;
+    let chunk = write_chunks(&mut chunk_row, disk, &w)?;
+    let mut row = row_of(&w, &plan.metadata)?;
+    let first = write_first(&mut row, disk, &w)?;
+    write_last(&mut row, disk, &w, chunk, first, chunk_row.nodes())
+}
+
+/// The slots of units, none taken.
+fn row_of<P: PieceList>(w: &Writing<'_, P>, units: &Units) -> Result<Trees, WriteAnswer>
+    requires size { IsNodeSize w.now.form.nodesize }
+    requires small { w.now.volume.now.sup.blocks ≤ 2 ^ 29 }
+    requires ascending { AllPairs (λ u v. u < v) units.now }
+    requires within { All (λ u. 256 * u + 256 ≤ w.now.volume.now.sup.blocks) units.now }
+    ensures row { IfOk result IsRow }
+    ensures fields { IfOk result (λ row. (row.form ≡ w.now.form) × (row.slots ≡ node_places w.now.form.nodesize units.now) × (row.taken ≡ 0) × (row.nodes ≡ [])) }
+    ensures in_range { IfOk result (λ row. All (λ a. a + w.now.form.nodesize ≤ 4096 * w.now.volume.now.sup.blocks) row.slots) }
+    ensures answers { IfErr result (λ e. e ≡ WriteAnswer.Memory) }
+{
+    let slots = slots_of(w.alloc, units, w.form.nodesize)?;
+    Ok(Trees::new(w.alloc, w.form, slots))
+}
+
+/// Writes the trees whose items are known before any other is written, one behind the other.
+fn write_first<D: Disk, P: PieceList>(
+    row: &mut Trees,
+    disk: &mut D,
+    w: &Writing<'_, P>,
+) -> Result<FirstRoots, WriteAnswer>
+    requires row { IsRow row.old }
+    requires open { D.opened disk.old ≡ Some Access.Write }
+    requires in_range { All (λ a. a + row.old.form.nodesize ≤ 4096 * D.size disk.old) row.old.slots }
+    requires moment { w.now.time < 2 ^ 63 }
+    requires small { w.now.volume.now.sup.blocks ≤ 2 ^ 29 }
+    requires units { FitsVolume w.now.plan.now w.now.volume.now.sup.blocks }
+    requires pieces { ArePieces (P.pieces w.now.pieces.now) }
+    requires places { end_of (P.pieces w.now.pieces.now) ≤ D.size disk.old }
+    ensures row { OnOk result (IsRow row.new) }
+    ensures same { (row.new.form ≡ row.old.form) × (row.new.slots ≡ row.old.slots) }
+    ensures taken { IfOk result (λ r. row.new.taken ≡ row.old.taken + r.files.nodes + r.image.nodes + r.relocation.nodes + r.sums.nodes + r.device.nodes) }
+    ensures open { D.opened disk.new ≡ D.opened disk.old }
+    ensures size { D.size disk.new ≡ D.size disk.old }
+    ensures borrow { D.borrow disk.new ≡ D.borrow disk.old }
+    ensures only { IsTrue D.tells → WritesOnly (λ b _. IsInSlots row.old.form.nodesize (drop row.old.taken row.old.slots) b) (D.history disk.old) (D.history disk.new) }
+    ensures cause { HasCauseOf WriteAnswer.Fault (D.faults disk.old) (D.faults disk.new) result }
+{
+    let files = write_files(row, disk, w)?;
+    let image = write_image(row, disk, w)?;
+    let relocation = write_relocation(row, disk, w)?;
+    let sums = write_sums(row, disk, w)?;
+    let device = write_devices(row, disk, w)?;
+    Ok(FirstRoots {
+        files,
+        image,
+        relocation,
+        sums,
+        device,
+    })
+}
+
+/// Keeps slots for the root tree, writes the extent tree behind them, and then the root tree.
+fn write_last<D: Disk, P: PieceList>(
+    row: &mut Trees,
+    disk: &mut D,
+    w: &Writing<'_, P>,
+    chunk: Root,
+    first: FirstRoots,
+    chunk_nodes: &NodeList,
 ) -> Result<VolumeTrees, WriteAnswer> {
-    // see crates/convert_core/src/trees.rt of this branch for the order and for what each step does
+    let index = saved_index(w.volume);
+    let slots = keep_roots(row, w, first, index)?;
+    let written = write_extents(row, disk, w, chunk_nodes)?;
+    let list = root_list(w, first, written.root, index)?;
+    let tree = write_tree(
+        w.alloc,
+        disk,
+        ROOT_TREE,
+        w.form,
+        slots,
+        &mut ListItems::new(&list),
+    )?;
+    Ok(all_trees(chunk, first, written, tree.root))
+}
+
+/// Takes slots for the nodes of the root tree, and gives them. It has as many nodes whatever the roots in its items are.
+fn keep_roots<P: PieceList>(
+    row: &mut Trees,
+    w: &Writing<'_, P>,
+    first: FirstRoots,
+    index: u64,
+) -> Result<Slots, WriteAnswer> {
+    let none = Root {
+        address: 0,
+        level: 0,
+        nodes: 0,
+    };
+    let list = root_list(w, first, none, index)?;
+    let from = row.taken();
+    row.take(&counted(&list, w.form.nodesize), ROOT_TREE)?;
+    let rest = row.slots_from(w.alloc, from)?;
+    Ok(first_slots(w.alloc, &rest, row.taken() - from)?)
+}
+
+/// The first slots of a list, so many.
+fn first_slots(alloc: Global, slots: &Slots, count: usize) -> Result<Slots, Memory>
+    requires { count ≤ length slots.now }
+    ensures { IfOk result (λ first. first ≡ take count slots.now) }
+{
+    let mut first = Slots::new(alloc);
+    for &slot in &slots.as_slice()[..count] {
+        first.add(slot)?;
+    }
+    Ok(first)
+}
+
+/// All trees that were written.
+fn all_trees(chunk: Root, first: FirstRoots, extents: WrittenExtents, root: Root) -> VolumeTrees {
+    VolumeTrees {
+        chunk,
+        files: first.files,
+        image: first.image,
+        relocation: first.relocation,
+        sums: first.sums,
+        device: first.device,
+        root,
+        extents: extents.root,
+        used: extents.used,
+    }
 }

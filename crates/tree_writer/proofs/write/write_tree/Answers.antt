@@ -1,4 +1,4 @@
-use Rattle.std.proofs.Common.{◌≡◌, ◌≤◌, ◌++◌, ◌∷◌, [], ℕ, List, Err, refl, sym, ◌∙◌, ap, subst}
+use Rattle.std.proofs.Common.{◌≡◌, ◌*◌, ◌++◌, ◌∷◌, [], List, Err, length, refl, sym, ◌∙◌, ap, subst}
 use Rattle.std.specs.Prelude.{IsTrue}
 use Rattle.outside.specs.History.{History, Image, reads, WritesOnly}
 use Rattle.outside.proofs.Crash.{writes_none, writes_then}
@@ -58,7 +58,7 @@ pub push-requires-clause-stands : goal.push-requires-clause-stands
 push-requires-clause-stands g c = λ tells. (
   c.loop-writer.invariant.items,
   subst (λ (h : History). StandsOn c.loop-writer.writer (reads h) c.loop-writer.invariant.items) (sym (g.met.D.Disk.kept_history c.loop-writer.disk c.advance.new.src tells c.advance.ensures.kept))
-  (c.loop-writer.invariant.stands tells),
+      (c.loop-writer.invariant.stands tells),
 )
 
 pub push-requires-clause-open : goal.push-requires-clause-open
@@ -72,7 +72,7 @@ push-requires-clause-in_range g c =
 pub loop-writer-smaller : goal.loop-writer-smaller
 loop-writer-smaller g c =
     let now = c.in_ok-push.ensures.writes _ _ _ _ c.loop-writer.invariant.writes in
-    falls _ _ _ _ c.in_ok-push.ensures.more now.counted.total now.room
+    falls (capacity c.args.form.nodesize * length c.args.slots) _ _ _ c.in_ok-push.ensures.more now.counted.total now.room
 
 pub loop-writer-preserved : goal.loop-writer-preserved
 loop-writer-preserved g c =
@@ -152,7 +152,7 @@ pub finish-requires-clause-stands : goal.finish-requires-clause-stands
 finish-requires-clause-stands g c = λ tells. (
   c.loop-writer.invariant.items,
   subst (λ (h : History). StandsOn c.loop-writer.writer (reads h) c.loop-writer.invariant.items) (sym (g.met.D.Disk.kept_history c.loop-writer.disk c.advance.new.src tells c.advance.ensures.kept))
-  (c.loop-writer.invariant.stands tells),
+      (c.loop-writer.invariant.stands tells),
 )
 
 pub finish-requires-clause-open : goal.finish-requires-clause-open

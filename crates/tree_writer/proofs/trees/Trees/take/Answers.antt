@@ -1,4 +1,4 @@
-use Rattle.std.proofs.Common.{◌≡◌, ◌≤◌, ◌+◌, ◌-◌, ℕ, List, length, drop, take, map, sym, subst, ap, ◌∙◌, arith}
+use Rattle.std.proofs.Common.{◌+◌, ℕ, List, take, map, sym, subst, ap, ◌∙◌, arith}
 use Rattle.btr_node.specs.NodeSize.{IsNodeSize}
 use Rattle.space_items.specs.declared.node.TreeNode.{TreeNode}
 use Rattle.tree_writer.proofs.Rows.{has_slots, taken_more}

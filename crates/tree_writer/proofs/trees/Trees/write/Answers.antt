@@ -1,4 +1,4 @@
-use Rattle.std.proofs.Common.{◌≡◌, ◌≤◌, ◌+◌, ℕ, List, length, drop, sym, subst, ap, ◌∙◌, arith, length-drop}
+use Rattle.std.proofs.Common.{ℕ, List, sym, subst}
 use Rattle.outside.specs.History.{reads, WritesOnly}
 use Rattle.btr_tree.specs.Roots.{lengths_of}
 use Rattle.btr_tree.specs.Writing.{IsInSlots}

@@ -1,4 +1,4 @@
-use Rattle.std.proofs.Common.{◌≡◌, ◌≤◌, ℕ, List, length, sym, ◌∙◌, ap, subst}
+use Rattle.std.proofs.Common.{◌≤◌, ℕ, List, length, sym, ◌∙◌, subst}
 use Rattle.btr_tree.specs.Building.{taken}
 use Rattle.tree_writer.proofs.Pushing.{only_all}
 use Rattle.tree_writer.proofs.Steps.{stands_by}

@@ -1,8 +1,8 @@
-use Rattle.std.proofs.Common.{◌≡◌, ◌≤◌, ◌<◌, ℕ, ◌+◌, ◌++◌, ◌∷◌, [], List, Bool, true, false, Err, Option, length, refl, sym, ◌∙◌, ap, subst}
+use Rattle.std.proofs.Common.{◌≤◌, ◌<◌, ℕ, ◌+◌, ◌++◌, ◌∷◌, [], List, Err, Option, length, sym, ◌∙◌, ap, subst}
 use Rattle.std.proofs.lemmas.List.{map-append}
 use Rattle.std.specs.List.{flat_map}
 use Rattle.btr_keys.specs.declared.key.Key.{Key}
-use Rattle.btr_node.specs.Leaf.{Item, items_in, keys_of}
+use Rattle.btr_node.specs.Leaf.{Item, items_in}
 use Rattle.btr_node.specs.NodeSize.{IsNodeSize}
 use Rattle.btr_tree.specs.Building.{taken}
 use Rattle.btr_tree.specs.Builder.{leaves_of}
@@ -10,7 +10,7 @@ use Rattle.btr_tree.specs.Counting.{Counted}
 use Rattle.btr_tree.specs.Roots.{lengths_of}
 use Rattle.btr_tree.specs.declared.answer.TreeAnswer.{TreeAnswer}
 use Rattle.btr_walk.specs.declared.tree.Form.{Form}
-use Rattle.tree_writer.specs.Writer.{Writes, IsAbove, last_key}
+use Rattle.tree_writer.specs.Writer.{IsAbove, last_key}
 use Rattle.tree_writer.proofs.Pushing.{last_pushed, held_order, must_follow, must_be_short, too_few, bytes_fit, only_all, not_both, false_then, misfit_back, short_pushed}
 use Rattle.tree_writer.proofs.writer.TreeWriter.push.Goals as goal
 
