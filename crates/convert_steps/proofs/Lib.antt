@@ -3,3 +3,4 @@ pub mod Labels
 pub mod Moving
 pub mod NewSuper
 pub mod Phases
+mod Placed

@@ -1,5 +1,5 @@
 -- The pieces that do not lie where they lay.
-use Rattle.std.specs.Prelude.{◌≡◌, ◌≢◌, ℕ, ◌+◌, ◌^◌, ◌<◌, ◌≤◌, List, false, length, All, AllPairs, Any, Contains, Some, None}
+use Rattle.std.specs.Prelude.{◌≡◌, ◌≢◌, ℕ, ◌+◌, ◌^◌, ◌<◌, ◌≤◌, List, Option, false, length, slice_get, All, AllPairs, Any, Contains, Some, None}
 use Rattle.indexmap.specs.IndexMap.{keys}
 use Rattle.outside.specs.History.{Image, block_at}
 use Rattle.reiser_bitmap.specs.Bits.{has}
@@ -23,6 +23,10 @@ pub record IsMovedTo (b : ℕ) (p : Piece) : Type 0 where
 abbrev pub IsPlace : List Piece → ℕ → Type 0
 IsPlace pieces b = Any (IsMovedTo b) pieces
 
+-- the block of a file with direct items that a piece is for
+abbrev pub HasOwner : List ObjectKey → Piece → Type 0
+HasOwner keys p = p.from ≡ None → (key : ObjectKey) × (k : ℕ) × Contains keys key × (p.owner ≡ Some (inode_of keys key, k)) × (k < 2 ^ 52)
+
 -- The pieces of an accepted volume that was opened can be written. Those that move have one block each, to a place of its own
 -- that the volume has and does not use; what they hold are used blocks, or blocks of files with direct items.
 pub record CanMove (volume : Volume) (image : Image) (pieces : List Piece) : Type 0 where
@@ -33,11 +37,25 @@ pub record CanMove (volume : Volume) (image : Image) (pieces : List Piece) : Typ
   pub unused : (b : ℕ) → IsPlace pieces b → has (used_of image) b ≡ false
   pub apart : AllPairs (λ p q. p.from ≢ Some p.place → q.from ≢ Some q.place → p.place ≢ q.place) pieces
   pub sources : (p : Piece) (b j : ℕ) → Contains pieces p → p.from ≡ Some b → j < p.count → has (used_of image) (b + j) ≡ true
-  pub owners : (p : Piece) → Contains pieces p → p.from ≡ None
-      → (key : ObjectKey) × (k : ℕ) × Contains (keys volume.named) key × (p.owner ≡ Some (inode_of (keys volume.named) key, k)) × (k < 2 ^ 52)
+  pub owners : (p : Piece) → Contains pieces p → HasOwner (keys volume.named) p
 
--- Each piece holds what it is to hold: blocks of the old volume, or the bytes of direct items with zeros behind them.
-pub record HoldMoved (volume : Volume) (image other : Image) (pieces : List Piece) : Type 0 where
-  pub blocks : (p : Piece) (b j : ℕ) → Contains pieces p → p.from ≡ Some b → j < p.count → block_at other (p.place + j) ≡ block_at image (b + j)
-  pub tails : (p : Piece) (key : ObjectKey) (k : ℕ) → Contains pieces p → p.from ≡ None → Contains (keys volume.named) key
+-- what one piece holds: blocks of the old volume, or the bytes of direct items with zeros behind them
+pub record HoldsPiece (volume : Volume) (image other : Image) (p : Piece) : Type 0 where
+  pub blocks : (b j : ℕ) → p.from ≡ Some b → j < p.count → block_at other (p.place + j) ≡ block_at image (b + j)
+  pub tail : (key : ObjectKey) (k : ℕ) → p.from ≡ None → Contains (keys volume.named) key
       → p.owner ≡ Some (inode_of (keys volume.named) key, k) → block_at other p.place ≡ tail_block (items_of key (volume_items image)) (stat_at (volume_items image) key).fields.size k
+
+-- each piece holds what it is to hold
+abbrev pub HoldMoved : Volume → Image → Image → List Piece → Type 0
+HoldMoved volume image other pieces = (p : Piece) → Contains pieces p → HoldsPiece volume image other p
+
+-- A piece can be written to a device of this many blocks.
+pub record CanWrite (volume : Volume) (size : ℕ) (p : Piece) : Type 0 where
+  pub single : p.from ≢ Some p.place → p.count ≡ 1
+  pub inside : p.from ≢ Some p.place → p.place < size
+  pub source : (b : ℕ) → p.from ≡ Some b → p.from ≢ Some p.place → b < size
+  pub owner : HasOwner (keys volume.named) p
+
+-- the key is found at this place
+abbrev pub HasPlace : List ObjectKey → ObjectKey → Option ℕ → Type 0
+HasPlace keys key place = (i : ℕ) × (place ≡ Some i) × (slice_get keys i ≡ Some key)

@@ -1,5 +1,5 @@
 // The pieces that do not stay where they lie.
-ghost use Rattle.std.specs.Prelude.{◌≡◌, ◌<◌, ◌^◌, ℕ, length, slice_get, slice_set, Some, IsTrue, IfSome, IfErr};
+ghost use Rattle.std.specs.Prelude.{◌≡◌, ◌<◌, ◌^◌, ℕ, length, Contains, slice_get, slice_set, Some, IsTrue, IfSome, IfErr};
 ghost use Rattle.std.specs.Result.{MatchResult};
 ghost use Rattle.indexmap.specs.IndexMap.{keys};
 ghost use Rattle.object_files.specs.Answers.{IsFault, IsReadAnswer};
@@ -12,7 +12,7 @@ ghost use Rattle.reiser_objects.specs.declared.key.ObjectKey.{ObjectKey as KeyOf
 ghost use Rattle.reiser_volume.specs.Made.{stat_at};
 ghost use Rattle.reiser_volume.specs.Opened.{IsOpened};
 ghost use Rattle.reiser_volume.specs.Volume.{IsAccepted, volume_items};
-ghost use Rattle.convert_steps.specs.Moved.{CanMove, HoldMoved, IsMovedTo, IsPlace};
+ghost use Rattle.convert_steps.specs.Moved.{CanMove, CanWrite, HasPlace, HoldMoved, HoldsPiece, IsMovedTo, IsPlace};
 
 use outside::{Access, BlockSource, Disk, Rule, VolAnswer, VolumeRefusal};
 use reiser_volume::{Numbers, Volume};
@@ -50,6 +50,8 @@ fn write_piece<D: Disk>(disk: &mut D, volume: &Volume, piece: &Piece) -> Result<
     ensures size { D.size disk.new ≡ D.size disk.old }
     ensures borrow { D.borrow disk.new ≡ D.borrow disk.old }
     ensures only { IsTrue D.tells → WritesOnly (λ b _. IsMovedTo b piece.now) (D.history disk.old) (D.history disk.new) }
+    ensures written { OverTold D.tells (reads (D.history disk.old)) (λ image. IsAccepted image → IsOpened volume.now image → CanWrite volume.now (D.size disk.old) piece.now →
+        MatchResult result (λ _. HoldsPiece volume.now image (reads (D.history disk.new)) piece.now) IsFault) }
     ensures cause { HasCauseOf VolAnswer.Fault (D.faults disk.old) (D.faults disk.new) result }
     ensures answers { IfErr result IsReadAnswer }
 {
@@ -112,6 +114,8 @@ fn write_tail<D: Disk>(
     ensures size { D.size disk.new ≡ D.size disk.old }
     ensures borrow { D.borrow disk.new ≡ D.borrow disk.old }
     ensures only { IsTrue D.tells → WritesOnly (λ b _. b ≡ place) (D.history disk.old) (D.history disk.new) }
+    ensures written { OverTold D.tells (reads (D.history disk.old)) (λ image. IsAccepted image → IsOpened volume.now image → place < D.size disk.old → at < 2 ^ 52 → (key : KeyOf) → Contains (keys volume.now.named) key → inode ≡ inode_of (keys volume.now.named) key →
+        MatchResult result (λ _. reads (D.history disk.new) ≡ slice_set image place (tail_block (items_of key (volume_items image)) (stat_at (volume_items image) key).fields.size at)) IsFault) }
     ensures cause { HasCauseOf VolAnswer.Fault (D.faults disk.old) (D.faults disk.new) result }
     ensures answers { IfErr result IsReadAnswer }
 {
@@ -129,6 +133,7 @@ fn write_tail<D: Disk>(
 /// The place of the object that has an inode number, where there is one.
 fn place_of(volume: &Volume, inode: u64) -> Option<usize>
     ensures within { IfSome result (λ i. i < length (keys volume.now.named)) }
+    ensures named { (image : Image) → IsAccepted image → IsOpened volume.now image → (key : KeyOf) → Contains (keys volume.now.named) key → inode ≡ inode_of (keys volume.now.named) key → HasPlace (keys volume.now.named) key result }
 {
     let n = inode.checked_sub(256)? as usize;
     if n >= volume.count() {

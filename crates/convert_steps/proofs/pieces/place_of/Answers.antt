@@ -1,0 +1,24 @@
+use Rattle.std.proofs.Common.{◌≡◌, ◌<◌, ◌≤◌, ◌-◌, ℕ, length, refl, sym, ap, ◌∙◌, arith, rules}
+use Rattle.std.specs.Prelude.{slice_get, Some}
+use Rattle.indexmap.specs.IndexMap.{keys}
+use Rattle.reiser_names.specs.Names.{inode_of}
+use Rattle.convert_steps.proofs.Placed.{named_number}
+use Rattle.convert_steps.proofs.pieces.place_of.Goals as goal
+
+pub returns-then-n-count-clause-named : goal.returns-then-n-count-clause-named
+returns-then-n-count-clause-named c = λ image accepted opened key among is.
+    let number = named_number c.args.volume.now image key accepted opened among in
+    let same : c.in_ok-n.n ≡ c.args.inode - 256 = c.in_ok-n.ensures.1 in
+    absurd (omega (arith, same, is, number.few, c.if-n-count.true, c.count.ensures.exact))
+
+pub returns-clause-named : goal.returns-clause-named
+returns-clause-named c = λ image accepted opened key among is.
+    let number = named_number c.args.volume.now image key accepted opened among in
+    let same : c.in_ok-n.n ≡ c.args.inode - 256 = c.in_ok-n.ensures.1 in
+    let n_is : c.in_ok-n.n ≡ inode_of (keys c.args.volume.now.named) key - 256 = same ∙ ap (λ (m : ℕ). m - 256) is in
+    (
+      c.place.result,
+      refl,
+      c.place.ensures.place (keys c.args.volume.now.named) (c.new.ensures.numbered image opened) (omega (arith, n_is, number.few))
+      ∙ (ap (slice_get _) n_is ∙ number.there),
+    )
