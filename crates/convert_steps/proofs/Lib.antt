@@ -1,4 +1,5 @@
 pub mod Booting
+pub mod Holding
 pub mod Labels
 pub mod Moving
 pub mod NewSuper

@@ -8,7 +8,8 @@ use Rattle.outside.specs.History.{Image, History, block_at, reads, WritesOnly}
 use Rattle.outside.specs.declared.answer.VolAnswer.{VolAnswer}
 use Rattle.outside.proofs.Crash.{writes_weaker, writes_then}
 use Rattle.unit_plan.specs.declared.piece.Piece.{Piece}
-use Rattle.convert_steps.specs.Moved.{IsMovedTo, IsPlace}
+use Rattle.reiser_objects.specs.declared.key.ObjectKey.{ObjectKey}
+use Rattle.convert_steps.specs.Moved.{HasPlace, IsMovedTo, IsPlace}
 
 -- a block that was read, written to its place
 pub copied : {T : Type 0} (result : Result T VolAnswer) (old mid new : Image) (place from : ℕ) (bytes : List ℕ) → mid ≡ old → bytes ≡ block_at old from
@@ -41,3 +42,16 @@ tail_moves p is eq = subst is_none (sym is ∙ eq) tt
 
 pub copy_moves : (p : Piece) (b : ℕ) → p.from ≡ Some b → b ≢ p.place → p.from ≢ Some p.place
 copy_moves p b is other eq = other (ap number (sym is ∙ eq))
+
+-- the place that was found is that of the key
+pub at_place : (ks : List ObjectKey) (key : ObjectKey) (result : Option ℕ) (i : ℕ) → result ≡ Some i → HasPlace ks key result → slice_get ks i ≡ Some key
+at_place ks key result i is has =
+    let both : Some has.0 ≡ Some i = sym has.1 ∙ is in
+    let same : has.0 ≡ i = cc in
+    subst (λ (n : ℕ). slice_get ks n ≡ Some key) same has.2
+
+-- bytes that were made, written to their place
+pub made_block : {T : Type 0} (result : Result T VolAnswer) (old mid new : Image) (place : ℕ) (bytes tail : List ℕ) → mid ≡ old → bytes ≡ tail
+    → MatchResult result (λ _. new ≡ set mid place bytes) IsFault → MatchResult result (λ _. new ≡ set old place tail) IsFault
+made_block (Ok x) old mid new place bytes tail same is wrote = wrote ∙ (ap (λ (image : Image). set image place bytes) same ∙ ap (λ (l : List ℕ). set old place l) is)
+made_block (Err e) old mid new place bytes tail same is wrote = wrote

@@ -2,6 +2,7 @@ use Rattle.std.proofs.Common.{◌≡◌, ◌<◌, ◌≤◌, ◌-◌, ℕ, lengt
 use Rattle.std.specs.Prelude.{slice_get, Some}
 use Rattle.indexmap.specs.IndexMap.{keys}
 use Rattle.reiser_names.specs.Names.{inode_of}
+use Rattle.reiser_volume.specs.Numbers.{by_inode}
 use Rattle.convert_steps.proofs.Placed.{named_number}
 use Rattle.convert_steps.proofs.pieces.place_of.Goals as goal
 
@@ -20,5 +21,5 @@ returns-clause-named c = λ image accepted opened key among is.
       c.place.result,
       refl,
       c.place.ensures.place (keys c.args.volume.now.named) (c.new.ensures.numbered image opened) (omega (arith, n_is, number.few))
-      ∙ (ap (slice_get _) n_is ∙ number.there),
+      ∙ (ap (slice_get (by_inode (keys c.args.volume.now.named))) n_is ∙ number.there),
     )
