@@ -5,3 +5,4 @@ pub mod Moving
 pub mod NewSuper
 pub mod Phases
 mod Placed
+pub mod Turning
