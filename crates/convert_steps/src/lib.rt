@@ -4,6 +4,7 @@
 mod fields;
 mod form;
 mod pieces;
+mod prepared;
 mod switch;
 #[cfg(test)]
 mod tests;
@@ -11,4 +12,5 @@ mod tests;
 pub use fields::{NewRoots, superblock};
 pub use form::{ids_of, label_of};
 pub use pieces::write_moved;
+pub use prepared::{Prepared, prepare};
 pub use switch::switch_to;

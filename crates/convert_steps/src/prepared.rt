@@ -1,15 +1,17 @@
-ghost use Rattle.std.specs.Prelude.{◌≡◌, ◌≤◌, IfOk, IfErr};
+// What is decided before the first write.
+ghost use Rattle.std.specs.Prelude.{◌≡◌, IfErr};
 ghost use Rattle.std.specs.Result.{MatchResult};
 ghost use Rattle.outside.specs.Fault.{HasCauseOf};
 ghost use Rattle.outside.specs.History.{OverTold};
 ghost use Rattle.btr_node.specs.NodeSize.{IsNodeSize};
+ghost use Rattle.convert_steps.specs.Prepared.{IsPrepared, IsPrepareAnswer, RefusesConversion, by_plan, by_volume};
 
 use crate::form::{ids_of, label_of};
 use extent_pieces::Pieces;
 use outside::{Answer, BlockSource, VolAnswer};
 use reiser_volume::Volume;
 use std::alloc::Global;
-use unit_plan::{Counts, Need, Options, Plan, PlanAnswer, choose, needed};
+use unit_plan::{Need, Options, Plan, PlanAnswer, choose, needed};
 use vol_block::Ids;
 
 /// All that is known before the first write.
@@ -70,7 +72,9 @@ pub fn prepare<S: BlockSource>(
 }
 
 /// The answer where a volume is not opened.
-fn volume_answer(answer: VolAnswer) -> Answer {
+fn volume_answer(answer: VolAnswer) -> Answer
+    ensures { result ≡ by_volume answer }
+{
     match answer {
         VolAnswer::Refused(refusal) => Answer::Volume(refusal),
         VolAnswer::Fault => Answer::Fault,
@@ -79,7 +83,9 @@ fn volume_answer(answer: VolAnswer) -> Answer {
 }
 
 /// The answer where there is no plan.
-fn plan_answer(answer: PlanAnswer) -> Answer {
+fn plan_answer(answer: PlanAnswer) -> Answer
+    ensures { result ≡ by_plan answer }
+{
     match answer {
         PlanAnswer::NoSpace {
             needed,
