@@ -1,5 +1,5 @@
 -- What a piece holds once it was written.
-use Rattle.std.proofs.Common.{◌≡◌, ◌≢◌, ◌<◌, ℕ, ◌+◌, ◌^◌, List, [], length, set, Option, Some, None, Result, Ok, Err, refl, sym, ap, subst, ◌∙◌, get_or-set_same, get_or-set_other, arith}
+use Rattle.std.proofs.Common.{◌≡◌, ◌<◌, ℕ, ◌+◌, ◌^◌, [], length, set, Option, Some, None, Result, Ok, Err, sym, ap, ◌∙◌, get_or-set_same, arith}
 use Rattle.std.specs.Prelude.{Contains}
 use Rattle.std.specs.Result.{MatchResult}
 use Rattle.indexmap.specs.IndexMap.{keys}
@@ -15,7 +15,6 @@ use Rattle.reiser_volume.specs.Volume.{volume_items}
 use Rattle.reiser_volume.specs.declared.volume.Volume.{Volume}
 use Rattle.unit_plan.specs.declared.piece.Piece.{Piece}
 use Rattle.convert_steps.specs.Moved.{HasOwner, HoldsPiece}
-use Rattle.convert_steps.proofs.Moving.{copy_moves}
 
 some_same : (a b : ℕ) → (let o : Option ℕ = Some a in o) ≡ Some b → a ≡ b
 some_same a b is = cc
@@ -30,9 +29,6 @@ inode_in (Some o) = o.0
 abbrev block_in : Option (ℕ × ℕ) → ℕ
 block_in None = 0
 block_in (Some o) = o.1
-
-owned_never : (o : ℕ × ℕ) → (let n : Option (ℕ × ℕ) = None in n) ≡ Some o → ⊥
-owned_never o is = absurd (cc)
 
 module _ (volume : Volume) (image new : Image) (p : Piece) where
   -- a block that was copied
@@ -52,7 +48,7 @@ module _ (volume : Volume) (image new : Image) (p : Piece) where
   -- a tail that was written
   pub tail_holds : {T : Type 0} (result : Result T VolAnswer) (inode at : ℕ) → p.from ≡ None → p.owner ≡ Some (inode, at) → p.place < length image → HasOwner (keys volume.named) p
       → (at < 2 ^ 52 → (key : ObjectKey) → Contains (keys volume.named) key → inode ≡ inode_of (keys volume.named) key
-        → MatchResult result (λ _. new ≡ set image p.place (tail_block (items_of key (volume_items image)) (stat_at (volume_items image) key).fields.size at)) IsFault)
+      → MatchResult result (λ _. new ≡ set image p.place (tail_block (items_of key (volume_items image)) (stat_at (volume_items image) key).fields.size at)) IsFault)
       → MatchResult result (λ _. HoldsPiece volume image new p) IsFault
   tail_holds (Ok x) inode at none own inside owned each = record {
     blocks = λ b j is few. absurd (some_never b (sym none ∙ is));
@@ -68,17 +64,3 @@ module _ (volume : Volume) (image new : Image) (p : Piece) where
       let has = owned none in
       let known : at ≡ has.1 = ap block_in (sym own ∙ has.3) in
       each (omega (arith, known, has.4)) has.0 has.2 (ap inode_in (sym own ∙ has.3))
-
-  -- a tail has an owner
-  pub no_owner : p.from ≡ None → p.owner ≡ None → HasOwner (keys volume.named) p → ⊥
-  no_owner none own owned = owned_never _ (sym own ∙ (owned none).3)
-
-  -- a piece that stays
-  pub stay_holds : (from : ℕ) → p.from ≡ Some from → from ≡ p.place → new ≡ image → HoldsPiece volume image new p
-  stay_holds from at stays is = record {
-    blocks = λ b j from_is few.
-        let same = some_same from b (sym at ∙ from_is) in
-        let here : p.place + j ≡ b + j = omega (arith, same, stays) in
-        ap (λ (i : Image). block_at i (p.place + j)) is ∙ ap (block_at image) here;
-    tail = λ key k none among owner. absurd (some_never from (sym none ∙ at));
-  }

@@ -1,12 +1,12 @@
 -- What moving one piece does.
-use Rattle.std.proofs.Common.{◌≡◌, ◌≢◌, ℕ, ◌+◌, ◌<◌, List, [], ◌∷◌, length, set, get_or, Option, Some, None, Result, Ok, Err, refl, sym, ◌∙◌, ap, subst, arith}
-use Rattle.std.specs.Prelude.{Any, slice_get}
+use Rattle.std.proofs.Common.{◌≡◌, ◌≢◌, ℕ, List, set, get_or, Option, Some, None, Result, Ok, Err, sym, ◌∙◌, ap, subst}
+use Rattle.std.specs.Prelude.{slice_get}
 use Rattle.std.specs.Result.{MatchResult}
 use Rattle.std.proofs.lemmas.Option.{slice_get_within, get_or_from_slice_get}
 use Rattle.object_files.specs.Answers.{IsFault}
-use Rattle.outside.specs.History.{Image, History, block_at, reads, WritesOnly}
+use Rattle.outside.specs.History.{Image, History, block_at, WritesOnly}
 use Rattle.outside.specs.declared.answer.VolAnswer.{VolAnswer}
-use Rattle.outside.proofs.Crash.{writes_weaker, writes_then}
+use Rattle.outside.proofs.Crash.{writes_weaker}
 use Rattle.unit_plan.specs.declared.piece.Piece.{Piece}
 use Rattle.reiser_objects.specs.declared.key.ObjectKey.{ObjectKey}
 use Rattle.convert_steps.specs.Moved.{HasPlace, IsMovedTo, IsPlace}

@@ -1,5 +1,5 @@
 -- What is decided before the first write.
-use Rattle.std.proofs.Common.{◌≡◌, ℕ, Bool, List, Result, Ok, Err, sym, ap, subst, ◌∙◌, arith}
+use Rattle.std.proofs.Common.{◌≡◌, ℕ, Bool, List, Result, Err, sym, ap, subst, ◌∙◌, arith}
 use Rattle.indexmap.specs.IndexMap.{keys}
 use Rattle.object_files.specs.Answers.{IsFaultOrMemory}
 use Rattle.outside.specs.Fault.{HasCauseOf}

@@ -1,5 +1,5 @@
 -- Pieces that are written one after the other hold what they are to hold.
-use Rattle.std.proofs.Common.{◌≡◌, ◌≢◌, ◌<◌, ◌≤◌, ◌⊎◌, ℕ, suc, ◌+◌, Bool, true, false, List, [], length, get_or, Option, Some, None, refl, sym, ap, subst, ◌∙◌, true≢false, ⊎_elim, inl, inr, arith}
+use Rattle.std.proofs.Common.{◌≡◌, ◌≢◌, ◌<◌, ◌≤◌, ◌⊎◌, ℕ, ◌+◌, Bool, true, false, List, length, get_or, Option, Some, refl, sym, ap, subst, ◌∙◌, true≢false, ⊎_elim, inl, inr, arith}
 use Rattle.std.specs.Prelude.{Contains, slice_get}
 use Rattle.std.proofs.lemmas.Bool.{cases_lt}
 use Rattle.std.proofs.lemmas.List.{get_or_past}
@@ -18,7 +18,7 @@ use Rattle.reiser_objects.specs.Table.{HasNoted}
 use Rattle.reiser_volume.specs.Laws.{IsSameVolume}
 use Rattle.reiser_volume.specs.Made.{stat_at}
 use Rattle.reiser_volume.specs.Opened.{IsOpened, links_in}
-use Rattle.reiser_volume.specs.Volume.{superblock, used_of, volume_items}
+use Rattle.reiser_volume.specs.Volume.{used_of, volume_items}
 use Rattle.reiser_volume.specs.declared.volume.Volume.{Volume}
 use Rattle.reiser_volume.proofs.Holding.{used_length}
 use Rattle.reiser_volume.proofs.Unchanged.{same_volume}
@@ -108,13 +108,13 @@ module _ (volume : Volume) (image : Image) (pieces : List Piece) (can : CanMove 
   other_block j i q p k before there at b from few moves =
       ⊎_elim
       (λ (stays : b ≡ q.place).
-          let used : has (used_of image) (q.place + k) ≡ true = subst (λ (n : ℕ). has (used_of image) (n + k) ≡ true) stays (can.sources q b k (among j q there) from few) in
-          let unused : has (used_of image) (q.place + k) ≡ false = subst (λ (n : ℕ). has (used_of image) n ≡ false) moves.place (can.unused p.place (place_at i p at moves.moved)) in
-          true≢false (sym used ∙ unused))
+      let used : has (used_of image) (q.place + k) ≡ true = subst (λ (n : ℕ). has (used_of image) (n + k) ≡ true) stays (can.sources q b k (among j q there) from few) in
+      let unused : has (used_of image) (q.place + k) ≡ false = subst (λ (n : ℕ). has (used_of image) n ≡ false) moves.place (can.unused p.place (place_at i p at moves.moved)) in
+      true≢false (sym used ∙ unused))
       (λ (moved : b ≢ q.place).
-          let goes = copy_moves q b from moved in
-          let one = single_at j q there goes in
-          apart_at j i q p before there at goes moves.moved (omega (arith, few, one, moves.place)))
+      let goes = copy_moves q b from moved in
+      let one = single_at j q there goes in
+      apart_at j i q p before there at goes moves.moved (omega (arith, few, one, moves.place)))
       (equal_or b q.place)
 
   module _ (i : ℕ) (p : Piece) (at : slice_get pieces i ≡ Some p) (cur new : Image) (kept : IsKept pieces image cur) (only : (b : ℕ) → (IsMovedTo b p → ⊥) → block_at new b ≡ block_at cur b) where
@@ -139,10 +139,10 @@ module _ (volume : Volume) (image : Image) (pieces : List Piece) (can : CanMove 
     held_more holds held j q less there =
         ⊎_elim (λ (before : j < i). earlier j q before there (held j q before there))
         (λ (least : i ≤ j).
-            let same : i ≡ j = omega (arith, least, less) in
-            let both : Some p ≡ Some q = sym at ∙ (ap (slice_get pieces) same ∙ there) in
-            let is : p ≡ q = cc in
-            subst (λ (x : Piece). HoldsPiece volume image new x) is (latest holds))
+        let same : i ≡ j = omega (arith, least, less) in
+        let both : Some p ≡ Some q = sym at ∙ (ap (slice_get pieces) same ∙ there) in
+        let is : p ≡ q = cc in
+        subst (λ (x : Piece). HoldsPiece volume image new x) is (latest holds))
         (cases_lt j i)
 
   pub held_all : (n : ℕ) (cur : Image) → length pieces ≤ n → Held volume image cur pieces n → HoldMoved volume image cur pieces

@@ -1,5 +1,5 @@
 -- The pieces that do not lie where they lay.
-use Rattle.std.specs.Prelude.{◌≡◌, ◌≢◌, ℕ, ◌+◌, ◌^◌, ◌<◌, ◌≤◌, List, Option, false, length, slice_get, All, AllPairs, Any, Contains, Some, None}
+use Rattle.std.specs.Prelude.{◌≡◌, ◌≢◌, ℕ, ◌+◌, ◌^◌, ◌<◌, List, Option, false, length, slice_get, All, AllPairs, Any, Contains, Some, None}
 use Rattle.indexmap.specs.IndexMap.{keys}
 use Rattle.outside.specs.History.{Image, block_at}
 use Rattle.reiser_bitmap.specs.Bits.{has}

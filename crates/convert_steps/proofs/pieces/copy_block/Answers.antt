@@ -1,4 +1,4 @@
-use Rattle.std.proofs.Common.{◌≡◌, ◌<◌, ℕ, ◌∙◌, ap, sym, arith}
+use Rattle.std.proofs.Common.{◌≡◌, ◌<◌, ◌∙◌, ap, arith}
 use Rattle.outside.specs.History.{Image, block_at, reads}
 use Rattle.convert_steps.proofs.Moving.{copied}
 use Rattle.convert_steps.proofs.pieces.copy_block.Goals as goal

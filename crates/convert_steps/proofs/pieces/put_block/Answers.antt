@@ -1,4 +1,4 @@
-use Rattle.std.proofs.Common.{◌≡◌, ℕ, refl}
+use Rattle.std.proofs.Common.{◌≡◌, refl}
 use Rattle.outside.proofs.Crash.{write_only}
 use Rattle.convert_steps.proofs.pieces.put_block.Goals as goal
 

@@ -1,7 +1,7 @@
-use Rattle.std.proofs.Common.{◌≡◌, ◌≤◌, ℕ, length, refl, sym, ap, subst, ◌∙◌, arith}
+use Rattle.std.proofs.Common.{◌≡◌, length, refl, sym, ap, subst, ◌∙◌, arith}
 use Rattle.std.proofs.lemmas.Result.{err_from_is_err_and}
 use Rattle.object_files.specs.Answers.{IsFault}
-use Rattle.outside.specs.History.{Image, reads}
+use Rattle.outside.specs.History.{reads}
 use Rattle.outside.proofs.Phases.{reads_outside}
 use Rattle.outside.proofs.Crash.{writes_then}
 use Rattle.convert_steps.specs.Moved.{IsMovedTo, IsPlace}

@@ -1,5 +1,4 @@
-use Rattle.std.proofs.Common.{◌≡◌, sym, ap, subst, ◌∙◌, arith}
-use Rattle.outside.specs.History.{Image}
+use Rattle.std.proofs.Common.{sym, ap, subst, ◌∙◌}
 use Rattle.conversion.specs.Making.{ids_by, label_by, label_field}
 use Rattle.reiser_super.specs.declared.superblock.Super.{Super}
 use Rattle.unit_plan.specs.Needed.{need}
