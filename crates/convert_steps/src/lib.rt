@@ -1,4 +1,5 @@
-//! The steps of a conversion: the identifiers and the label, the superblock, and the switch to it.
+//! The steps of a conversion: what is decided before the first write, the pieces that move, the identifiers and the label, the superblock,
+//! and the switch to it.
 #![tactic(auto)]
 
 mod fields;
