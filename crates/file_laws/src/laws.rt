@@ -1,3 +1,4 @@
+ghost use Rattle.file_laws.specs.Kept.{BytesAreKept, NamesAreKept, NamesKeepRules, RowsAreKept};
 ghost use Rattle.file_laws.specs.Entries.{EntriesAreThere};
 ghost use Rattle.file_laws.specs.Keys.{FileKeysAscend, ImageKeysAscend, ItemsAreShort};
 ghost use Rattle.file_laws.specs.Held.{FilesAreHeld};
@@ -37,4 +38,24 @@ pub fn inodes_are_there()
 /// The entries that are read of a tree with the items of the file tree are those of the volume's directories.
 pub fn entries_are_there()
     ensures { EntriesAreThere }
+{}
+
+/// The paths of the tree are those of the volume, and lead to the inodes of the same objects.
+pub fn names_are_kept()
+    ensures { NamesAreKept }
+{}
+
+/// The names of the tree keep the rules of a Btrfs tree.
+pub fn names_keep_rules()
+    ensures { NamesKeepRules }
+{}
+
+/// A file or the target of a symlink has the bytes that it had.
+pub fn bytes_are_kept()
+    ensures { BytesAreKept }
+{}
+
+/// The rows of the tree are the rows of the volume.
+pub fn rows_are_kept()
+    ensures { RowsAreKept }
 {}

@@ -8,6 +8,7 @@
 mod laws;
 
 pub use laws::{
-    entries_are_there, file_keys_ascend, files_are_held, image_keys_ascend, inodes_are_there,
-    items_are_short, items_by_used_blocks,
+    bytes_are_kept, entries_are_there, file_keys_ascend, files_are_held, image_keys_ascend,
+    inodes_are_there, items_are_short, items_by_used_blocks, names_are_kept, names_keep_rules,
+    rows_are_kept,
 };
