@@ -97,6 +97,15 @@ class Leaves:
         self.items, self.left = [], ROOM
 
 
+def add_directory(leaves, key, parent, links, names):
+    """Adds the items of a directory with these names."""
+    items = list(directory_items(key, parent, names))
+    size = sum(len(item[4]) for item in items)
+    leaves.add(key, STAT, 0, 0xFFFF, stat(0o40755, links, size, (size + 511) // 512))
+    for item in items:
+        leaves.add(*item)
+
+
 def inner_levels(nodes, write, numbers):
     """The nodes above the leaves: at most 170 children each, none with one alone. Answers the root and its level."""
     level = 1
@@ -158,18 +167,11 @@ def main():
 
         leaves = Leaves(write, numbers)
 
-        def add_directory(key, parent, links, names):
-            items = list(directory_items(key, parent, names))
-            size = sum(len(item[4]) for item in items)
-            leaves.add(key, STAT, 0, 0xFFFF, stat(0o40755, links, size, (size + 511) // 512))
-            for item in items:
-                leaves.add(*item)
-
         root = (1, 2)
-        add_directory(root, (0, 1), directories + 2, [((2, 3 + d), b"d%04d" % d) for d in range(directories)])
+        add_directory(leaves, root, (0, 1), directories + 2, [((2, 3 + d), b"d%04d" % d) for d in range(directories)])
         for d in range(directories):
             names = [((3 + d, first_file + d * FILES + f), b"file%05d.dat" % (d * FILES + f)) for f in range(FILES)]
-            add_directory((2, 3 + d), root, 2, names)
+            add_directory(leaves, (2, 3 + d), root, 2, names)
         total = 0
         for d in range(directories):
             (folder / ("d%04d" % d)).mkdir(parents=True, exist_ok=True)

@@ -17,8 +17,8 @@ from files_volume import (  # noqa: E402
     JOURNAL_SIZE,
     STAT,
     Leaves,
+    add_directory,
     blocks_from,
-    directory_items,
     inner_levels,
     stat,
     write_system,
@@ -28,14 +28,6 @@ ROOT, FOLDER = (1, 2), (2, 3)
 FIRST_FILE = 4
 # Behind the used blocks there is room for the trees of a conversion.
 FREE = 32768
-
-
-def add_directory(leaves, key, parent, links, names):
-    items = list(directory_items(key, parent, names))
-    size = sum(len(item[4]) for item in items)
-    leaves.add(key, STAT, 0, 0xFFFF, stat(0o40755, links, size, (size + 511) // 512))
-    for item in items:
-        leaves.add(*item)
 
 
 def links(leaves, _write, _numbers):
