@@ -128,10 +128,9 @@ def inner_levels(nodes, write, numbers):
     return nodes[0][0], level
 
 
-def write_system(write, end, root, height, first_free, blocks=None):
-    """The bitmap and the superblock of a volume of so many blocks, by default `end`, whose used blocks are those below `end`
-    and the bitmap blocks."""
-    blocks = blocks or end
+def write_system(write, end, root, height, first_free, blocks):
+    """The bitmap and the superblock of a volume of so many blocks, whose used blocks are those below `end` and the bitmap
+    blocks."""
     bitmaps = (blocks - 1) // 32768 + 1
     for bitmap in range(bitmaps):
         first = bitmap * 32768
@@ -153,6 +152,27 @@ def write_system(write, end, root, height, first_free, blocks=None):
     write(16, block)
 
 
+def writer_of(out):
+    """What writes a block of a volume into a file, by its number."""
+
+    def write(number, block):
+        out.seek(number * BLOCK)
+        out.write(block)
+
+    return write
+
+
+def end_volume(out, leaves, first_free, spare=0):
+    """Writes the last leaf, the nodes above the leaves and the system blocks, with so many free blocks behind. Answers the
+    number of blocks before these."""
+    leaves.flush()
+    root, level = inner_levels(leaves.nodes, leaves.write, leaves.numbers)
+    end = next(leaves.numbers)
+    write_system(leaves.write, end, root, level + 1, first_free, end + spare)
+    out.truncate((end + spare) * BLOCK)
+    return end
+
+
 def main():
     directories, folder, path = int(sys.argv[1]), Path(sys.argv[2]), sys.argv[3]
     draw = random.Random(7)
@@ -160,13 +180,8 @@ def main():
     first_file = 3 + directories
     numbers = blocks_from(JOURNAL_FIRST + JOURNAL_SIZE + 1)
     with open(path, "wb") as out:
-
-        def write(number, block):
-            out.seek(number * BLOCK)
-            out.write(block)
-
+        write = writer_of(out)
         leaves = Leaves(write, numbers)
-
         root = (1, 2)
         add_directory(leaves, root, (0, 1), directories + 2, [((2, 3 + d), b"d%04d" % d) for d in range(directories)])
         for d in range(directories):
@@ -192,11 +207,7 @@ def main():
                     leaves.add(key, INDIRECT, 1, 0, struct.pack("<%dI" % whole, *places))
                 if size > whole * BLOCK:
                     leaves.add(key, DIRECT, whole * BLOCK + 1, 0xFFFF, body[whole * BLOCK :])
-        leaves.flush()
-        root_block, level = inner_levels(leaves.nodes, write, numbers)
-        end = next(numbers)
-        write_system(write, end, root_block, level + 1, first_file + directories * FILES)
-        out.truncate(end * BLOCK)
+        end = end_volume(out, leaves, first_file + directories * FILES)
     print("blocks", end, "leaves", len(leaves.nodes), "files", directories * FILES, "bytes", total)
 
 

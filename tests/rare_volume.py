@@ -19,9 +19,9 @@ from files_volume import (  # noqa: E402
     Leaves,
     add_directory,
     blocks_from,
-    inner_levels,
+    end_volume,
     stat,
-    write_system,
+    writer_of,
 )
 
 ROOT, FOLDER = (1, 2), (2, 3)
@@ -30,7 +30,7 @@ FIRST_FILE = 4
 FREE = 32768
 
 
-def links(leaves, _write, _numbers):
+def links(leaves):
     """One object, named 65,536 times."""
     target = (FOLDER[1], FIRST_FILE)
     add_directory(leaves, FOLDER, ROOT, 2, [(target, b"name%05d" % i) for i in range(65536)])
@@ -38,7 +38,7 @@ def links(leaves, _write, _numbers):
     return 1
 
 
-def names(leaves, _write, _numbers):
+def names(leaves):
     """100,000 objects in one directory."""
     targets = [(FOLDER[1], FIRST_FILE + i) for i in range(100000)]
     add_directory(leaves, FOLDER, ROOT, 2, [(target, b"file%06d" % i) for i, target in enumerate(targets)])
@@ -47,12 +47,12 @@ def names(leaves, _write, _numbers):
     return len(targets)
 
 
-def sparse(leaves, write, numbers):
+def sparse(leaves):
     """One pointer, to the last of 2^32 blocks."""
     target = (FOLDER[1], FIRST_FILE)
     add_directory(leaves, FOLDER, ROOT, 2, [(target, b"sparse")])
-    place = next(numbers)
-    write(place, b"\x5a" * BLOCK)
+    place = next(leaves.numbers)
+    leaves.write(place, b"\x5a" * BLOCK)
     leaves.add(target, STAT, 0, 0xFFFF, stat(0o100644, 1, 1 << 44, 8))
     leaves.add(target, INDIRECT, (1 << 44) - BLOCK + 1, 0, struct.pack("<I", place))
     return 1
@@ -62,19 +62,10 @@ def main():
     kind, path = sys.argv[1:]
     numbers = blocks_from(JOURNAL_FIRST + JOURNAL_SIZE + 1)
     with open(path, "wb") as out:
-
-        def write(number, block):
-            out.seek(number * BLOCK)
-            out.write(block)
-
-        leaves = Leaves(write, numbers)
+        leaves = Leaves(writer_of(out), numbers)
         add_directory(leaves, ROOT, (0, 1), 3, [(FOLDER, b"folder")])
-        count = {"links": links, "names": names, "sparse": sparse}[kind](leaves, write, numbers)
-        leaves.flush()
-        root_block, level = inner_levels(leaves.nodes, write, numbers)
-        end = next(numbers)
-        write_system(write, end, root_block, level + 1, FIRST_FILE + count, end + FREE)
-        out.truncate((end + FREE) * BLOCK)
+        count = {"links": links, "names": names, "sparse": sparse}[kind](leaves)
+        end_volume(out, leaves, FIRST_FILE + count, FREE)
 
 
 main()
