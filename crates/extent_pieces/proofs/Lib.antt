@@ -5,6 +5,7 @@ pub mod Covering
 pub mod Dividing
 pub mod Ending
 pub mod Filtering
+pub mod Fitting
 pub mod Gathering
 pub mod Joining
 pub mod Lists

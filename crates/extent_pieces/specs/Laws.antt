@@ -20,7 +20,7 @@ use Rattle.extent_pieces.specs.declared.tail.Tail.{Tail}
 use Rattle.extent_pieces.specs.Files.{owner}
 use Rattle.extent_pieces.specs.Found.{IsFound, counts_of, files_of}
 use Rattle.extent_pieces.specs.Pieces.{Owners, advanced, is_joined, kept_pieces, pieces}
-use Rattle.extent_pieces.specs.Placed.{ArePlaced, FitsPlan}
+use Rattle.extent_pieces.specs.Placed.{ArePlaced, FitsPlan, IsCounted}
 
 -- ---- kept pieces, whatever the owners are
 
@@ -103,6 +103,12 @@ pub record HasPlan (image : Image) (found : Pieces) (o : Options) (plan : Plan) 
 -- its data units have room for copies and tails
 abbrev pub PlansHaveRoom : Type 0
 PlansHaveRoom = (image : Image) (found : Pieces) (o : Options) (plan : Plan) → HasPlan image found o plan → FitsPlan found plan.data_
+
+-- so have those of a plan for what was counted, whatever the source gave
+abbrev pub CountedPiecesFit : Type 0
+CountedPiecesFit =
+    (used : List Bool) (found : Pieces) (o : Options) (plan : Plan) → IsCounted used found → AreSmall found.counts → HasEnoughSpace used (need found.counts o)
+    → IsPlan used (need found.counts o) plan → FitsPlan found plan.data_
 
 -- a piece that does not lie where it lay has one block, in a data unit
 abbrev pub LiesInUnit : List ℕ → Piece → Type 0

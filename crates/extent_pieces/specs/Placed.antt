@@ -1,5 +1,5 @@
 -- Where the pieces lie on the converted volume.
-use Rattle.std.specs.Prelude.{◌≤◌, ◌<◌, ℕ, ◌+◌, ◌-◌, ◌*◌, ◌^◌, List, [], ◌∷◌, ◌++◌, length, take, drop, All}
+use Rattle.std.specs.Prelude.{◌≡◌, ◌≤◌, ◌<◌, ℕ, ◌+◌, ◌-◌, ◌*◌, ◌^◌, Bool, List, [], ◌∷◌, ◌++◌, length, take, drop, All}
 use Rattle.std.specs.List.{flat_map, range_with_len}
 use Rattle.std.specs.List.Sorted.{IsNonDecreasingBy, IsPermutation}
 use Rattle.unit_plan.specs.declared.piece.Piece.{Piece}
@@ -27,6 +27,12 @@ pub record FitsPlan (found : Pieces) (units : List ℕ) : Type 0 where
   pub kept : found.kept ≤ length found.items.items
   pub room : length found.items.items - found.kept ≤ 256 * length units
   pub small : All (λ u. u < 2 ^ 50) units
+
+-- What was counted is of a volume with these used blocks, and the pieces behind the kept ones are no more than the copies and tails.
+pub record IsCounted (used : List Bool) (found : Pieces) : Type 0 where
+  pub blocks : found.counts.blocks ≡ length used
+  pub kept : found.kept ≤ length found.items.items
+  pub others : length found.items.items - found.kept ≤ found.counts.copies + found.counts.tails
 
 -- Kept pieces lie where they lay. The others lie, in their order, in the blocks of the units. The list ascends by place.
 pub record ArePlaced (kept : ℕ) (units : List ℕ) (old new : List Piece) : Type 0 where

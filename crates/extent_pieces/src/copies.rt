@@ -1,5 +1,5 @@
 // The used blocks that are copied.
-ghost use Rattle.std.specs.Prelude.{◌≡◌, ◌≤◌, ◌++◌, not, OnOk};
+ghost use Rattle.std.specs.Prelude.{◌≡◌, ◌≤◌, ◌++◌, not, length, OnOk};
 ghost use Rattle.vol_block.specs.Volume.{is_reserved};
 ghost use Rattle.reiser_bitmap.specs.Next.{end_of_run};
 ghost use Rattle.extent_pieces.specs.Owned.{TellOwners};
@@ -20,7 +20,8 @@ const THIRD: BlockNo = 67_108_864;
 
 /// Appends a piece for each used block that is reserved, ascending. It has no place yet.
 pub fn add_copies(items: &mut Vec<Piece>, map: &Bitmap, owned: &[OwnedRun]) -> Result<(), Memory>
-    ensures { (owner : Owners) → TellOwners owned.now owner → OnOk result (items.new.items ≡ items.old.items ++ copied_pieces map.now owner) }
+    ensures copied { (owner : Owners) → TellOwners owned.now owner → OnOk result (items.new.items ≡ items.old.items ++ copied_pieces map.now owner) }
+    ensures grows { OnOk result (length items.old.items ≤ length items.new.items) }
 {
     let blocks = map.len();
     let mut b = next_reserved(0, blocks);

@@ -13,6 +13,7 @@ ghost use Rattle.unit_plan.specs.Needed.{AreSmall};
 ghost use Rattle.extent_pieces.specs.Found.{IsFound};
 ghost use Rattle.extent_pieces.specs.Parts.{AreParts};
 ghost use Rattle.extent_pieces.specs.Pieces.{tail_piece};
+ghost use Rattle.extent_pieces.specs.Placed.{IsCounted};
 
 use crate::Pieces;
 use crate::copies::add_copies;
@@ -45,6 +46,7 @@ impl Pieces {
         ensures cause { HasCauseOf VolAnswer.Fault (S.faults src.old) (S.faults src.new) result }
         ensures answers { IfErr result IsFileAnswer }
         ensures small { IfOk result (λ found. AreSmall found.counts) }
+        ensures counted { IfOk result (IsCounted volume.now.bitmap) }
         ensures found { OverTold S.tells (S.blocks src.old) (λ image. IsAccepted image → IsOpened volume.now image →
             MatchResult result (IsFound options.now.inline image (keys volume.now.named) (links_in volume.now)) IsFaultOrMemory) }
     {
@@ -59,8 +61,9 @@ impl Pieces {
 
 /// The pieces of a volume whose files have these parts.
 fn divide(alloc: Global, volume: &Volume, parts: &FileParts) -> Result<Pieces, Memory>
-    ensures { (inline : Bool) (image : Image) → IsAccepted image → IsOpened volume.now image → AreParts inline (volume_items image) (keys volume.now.named) parts.now →
+    ensures found { (inline : Bool) (image : Image) → IsAccepted image → IsOpened volume.now image → AreParts inline (volume_items image) (keys volume.now.named) parts.now →
         IfOk result (IsFound inline image (keys volume.now.named) (links_in volume.now)) }
+    ensures counted { IfOk result (IsCounted volume.now.bitmap) }
 {
     let room = count_kept(volume.bitmap(), &parts.owned)
         .saturating_add(MOST_COPIES)

@@ -1,5 +1,5 @@
 // Laws of the definitions, each the contract of a function that does nothing.
-ghost use Rattle.extent_pieces.specs.Laws.{CountsAreSmall, KeptPiecesAreMaximal, OwnersAreNamed, PiecesCoverUsed, PlacesAreApart, PlansHaveRoom};
+ghost use Rattle.extent_pieces.specs.Laws.{CountedPiecesFit, CountsAreSmall, KeptPiecesAreMaximal, OwnersAreNamed, PiecesCoverUsed, PlacesAreApart, PlansHaveRoom};
 
 /// Kept pieces are used blocks without reserved ones that cross no multiple of 32768 and that have no owner, or lie in one
 /// file one after the other. Each is as long as may be, and each such block is in exactly one.
@@ -32,4 +32,9 @@ pub fn plans_have_room()
 /// units.
 pub fn places_are_apart()
     ensures { PlacesAreApart }
+{}
+
+/// The data units of a plan for what was counted have room for the pieces that are not kept, whatever the source gave.
+pub fn counted_pieces_fit()
+    ensures { CountedPiecesFit }
 {}

@@ -18,8 +18,8 @@ mod run;
 mod tail;
 
 pub use laws::{
-    counts_are_small, kept_pieces_are_maximal, owners_are_named, pieces_cover_used,
-    places_are_apart, plans_have_room,
+    counted_pieces_fit, counts_are_small, kept_pieces_are_maximal, owners_are_named,
+    pieces_cover_used, places_are_apart, plans_have_room,
 };
 pub use pieces::Pieces;
 

@@ -1,4 +1,4 @@
-use Rattle.std.proofs.Common.{◌≡◌, ◌+◌, ◌∙◌, ◌++◌, ◌∷◌, [], true, not, List, arith, ap, sym, subst, ℕ, Option}
+use Rattle.std.proofs.Common.{◌≡◌, ◌≤◌, length, length-append, ◌+◌, ◌∙◌, ◌++◌, ◌∷◌, [], true, not, List, arith, ap, sym, subst, ℕ, Option}
 use Rattle.vol_block.specs.Volume.{is_reserved}
 use Rattle.unit_plan.specs.declared.piece.Piece.{Piece}
 use Rattle.extent_pieces.proofs.Copying.{Copies, copies_start, copies_one, copies_none, copies_all, piece_at}
@@ -6,6 +6,9 @@ use Rattle.extent_pieces.proofs.Dividing.{stops}
 use Rattle.extent_pieces.proofs.Ending.{end_of}
 use Rattle.extent_pieces.proofs.copies.add_copies.Goals as goal
 use Rattle.extent_pieces.proofs.copies.add_copies.Goals.{then-is_used+in_ok-push, else-is_used}
+
+grown : (old items : List Piece) (p : Piece) → length old ≤ length items → length old ≤ length (items ++ p ∷ [])
+grown old items p less = omega (arith, less, length-append items (p ∷ []))
 
 pub loop-b-init : goal.loop-b-init
 loop-b-init c =
@@ -15,6 +18,7 @@ loop-b-init c =
       inside = omega (arith, facts.high, c.len-blocks.ensures);
       reserved = λ h. subst (λ (m : ℕ). is_reserved c.next_reserved-b.result m ≡ true) c.len-blocks.ensures (stops (is_reserved c.next_reserved-b.result n) (facts.stop (omega (arith, h, c.len-blocks.ensures))));
       copied = λ owner tells. copies_start c.args.map.now owner c.args.items.now.items n c.next_reserved-b.result c.len-blocks.ensures facts;
+      grows = omega arith;
     }
 
 pub loop-b-smaller : goal.loop-b-smaller
@@ -44,8 +48,17 @@ loop-b-preserved c =
                 (sym (ap (λ v. v.items) w.items-is))
                 (copies_none used owner c.args.items.now.items c.loop-b.items.items n b c.next_reserved-b-in-loop-b.result c.len-blocks.ensures (c.loop-b.invariant.copied owner tells) (sym c.is_used.ensures ∙ w.if-is_used.false) facts)
           ];
+      grows =
+          elim c.if-is_used.branch [
+            | then-is_used+in_ok-push w ↦
+                subst (λ (xs : List Piece). length c.args.items.now.items ≤ length xs)
+                (sym (ap (λ v. v.items) w.items-is ∙ w.in_ok-push.ensures.items))
+                (grown c.args.items.now.items c.loop-b.items.items _ c.loop-b.invariant.grows)
+            | else-is_used w ↦
+                subst (λ (xs : List Piece). length c.args.items.now.items ≤ length xs) (sym (ap (λ v. v.items) w.items-is)) c.loop-b.invariant.grows
+          ];
     }
 
-pub returns : goal.returns
-returns c = λ owner tells.
+pub returns-clause-copied : goal.returns-clause-copied
+returns-clause-copied c = λ owner tells.
     copies_all c.args.map.now owner c.args.items.now.items c.loop-b.items.items c.loop-b.b (c.loop-b.invariant.copied owner tells) (omega (arith, c.loop-b-test.false, c.len-blocks.ensures, c.loop-b.invariant.inside))

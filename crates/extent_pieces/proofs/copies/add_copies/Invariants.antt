@@ -10,6 +10,7 @@ invariant-loop-b l = record {
   inside : l.b ≤ length l.map;
   reserved : l.b < length l.map → is_reserved l.b (length l.map) ≡ true;
   copied : (owner : Owners) → TellOwners l.owned owner → Copies l.map owner l.fn.items.items l.items.items l.b;
+  grows : length l.fn.items.items ≤ length l.items.items;
 }
 
 abbrev pub decreases-loop-b : goal.decreases-loop-b
