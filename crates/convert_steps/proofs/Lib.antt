@@ -5,4 +5,5 @@ pub mod Moving
 pub mod NewSuper
 pub mod Phases
 mod Placed
+pub mod Preparing
 pub mod Turning

@@ -4,43 +4,24 @@ use Rattle.std.specs.Prelude.{Contains, slice_get}
 use Rattle.std.proofs.lemmas.Bool.{cases_lt}
 use Rattle.std.proofs.lemmas.List.{get_or_past}
 use Rattle.std.proofs.lemmas.Option.{slice_get_within, slice_get-get_or, get_or_from_slice_get}
-use Rattle.indexmap.specs.IndexMap.{keys}
 use Rattle.object_files.specs.Laws.{SameUsed}
 use Rattle.outside.specs.History.{Image, History, WritesOnly, block_at, reads}
 use Rattle.outside.proofs.Crash.{writes_length}
 use Rattle.outside.proofs.Phases.{reads_outside}
 use Rattle.reiser_bitmap.specs.Bits.{has}
 use Rattle.reiser_files.specs.Bytes.{tail_block}
-use Rattle.reiser_names.specs.Links.{AreLinks, AreNamedKeys}
-use Rattle.reiser_objects.specs.Items.{stat_of_object}
 use Rattle.reiser_objects.specs.Keys.{items_of}
-use Rattle.reiser_objects.specs.Table.{HasNoted}
 use Rattle.reiser_volume.specs.Laws.{IsSameVolume}
 use Rattle.reiser_volume.specs.Made.{stat_at}
-use Rattle.reiser_volume.specs.Opened.{IsOpened, links_in}
-use Rattle.reiser_volume.specs.Volume.{used_of, volume_items}
+use Rattle.reiser_volume.specs.Opened.{IsOpened}
+use Rattle.reiser_volume.specs.Volume.{used_of}
 use Rattle.reiser_volume.specs.declared.volume.Volume.{Volume}
 use Rattle.reiser_volume.proofs.Holding.{used_length}
-use Rattle.reiser_volume.proofs.Unchanged.{same_volume}
+use Rattle.reiser_volume.proofs.Unchanged.{opened_same, same_volume}
 use Rattle.reiser_walk.specs.Items.{Item}
 use Rattle.unit_plan.specs.declared.piece.Piece.{Piece}
 use Rattle.convert_steps.specs.Moved.{CanMove, CanWrite, HoldMoved, HoldsPiece, IsMovedTo, IsPlace}
 use Rattle.convert_steps.proofs.Moving.{copy_moves, tail_moves}
-
--- an opened volume is that of the other image
-opened_same : (volume : Volume) (image other : Image) → IsSameVolume image other → IsOpened volume image → IsOpened volume other
-opened_same volume image other v o =
-    let back : volume_items image ≡ volume_items other = sym v.items in
-    record {
-      sup = o.sup ∙ sym v.fields;
-      bitmap = o.bitmap ∙ sym v.used;
-      noted = subst (λ (items : List Item). HasNoted volume.objects items) back o.noted;
-      are_keys = subst (λ (items : List Item). AreNamedKeys items (keys volume.named)) back o.are_keys;
-      ascends = o.ascends;
-      stats = λ key named. o.stats key named ∙ ap (λ (items : List Item). stat_of_object items key) back;
-      visible = o.visible;
-      are_links = subst (λ (items : List Item). AreLinks items o.visible (links_in volume)) back o.are_links;
-    }
 
 has_within : (set : List Bool) (b : ℕ) → has set b ≡ true → b < length set
 has_within set b is = ⊎_elim (λ (less : b < length set). less) (λ (past : length set ≤ b). absurd (true≢false (sym is ∙ get_or_past set b false past))) (cases_lt b (length set))

@@ -1,3 +1,4 @@
 pub mod Moved
+pub mod Prepared
 pub mod Superblock
 pub mod Switch

@@ -1,9 +1,11 @@
-//! The steps of a conversion: the pieces that move, the identifiers and the label, the superblock, and the switch to it.
+//! The steps of a conversion: what is decided before the first write, the pieces that move, the identifiers and the label, the superblock,
+//! and the switch to it.
 #![tactic(auto)]
 
 mod fields;
 mod form;
 mod pieces;
+mod prepared;
 mod switch;
 #[cfg(test)]
 mod tests;
@@ -11,4 +13,5 @@ mod tests;
 pub use fields::{NewRoots, superblock};
 pub use form::{ids_of, label_of};
 pub use pieces::write_moved;
+pub use prepared::{Prepared, prepare};
 pub use switch::switch_to;

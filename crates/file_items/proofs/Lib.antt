@@ -7,3 +7,4 @@ pub mod Ordering
 pub mod Referring
 pub mod Stepping
 pub mod Streaming
+pub mod Unchanged

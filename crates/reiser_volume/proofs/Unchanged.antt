@@ -4,6 +4,7 @@ use Rattle.std.specs.Prelude.{Contains}
 use Rattle.std.specs.List.{list_any}
 use Rattle.outside.specs.History.{Image, block_at}
 use Rattle.fs_rows.specs.Rows.{WholeRow}
+use Rattle.indexmap.specs.IndexMap.{keys}
 use Rattle.reiser_bitmap.specs.Bits.{has}
 use Rattle.reiser_bitmap.specs.Layout.{bitmap_block, bitmap_of}
 use Rattle.reiser_bitmap.specs.System.{system_blocks}
@@ -23,12 +24,17 @@ use Rattle.reiser_files.specs.Bytes.{file_bytes}
 use Rattle.object_files.specs.Laws.{SameUsed}
 use Rattle.object_files.proofs.Same.{same_tree}
 use Rattle.reiser_objects.specs.declared.key.ObjectKey.{ObjectKey}
+use Rattle.reiser_objects.specs.Items.{stat_of_object}
 use Rattle.reiser_objects.specs.Keys.{items_of}
 use Rattle.reiser_objects.specs.Rules.{AreObjects}
+use Rattle.reiser_objects.specs.Table.{HasNoted}
+use Rattle.reiser_names.specs.Links.{AreLinks, AreNamedKeys}
 use Rattle.reiser_names.specs.Names.{AreNames}
 use Rattle.reiser_volume.specs.Rows.{AreReiserRows}
-use Rattle.reiser_volume.specs.Laws.{UsedBlocksDecide}
+use Rattle.reiser_volume.specs.Laws.{IsSameVolume, UsedBlocksDecide}
+use Rattle.reiser_volume.specs.Opened.{IsOpened, links_in}
 use Rattle.reiser_volume.specs.Volume.{superblock, used_of, tree_of, volume_items, AreRowsOf, IsAccepted, IsSoundTree, MarksSystem}
+use Rattle.reiser_volume.specs.declared.volume.Volume.{Volume}
 use Rattle.reiser_volume.proofs.Holding.{used_length}
 use Rattle.reiser_volume.proofs.SameRows.{bytes_same, rows_same}
 
@@ -127,4 +133,19 @@ same_volume image other a same room =
       used = used_same image other a same;
       items = items;
       rows = rows_both image other (fields_same image other a same) items (files_same image other a same);
+    }
+
+-- an opened volume is that of the other image
+pub opened_same : (volume : Volume) (image other : Image) → IsSameVolume image other → IsOpened volume image → IsOpened volume other
+opened_same volume image other v o =
+    let back : volume_items image ≡ volume_items other = sym v.items in
+    record {
+      sup = o.sup ∙ sym v.fields;
+      bitmap = o.bitmap ∙ sym v.used;
+      noted = subst (λ (items : List Item). HasNoted volume.objects items) back o.noted;
+      are_keys = subst (λ (items : List Item). AreNamedKeys items (keys volume.named)) back o.are_keys;
+      ascends = o.ascends;
+      stats = λ key named. o.stats key named ∙ ap (λ (items : List Item). stat_of_object items key) back;
+      visible = o.visible;
+      are_links = subst (λ (items : List Item). AreLinks items o.visible (links_in volume)) back o.are_links;
     }

@@ -1,4 +1,4 @@
-ghost use Rattle.std.specs.Prelude.{◌≡◌, ◌≤◌, ◌<◌, ◌+◌, ◌*◌, ◌^◌, ◌++◌, ◌∷◌, [], ℕ, List, Some, All, AllPairs, drop, length, IsTrue, IfOk, IfErr, OnOk};
+ghost use Rattle.std.specs.Prelude.{◌≡◌, ◌≤◌, ◌<◌, ◌+◌, ◌*◌, ◌^◌, ◌⊎◌, ◌++◌, ◌∷◌, [], ℕ, List, Some, All, AllPairs, drop, length, IsTrue, IfOk, IfErr, OnOk};
 ghost use Rattle.std.specs.Result.{MatchResult};
 ghost use Rattle.outside.specs.Fault.{HasCauseOf};
 ghost use Rattle.outside.specs.History.{Image, reads, OverTold, WritesOnly};
@@ -94,6 +94,7 @@ impl Trees {
         ensures taken { (lengths : List ℕ) → Counted counter.now lengths
             → OnOk result ((self.new.taken ≡ self.old.taken + tree_nodes self.old.form.nodesize lengths)
             × (self.new.nodes ≡ self.old.nodes ++ nodes_of_tree owner self.old.form.nodesize lengths (drop self.old.taken self.old.slots))) }
+        ensures answers { IfErr result (λ e. (e ≡ WriteAnswer.Misfit) ⊎ (e ≡ WriteAnswer.Memory)) }
         ensures misfit { (lengths : List ℕ) → Counted counter.now lengths → self.old.taken + tree_nodes self.old.form.nodesize lengths ≤ length self.old.slots → IfErr result (λ e. e ≡ WriteAnswer.Memory) }
     {
         let count = counter.finish() as usize;
