@@ -1,9 +1,11 @@
 -- What the file tree of a converted volume is made from, and what its pieces hold.
 use Rattle.std.specs.Prelude.{◌≡◌, ◌≤◌, ◌<◌, ◌⊎◌, ℕ, ◌+◌, ◌-◌, ◌*◌, false, List, AllPairs, Contains, Some, None}
 use Rattle.std.specs.Option.{option_map_or}
+use Rattle.indexmap.specs.IndexMap.{keys}
 use Rattle.outside.specs.History.{Image, block_at}
 use Rattle.btr_walk.specs.Map.{place}
 use Rattle.btr_walk.specs.declared.map.MapRange.{MapRange}
+use Rattle.extent_pieces.specs.Found.{IsFound}
 use Rattle.extent_pieces.specs.Laws.{HasPlan}
 use Rattle.extent_pieces.specs.Placed.{ArePlaced}
 use Rattle.extent_pieces.specs.declared.pieces.Pieces.{Pieces}
@@ -15,7 +17,7 @@ use Rattle.reiser_files.specs.declared.map.RunFrom.{RunFrom}
 use Rattle.reiser_files.specs.declared.map.RunFrom.TheVariants.{Disk, Tail}
 use Rattle.reiser_objects.specs.declared.key.ObjectKey.{ObjectKey}
 use Rattle.reiser_objects.specs.Keys.{items_of}
-use Rattle.reiser_volume.specs.Opened.{IsOpened}
+use Rattle.reiser_volume.specs.Opened.{IsOpened, links_in}
 use Rattle.reiser_volume.specs.Volume.{IsAccepted}
 use Rattle.reiser_volume.specs.declared.volume.Volume.{Volume}
 use Rattle.unit_plan.specs.declared.options.Options.{Options}
@@ -23,11 +25,12 @@ use Rattle.unit_plan.specs.declared.piece.Piece.{Piece}
 use Rattle.unit_plan.specs.declared.plan.Plan.{Plan}
 
 -- An accepted volume that was opened, with enough space for a conversion with these options, and its pieces at their places
--- by a plan.
+-- by a plan. What was counted is of the volume's named objects and links.
 pub record HasPieces (volume : Volume) (image : Image) (o : Options) (plan : Plan) (pieces : List Piece) : Type 0 where
   pub accepted : IsAccepted image
   pub opened : IsOpened volume image
   pub found : Pieces
+  pub counted : IsFound o.inline image (keys volume.named) (links_in volume) found
   pub plan_ : HasPlan image found o plan
   pub placed : ArePlaced found.kept plan.data_ found.items.items pieces
 

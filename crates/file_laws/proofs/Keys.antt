@@ -77,7 +77,7 @@ behind_root all key is =
     let told = ap (λ (b : Bool). if b then 256 else 257 + count_by (λ k. is_lt (object_cmp k key) && not (same_key k root)) all) is in
     omega (arith, told)
 
-root_first : (all : List ObjectKey) (key : ObjectKey) → same_key key root ≡ true → inode_of all key ≡ 256
+pub root_first : (all : List ObjectKey) (key : ObjectKey) → same_key key root ≡ true → inode_of all key ≡ 256
 root_first all key is = ap (λ (b : Bool). if b then 256 else 257 + count_by (λ k. is_lt (object_cmp k key) && not (same_key k root)) all) is
 
 module _ (all : List ObjectKey) (at : ℕ) (are : AreNumbered at all) where

@@ -3,9 +3,9 @@ mod Entries
 mod FileBlocks
 mod Holding
 mod Inodes
-mod Keys
-mod Rising
+pub mod Keys
+pub mod Rising
 mod Same
-mod Short
+pub mod Short
 mod ShortTrees
 mod SmallTrees

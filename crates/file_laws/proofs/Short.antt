@@ -11,7 +11,7 @@ use Rattle.fs_rows.specs.declared.row.Kind.{Kind}
 use Rattle.btr_keys.specs.DirEntry.{DirEntryValue, dir_entry_bytes, dir_entry_head}
 use Rattle.btr_keys.specs.Extref.{ExtrefValue, extref_bytes, extref_head}
 use Rattle.btr_keys.specs.FileExtent.{disk_range_layout, file_extent_bytes, file_extent_head}
-use Rattle.btr_keys.specs.Inode.{inode_layout}
+use Rattle.btr_keys.specs.Inode.{inode_bytes, inode_layout}
 use Rattle.btr_keys.specs.InodeRef.{InodeRefValue, inode_ref_bytes, inode_ref_head}
 use Rattle.btr_keys.specs.Key.{key_layout, make_key}
 use Rattle.btr_keys.specs.Stamp.{stamp_layout}
@@ -36,15 +36,18 @@ use Rattle.file_laws.proofs.Rising.{all_append, all_each, all_mapped, all_true}
 
 -- ---- lengths of bodies
 
-pub inode_short : (n : ℕ) (i : Inode) → IsShort (inode_item n i)
+pub inode_long : (i : Inode) → length (inode_bytes i) ≡ 160
 unfolding inode_layout stamp_layout
-inode_short n i = omega arith
+inode_long i = omega arith
+
+pub inode_short : (n : ℕ) (i : Inode) → IsShort (inode_item n i)
+inode_short n i = let long = inode_long i in omega (arith, long)
 
 pub ref_long : (r : InodeRefValue) → length (inode_ref_bytes r) ≡ 10 + length r.name
 unfolding inode_ref_head
 ref_long r = omega arith
 
-far_long : (r : ExtrefValue) → length (extref_bytes r) ≡ 18 + length r.name
+pub far_long : (r : ExtrefValue) → length (extref_bytes r) ≡ 18 + length r.name
 unfolding extref_head
 far_long r = omega arith
 
@@ -52,11 +55,11 @@ pub entry_long : (e : DirEntryValue) → length (dir_entry_bytes e) ≡ 30 + len
 unfolding dir_entry_head key_layout
 entry_long e = omega arith
 
-regular_long : (place count : ℕ) → length (file_extent_bytes (regular_extent place count)) ≡ 53
+pub regular_long : (place count : ℕ) → length (file_extent_bytes (regular_extent place count)) ≡ 53
 unfolding file_extent_head disk_range_layout
 regular_long place count = omega arith
 
-inline_long : (bytes : List ℕ) → length (file_extent_bytes (inline_extent bytes)) ≡ 21 + length bytes
+pub inline_long : (bytes : List ℕ) → length (file_extent_bytes (inline_extent bytes)) ≡ 21 + length bytes
 unfolding file_extent_head
 inline_long bytes = omega arith
 
@@ -68,7 +71,7 @@ inline_short ino size bytes few = let long = inline_long (take size bytes) in le
 
 -- ---- sums
 
-flat_long : {A : Type 0} (f : A → List ℕ) (w : A → ℕ) (xs : List A) → ((x : A) → length (f x) ≡ w x) → length (flat_map f xs) ≡ sum_by w xs
+pub flat_long : {A : Type 0} (f : A → List ℕ) (w : A → ℕ) (xs : List A) → ((x : A) → length (f x) ≡ w x) → length (flat_map f xs) ≡ sum_by w xs
 flat_long f w [] each = refl
 flat_long f w (x ∷ xs) each =
     let first = each x in
@@ -77,7 +80,7 @@ flat_long f w (x ∷ xs) each =
     let sum = sum_by-cons w x xs in
     omega (arith, first, later, both, sum)
 
-sum_kept : {A : Type 0} (p : A → Bool) (w : A → ℕ) (xs : List A) → sum_by w (filter p xs) ≡ sum_by (λ x. cond (p x) (w x) 0) xs
+pub sum_kept : {A : Type 0} (p : A → Bool) (w : A → ℕ) (xs : List A) → sum_by w (filter p xs) ≡ sum_by (λ x. cond (p x) (w x) 0) xs
 sum_kept p w [] = refl
 sum_kept {A} p w (x ∷ xs) = by (p x) (sum_kept p w xs) ∙ sym (sum_by-cons (λ y. cond (p y) (w y) 0) x xs)
   where
@@ -85,7 +88,7 @@ sum_kept {A} p w (x ∷ xs) = by (p x) (sum_kept p w xs) ∙ sym (sum_by-cons (�
     by true later = let first = sum_by-cons w x (filter p xs) in omega (arith, first, later)
     by false later = omega (arith, later)
 
-sum_alike : {A : Type 0} (v w : A → ℕ) (xs : List A) → ((x : A) → v x ≡ w x) → sum_by v xs ≡ sum_by w xs
+pub sum_alike : {A : Type 0} (v w : A → ℕ) (xs : List A) → ((x : A) → v x ≡ w x) → sum_by v xs ≡ sum_by w xs
 sum_alike v w [] same = refl
 sum_alike v w (x ∷ xs) same =
     let here = same x in
@@ -94,7 +97,7 @@ sum_alike v w (x ∷ xs) same =
     let second = sum_by-cons w x xs in
     omega (arith, here, later, first, second)
 
-sum_mapped : {A B : Type 0} (f : A → B) (w : B → ℕ) (xs : List A) → sum_by w (map f xs) ≡ sum_by (λ x. w (f x)) xs
+pub sum_mapped : {A B : Type 0} (f : A → B) (w : B → ℕ) (xs : List A) → sum_by w (map f xs) ≡ sum_by (λ x. w (f x)) xs
 sum_mapped f w [] = refl
 sum_mapped f w (x ∷ xs) =
     let later = sum_mapped f w xs in
@@ -103,7 +106,7 @@ sum_mapped f w (x ∷ xs) =
     omega (arith, later, first, second)
 
 -- a sum over entries that asks for their links alone
-sum_links : (w : Naming → ℕ) (before ls : List Naming) → sum_by (λ (e : Entry). w e.link) (entries_behind before ls) ≡ sum_by w ls
+pub sum_links : (w : Naming → ℕ) (before ls : List Naming) → sum_by (λ (e : Entry). w e.link) (entries_behind before ls) ≡ sum_by w ls
 sum_links w before [] = refl
 sum_links w before (n ∷ ls) =
     let later = sum_links w (before ++ n ∷ []) ls in

@@ -61,6 +61,7 @@ returns-clause-prepared g c = λ tells image is.
         accepted = accepted;
         opened = opened;
         found = c.in-Ok-find.pieces;
+        counted = c.in-Ok-find.ensures.found tells image blocks accepted opened;
         plan_ =
             has_plan c.in-Ok.volume c.in-Ok-find.pieces c.args.options.now c.bitmap.result.now c.counts.result c.needed-need.result c.bitmap.ensures c.counts.ensures c.needed-need.ensures.exact image accepted opened
             (c.in-Ok-find.ensures.found tells image blocks accepted opened) c.in-Ok-choose.plan c.in-Ok-choose.ensures.enough c.in-Ok-choose.ensures.ok;

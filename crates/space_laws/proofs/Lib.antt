@@ -1,0 +1,14 @@
+pub mod Booting
+pub mod ChunkBytes
+pub mod FilesCounted
+pub mod FilesInline
+pub mod FilesObjects
+pub mod FilesSums
+pub mod ItemBytes
+pub mod NodeCounts
+pub mod Others
+pub mod PlacedSums
+pub mod SmallBytes
+pub mod Sufficing
+pub mod SumBytes
+pub mod SystemChunks

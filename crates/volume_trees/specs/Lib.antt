@@ -1,0 +1,6 @@
+pub mod Adding
+pub mod First
+pub mod RootTree
+pub mod Roots
+pub mod Sources
+pub mod Staying
