@@ -1,6 +1,8 @@
 -- The answers of the steps as those of the conversion.
-use Rattle.std.proofs.Common.{◌≡◌, ◌⊎◌, ℕ, inl, inr, refl, ap, ⊎_elim}
+use Rattle.std.proofs.Common.{◌≡◌, ◌⊎◌, ℕ, Result, Ok, Err, inl, inr, refl, sym, ap, subst, ⊎_elim}
+use Rattle.std.specs.Result.{IsErrAnd, MatchResult}
 use Rattle.object_files.specs.Answers.{IsFault}
+use Rattle.outside.specs.declared.answer.Answer.{Answer}
 use Rattle.outside.specs.declared.answer.Answer.TheVariants as answer
 use Rattle.outside.specs.declared.answer.VolAnswer.{VolAnswer}
 use Rattle.outside.specs.declared.answer.VolAnswer.TheVariants as vol
@@ -28,3 +30,9 @@ prepares_by_writer root writer.Memory = tt
 
 pub failure_of_writer : (root : ℕ) (a : WriteAnswer) → IsFailure a → (by_writer root a ≡ answer.Fault) ⊎ (by_writer root a ≡ answer.Memory)
 failure_of_writer root a is = ⊎_elim (λ fault. inl (ap (by_writer root) fault)) (λ memory. inr (ap (by_writer root) memory)) is
+
+-- a fault or want of memory that was handed on
+pub failed : {T : Type 0} (r : Result T Answer) (e : Answer) (P : T → Type 0) → IsErrAnd r (λ x. x ≡ e) → (e ≡ answer.Fault) ⊎ (e ≡ answer.Memory)
+    → MatchResult r P (λ a. (a ≡ answer.Fault) ⊎ (a ≡ answer.Memory))
+failed (Ok x) e P told is = absurd told
+failed (Err x) e P told is = subst (λ (a : Answer). (a ≡ answer.Fault) ⊎ (a ≡ answer.Memory)) (sym told) is
