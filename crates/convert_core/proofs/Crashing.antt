@@ -70,6 +70,10 @@ module _ (o : Options) (ids : Ids) (now : ℕ) (image put : Image) (w : Written)
           (subst (λ (n : ℕ). HasCopies w.superblock.bytes n other) down.blocks copies);
     }
 
+-- where the disk was settled, a crash since leaves one of the states of a conversion
+abbrev pub Leaves : Options → Ids → ℕ → History → History → Type 0
+Leaves o ids now h₀ h₁ = IsSettled h₀ → (other : Image) → LeftSince (clock h₀) h₁ other → IsEither o ids now (reads h₀) other
+
 -- what was written before the switch: nothing, or free blocks of a volume that can be converted
 abbrev pub MayWrite : Options → History → History → Type 0
 MayWrite o h₀ h₁ = (h₁ ≡ h₀) ⊎ (IsConvertible o (reads h₀) × WritesOnly (λ b _. IsFree (reads h₀) b) h₀ h₁)
