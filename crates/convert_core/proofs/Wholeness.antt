@@ -3,13 +3,18 @@ use Rattle.std.proofs.Common.{◌≡◌, ◌≤◌, ◌<◌, ℕ, ◌+◌, ◌^�
 use Rattle.std.specs.Prelude.{All, AllPairs, MatchOption}
 use Rattle.std.proofs.lemmas.Bool.{cases_lt}
 use Rattle.outside.specs.History.{Image, block_at}
+use Rattle.btr_node.specs.NodeSize.{IsNodeSize}
 use Rattle.reiser_super.specs.Rules.{IsCleanSuper}
 use Rattle.reiser_super.specs.declared.superblock.Super.{Super}
 use Rattle.reiser_volume.specs.Volume.{superblock, used_of}
 use Rattle.reiser_volume.specs.declared.volume.Volume.{Volume}
 use Rattle.reiser_volume.proofs.Holding.{used_length}
 use Rattle.space_items.specs.Stream.{ArePieces, IsSmallPiece}
+use Rattle.space_laws.proofs.Booting.{system_few}
+use Rattle.unit_plan.specs.Needed.{need}
 use Rattle.unit_plan.specs.Pieces.{ArePlaced}
+use Rattle.unit_plan.specs.declared.counts.Counts.{Counts}
+use Rattle.unit_plan.specs.declared.need.Need.{Need}
 use Rattle.unit_plan.specs.declared.options.Options.{Options}
 use Rattle.unit_plan.specs.declared.piece.Piece.{Piece}
 use Rattle.unit_plan.specs.declared.plan.Plan.{Plan}
@@ -131,3 +136,15 @@ prepared_whole image o ids p is few = record {
   places = places_inside p.volume image o p.plan p.pieces.items.items is.has_pieces;
   system = few;
 }
+
+pub told_whole : (image : Image) (o : Options) (ids : Ids) (p : Prepared) (device : ℕ) → IsNodeSize o.nodesize → length image ≡ device → IsPrepared image o ids p → IsWhole p device
+told_whole image o ids p device size long is =
+    let counts : Counts = is.has_pieces.found.counts in
+    let told : p.need ≡ need counts o = is.need_is ∙ ap (λ (c : Counts). need c o) is.counts_are in
+    let blocks = blocks_few p.volume image o p.plan p.pieces.items.items is.has_pieces in
+    let map = used_length image in
+    let same = blocks_are p.volume image o p.plan p.pieces.items.items is.has_pieces in
+    let few : (need counts o).system ≤ 16384 =
+    system_few (used_of image) counts o size (omega (arith, blocks, map, same)) (ap (λ (c : Counts). c.blocks) is.has_pieces.plan_.found_.counts_are)
+    (ap (λ (c : Counts). c.runs) is.has_pieces.plan_.found_.counts_are) in
+    subst (IsWhole p) long (prepared_whole image o ids p is (subst (λ (n : Need). n.system ≤ 2 ^ 14) (sym told) few))

@@ -25,12 +25,22 @@ pub fn is_whole(prepared: &Prepared, device: u64) -> bool
     ensures told { (image : Image) (o : OptionsOf) (ids : IdsOf) → IsNodeSize o.nodesize → length image ≡ device → IsPrepared image o ids prepared.now → result ≡ true }
 {
     let blocks = prepared.volume.sup().blocks;
-    blocks > 16
-        && blocks <= MOST_BLOCKS
-        && blocks <= device
-        && prepared.volume.bitmap().len() == blocks
-        && prepared.need.system <= MOST_SYSTEM
-        && are_placed(&prepared.pieces, blocks)
+    if blocks <= 16 {
+        return false;
+    }
+    if blocks > MOST_BLOCKS {
+        return false;
+    }
+    if blocks > device {
+        return false;
+    }
+    if prepared.volume.bitmap().len() != blocks {
+        return false;
+    }
+    if prepared.need.system > MOST_SYSTEM {
+        return false;
+    }
+    are_placed(&prepared.pieces, blocks)
 }
 
 /// Whether pieces ascend by their places, and lie on a volume of so many blocks.
