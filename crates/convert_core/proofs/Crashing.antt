@@ -1,20 +1,17 @@
 -- What a crash leaves in each phase of a conversion.
-use Rattle.std.proofs.Common.{◌≡◌, ◌≢◌, ◌∙◌, ◌⊎◌, inl, inr, ⊎_elim, ℕ, ◌+◌, ◌≤◌, ◌<◌, List, length, refl, sym, ap, subst}
-use Rattle.std.specs.Prelude.{Contains}
+use Rattle.std.proofs.Common.{◌≡◌, ◌≢◌, ◌∙◌, ◌⊎◌, inl, inr, ⊎_elim, ℕ, List, length, refl, sym, subst}
 use Rattle.vol_block.specs.declared.format.Format.TheVariants.{Btrfs}
 use Rattle.vol_block.specs.declared.ids.Ids.{Ids}
 use Rattle.outside.specs.Format.{format_in}
-use Rattle.outside.specs.History.{Image, History, IsSettled, LeftSince, WritesOnly, block_at, clock, reads}
-use Rattle.outside.proofs.Crash.{writes_none, writes_weaker}
+use Rattle.outside.specs.History.{Image, History, IsSettled, LeftSince, WritesOnly, clock, reads}
+use Rattle.outside.proofs.Crash.{writes_none}
 use Rattle.outside.proofs.Phases.{left_outside, left_then, left_unwritten}
 use Rattle.btr_node.specs.NodeSize.{IsNodeSize}
-use Rattle.conversion.specs.Making.{Making}
 use Rattle.conversion.specs.Source.{HasPieces}
 use Rattle.convert_steps.specs.Switch.{HasCopies, IsMirror, IsSwitched}
 use Rattle.reiser_volume.specs.Volume.{used_of}
 use Rattle.unit_plan.specs.declared.options.Options.{Options}
-use Rattle.unit_plan.specs.declared.piece.Piece.{Piece}
-use Rattle.convert_core.specs.Converted.{IsBefore, IsConverted, IsConvertible, IsEither, IsFree, IsNew, IsPutDown, superblock_of}
+use Rattle.convert_core.specs.Converted.{IsBefore, IsConverted, IsConvertible, IsEither, IsFree, IsNew, IsPutDown}
 use Rattle.convert_core.specs.declared.volume.Written.{Written}
 use Rattle.convert_core.proofs.Putting.{convertible, free_before, node_free, piece_some, used_not_free}
 use Rattle.convert_core.proofs.Reserved.{free_apart, piece_apart, switch_reserved}
@@ -69,10 +66,6 @@ module _ (o : Options) (ids : Ids) (now : ℕ) (image put : Image) (w : Written)
           subst (λ (bytes : List ℕ). HasCopies bytes down.m.volume.sup.blocks other) down.superblock
           (subst (λ (n : ℕ). HasCopies w.superblock.bytes n other) down.blocks copies);
     }
-
--- where the disk was settled, a crash since leaves one of the states of a conversion
-abbrev pub Leaves : Options → Ids → ℕ → History → History → Type 0
-Leaves o ids now h₀ h₁ = IsSettled h₀ → (other : Image) → LeftSince (clock h₀) h₁ other → IsEither o ids now (reads h₀) other
 
 -- what was written before the switch: nothing, or free blocks of a volume that can be converted
 abbrev pub MayWrite : Options → History → History → Type 0

@@ -3,11 +3,10 @@ use Rattle.std.proofs.lemmas.Bool.{both_ways}
 use Rattle.std.proofs.lemmas.Result.{err_from_is_err_and}
 use Rattle.vol_block.specs.declared.format.Format.TheVariants.{Btrfs}
 use Rattle.outside.specs.Format.{format_in}
-use Rattle.outside.specs.History.{Image, History, reads}
-use Rattle.outside.specs.declared.answer.Answer.{Answer}
+use Rattle.outside.specs.History.{History, reads}
 use Rattle.outside.proofs.Phases.{left_unwritten}
 use Rattle.convert_core.specs.Answers.{RefusesConvert}
-use Rattle.convert_core.proofs.Crashing.{Leaves, converted, early_crash, switch_crash}
+use Rattle.convert_core.proofs.Crashing.{MayWrite, converted, early_crash, switch_crash}
 use Rattle.convert_core.proofs.Ending.{refuses}
 use Rattle.convert_core.proofs.in_place.convert.Goals as goal
 
@@ -25,13 +24,12 @@ returns-then-branch-clause-converted g c = λ tells image is.
     (c.in_ok-is_btrfs.ensures.found tells image (blocks ∙ is)).0 c.if-branch.true
 
 pub returns-in_err-written-clause-crash : goal.returns-in_err-written-clause-crash
-returns-in_err-written-clause-crash g c = λ tells.
+returns-in_err-written-clause-crash g c = λ tells settled.
     let same : g.D.Disk.history c.is_btrfs.new.src ≡ g.D.Disk.history c.args.disk.now = g.met.D.Disk.kept_history _ _ tells c.is_btrfs.ensures.kept in
     let blocks = g.met.D.Disk.open_blocks c.args.disk.now _ tells c.requires.«open» in
-    let reiser : format_in (reads (g.D.Disk.history c.is_btrfs.new.src)) ≢ Btrfs =
-    λ is. both_ways _ c.if-branch.false ((c.in_ok-is_btrfs.ensures.found tells (reads (g.D.Disk.history c.is_btrfs.new.src)) (blocks ∙ ap reads (sym same))).1 is) in
-    subst (λ (h : History). Leaves c.args.options.now c.args.ids.now c.args.now h (g.D.Disk.history c.write_volume.new.disk)) same
-    (λ settled. early_crash c.args.options.now c.args.ids.now c.args.now _ _ settled reiser (c.write_volume.ensures.only tells _ refl))
+    let may = subst (λ (h : History). MayWrite c.args.options.now h (g.D.Disk.history c.write_volume.new.disk)) same (c.write_volume.ensures.only tells _ refl) in
+    let reiser : format_in (reads (g.D.Disk.history c.args.disk.now)) ≢ Btrfs = λ format. both_ways _ c.if-branch.false ((c.in_ok-is_btrfs.ensures.found tells _ blocks).1 format) in
+    early_crash c.args.options.now c.args.ids.now c.args.now _ _ settled reiser may
 
 pub returns-in_err-written-clause-converted : goal.returns-in_err-written-clause-converted
 returns-in_err-written-clause-converted g c = λ tells image is.
@@ -43,26 +41,22 @@ returns-in_err-written-clause-converted g c = λ tells image is.
     (subst (RefusesConvert c.args.options.now image) (sym err.2) (refuses c.args.options.now image _ reiser (c.in_err-written.ensures.written tells image (ap reads same ∙ is))))
 
 pub returns-in-Ok-clause-crash : goal.returns-in-Ok-clause-crash
-returns-in-Ok-clause-crash g c = λ tells.
+returns-in-Ok-clause-crash g c = λ tells settled.
     let same : g.D.Disk.history c.is_btrfs.new.src ≡ g.D.Disk.history c.args.disk.now = g.met.D.Disk.kept_history _ _ tells c.is_btrfs.ensures.kept in
     let blocks = g.met.D.Disk.open_blocks c.args.disk.now _ tells c.requires.«open» in
-    let reiser : format_in (reads (g.D.Disk.history c.is_btrfs.new.src)) ≢ Btrfs =
-    λ is. both_ways _ c.if-branch.false ((c.in_ok-is_btrfs.ensures.found tells (reads (g.D.Disk.history c.is_btrfs.new.src)) (blocks ∙ ap reads (sym same))).1 is) in
-    subst (λ (h : History). Leaves c.args.options.now c.args.ids.now c.args.now h (g.D.Disk.history c.switch_to.new.disk)) same
-    (λ settled. switch_crash c.args.options.now c.args.ids.now c.args.now _ _ settled reiser (c.write_volume.ensures.only tells _ refl)
-    _ _ _ c.requires.size (c.in_ok-written.ensures.written tells _ refl) (c.switch_to.ensures.only tells)
-    (c.switch_to.ensures.crash tells (c.in_ok-written.ensures.settled tells)))
+    let may = subst (λ (h : History). MayWrite c.args.options.now h (g.D.Disk.history c.write_volume.new.disk)) same (c.write_volume.ensures.only tells _ refl) in
+    let reiser : format_in (reads (g.D.Disk.history c.args.disk.now)) ≢ Btrfs = λ format. both_ways _ c.if-branch.false ((c.in_ok-is_btrfs.ensures.found tells _ blocks).1 format) in
+    switch_crash c.args.options.now c.args.ids.now c.args.now _ _ settled reiser may _ _ _ c.requires.size (c.in_ok-written.ensures.written tells _ (ap reads same)) (c.switch_to.ensures.only tells)
+    (c.switch_to.ensures.crash tells (c.in_ok-written.ensures.settled tells))
 
 pub returns-in-Err-clause-crash : goal.returns-in-Err-clause-crash
-returns-in-Err-clause-crash g c = λ tells.
+returns-in-Err-clause-crash g c = λ tells settled.
     let same : g.D.Disk.history c.is_btrfs.new.src ≡ g.D.Disk.history c.args.disk.now = g.met.D.Disk.kept_history _ _ tells c.is_btrfs.ensures.kept in
     let blocks = g.met.D.Disk.open_blocks c.args.disk.now _ tells c.requires.«open» in
-    let reiser : format_in (reads (g.D.Disk.history c.is_btrfs.new.src)) ≢ Btrfs =
-    λ is. both_ways _ c.if-branch.false ((c.in_ok-is_btrfs.ensures.found tells (reads (g.D.Disk.history c.is_btrfs.new.src)) (blocks ∙ ap reads (sym same))).1 is) in
-    subst (λ (h : History). Leaves c.args.options.now c.args.ids.now c.args.now h (g.D.Disk.history c.switch_to.new.disk)) same
-    (λ settled. switch_crash c.args.options.now c.args.ids.now c.args.now _ _ settled reiser (c.write_volume.ensures.only tells _ refl)
-    _ _ _ c.requires.size (c.in_ok-written.ensures.written tells _ refl) (c.switch_to.ensures.only tells)
-    (c.switch_to.ensures.crash tells (c.in_ok-written.ensures.settled tells)))
+    let may = subst (λ (h : History). MayWrite c.args.options.now h (g.D.Disk.history c.write_volume.new.disk)) same (c.write_volume.ensures.only tells _ refl) in
+    let reiser : format_in (reads (g.D.Disk.history c.args.disk.now)) ≢ Btrfs = λ format. both_ways _ c.if-branch.false ((c.in_ok-is_btrfs.ensures.found tells _ blocks).1 format) in
+    switch_crash c.args.options.now c.args.ids.now c.args.now _ _ settled reiser may _ _ _ c.requires.size (c.in_ok-written.ensures.written tells _ (ap reads same)) (c.switch_to.ensures.only tells)
+    (c.switch_to.ensures.crash tells (c.in_ok-written.ensures.settled tells))
 
 pub returns-in-Ok-clause-converted : goal.returns-in-Ok-clause-converted
 returns-in-Ok-clause-converted g c = λ tells image is.
