@@ -15,16 +15,22 @@ use Rattle.reiser_objects.specs.declared.naming.Naming.{Naming}
 use Rattle.reiser_objects.specs.declared.key.ObjectKey.{ObjectKey}
 use Rattle.extent_pieces.specs.Laws.{AreSortedKeys}
 use Rattle.reiser_volume.specs.Volume.{IsRefusal, used_of, volume_items}
-use Rattle.unit_plan.specs.Choice.{TellsSpace}
+use Rattle.unit_plan.specs.Choice.{HasEnoughSpace, IsPlan, TellsSpace}
 use Rattle.unit_plan.specs.Needed.{need as need_of}
 use Rattle.unit_plan.specs.declared.options.Options.{Options}
 use Rattle.unit_plan.specs.declared.plan.PlanAnswer.{PlanAnswer}
 use Rattle.unit_plan.specs.declared.plan.PlanAnswer.TheVariants as plan
 use Rattle.convert_steps.specs.declared.prepared.Prepared.{Prepared}
 
+-- the units are those of a plan for the needed space
+pub record HasPlanFor (p : Prepared) : Type 0 where
+  pub enough : HasEnoughSpace p.volume.bitmap p.need
+  pub plan : IsPlan p.volume.bitmap p.need p.plan
+
 -- The volume is accepted and has the space; its pieces have their places by a plan, and the options decide the rest.
 pub record IsPrepared (image : Image) (o : Options) (ids : Ids) (p : Prepared) : Type 0 where
   pub has_pieces : HasPieces p.volume image o p.plan p.pieces.items.items
+  pub counts_are : p.pieces.counts ≡ has_pieces.found.counts
   pub need_is : p.need ≡ need_of p.pieces.counts o
   pub ids_are : p.ids ≡ ids_by ids p.volume.sup o
   pub label_is : p.label ≡ label_field (label_by p.volume.sup o.label)

@@ -13,5 +13,5 @@ mod tests;
 pub use fields::{NewRoots, superblock};
 pub use form::{ids_of, label_of};
 pub use pieces::write_moved;
-pub use prepared::{Prepared, prepare};
+pub use prepared::{Prepared, prepare, volume_answer};
 pub use switch::switch_to;

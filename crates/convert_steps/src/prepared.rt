@@ -1,10 +1,10 @@
 // What is decided before the first write.
-ghost use Rattle.std.specs.Prelude.{◌≡◌, IfErr};
+ghost use Rattle.std.specs.Prelude.{◌≡◌, IfErr, IfOk};
 ghost use Rattle.std.specs.Result.{MatchResult};
 ghost use Rattle.outside.specs.Fault.{HasCauseOf};
 ghost use Rattle.outside.specs.History.{OverTold};
 ghost use Rattle.btr_node.specs.NodeSize.{IsNodeSize};
-ghost use Rattle.convert_steps.specs.Prepared.{IsPrepared, IsPrepareAnswer, RefusesConversion, by_plan, by_volume};
+ghost use Rattle.convert_steps.specs.Prepared.{HasPlanFor, IsPrepared, IsPrepareAnswer, RefusesConversion, by_plan, by_volume};
 
 use crate::form::{ids_of, label_of};
 use extent_pieces::Pieces;
@@ -42,6 +42,7 @@ pub fn prepare<S: BlockSource>(
     ensures kept { S.kept src.old src.new }
     ensures cause { HasCauseOf Answer.Fault (S.faults src.old) (S.faults src.new) result }
     ensures answers { IfErr result IsPrepareAnswer }
+    ensures plan { IfOk result HasPlanFor }
     ensures prepared { OverTold S.tells (S.blocks src.old) (λ image.
         MatchResult result (IsPrepared image options.now ids.now) (RefusesConversion image options.now)) }
 {
@@ -71,8 +72,8 @@ pub fn prepare<S: BlockSource>(
     })
 }
 
-/// The answer where a volume is not opened.
-fn volume_answer(answer: VolAnswer) -> Answer
+/// The answer where a volume is refused, as it is opened or where it reads otherwise later, or its device failed.
+pub fn volume_answer(answer: VolAnswer) -> Answer
     ensures { result ≡ by_volume answer }
 {
     match answer {

@@ -1,6 +1,7 @@
-use Rattle.std.proofs.Common.{sym, ap, subst, ◌∙◌}
+use Rattle.std.proofs.Common.{Bool, List, sym, ap, subst, ◌∙◌}
 use Rattle.conversion.specs.Making.{ids_by, label_by, label_field}
 use Rattle.reiser_super.specs.declared.superblock.Super.{Super}
+use Rattle.unit_plan.specs.Choice.{HasEnoughSpace, IsPlan}
 use Rattle.unit_plan.specs.Needed.{need}
 use Rattle.unit_plan.specs.declared.counts.Counts.{Counts}
 use Rattle.convert_steps.specs.Prepared.{IsPrepareAnswer, RefusesConversion}
@@ -44,6 +45,12 @@ place-requires g c =
 pub returns-clause-kept : goal.returns-clause-kept
 returns-clause-kept g c = g.met.S.BlockSource.kept_trans _ _ _ c.in-Ok.ensures.kept c.in-Ok-find.ensures.kept
 
+pub returns-clause-plan : goal.returns-clause-plan
+returns-clause-plan g c = record {
+  enough = subst (λ (map : List Bool). HasEnoughSpace map c.needed-need.result) c.bitmap.ensures c.in-Ok-choose.ensures.enough;
+  plan = subst (λ (map : List Bool). IsPlan map c.needed-need.result c.in-Ok-choose.plan) c.bitmap.ensures c.in-Ok-choose.ensures.ok;
+}
+
 pub returns-clause-prepared : goal.returns-clause-prepared
 returns-clause-prepared g c = λ tells image is.
     let blocks = g.met.S.BlockSource.kept_blocks _ _ tells c.in-Ok.ensures.kept ∙ is in
@@ -59,6 +66,7 @@ returns-clause-prepared g c = λ tells image is.
             (c.in-Ok-find.ensures.found tells image blocks accepted opened) c.in-Ok-choose.plan c.in-Ok-choose.ensures.enough c.in-Ok-choose.ensures.ok;
         placed = c.place.ensures.placed;
       };
+      counts_are = c.place.ensures.counts;
       need_is = c.needed-need.ensures.exact ∙ ap (λ (n : Counts). need n c.args.options.now) (c.counts.ensures ∙ sym c.place.ensures.counts);
       ids_are = c.ids_of-ids.ensures ∙ ap (λ (s : Super). ids_by c.args.ids.now s c.args.options.now) c.sup.ensures;
       label_is = c.label_of-label.ensures ∙ ap (λ (s : Super). label_field (label_by s c.args.options.now.label)) c.sup-2.ensures;
