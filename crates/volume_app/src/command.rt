@@ -25,11 +25,13 @@ pub enum Command<'a> {
 pub fn read_words(words: &[String]) -> Option<Command<'_>>
     ensures { option_map seen result ≡ command (map string_bytes words.now) }
 {
-    match words {
-        [] => None,
-        [word] => alone(word.as_str()),
-        [name, rest @ ..] => begun_by(name.as_str(), rest),
+    let [name, rest @ ..] = words else {
+        return None;
+    };
+    if rest.is_empty() {
+        return alone(name.as_str());
     }
+    begun_by(name.as_str(), rest)
 }
 
 fn alone(word: &str) -> Option<Command<'static>>
@@ -49,19 +51,22 @@ fn begun_by<'a>(name: &str, words: &'a [String]) -> Option<Command<'a>>
     if name != "convert" {
         return with_path(name, words);
     }
-    match words {
-        [options @ .., path] => converting(options, path.as_str()),
-        [] => None,
-    }
+    let [options @ .., path] = words else {
+        return None;
+    };
+    converting(options, path.as_str())
 }
 
 fn with_path<'a>(name: &str, words: &'a [String]) -> Option<Command<'a>>
     ensures { option_map seen result ≡ with_path name.now (map string_bytes words.now) }
 {
-    match words {
-        [path] if is_path(path.as_str()) => named(name, path.as_str()),
-        _ => None,
+    let [path] = words else {
+        return None;
+    };
+    if !is_path(path.as_str()) {
+        return None;
     }
+    named(name, path.as_str())
 }
 
 fn converting<'a>(words: &[String], path: &'a str) -> Option<Command<'a>>
