@@ -1,8 +1,8 @@
-use Rattle.std.proofs.Common.{◌≡◌, ◌∙◌, ℕ, length, inl, inr, sym, ap, subst, true≢false, rules}
+use Rattle.std.proofs.Common.{◌≡◌, ◌∙◌, length, inl, inr, sym, ap, subst, true≢false, rules}
 use Rattle.std.proofs.lemmas.Result.{MatchResult-weaker, err_from_is_err_and}
 use Rattle.outside.specs.History.{History, Image, WritesOnly, reads}
 use Rattle.convert_steps.specs.Prepared.{RefusesConversion}
-use Rattle.convert_core.specs.Converted.{IsFree, IsPutDown}
+use Rattle.convert_core.specs.Converted.{IsFree}
 use Rattle.convert_core.proofs.Ending.{failed_so, fails, keeps_cause}
 use Rattle.convert_core.proofs.Putting.{convertible}
 use Rattle.convert_core.proofs.volume.write_volume.Goals as goal
