@@ -1,5 +1,8 @@
 -- The answers of a conversion.
-use Rattle.std.proofs.Common.{◌≡◌, ◌≢◌, ◌⊎◌, sym, subst, ⊎_elim}
+use Rattle.std.proofs.Common.{◌≡◌, ◌≢◌, ◌⊎◌, ℕ, Ok, Err, sym, subst, ⊎_elim, rules}
+use Rattle.std.specs.Prelude.{IfErr, Result}
+use Rattle.std.specs.Result.{MatchResult}
+use Rattle.outside.specs.Fault.{HasCauseOf}
 use Rattle.vol_block.specs.declared.format.Format.TheVariants.{Btrfs}
 use Rattle.outside.specs.Format.{format_in}
 use Rattle.outside.specs.History.{Image}
@@ -37,3 +40,12 @@ answers answer.Memory is = tt
 -- a failure refuses nothing
 pub fails : (image : Image) (o : Options) (a : Answer) → (a ≡ answer.Fault) ⊎ (a ≡ answer.Memory) → RefusesConversion image o a
 fails image o a is = ⊎_elim (λ fault. subst (RefusesConversion image o) (sym fault) tt) (λ memory. subst (RefusesConversion image o) (sym memory) tt) is
+
+-- where all errors are failures, whatever is said of other ones holds
+pub failed_so : {T : Type 0} (r : Result T Answer) (P : T → Type 0) (Q : Type 0) → MatchResult r P (λ e. (e ≡ answer.Fault) ⊎ (e ≡ answer.Memory)) → IfErr r (λ e. e ≢ answer.Fault → e ≢ answer.Memory → Q)
+failed_so (Ok x) P Q is = tt
+failed_so (Err e) P Q is = λ fault memory. absurd (⊎_elim fault memory is)
+
+-- an answer that is no fault has the cause of a call that went well
+pub keeps_cause : {T X : Type 0} (before now : ℕ) (x : X) (e : Answer) → e ≢ answer.Fault → HasCauseOf {T = X} answer.Fault before now (Ok x) → HasCauseOf {T = T} answer.Fault before now (Err e)
+keeps_cause before now x e other is = record { later = is.later; failed = λ same. search rules; kept = λ _. is.kept (λ same. search rules) }
