@@ -1,1 +1,12 @@
+pub mod Answering
+pub mod Crashing
+pub mod Ending
+pub mod Moving
+pub mod Nodes
 pub mod One
+pub mod Putting
+pub mod Reserved
+pub mod Slots
+pub mod Standing
+pub mod Sums
+pub mod Wholeness

@@ -1,2 +1,5 @@
+pub mod Answers
+pub mod Converted
 pub mod Laws
 pub mod Surveyed
+pub mod Whole

@@ -1,10 +1,18 @@
 //! The conversion of a ReiserFS volume to Btrfs.
 //!
-//! [`Survey::read`] says what a conversion would count and need, and [`Survey::of`] says it of a volume that is open already.
+//! [`convert`] converts a volume in place. [`Survey::read`] says what a conversion would count and need, and [`Survey::of`]
+//! says it of a volume that is open already.
 #![tactic(auto)]
 
+mod answers;
+mod in_place;
 mod laws;
+mod summary;
 mod survey;
+mod volume;
+mod whole;
 
+pub use in_place::convert;
 pub use laws::surveys_are_one;
+pub use summary::ConvertSummary;
 pub use survey::Survey;

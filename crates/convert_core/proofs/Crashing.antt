@@ -1,0 +1,96 @@
+-- What a crash leaves in each phase of a conversion.
+use Rattle.std.proofs.Common.{◌≡◌, ◌≢◌, ◌∙◌, ◌⊎◌, inl, inr, ⊎_elim, ℕ, List, length, refl, sym, subst}
+use Rattle.vol_block.specs.declared.format.Format.TheVariants.{Btrfs}
+use Rattle.vol_block.specs.declared.ids.Ids.{Ids}
+use Rattle.outside.specs.Format.{format_in}
+use Rattle.outside.specs.History.{Image, History, IsSettled, LeftSince, WritesOnly, clock, reads}
+use Rattle.outside.proofs.Crash.{writes_none}
+use Rattle.outside.proofs.Phases.{left_outside, left_then, left_unwritten}
+use Rattle.btr_node.specs.NodeSize.{IsNodeSize}
+use Rattle.conversion.specs.Source.{HasPieces}
+use Rattle.convert_steps.specs.Switch.{HasCopies, IsMirror, IsSwitched}
+use Rattle.reiser_volume.specs.Volume.{used_of}
+use Rattle.unit_plan.specs.declared.options.Options.{Options}
+use Rattle.convert_core.specs.Converted.{IsBefore, IsConverted, IsConvertible, IsEither, IsFree, IsNew, IsPutDown}
+use Rattle.convert_core.specs.declared.volume.Written.{Written}
+use Rattle.convert_core.proofs.Putting.{convertible, free_before, node_free, piece_some, used_not_free}
+use Rattle.convert_core.proofs.Reserved.{free_apart, piece_apart, switch_reserved}
+use Rattle.convert_core.proofs.Standing.{InNodes, InPieces, stands_stay}
+
+-- while free blocks alone are written, a crash leaves the old volume
+pub free_crash : (h₀ h₁ : History) → IsSettled h₀ → WritesOnly (λ b _. IsFree (reads h₀) b) h₀ h₁ → (other : Image) → LeftSince (clock h₀) h₁ other → IsBefore (reads h₀) other
+free_crash h₀ h₁ settled only other left =
+    let outside = left_outside (λ b. IsFree (reads h₀) b) h₀ h₁ only settled other left in
+    record { size = outside.0; used = λ b used. outside.1 b (used_not_free (reads h₀) b used) }
+
+module _ (o : Options) (ids : Ids) (now : ℕ) (image put : Image) (w : Written) (down : IsPutDown o ids now image put w) where
+  abbrev of : HasPieces down.m.volume image down.m.options down.m.plan down.m.pieces
+  of = down.conversion.making.has_pieces
+
+  pub put_convertible : IsConvertible o image
+  put_convertible = subst (λ (p : Options). IsConvertible p image) down.conversion.options_are (convertible down.m.volume image down.m.options down.m.plan down.m.pieces of)
+
+  -- no block of a piece is that of the superblock or of a copy
+  piece_elsewhere : (b : ℕ) → InPieces down.m b → (b ≡ 16) ⊎ IsMirror b → ⊥
+  piece_elsewhere b at is =
+      piece_apart down.m.volume image down.m.options down.m.plan down.m.pieces of at.0 at.1 b at.2 at.3 (switch_reserved (length (used_of image)) b is)
+
+  module _ (size : IsNodeSize o.nodesize) where
+    -- nor is one of a node
+    node_elsewhere : (b : ℕ) → InNodes down.m b → (b ≡ 16) ⊎ IsMirror b → ⊥
+    node_elsewhere b at =
+        free_apart image b
+        (node_free down.m.volume image down.m.options down.m.plan down.m.pieces of (subst (λ (p : Options). IsNodeSize p.nodesize) (sym down.conversion.options_are) size) b at)
+
+    -- the superblock over all that was put down is the new volume
+    pub switched_new : (other : Image) → IsSwitched w.superblock.bytes put other → IsNew o ids now image other down.m down.r down.nodes
+    switched_new other is = record {
+      conversion = down.conversion;
+      stands =
+          stands_stay image put other down.m down.r down.nodes (piece_some down.m.volume image down.m.options down.m.plan down.m.pieces of) is.size
+          (λ b at. is.others b (λ here. piece_elsewhere b at (inl here)) (λ mirror. piece_elsewhere b at (inr mirror)))
+          (λ b at. is.others b (λ here. node_elsewhere b at (inl here)) (λ mirror. node_elsewhere b at (inr mirror)))
+          down.stands;
+      superblock = is.superblock_is ∙ down.superblock;
+      others = λ b other_block no_mirror outside. is.others b other_block no_mirror ∙ down.others b outside;
+    }
+
+    -- with its copies the volume is converted
+    pub converted : (other : Image) → IsSwitched w.superblock.bytes put other → HasCopies w.superblock.bytes w.blocks other → IsConverted o ids now image other
+    converted other is copies = record {
+      m = down.m;
+      r = down.r;
+      nodes = down.nodes;
+      new = switched_new other is;
+      copies =
+          subst (λ (bytes : List ℕ). HasCopies bytes down.m.volume.sup.blocks other) down.superblock
+          (subst (λ (n : ℕ). HasCopies w.superblock.bytes n other) down.blocks copies);
+    }
+
+-- what was written before the switch: nothing, or free blocks of a volume that can be converted
+abbrev pub MayWrite : Options → History → History → Type 0
+MayWrite o h₀ h₁ = (h₁ ≡ h₀) ⊎ (IsConvertible o (reads h₀) × WritesOnly (λ b _. IsFree (reads h₀) b) h₀ h₁)
+
+may_only : (o : Options) (h₀ h₁ : History) → MayWrite o h₀ h₁ → WritesOnly (λ b _. IsFree (reads h₀) b) h₀ h₁
+may_only o h₀ h₁ may =
+    ⊎_elim (λ same. subst (λ (h : History). WritesOnly (λ b _. IsFree (reads h₀) b) h₀ h) (sym same) (writes_none (λ b _. IsFree (reads h₀) b) h₀)) (λ both. both.1) may
+
+module _ (o : Options) (ids : Ids) (now : ℕ) (h₀ h₁ : History) (settled : IsSettled h₀) (reiser : format_in (reads h₀) ≢ Btrfs) (may : MayWrite o h₀ h₁) where
+  -- before the switch
+  pub early_crash : (other : Image) → LeftSince (clock h₀) h₁ other → IsEither o ids now (reads h₀) other
+  early_crash other left =
+      ⊎_elim (λ same. inl (left_unwritten h₀ h₁ settled same other left)) (λ both. inr (reiser, both.0, inl (free_crash h₀ h₁ settled both.1 other left))) may
+
+  -- and while the superblock and its copies are written
+  pub switch_crash : (P : ℕ → List ℕ → Type 0) (h₂ : History) (w : Written) → IsNodeSize o.nodesize → IsPutDown o ids now (reads h₀) (reads h₁) w → WritesOnly P h₁ h₂
+      → ((other : Image) → LeftSince (clock h₁) h₂ other → (other ≡ reads h₁) ⊎ IsSwitched w.superblock.bytes (reads h₁) other)
+      → (other : Image) → LeftSince (clock h₀) h₂ other → IsEither o ids now (reads h₀) other
+  switch_crash P h₂ w size down only each other left =
+      let can : IsConvertible o (reads h₀) = put_convertible o ids now (reads h₀) (reads h₁) w down in
+      let before : IsBefore (reads h₀) (reads h₁) = free_before (reads h₀) h₀ h₁ refl (may_only o h₀ h₁ may) in
+      ⊎_elim (λ early. early_crash other early)
+      (λ late. ⊎_elim
+      (λ same. inr (reiser, can, inl (subst (IsBefore (reads h₀)) (sym same) before)))
+      (λ is. inr (reiser, can, inr (down.m, down.r, down.nodes, switched_new o ids now (reads h₀) (reads h₁) w down size other is)))
+      (each other late))
+      (left_then (λ b _. IsFree (reads h₀) b) P h₀ h₁ h₂ (may_only o h₀ h₁ may) only other left)

@@ -1,0 +1,51 @@
+-- The answers of a conversion.
+use Rattle.std.proofs.Common.{◌≡◌, ◌≢◌, ◌⊎◌, ℕ, Ok, Err, sym, subst, ⊎_elim, rules}
+use Rattle.std.specs.Prelude.{IfErr, Result}
+use Rattle.std.specs.Result.{MatchResult}
+use Rattle.outside.specs.Fault.{HasCauseOf}
+use Rattle.vol_block.specs.declared.format.Format.TheVariants.{Btrfs}
+use Rattle.outside.specs.Format.{format_in}
+use Rattle.outside.specs.History.{Image}
+use Rattle.outside.specs.declared.answer.Answer.{Answer}
+use Rattle.outside.specs.declared.answer.Answer.TheVariants as answer
+use Rattle.convert_steps.specs.Prepared.{IsPrepareAnswer, RefusesConversion}
+use Rattle.unit_plan.specs.declared.options.Options.{Options}
+use Rattle.convert_core.specs.Answers.{IsConvertAnswer, RefusesConvert}
+
+-- a volume that is not prepared is not converted
+pub refuses : (o : Options) (image : Image) (a : Answer) → format_in image ≢ Btrfs → RefusesConversion image o a → RefusesConvert o image a
+refuses o image (answer.Volume r) reiser is = (reiser, is)
+refuses o image (answer.Btr r) reiser is = is
+refuses o image (answer.NoSpace needed free run_needed longest) reiser is = (reiser, is)
+refuses o image answer.WrongFormat reiser is = absurd is
+refuses o image answer.ImageMissing reiser is = is
+refuses o image (answer.ImageMoved block) reiser is = is
+refuses o image (answer.ImageDamaged r) reiser is = is
+refuses o image (answer.ReservedUsed block) reiser is = is
+refuses o image answer.Fault reiser is = tt
+refuses o image answer.Memory reiser is = tt
+
+pub answers : (a : Answer) → IsPrepareAnswer a → IsConvertAnswer a
+answers (answer.Volume r) is = tt
+answers (answer.Btr r) is = is
+answers (answer.NoSpace needed free run_needed longest) is = tt
+answers answer.WrongFormat is = tt
+answers answer.ImageMissing is = is
+answers (answer.ImageMoved block) is = is
+answers (answer.ImageDamaged r) is = is
+answers (answer.ReservedUsed block) is = is
+answers answer.Fault is = tt
+answers answer.Memory is = tt
+
+-- a failure refuses nothing
+pub fails : (image : Image) (o : Options) (a : Answer) → (a ≡ answer.Fault) ⊎ (a ≡ answer.Memory) → RefusesConversion image o a
+fails image o a is = ⊎_elim (λ fault. subst (RefusesConversion image o) (sym fault) tt) (λ memory. subst (RefusesConversion image o) (sym memory) tt) is
+
+-- where all errors are failures, whatever is said of other ones holds
+pub failed_so : {T : Type 0} (r : Result T Answer) (P : T → Type 0) (Q : Type 0) → MatchResult r P (λ e. (e ≡ answer.Fault) ⊎ (e ≡ answer.Memory)) → IfErr r (λ e. e ≢ answer.Fault → e ≢ answer.Memory → Q)
+failed_so (Ok x) P Q is = tt
+failed_so (Err e) P Q is = λ fault memory. absurd (⊎_elim fault memory is)
+
+-- an answer that is no fault has the cause of a call that went well
+pub keeps_cause : {T X : Type 0} (before now : ℕ) (x : X) (e : Answer) → e ≢ answer.Fault → HasCauseOf {T = X} answer.Fault before now (Ok x) → HasCauseOf {T = T} answer.Fault before now (Err e)
+keeps_cause before now x e other is = record { later = is.later; failed = λ same. search rules; kept = λ _. is.kept (λ same. search rules) }

@@ -1,0 +1,121 @@
+-- What stands on a disk goes on standing while none of its blocks is written.
+use Rattle.std.proofs.Common.{◌≡◌, ◌∙◌, ◌⊎◌, inl, inr, ℕ, ◌+◌, ◌-◌, ◌^◌, ◌<◌, ◌≤◌, List, [], ◌++◌, length, take, drop, get_or, sym, ap, subst, arith, length-drop}
+use Rattle.std.specs.Prelude.{Contains, if◌then◌else◌}
+use Rattle.std.proofs.lemmas.List.{get_or-drop}
+use Rattle.outside.specs.History.{Image, block_at}
+use Rattle.btr_node.specs.Leaf.{Item}
+use Rattle.btr_tree.specs.Roots.{lengths_of}
+use Rattle.btr_tree.specs.Writing.{IsInSlots}
+use Rattle.btr_tree.specs.declared.climb.Root.{Root}
+use Rattle.conversion.specs.Making.{Making, new_ids, chunk_slots, slots}
+use Rattle.conversion.specs.Standing.{HasTrees, device_from, extents_from, file_tree_items, form, image_from, image_tree_items, nodes_from, relocation_from, root_from, root_tree_items, sum_tree_items, sums_from}
+use Rattle.conversion.specs.declared.trees.VolumeTrees.{VolumeTrees}
+use Rattle.convert_steps.specs.Moved.{HoldMoved}
+use Rattle.file_items.specs.Small.{relocation_items}
+use Rattle.space_items.specs.Chunks.{chunk_items, device_items}
+use Rattle.space_items.specs.Extents.{extent_items}
+use Rattle.space_items.specs.Nodes.{merged_nodes, nodes_of_tree}
+use Rattle.space_items.specs.declared.node.TreeNode.{TreeNode}
+use Rattle.tree_writer.specs.Trees.{TreeStands}
+use Rattle.tree_writer.proofs.Others.{by_nodes}
+use Rattle.tree_writer.proofs.Pushing.{in_all}
+use Rattle.unit_plan.specs.declared.piece.Piece.{Piece}
+use Rattle.convert_core.specs.Converted.{StandsOn}
+use Rattle.convert_core.proofs.Sums.{sums_same}
+
+-- a block of later slots is one of all
+pub in_later : (size k : ℕ) (slots : List ℕ) (b : ℕ) → IsInSlots size (drop k slots) b → IsInSlots size slots b
+in_later size k slots b found =
+    let inside : found.0 < length (drop k slots) = found.2 in (
+      k + found.0,
+      found.1,
+      omega (arith, inside, length-drop k slots),
+      sym (get_or-drop k slots found.0 found.1) ∙ found.3,
+      found.4,
+    )
+
+-- a block of one of the pieces, and one of a place for a node
+abbrev pub InPieces : Making → ℕ → Type 0
+InPieces m b = (p : Piece) × Contains m.pieces p × (p.place ≤ b) × (b < p.place + p.count)
+
+abbrev pub InNodes : Making → ℕ → Type 0
+InNodes m b = IsInSlots m.options.nodesize (chunk_slots m) b ⊎ IsInSlots m.options.nodesize (slots m) b
+
+module _ (image old new : Image) (m : Making) where
+  pub pieces_stay : ((p : Piece) → Contains m.pieces p → 1 ≤ p.count) → ((b : ℕ) → InPieces m b → block_at new b ≡ block_at old b)
+      → HoldMoved m.volume image old m.pieces → HoldMoved m.volume image new m.pieces
+  pieces_stay some same hold p among = record {
+    blocks = λ b j is few. same (p.place + j) (p, among, omega arith, omega (arith, few)) ∙ (hold p among).blocks b j is few;
+    tail = λ key k none named owner.
+        let one = some p among in
+        same p.place (p, among, omega arith, omega (arith, one)) ∙ (hold p among).tail key k none named owner;
+  }
+
+  pub sums_stay : ((b : ℕ) → InPieces m b → block_at new b ≡ block_at old b) → sum_tree_items new m ≡ sum_tree_items old m
+  sums_stay same =
+      ap (λ (items : List Item). if m.options.datasum then items else [])
+      (sums_same m.options.sums old new m.pieces (λ p among b low high. same b (p, among, low, high)))
+
+  -- a tree whose slots are behind the first k
+  later_stays : (owner k : ℕ) (items : List Item) (root : Root) → ((b : ℕ) → InNodes m b → block_at new b ≡ block_at old b)
+      → TreeStands old (form m) owner (drop k (slots m)) items root → TreeStands new (form m) owner (drop k (slots m)) items root
+  later_stays owner k items root same =
+      by_nodes old new (form m) owner (drop k (slots m)) items root
+      (λ b h. same b (inr (in_later m.options.nodesize k (slots m) b (in_all m.options.nodesize root.nodes (drop k (slots m)) b h))))
+
+  pub trees_stay : (other : Image) (r : VolumeTrees) (nodes : List TreeNode) → ((b : ℕ) → InNodes m b → block_at new b ≡ block_at old b)
+      → HasTrees image other old m r nodes → HasTrees image other new m r nodes
+  trees_stay other r nodes same has = record {
+    chunk =
+        by_nodes old new (form m) 3 (chunk_slots m) (chunk_items (new_ids m) m.volume.sup.blocks m.chunks) r.chunk
+        (λ b h. same b (inl (in_all m.options.nodesize r.chunk.nodes (chunk_slots m) b h))) has.chunk;
+    files =
+        by_nodes old new (form m) 5 (slots m) (file_tree_items image m) r.files
+        (λ b h. same b (inr (in_all m.options.nodesize r.files.nodes (slots m) b h))) has.files;
+    image_ = later_stays 256 (image_from r) (image_tree_items m) r.image same has.image_;
+    relocation = later_stays (2 ^ 64 - 9) (relocation_from r) (relocation_items m.now) r.relocation same has.relocation;
+    sums = later_stays 7 (sums_from r) (sum_tree_items other m) r.sums same has.sums;
+    device = later_stays 4 (device_from r) (device_items (new_ids m) m.chunks) r.device same has.device;
+    root =
+        by_nodes old new (form m) 1 (take r.root.nodes (drop (root_from r) (slots m))) (root_tree_items m r) r.root
+        (λ b h. same b (inr (in_later m.options.nodesize (root_from r) (slots m) b
+        (in_all m.options.nodesize r.root.nodes (drop (root_from r) (slots m)) b (in_all m.options.nodesize r.root.nodes (take r.root.nodes (drop (root_from r) (slots m))) b h)))))
+        has.root;
+    nodes_are = has.nodes_are;
+    extents = later_stays 2 (extents_from r) (extent_items m.chunks m.pieces nodes m.options.nodesize) r.extents same has.extents;
+  }
+
+-- all nodes, by the items of the tree of checksums
+abbrev nodes_by : Image → Making → VolumeTrees → List TreeNode → List Item → List TreeNode
+nodes_by image m r nodes sums =
+    merged_nodes
+    (merged_nodes
+    (nodes_from m 5 0 (file_tree_items image m) ++ (nodes_from m 256 (image_from r) (image_tree_items m) ++ (nodes_from m (2 ^ 64 - 9) (relocation_from r) (relocation_items m.now)
+    ++ (nodes_from m 7 (sums_from r) sums ++ (nodes_from m 4 (device_from r) (device_items (new_ids m) m.chunks) ++ nodes_from m 1 (root_from r) (root_tree_items m r))))))
+    (nodes_of_tree 3 m.options.nodesize (lengths_of (chunk_items (new_ids m) m.volume.sup.blocks m.chunks)) (chunk_slots m)))
+    (nodes_from m 2 (extents_from r) (extent_items m.chunks m.pieces nodes m.options.nodesize))
+
+-- the checksums of another disk, where they are the same
+pub other_sums : (image mid third new : Image) (m : Making) (r : VolumeTrees) (nodes : List TreeNode) → sum_tree_items third m ≡ sum_tree_items mid m
+    → HasTrees image mid new m r nodes → HasTrees image third new m r nodes
+other_sums image mid third new m r nodes same has = record {
+  chunk = has.chunk;
+  files = has.files;
+  image_ = has.image_;
+  relocation = has.relocation;
+  sums = subst (λ (items : List Item). TreeStands new (form m) 7 (drop (sums_from r) (slots m)) items r.sums) (sym same) has.sums;
+  device = has.device;
+  root = has.root;
+  nodes_are = record { is = has.nodes_are.is ∙ ap (nodes_by image m r nodes) (sym same) };
+  extents = has.extents;
+}
+
+-- a converted volume stands on each disk that has the same blocks of pieces and nodes
+pub stands_stay : (image old new : Image) (m : Making) (r : VolumeTrees) (nodes : List TreeNode) → ((p : Piece) → Contains m.pieces p → 1 ≤ p.count) → length new ≡ length old
+    → ((b : ℕ) → InPieces m b → block_at new b ≡ block_at old b) → ((b : ℕ) → InNodes m b → block_at new b ≡ block_at old b)
+    → StandsOn image old m r nodes → StandsOn image new m r nodes
+stands_stay image old new m r nodes some size pieces trees stands = record {
+  size = size ∙ stands.size;
+  pieces = pieces_stay image old new m some pieces stands.pieces;
+  trees = other_sums image old new new m r nodes (sums_stay image old new m pieces) (trees_stay image old new m old r nodes trees stands.trees);
+}

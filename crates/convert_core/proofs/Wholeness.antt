@@ -1,0 +1,150 @@
+-- What was prepared of a volume is whole.
+use Rattle.std.proofs.Common.{◌≡◌, ◌≤◌, ◌<◌, ℕ, ◌+◌, ◌^◌, List, length, get_or, Option, Some, None, sym, ap, subst, ◌∙◌, ⊎_elim, arith}
+use Rattle.std.specs.Prelude.{All, AllPairs, MatchOption}
+use Rattle.std.proofs.lemmas.Bool.{cases_lt}
+use Rattle.outside.specs.History.{Image, block_at}
+use Rattle.btr_node.specs.NodeSize.{IsNodeSize}
+use Rattle.reiser_super.specs.Rules.{IsCleanSuper}
+use Rattle.reiser_super.specs.declared.superblock.Super.{Super}
+use Rattle.reiser_volume.specs.Volume.{superblock, used_of}
+use Rattle.reiser_volume.specs.declared.volume.Volume.{Volume}
+use Rattle.reiser_volume.proofs.Holding.{used_length}
+use Rattle.space_items.specs.Stream.{ArePieces, IsSmallPiece}
+use Rattle.space_laws.proofs.Booting.{system_few}
+use Rattle.unit_plan.specs.Needed.{need}
+use Rattle.unit_plan.specs.Pieces.{ArePlaced}
+use Rattle.unit_plan.specs.declared.counts.Counts.{Counts}
+use Rattle.unit_plan.specs.declared.need.Need.{Need}
+use Rattle.unit_plan.specs.declared.options.Options.{Options}
+use Rattle.unit_plan.specs.declared.piece.Piece.{Piece}
+use Rattle.unit_plan.specs.declared.plan.Plan.{Plan}
+use Rattle.vol_block.specs.declared.ids.Ids.{Ids}
+use Rattle.conversion.specs.Source.{HasPieces}
+use Rattle.convert_steps.specs.Prepared.{IsPrepared}
+use Rattle.convert_steps.specs.declared.prepared.Prepared.{Prepared}
+use Rattle.convert_core.specs.Whole.{IsWhole}
+use Rattle.convert_core.proofs.Moving.{well}
+
+-- ---- pieces that are looked at one after the other
+
+abbrev pub Ascend : List Piece → Type 0
+Ascend pieces = AllPairs (λ p q. p.place + p.count ≤ q.place) pieces
+
+-- The first i ascend and lie on the volume, and end at an end or before. Where all ascend, those that come lie behind it.
+pub record ArePlacedTo (pieces : List Piece) (blocks end i : ℕ) : Type 0 where
+  pub small : (k : ℕ) (d : Piece) → k < i → IsSmallPiece (get_or pieces k d)
+  pub inside : (k : ℕ) (d : Piece) → k < i → (get_or pieces k d).place + (get_or pieces k d).count ≤ blocks
+  pub ascending : (k l : ℕ) (d : Piece) → k < l → l < i → (get_or pieces k d).place + (get_or pieces k d).count ≤ (get_or pieces l d).place
+  pub before : (k : ℕ) (d : Piece) → k < i → (get_or pieces k d).place + (get_or pieces k d).count ≤ end
+  pub behind : Ascend pieces → (k : ℕ) (d : Piece) → i ≤ k → k < length pieces → end ≤ (get_or pieces k d).place
+
+pub placed_none : (pieces : List Piece) (blocks : ℕ) → ArePlacedTo pieces blocks 0 0
+placed_none pieces blocks = record {
+  small = λ k d h. absurd (omega arith);
+  inside = λ k d h. absurd (omega arith);
+  ascending = λ k l d order h. absurd (omega arith);
+  before = λ k d h. absurd (omega arith);
+  behind = λ all k d low h. omega arith;
+}
+
+module _ (pieces : List Piece) (blocks end i : ℕ) (p : Piece) (at : (d : Piece) → get_or pieces i d ≡ p) (old : ArePlacedTo pieces blocks end i) where
+  pub placed_more : end ≤ p.place → IsSmallPiece p → p.place + p.count ≤ blocks → i < length pieces → ArePlacedTo pieces blocks (p.place + p.count) (i + 1)
+  placed_more order small inside more = record {
+    small = λ k d h. ⊎_elim (λ first. old.small k d first) (λ last. let here : k ≡ i = omega (arith, h, last) in subst (λ (n : ℕ). IsSmallPiece (get_or pieces n d)) (sym here) (subst IsSmallPiece (sym (at d)) small)) (cases_lt k i);
+    inside = λ k d h. ⊎_elim (λ first. old.inside k d first) (λ last. let here : k ≡ i = omega (arith, h, last) in subst (λ (n : ℕ). (get_or pieces n d).place + (get_or pieces n d).count ≤ blocks) (sym here) (subst (λ (q : Piece). q.place + q.count ≤ blocks) (sym (at d)) inside)) (cases_lt k i);
+    ascending = λ k l d less h.
+        ⊎_elim (λ first. old.ascending k l d less first)
+        (λ last.
+        let here : l ≡ i = omega (arith, h, last) in
+        let low = old.before k d (omega (arith, here, less)) in
+        let place : (get_or pieces l d).place ≡ p.place = ap (λ (n : ℕ). (get_or pieces n d).place) here ∙ ap (λ (q : Piece). q.place) (at d) in
+        omega (arith, low, order, place))
+        (cases_lt l i);
+    before = λ k d h.
+        ⊎_elim (λ first. let low = old.before k d first in omega (arith, low, order))
+        (λ last. let here : k ≡ i = omega (arith, h, last) in subst (λ (n : ℕ). (get_or pieces n d).place + (get_or pieces n d).count ≤ p.place + p.count) (sym here) (subst (λ (q : Piece). q.place + q.count ≤ p.place + p.count) (sym (at d)) (omega arith)))
+        (cases_lt k i);
+    behind = λ all k d low h. subst (λ (q : Piece). q.place + q.count ≤ (get_or pieces k d).place) (at d) (all i k d (omega (arith, low)) h);
+  }
+
+  -- one that lies before the end of the last does not ascend
+  pub placed_not : p.place < end → i < length pieces → Ascend pieces → ⊥
+  placed_not less more all = let low : end ≤ p.place = subst (λ (q : Piece). end ≤ q.place) (at p) (old.behind all i p (omega arith) more) in omega (arith, less, low)
+
+pub placed_all : (pieces : List Piece) (blocks end i : ℕ) → length pieces ≤ i → ArePlacedTo pieces blocks end i → ArePieces pieces × All (λ q. q.place + q.count ≤ blocks) pieces
+placed_all pieces blocks end i all to = (
+  record { small = λ k d h. to.small k d (omega (arith, h, all)); ascending = λ k l d order h. to.ascending k l d order (omega (arith, h, all)) },
+  λ k d h. to.inside k d (omega (arith, h, all)),
+)
+
+-- ---- pieces of a volume
+
+-- pieces that have their places on a small volume are small
+module _ (blocks : ℕ) (few : blocks ≤ 2 ^ 29) (p : Piece) (some : 1 ≤ p.count) where
+  small_source : (from : Option ℕ) → MatchOption from (Unit {0}) (λ b. b + p.count ≤ blocks) → MatchOption from (Unit {0}) (λ b. b < 2 ^ 29)
+  small_source None h = tt
+  small_source (Some b) h = omega (arith, h, few, some)
+
+  small_owner : (owner : Option (ℕ × ℕ)) → MatchOption owner (Unit {0}) (λ o. o.1 + p.count ≤ 2 ^ 32) → MatchOption owner (Unit {0}) (λ o. o.1 < 2 ^ 32)
+  small_owner None h = tt
+  small_owner (Some o) h = omega (arith, h, some)
+
+pub pieces_small : (blocks : ℕ) (pieces : List Piece) → blocks ≤ 2 ^ 29 → ArePlaced blocks pieces → ArePieces pieces
+pieces_small blocks pieces few are = record {
+  small = λ k d h.
+      let p : Piece = get_or pieces k d in
+      let some = are.some k d h in
+      let inside = are.inside k d h in
+      record { some = some; place = omega (arith, inside, few); from = small_source blocks few p some p.from (are.sources k d h); owner = small_owner blocks few p some p.owner (are.owners k d h) };
+  ascending = are.ascending;
+}
+
+-- ---- what was prepared
+
+module _ (volume : Volume) (image : Image) (o : Options) (plan : Plan) (pieces : List Piece) (of : HasPieces volume image o plan pieces) where
+  pub blocks_are : volume.sup.blocks ≡ (superblock image).blocks
+  blocks_are = ap (λ (s : Super). s.blocks) of.opened.sup
+
+  pub map_long : length volume.bitmap ≡ volume.sup.blocks
+  map_long = ap length of.opened.bitmap ∙ (used_length image ∙ sym blocks_are)
+
+  clean : IsCleanSuper (block_at image 16) (length image)
+  clean = of.accepted.clean.superblock
+
+  pub blocks_some : 16 < volume.sup.blocks
+  blocks_some = let low = clean.bounds.blocks in omega (arith, low, blocks_are)
+
+  pub blocks_few : volume.sup.blocks ≤ 2 ^ 29
+  blocks_few = let high = clean.count in omega (arith, high, blocks_are)
+
+  pub blocks_inside : volume.sup.blocks ≤ length image
+  blocks_inside = let fits = clean.fits in omega (arith, fits, blocks_are)
+
+  pub are_pieces : ArePieces pieces
+  are_pieces = let long = used_length image in pieces_small (length (used_of image)) pieces (let few = blocks_few in omega (arith, few, long, blocks_are)) (well volume image o plan pieces of).apart
+
+  pub places_inside : All (λ q. q.place + q.count ≤ volume.sup.blocks) pieces
+  places_inside = λ k d h. let long = used_length image in let inside = (well volume image o plan pieces of).apart.inside k d h in omega (arith, inside, long, blocks_are)
+
+pub prepared_whole : (image : Image) (o : Options) (ids : Ids) (p : Prepared) → IsPrepared image o ids p → p.need.system ≤ 2 ^ 14 → IsWhole p (length image)
+prepared_whole image o ids p is few = record {
+  some = blocks_some p.volume image o p.plan p.pieces.items.items is.has_pieces;
+  small = blocks_few p.volume image o p.plan p.pieces.items.items is.has_pieces;
+  inside = blocks_inside p.volume image o p.plan p.pieces.items.items is.has_pieces;
+  bitmap = map_long p.volume image o p.plan p.pieces.items.items is.has_pieces;
+  pieces = are_pieces p.volume image o p.plan p.pieces.items.items is.has_pieces;
+  places = places_inside p.volume image o p.plan p.pieces.items.items is.has_pieces;
+  system = few;
+}
+
+pub told_whole : (image : Image) (o : Options) (ids : Ids) (p : Prepared) (device : ℕ) → IsNodeSize o.nodesize → length image ≡ device → IsPrepared image o ids p → IsWhole p device
+told_whole image o ids p device size long is =
+    let counts : Counts = is.has_pieces.found.counts in
+    let told : p.need ≡ need counts o = is.need_is ∙ ap (λ (c : Counts). need c o) is.counts_are in
+    let blocks = blocks_few p.volume image o p.plan p.pieces.items.items is.has_pieces in
+    let map = used_length image in
+    let same = blocks_are p.volume image o p.plan p.pieces.items.items is.has_pieces in
+    let few : (need counts o).system ≤ 16384 =
+    system_few (used_of image) counts o size (omega (arith, blocks, map, same)) (ap (λ (c : Counts). c.blocks) is.has_pieces.plan_.found_.counts_are)
+    (ap (λ (c : Counts). c.runs) is.has_pieces.plan_.found_.counts_are) in
+    subst (IsWhole p) long (prepared_whole image o ids p is (subst (λ (n : Need). n.system ≤ 2 ^ 14) (sym told) few))

@@ -1,0 +1,117 @@
+-- The disk before, while and after a volume is converted.
+use Rattle.std.specs.Prelude.{◌≡◌, ◌≢◌, ◌⊎◌, ℕ, ◌/◌, true, List, length}
+use Rattle.outside.specs.Format.{format_in}
+use Rattle.outside.specs.History.{Image, block_at}
+use Rattle.vol_block.specs.declared.format.Format.TheVariants.{Btrfs}
+use Rattle.vol_block.specs.declared.ids.Ids.{Ids}
+use Rattle.btr_super.specs.Super.{super_bytes}
+use Rattle.conversion.specs.Making.{IsMaking, Making, label_by, label_field, new_ids}
+use Rattle.conversion.specs.Standing.{HasTrees, used_bytes}
+use Rattle.conversion.specs.declared.trees.VolumeTrees.{VolumeTrees}
+use Rattle.convert_steps.specs.Moved.{HoldMoved}
+use Rattle.convert_steps.specs.Superblock.{new_super}
+use Rattle.convert_steps.specs.Switch.{HasCopies, IsMirror}
+use Rattle.extent_pieces.specs.Found.{IsFound}
+use Rattle.extent_pieces.specs.Laws.{AreSortedKeys}
+use Rattle.extent_pieces.specs.declared.pieces.Pieces.{Pieces}
+use Rattle.object_files.specs.Laws.{SameUsed}
+use Rattle.reiser_bitmap.specs.Units.{IsFreeUnit}
+use Rattle.reiser_names.specs.Links.{AreLinks}
+use Rattle.reiser_objects.specs.declared.key.ObjectKey.{ObjectKey}
+use Rattle.reiser_objects.specs.declared.naming.Naming.{Naming}
+use Rattle.reiser_volume.specs.Volume.{used_of, volume_items}
+use Rattle.space_items.specs.declared.node.TreeNode.{TreeNode}
+use Rattle.unit_plan.specs.Choice.{HasEnoughSpace, is_chosen}
+use Rattle.unit_plan.specs.Needed.{need}
+use Rattle.unit_plan.specs.declared.options.Options.{Options}
+use Rattle.unit_plan.specs.declared.plan.Plan.{Plan}
+use Rattle.convert_core.specs.Surveyed.{IsSummary}
+use Rattle.convert_core.specs.declared.volume.Written.{Written}
+
+-- ---- which disks can be converted
+
+-- an accepted ReiserFS volume that has the space for a conversion with these options
+pub record IsConvertible (o : Options) (image : Image) : Type 0 where
+  pub keys : List ObjectKey
+  pub sorted : AreSortedKeys image keys
+  pub visible : List Naming
+  pub links : List Naming
+  pub are_links : AreLinks (volume_items image) visible links
+  pub found : Pieces
+  pub found_ : IsFound o.inline image keys links found
+  pub enough : HasEnoughSpace (used_of image) (need found.counts o)
+
+-- ---- the old volume
+
+-- The old volume still stands: no used block differs.
+pub record IsBefore (image other : Image) : Type 0 where
+  pub size : length other ≡ length image
+  pub used : SameUsed (used_of image) image other
+
+-- the block lies in a unit of 1 MiB that the old volume has free
+abbrev pub IsFree : Image → ℕ → Type 0
+IsFree image b = IsFreeUnit (used_of image) (b / 256)
+
+-- ---- the new volume
+
+-- the conversion of the volume in these blocks, with these options and identifiers and at this time
+pub record IsConversion (o : Options) (ids : Ids) (now : ℕ) (image : Image) (m : Making) : Type 0 where
+  pub making : IsMaking image m
+  pub options_are : m.options ≡ o
+  pub ids_are : m.ids ≡ ids
+  pub now_is : m.now ≡ now
+
+-- the block lies in a unit that the plan takes
+abbrev pub IsTaken : Plan → ℕ → Type 0
+IsTaken plan b = is_chosen plan.system plan.metadata plan.data_ (b / 256) ≡ true
+
+-- the bytes of its superblock
+abbrev pub superblock_of : Making → VolumeTrees → List TreeNode → List ℕ
+superblock_of m r nodes =
+    super_bytes
+    (new_super (new_ids m) m.volume.sup.blocks m.options.nodesize (label_field (label_by m.volume.sup m.options.label)) m.chunks
+    (record { chunk = r.chunk; root = r.root; used = used_bytes m nodes }))
+
+-- Its trees stand, and each piece of data holds what it is to hold: blocks of the old volume, or bytes of direct items.
+pub record StandsOn (image other : Image) (m : Making) (r : VolumeTrees) (nodes : List TreeNode) : Type 0 where
+  pub size : length other ≡ length image
+  pub pieces : HoldMoved m.volume image other m.pieces
+  pub trees : HasTrees image other other m r nodes
+
+-- All of it is written but the superblock: nothing differs outside the units that are taken.
+pub record IsPutDown (o : Options) (ids : Ids) (now : ℕ) (image other : Image) (w : Written) : Type 0 where
+  pub m : Making
+  pub r : VolumeTrees
+  pub nodes : List TreeNode
+  pub conversion : IsConversion o ids now image m
+  pub stands : StandsOn image other m r nodes
+  pub others : (b : ℕ) → ¬ IsTaken m.plan b → block_at other b ≡ block_at image b
+  pub superblock : w.superblock.bytes ≡ superblock_of m r nodes
+  pub blocks : w.blocks ≡ m.volume.sup.blocks
+  pub summary : IsSummary o image w.summary
+
+-- The new volume: block 16 is its superblock. The blocks of the superblock's copies may hold anything.
+pub record IsNew (o : Options) (ids : Ids) (now : ℕ) (image other : Image) (m : Making) (r : VolumeTrees) (nodes : List TreeNode) : Type 0 where
+  pub conversion : IsConversion o ids now image m
+  pub stands : StandsOn image other m r nodes
+  pub superblock : block_at other 16 ≡ superblock_of m r nodes
+  pub others : (b : ℕ) → b ≢ 16 → ¬ IsMirror b → ¬ IsTaken m.plan b → block_at other b ≡ block_at image b
+
+-- The volume is converted: the copies of the superblock stand too.
+pub record IsConverted (o : Options) (ids : Ids) (now : ℕ) (image other : Image) : Type 0 where
+  pub m : Making
+  pub r : VolumeTrees
+  pub nodes : List TreeNode
+  pub new : IsNew o ids now image other m r nodes
+  pub copies : HasCopies (superblock_of m r nodes) m.volume.sup.blocks other
+
+-- ---- what a crash may leave
+
+-- the new volume, with any of its copies
+abbrev pub IsSomeNew : Options → Ids → ℕ → Image → Image → Type 0
+IsSomeNew o ids now image other = (m : Making) × (r : VolumeTrees) × (nodes : List TreeNode) × IsNew o ids now image other m r nodes
+
+-- The disk as it was; or, of a volume that can be converted, the old volume or the new one.
+abbrev pub IsEither : Options → Ids → ℕ → Image → Image → Type 0
+IsEither o ids now image other =
+    (other ≡ image) ⊎ ((format_in image ≢ Btrfs) × IsConvertible o image × (IsBefore image other ⊎ IsSomeNew o ids now image other))

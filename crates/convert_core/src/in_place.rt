@@ -1,0 +1,78 @@
+// The conversion.
+ghost use Rattle.std.specs.Prelude.{◌≡◌, ◌≢◌, ◌<◌, ◌^◌, Some, IfErr, IfOk, IsTrue, OnOk};
+ghost use Rattle.std.specs.Result.{MatchResult};
+ghost use Rattle.btr_node.specs.NodeSize.{IsNodeSize};
+ghost use Rattle.outside.specs.Fault.{HasCauseOf};
+ghost use Rattle.outside.specs.Format.{format_in};
+ghost use Rattle.outside.specs.History.{EachCrash, IsSettled, OverTold, reads};
+ghost use Rattle.vol_block.specs.declared.format.Format.TheVariants as formats;
+ghost use Rattle.convert_core.specs.Answers.{IsConvertAnswer, RefusesConvert};
+ghost use Rattle.convert_core.specs.Converted.{IsConverted, IsEither};
+ghost use Rattle.convert_core.specs.Surveyed.{IsSummary};
+
+use crate::answers::fault_answer;
+use crate::summary::ConvertSummary;
+use crate::volume::write_volume;
+use convert_steps::switch_to;
+use outside::{Access, Answer, BlockSource, Disk};
+use std::alloc::Global;
+use unit_plan::Options;
+use vol_block::{Block, BlockNo, Format, Ids, format_of};
+
+/// The block of the superblock, of both formats.
+const SUPERBLOCK: BlockNo = 16;
+
+/// Converts the ReiserFS volume of a disk to Btrfs, in place. `ids` are the identifiers that the new volume gets, and `now` is
+/// the time of the conversion in seconds since the start of 1970, below 2^63.
+///
+/// The new volume's trees, and the few blocks of files that can't stay where they lie, are written to free blocks and are on
+/// the disk before the superblock is. A crash at any moment leaves the old volume or the new one.
+///
+/// A refusal names what is wrong with the volume, or the space that it has not; then no block was written. Only over a
+/// disk that reads a block otherwise the second time, which is then refused as damaged, may free blocks have been written.
+pub fn convert<D: Disk>(
+    alloc: Global,
+    disk: &mut D,
+    ids: &Ids,
+    now: u64,
+    options: &Options,
+) -> Result<ConvertSummary, Answer>
+    requires open { D.opened disk.old ≡ Some Access.Write }
+    requires size { IsNodeSize options.now.nodesize }
+    requires moment { now < 2 ^ 63 }
+    ensures crash { EachCrash D.tells (D.history disk.old) (D.history disk.new) (IsEither options.now ids.now now (reads (D.history disk.old))) }
+    ensures open { D.opened disk.new ≡ D.opened disk.old }
+    ensures size { D.size disk.new ≡ D.size disk.old }
+    ensures converted { OverTold D.tells (reads (D.history disk.old)) (λ image.
+        MatchResult result (λ s. IsConverted options.now ids.now now image (reads (D.history disk.new)) × IsSummary options.now image s) (RefusesConvert options.now image)) }
+    ensures settled { IsTrue D.tells → OnOk result (IsSettled (D.history disk.new)) }
+    ensures refused { IsTrue D.tells → IfErr result (λ e. e ≢ Answer.Fault → e ≢ Answer.Memory → D.history disk.new ≡ D.history disk.old) }
+    ensures cause { HasCauseOf Answer.Fault (D.faults disk.old) (D.faults disk.new) result }
+    ensures answers { IfErr result IsConvertAnswer }
+{
+    if is_btrfs(disk)? {
+        return Err(Answer::WrongFormat);
+    }
+    let written = write_volume(alloc, disk, ids, now, options)?;
+    match switch_to(disk, &written.superblock, written.blocks) {
+        Ok(()) => Ok(written.summary),
+        Err(fault) => Err(fault_answer(fault)),
+    }
+}
+
+/// Whether block 16 is the superblock of a Btrfs volume. A device without that block has none.
+fn is_btrfs<S: BlockSource>(src: &mut S) -> Result<bool, Answer>
+    ensures kept { S.kept src.old src.new }
+    ensures found { OverTold S.tells (S.blocks src.old) (λ image. IfOk result (λ yes. (IsTrue yes → format_in image ≡ formats.Btrfs) × (format_in image ≡ formats.Btrfs → IsTrue yes))) }
+    ensures cause { HasCauseOf Answer.Fault (S.faults src.old) (S.faults src.new) result }
+    ensures answers { IfErr result (λ e. e ≡ Answer.Fault) }
+{
+    if src.len() <= SUPERBLOCK {
+        return Ok(false);
+    }
+    let mut block = Block::zero();
+    match src.read(SUPERBLOCK, &mut block) {
+        Ok(()) => Ok(format_of(&block) == Format::Btrfs),
+        Err(fault) => Err(fault_answer(fault)),
+    }
+}

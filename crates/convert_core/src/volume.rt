@@ -1,0 +1,235 @@
+// The new volume without its superblock.
+ghost use Rattle.std.specs.Prelude.{◌≡◌, ◌≢◌, ◌≤◌, ◌<◌, ◌⊎◌, ◌^◌, ℕ, List, Some, IfErr, IfOk, IsTrue, OnOk};
+ghost use Rattle.std.specs.Result.{MatchResult};
+ghost use Rattle.btr_node.specs.NodeSize.{IsNodeSize};
+ghost use Rattle.outside.specs.Fault.{HasCauseOf};
+ghost use Rattle.outside.specs.History.{Image, IsSettled, OverTold, WritesOnly, reads};
+ghost use Rattle.btr_super.specs.Super.{super_bytes};
+ghost use Rattle.btr_tree.specs.Writing.{IsInSlots};
+ghost use Rattle.conversion.specs.Making.{IsMaking, Making as MakingOf};
+ghost use Rattle.conversion.specs.Standing.{AllFit, HasTrees, IsFor, SameVolume, used_bytes};
+ghost use Rattle.convert_steps.specs.Moved.{CanMove, HoldMoved, IsPlace};
+ghost use Rattle.convert_steps.specs.Prepared.{HasPlanFor, IsPrepareAnswer, IsPrepared, RefusesConversion};
+ghost use Rattle.convert_steps.specs.Superblock.{new_super};
+ghost use Rattle.space_items.specs.Laws.{AreIds};
+ghost use Rattle.space_items.specs.declared.node.TreeNode.{TreeNode as NodeOf};
+ghost use Rattle.unit_plan.specs.Chunks.{AreChunks};
+ghost use Rattle.unit_plan.specs.Places.{node_places};
+ghost use Rattle.unit_plan.specs.declared.chunk.Chunk.{Chunk as ChunkOf};
+ghost use Rattle.vol_block.specs.declared.ids.Ids.{Ids as IdsOf};
+ghost use Rattle.convert_core.specs.Converted.{IsConvertible, IsFree, IsPutDown};
+ghost use Rattle.convert_core.specs.Whole.{IsWhole};
+
+use crate::answers::{changed, fault_answer, write_answer};
+use crate::summary::{ConvertSummary, summary_of};
+use crate::whole::is_whole;
+use conversion::VolumeTrees;
+use convert_steps::{NewRoots, Prepared, prepare, superblock, volume_answer, write_moved};
+use outside::{Access, Answer, BlockSource, Cached, Disk, Room};
+use space_laws::plans_suffice;
+use std::alloc::Global;
+use unit_plan::{Options, chunks_of};
+use vol_block::{Block, Ids};
+use volume_trees::write_trees;
+
+/// How many blocks are kept in memory while the volume is read and its trees are written.
+const CACHED: usize = 1024;
+
+/// What was written of a new volume, and what is still to be written.
+#[derive(Clone, Copy, Debug)]
+pub struct Written {
+    /// Its superblock.
+    pub superblock: Block,
+    /// The blocks of the volume.
+    pub blocks: u64,
+    pub summary: ConvertSummary,
+}
+
+/// Reads the volume, and writes all of the new one but its superblock. All of it is on the disk then.
+///
+/// At any answer only free blocks of the volume may have been written, and none where it is refused.
+pub fn write_volume<D: Disk>(
+    alloc: Global,
+    disk: &mut D,
+    ids: &Ids,
+    now: u64,
+    options: &Options,
+) -> Result<Written, Answer>
+    requires open { D.opened disk.old ≡ Some Access.Write }
+    requires size { IsNodeSize options.now.nodesize }
+    requires moment { now < 2 ^ 63 }
+    ensures open { D.opened disk.new ≡ D.opened disk.old }
+    ensures size { D.size disk.new ≡ D.size disk.old }
+    ensures room { IfOk result (λ w. (16 < w.blocks) × (w.blocks ≤ D.size disk.old)) }
+    ensures only { OverTold D.tells (reads (D.history disk.old)) (λ image.
+        (D.history disk.new ≡ D.history disk.old) ⊎ (IsConvertible options.now image × WritesOnly (λ b _. IsFree image b) (D.history disk.old) (D.history disk.new))) }
+    ensures written { OverTold D.tells (reads (D.history disk.old)) (λ image.
+        MatchResult result (IsPutDown options.now ids.now now image (reads (D.history disk.new))) (RefusesConversion image options.now)) }
+    ensures settled { IsTrue D.tells → OnOk result (IsSettled (D.history disk.new)) }
+    ensures refused { IsTrue D.tells → IfErr result (λ e. e ≢ Answer.Fault → e ≢ Answer.Memory → D.history disk.new ≡ D.history disk.old) }
+    ensures cause { HasCauseOf Answer.Fault (D.faults disk.old) (D.faults disk.new) result }
+    ensures answers { IfErr result IsPrepareAnswer }
+{
+    let mut room = match Room::new(alloc, CACHED) {
+        Ok(room) => room,
+        Err(_) => return Err(Answer::Memory),
+    };
+    let mut cached = Cached::new(disk, &mut room);
+    let prepared = prepare(alloc, &mut cached, ids, options)?;
+    if !is_whole(&prepared, cached.len()) {
+        return Err(changed(prepared.volume.sup().root));
+    }
+    write_prepared(alloc, &mut cached, &prepared, now, options)
+}
+
+/// Writes what was decided, and syncs.
+fn write_prepared<D: Disk>(
+    alloc: Global,
+    disk: &mut D,
+    prepared: &Prepared,
+    now: u64,
+    options: &Options,
+) -> Result<Written, Answer>
+    requires open { D.opened disk.old ≡ Some Access.Write }
+    requires size { IsNodeSize options.now.nodesize }
+    requires moment { now < 2 ^ 63 }
+    requires plan { HasPlanFor prepared.now }
+    requires whole { IsWhole prepared.now (D.size disk.old) }
+    ensures open { D.opened disk.new ≡ D.opened disk.old }
+    ensures size { D.size disk.new ≡ D.size disk.old }
+    ensures borrow { D.borrow disk.new ≡ D.borrow disk.old }
+    ensures room { IfOk result (λ w. (16 < w.blocks) × (w.blocks ≤ D.size disk.old)) }
+    ensures only { OverTold D.tells (reads (D.history disk.old)) (λ image. (ids : IdsOf) → IsPrepared image options.now ids prepared.now
+        → WritesOnly (λ b _. IsFree image b) (D.history disk.old) (D.history disk.new)) }
+    ensures written { OverTold D.tells (reads (D.history disk.old)) (λ image. (ids : IdsOf) → IsPrepared image options.now ids prepared.now
+        → MatchResult result (IsPutDown options.now ids now image (reads (D.history disk.new))) (λ e. (e ≡ Answer.Fault) ⊎ (e ≡ Answer.Memory))) }
+    ensures settled { IsTrue D.tells → OnOk result (IsSettled (D.history disk.new)) }
+    ensures cause { HasCauseOf Answer.Fault (D.faults disk.old) (D.faults disk.new) result }
+    ensures answers { IfErr result IsPrepareAnswer }
+{
+    plans_suffice();
+    know_ids(prepared.ids);
+    divide(alloc, prepared)?;
+    write_pieces(disk, prepared)?;
+    let trees = write_nodes(alloc, disk, prepared, now, options)?;
+    let superblock = superblock_of(alloc, prepared, options, &trees)?;
+    match disk.sync() {
+        Ok(()) => Ok(Written {
+            superblock,
+            blocks: prepared.volume.sup().blocks,
+            summary: summary_of(&prepared.pieces.counts(), &prepared.need),
+        }),
+        Err(fault) => Err(fault_answer(fault)),
+    }
+}
+
+/// Identifiers have 16 bytes each. It does nothing: callers learn it by the contract.
+fn know_ids(ids: Ids)
+    ensures { AreIds ids }
+{
+    let _value = ids;
+}
+
+/// Divides the volume into chunks, as each list of the new volume does that tells of them. Want of memory for that shows
+/// before anything is written.
+fn divide(alloc: Global, prepared: &Prepared) -> Result<(), Answer>
+    requires plan { HasPlanFor prepared.now }
+    requires whole { (device : ℕ) × IsWhole prepared.now device }
+    ensures chunks { IfOk result (λ _. (chunks : List ChunkOf) × AreChunks prepared.now.plan prepared.now.volume.sup.blocks chunks) }
+    ensures answers { IfErr result (λ e. e ≡ Answer.Memory) }
+{
+    match chunks_of(alloc, &prepared.plan, prepared.volume.sup().blocks) {
+        Ok(_) => Ok(()),
+        Err(_) => Err(Answer::Memory),
+    }
+}
+
+/// Writes copies and tails to their places.
+fn write_pieces<D: Disk>(disk: &mut D, prepared: &Prepared) -> Result<(), Answer>
+    requires open { D.opened disk.old ≡ Some Access.Write }
+    ensures open { D.opened disk.new ≡ D.opened disk.old }
+    ensures size { D.size disk.new ≡ D.size disk.old }
+    ensures borrow { D.borrow disk.new ≡ D.borrow disk.old }
+    ensures only { IsTrue D.tells → WritesOnly (λ b _. IsPlace prepared.now.pieces.items.items b) (D.history disk.old) (D.history disk.new) }
+    ensures written { OverTold D.tells (reads (D.history disk.old)) (λ image. CanMove prepared.now.volume image prepared.now.pieces.items.items →
+        MatchResult result (λ _. HoldMoved prepared.now.volume image (reads (D.history disk.new)) prepared.now.pieces.items.items) (λ e. e ≡ Answer.Fault)) }
+    ensures cause { HasCauseOf Answer.Fault (D.faults disk.old) (D.faults disk.new) result }
+    ensures answers { IfErr result IsPrepareAnswer }
+{
+    match write_moved(disk, &prepared.volume, &prepared.pieces) {
+        Ok(()) => Ok(()),
+        Err(answer) => Err(volume_answer(answer)),
+    }
+}
+
+/// Writes all trees.
+fn write_nodes<D: Disk>(
+    alloc: Global,
+    disk: &mut D,
+    prepared: &Prepared,
+    now: u64,
+    options: &Options,
+) -> Result<VolumeTrees, Answer>
+    requires open { D.opened disk.old ≡ Some Access.Write }
+    requires size { IsNodeSize options.now.nodesize }
+    requires moment { now < 2 ^ 63 }
+    requires plan { HasPlanFor prepared.now }
+    requires whole { IsWhole prepared.now (D.size disk.old) }
+    ensures open { D.opened disk.new ≡ D.opened disk.old }
+    ensures size { D.size disk.new ≡ D.size disk.old }
+    ensures borrow { D.borrow disk.new ≡ D.borrow disk.old }
+    ensures only { IsTrue D.tells → WritesOnly (λ b _. IsInSlots options.now.nodesize (node_places options.now.nodesize prepared.now.plan.system) b
+        ⊎ IsInSlots options.now.nodesize (node_places options.now.nodesize prepared.now.plan.metadata) b) (D.history disk.old) (D.history disk.new) }
+    ensures trees { OverTold D.tells (D.blocks disk.old) (λ other. (image : Image) (m : MakingOf) → IsMaking image m
+        → IsFor m prepared.now.volume options.now prepared.now.ids now prepared.now.plan prepared.now.pieces.items.items → SameVolume image other → AllFit image other m
+        → MatchResult result (λ t. (nodes : List NodeOf) × HasTrees image other (reads (D.history disk.new)) m t nodes × (t.used ≡ used_bytes m nodes)) (λ e. (e ≡ Answer.Fault) ⊎ (e ≡ Answer.Memory))) }
+    ensures cause { HasCauseOf Answer.Fault (D.faults disk.old) (D.faults disk.new) result }
+    ensures answers { IfErr result IsPrepareAnswer }
+{
+    match write_trees(
+        alloc,
+        disk,
+        &prepared.volume,
+        &prepared.pieces,
+        &prepared.plan,
+        options,
+        &prepared.ids,
+        now,
+    ) {
+        Ok(trees) => Ok(trees),
+        Err(answer) => Err(write_answer(answer, prepared.volume.sup().root)),
+    }
+}
+
+/// The superblock that names the trees.
+fn superblock_of(
+    alloc: Global,
+    prepared: &Prepared,
+    options: &Options,
+    trees: &VolumeTrees,
+) -> Result<Block, Answer>
+    requires plan { HasPlanFor prepared.now }
+    requires whole { (device : ℕ) × IsWhole prepared.now device }
+    ensures bytes { (chunks : List ChunkOf) → AreChunks prepared.now.plan prepared.now.volume.sup.blocks chunks → IfOk result (λ block. block.bytes
+        ≡ super_bytes (new_super prepared.now.ids prepared.now.volume.sup.blocks options.now.nodesize prepared.now.label chunks (record { chunk = trees.now.chunk; root = trees.now.root; used = trees.now.used }))) }
+    ensures answers { IfErr result (λ e. e ≡ Answer.Memory) }
+{
+    know_ids(prepared.ids);
+    let roots = NewRoots {
+        chunk: trees.chunk,
+        root: trees.root,
+        used: trees.used,
+    };
+    match superblock(
+        alloc,
+        &prepared.plan,
+        prepared.volume.sup().blocks,
+        &prepared.ids,
+        prepared.label,
+        options.nodesize,
+        &roots,
+    ) {
+        Ok(block) => Ok(block),
+        Err(_) => Err(Answer::Memory),
+    }
+}
