@@ -1,13 +1,21 @@
-use Rattle.std.proofs.Common.{subst}
-use Rattle.outside.specs.History.{History, clock, LeftSince, reads}
-use Rattle.outside.proofs.Crash.{settled_left}
-use Rattle.volume_app.proofs.Outcomes.{done_or_memory, reported_by}
+use Rattle.std.proofs.Common.{◌≡◌, ◌⊎◌, ℕ, map, string_bytes, subst}
+use Rattle.outside.specs.History.{reads}
+use Rattle.volume_app.specs.Command.{command}
+use Rattle.volume_app.specs.Outcome.{meaning}
+use Rattle.volume_app.proofs.Outcomes.{done_by, done_or_memory, reported_by}
 use Rattle.volume_app.proofs.top.run.Goals as goal
 
-pub returns-clause-crash : goal.returns-clause-crash
-returns-clause-crash g c = λ tells settled image left.
-    settled_left (g.D.Disk.history c.args.disk.now) settled image
-    (subst (λ (h : History). LeftSince (clock (g.D.Disk.history c.args.disk.now)) h image) (c.perform-ending.ensures.unchanged tells) left)
+pub returns-clause-unchanged : goal.returns-clause-unchanged
+returns-clause-unchanged g c = λ tells keeps.
+    c.perform-ending.ensures.unchanged tells (subst (λ (n : ℕ). (meaning c.args.ids c.args.now (command (map string_bytes c.args.words.now))).keeps n) c.status.ensures keeps)
+
+pub returns-clause-changed : goal.returns-clause-changed
+returns-clause-changed g c = λ tells is.
+    c.perform-ending.ensures.changed tells (done_by c.perform-ending.result (subst (λ (n : ℕ). (n ≡ 0) ⊎ (n ≡ 5)) c.status.ensures is))
+
+pub returns-clause-settled : goal.returns-clause-settled
+returns-clause-settled g c = λ tells settled is.
+    c.perform-ending.ensures.settled tells settled (done_by c.perform-ending.result (subst (λ (n : ℕ). (n ≡ 0) ⊎ (n ≡ 5)) c.status.ensures is))
 
 pub returns-clause-ends : goal.returns-clause-ends
 returns-clause-ends g c = record {
@@ -22,4 +30,4 @@ returns-clause-ends g c = record {
 pub returns-clause-complete : goal.returns-clause-complete
 returns-clause-complete g c = λ tells done same low out_same out_low.
     rw c.status.ensures
-    (done_or_memory _ (reads (g.D.Disk.history c.args.disk.now)) c.perform-ending.result _ _ _ _ done (c.perform-ending.ensures.right (λ asks. tells)) c.perform-ending.ensures.faults same low out_same out_low)
+    (done_or_memory c.args.ids c.args.now _ (reads (g.D.Disk.history c.args.disk.now)) c.perform-ending.result _ _ _ _ done (c.perform-ending.ensures.right (λ asks. tells)) c.perform-ending.ensures.faults same low out_same out_low)
