@@ -1,6 +1,7 @@
 -- What the words of a command line ask for.
 use Rattle.std.specs.Prelude.{ℕ, ◌-◌, List, [], ◌∷◌, codes, bytes_eq, length, take, slice_index_or, Option, Some, None, option_map, if◌then◌else◌}
 use Rattle.app_words.specs.Words.{is_path}
+use Rattle.btr_node.specs.NodeSize.{IsNodeSize}
 use Rattle.convert_words.specs.Settings.{options}
 use Rattle.outside.specs.declared.disk.Access.{Access}
 use Rattle.outside.specs.declared.disk.Access.TheVariants.{Read, Write}
@@ -57,3 +58,11 @@ seen (ListRows path) = list path.now
 seen (Convert path o) = convert o path.now
 seen Help = help
 seen Version = version
+
+-- the size of a node that is asked for is one that nodes have
+abbrev pub HasSize : Command → Type 0
+HasSize (Inspect path) = Unit {0}
+HasSize (ListRows path) = Unit {0}
+HasSize (Convert path o) = IsNodeSize o.nodesize
+HasSize Help = Unit {0}
+HasSize Version = Unit {0}

@@ -1,5 +1,5 @@
-ghost use Rattle.std.specs.Prelude.{◌≡◌, map, option_map, string_bytes};
-ghost use Rattle.volume_app.specs.Command.{command, alone, begun_by, converting, named, seen, with_path};
+ghost use Rattle.std.specs.Prelude.{◌≡◌, map, option_map, string_bytes, IfSome};
+ghost use Rattle.volume_app.specs.Command.{command, alone, HasSize, begun_by, converting, named, seen, with_path};
 
 use app_words::is_path;
 use convert_words::read_options;
@@ -23,7 +23,8 @@ pub enum Command<'a> {
 /// Reads the words, without the program's name: a command, behind `convert` its options, and a path that is not empty and does
 /// not begin with `-`; or `--help` or `--version` alone. None where they are anything else.
 pub fn read_words(words: &[String]) -> Option<Command<'_>>
-    ensures { option_map seen result ≡ command (map string_bytes words.now) }
+    ensures read { option_map seen result ≡ command (map string_bytes words.now) }
+    ensures size { IfSome result HasSize }
 {
     let [name, rest @ ..] = words else {
         return None;
@@ -35,7 +36,8 @@ pub fn read_words(words: &[String]) -> Option<Command<'_>>
 }
 
 fn alone(word: &str) -> Option<Command<'static>>
-    ensures { option_map seen result ≡ alone word.now }
+    ensures read { option_map seen result ≡ alone word.now }
+    ensures size { IfSome result HasSize }
 {
     match word {
         "--help" => Some(Command::Help),
@@ -46,7 +48,8 @@ fn alone(word: &str) -> Option<Command<'static>>
 
 /// The command that begins with a word, and has these words behind it.
 fn begun_by<'a>(name: &str, words: &'a [String]) -> Option<Command<'a>>
-    ensures { option_map seen result ≡ begun_by name.now (map string_bytes words.now) }
+    ensures read { option_map seen result ≡ begun_by name.now (map string_bytes words.now) }
+    ensures size { IfSome result HasSize }
 {
     if name != "convert" {
         return with_path(name, words);
@@ -58,7 +61,8 @@ fn begun_by<'a>(name: &str, words: &'a [String]) -> Option<Command<'a>>
 }
 
 fn with_path<'a>(name: &str, words: &'a [String]) -> Option<Command<'a>>
-    ensures { option_map seen result ≡ with_path name.now (map string_bytes words.now) }
+    ensures read { option_map seen result ≡ with_path name.now (map string_bytes words.now) }
+    ensures size { IfSome result HasSize }
 {
     let [path] = words else {
         return None;
@@ -70,7 +74,8 @@ fn with_path<'a>(name: &str, words: &'a [String]) -> Option<Command<'a>>
 }
 
 fn converting<'a>(words: &[String], path: &'a str) -> Option<Command<'a>>
-    ensures { option_map seen result ≡ converting (map string_bytes words.now) path.now }
+    ensures read { option_map seen result ≡ converting (map string_bytes words.now) path.now }
+    ensures size { IfSome result HasSize }
 {
     if !is_path(path) {
         return None;
@@ -80,7 +85,8 @@ fn converting<'a>(words: &[String], path: &'a str) -> Option<Command<'a>>
 }
 
 fn named<'a>(name: &str, path: &'a str) -> Option<Command<'a>>
-    ensures { option_map seen result ≡ named name.now path.now }
+    ensures read { option_map seen result ≡ named name.now path.now }
+    ensures size { IfSome result HasSize }
 {
     match name {
         "inspect" => Some(Command::Inspect(path)),
