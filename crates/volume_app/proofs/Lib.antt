@@ -1,3 +1,4 @@
+pub mod Converting
 pub mod Formats
 pub mod Inspecting
 pub mod Listing

@@ -21,7 +21,6 @@ use Rattle.unit_plan.specs.Choice.{HasEnoughSpace}
 use Rattle.unit_plan.specs.Needed.{need}
 use Rattle.unit_plan.specs.declared.options.Options.{Options}
 use Rattle.volume_app.specs.Command.{Asked, inspect, list, convert, help, version}
-use Rattle.volume_app.specs.Converting.{IsConvertDone}
 use Rattle.volume_app.specs.Ending.{status}
 use Rattle.reiser_volume.specs.Volume.{IsAccepted, used_of}
 use Rattle.reiser_volume.proofs.Refusals.{not_refused}
@@ -29,6 +28,7 @@ use Rattle.outside.specs.Format.{format_in}
 use Rattle.volume_app.specs.Inspect.{IsInspectable, InspectRefuses}
 use Rattle.volume_app.specs.Listing.{IsListable, ListRefuses}
 use Rattle.btr_reader.proofs.PartsRead.{rows_not_refused}
+use Rattle.volume_app.proofs.Converting.{accepted_is_reiser}
 use Rattle.volume_app.specs.Outcome.{EndsRight, HasFaults, IsDoneWith, Prints, Reports, ending_of, meaning}
 
 -- a text that was written is that of the ending
@@ -111,15 +111,15 @@ lacks_none o disk needed free run_needed longest c l =
     } in
     l.space.missing (subst (λ (s : Survey). HasEnoughSpace (used_of disk) s.need) (surveys_are_one o disk told other first second) c.enough)
 
-convert_done : (o : Options) (disk : Image) (answer : Answer) (disk_old disk_new : ℕ) → IsConvertDone o disk → RefusesConvert o disk answer
+convert_done : (o : Options) (disk : Image) (answer : Answer) (disk_old disk_new : ℕ) → IsConvertible o disk → RefusesConvert o disk answer
     → (answer ≡ Fault → Rose disk_old disk_new) → disk_new ≡ disk_old → disk_old < 2 ^ 64 - 1 → (status (Failed answer) ≡ 0) ⊎ (status (Failed answer) ≡ 4)
-convert_done o disk (Volume refusal) disk_old disk_new done refuses device same low = absurd (not_refused disk refusal refuses.1 done.1.sorted.accepted)
+convert_done o disk (Volume refusal) disk_old disk_new done refuses device same low = absurd (not_refused disk refusal refuses.1 done.sorted.accepted)
 convert_done o disk (Btr refusal) disk_old disk_new done refuses device same low = absurd refuses
 convert_done o disk Fault disk_old disk_new done refuses device same low = absurd (not_risen disk_old disk_new same low (device refl))
 convert_done o disk Memory disk_old disk_new done refuses device same low = inr refl
-convert_done o disk WrongFormat disk_old disk_new done refuses device same low = absurd (done.0 refuses)
+convert_done o disk WrongFormat disk_old disk_new done refuses device same low = absurd (accepted_is_reiser disk done.sorted.accepted refuses)
 convert_done o disk (NoSpace needed free run_needed longest_run) disk_old disk_new done refuses device same low =
-    absurd (lacks_none o disk needed free run_needed longest_run done.1 refuses.1)
+    absurd (lacks_none o disk needed free run_needed longest_run done refuses.1)
 convert_done o disk ImageMissing disk_old disk_new done refuses device same low = absurd refuses
 convert_done o disk (ImageMoved block) disk_old disk_new done refuses device same low = absurd refuses
 convert_done o disk (ImageDamaged refusal) disk_old disk_new done refuses device same low = absurd refuses

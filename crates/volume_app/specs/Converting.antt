@@ -1,20 +1,14 @@
 -- What `convert` answers, prints and writes.
-use Rattle.std.specs.Prelude.{◌≡◌, ◌≢◌, ◌⊎◌, ℕ, List, [], ◌∷◌, codes, decimal}
+use Rattle.std.specs.Prelude.{◌≡◌, ◌⊎◌, ℕ, List, [], ◌∷◌, codes, decimal}
 use Rattle.convert_core.specs.Answers.{IsConvertAnswer, RefusesConvert}
 use Rattle.convert_core.specs.Converted.{IsConverted, IsConvertible, IsEither}
 use Rattle.convert_core.specs.Surveyed.{IsSummary}
 use Rattle.convert_core.specs.declared.summary.ConvertSummary.{ConvertSummary}
-use Rattle.outside.specs.Format.{format_in}
 use Rattle.outside.specs.History.{Image}
 use Rattle.unit_plan.specs.declared.options.Options.{Options}
-use Rattle.vol_block.specs.declared.format.Format.TheVariants.{Btrfs}
 use Rattle.vol_block.specs.declared.ids.Ids.{Ids}
 use Rattle.volume_app.specs.Meaning.{Meaning}
 use Rattle.volume_app.specs.Texts.{text_of_lines}
-
--- a ReiserFS volume that is accepted and has the space
-abbrev pub IsConvertDone : Options → Image → Type 0
-IsConvertDone o disk = (format_in disk ≢ Btrfs) × IsConvertible o disk
 
 abbrev pub convert_lines : ConvertSummary → List (List ℕ × List (List ℕ))
 convert_lines told =
@@ -39,7 +33,7 @@ abbrev pub convert_meaning : Ids → ℕ → Options → Meaning
 convert_meaning ids now o = record {
   asks_disk = Unit {0};
   takes_memory = Unit {0};
-  is_done = IsConvertDone o;
+  is_done = IsConvertible o;
   is_text = IsConvertText o;
   answers = RefusesConvert o;
   knows = IsConvertAnswer;
