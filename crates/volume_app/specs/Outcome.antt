@@ -7,7 +7,7 @@ use Rattle.outside.specs.declared.answer.Answer.TheVariants.{Fault}
 use Rattle.volume_app.specs.declared.ending.Ending.{Ending}
 use Rattle.volume_app.specs.declared.ending.Ending.TheVariants.{Done, Usage, Failed, OutputFault}
 use Rattle.vol_block.specs.declared.ids.Ids.{Ids}
-use Rattle.volume_app.specs.Command.{Asked, inspect, list, convert, help, version}
+use Rattle.volume_app.specs.Command.{Asked, command, inspect, list, convert, help, version}
 use Rattle.volume_app.specs.Converting.{convert_meaning}
 use Rattle.volume_app.specs.Ending.{status, error_line}
 use Rattle.volume_app.specs.Inspect.{inspect_meaning}
@@ -23,6 +23,10 @@ meaning ids now (Some (list path)) = list_meaning
 meaning ids now (Some (convert o path)) = convert_meaning ids now o
 meaning ids now (Some help) = says help_text
 meaning ids now (Some version) = says version_text
+
+-- what words mean
+abbrev pub meant : Ids → ℕ → List (List ℕ) → Meaning
+meant ids now words = meaning ids now (command words)
 
 -- an ending that a command knows, also over a disk that tells nothing
 abbrev pub Knows : Meaning → Ending → Type 0

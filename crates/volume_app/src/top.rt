@@ -3,7 +3,7 @@ ghost use Rattle.outside.specs.Fault.{Rose};
 ghost use Rattle.outside.specs.History.{EachCrash, IsSettled, reads};
 ghost use Rattle.volume_app.specs.Command.{command, opens};
 ghost use Rattle.volume_app.specs.Ending.{status};
-ghost use Rattle.volume_app.specs.Outcome.{EndsRight, HasFaults, IsDoneWith, IsQuiet, Knows, Prints, Runs, ending_of, meaning};
+ghost use Rattle.volume_app.specs.Outcome.{EndsRight, HasFaults, IsDoneWith, IsQuiet, Knows, Prints, Runs, ending_of, meant};
 
 use crate::Ending;
 use crate::command::{Command, read_words};
@@ -42,20 +42,20 @@ pub fn run<D: Disk, O: Sink, E: Sink>(
     ensures device_kept { result ≢ 3 → D.faults disk.new ≡ D.faults disk.old }
     ensures output { result ≡ 5 → Rose (O.faults out.old) (O.faults out.new) }
     ensures output_kept { result ≢ 5 → O.faults out.new ≡ O.faults out.old }
-    ensures memory { result ≡ 4 → (meaning ids now (command (map string_bytes words.now))).takes_memory }
+    ensures memory { result ≡ 4 → (meant ids now (map string_bytes words.now)).takes_memory }
     // A command that only reads writes nothing, and one that is refused has written nothing.
-    ensures unchanged { IsTrue D.tells → (meaning ids now (command (map string_bytes words.now))).keeps result → D.history disk.new ≡ D.history disk.old }
+    ensures unchanged { IsTrue D.tells → (meant ids now (map string_bytes words.now)).keeps result → D.history disk.new ≡ D.history disk.old }
     // Where the command was done the disk is what it makes of it, whether its text could be printed or not.
-    ensures changed { IsTrue D.tells → (result ≡ 0) ⊎ (result ≡ 5) → (meaning ids now (command (map string_bytes words.now))).becomes (reads (D.history disk.old)) (reads (D.history disk.new)) }
+    ensures changed { IsTrue D.tells → (result ≡ 0) ⊎ (result ≡ 5) → (meant ids now (map string_bytes words.now)).becomes (reads (D.history disk.old)) (reads (D.history disk.new)) }
     ensures settled { IsTrue D.tells → IsSettled (D.history disk.old) → (result ≡ 0) ⊎ (result ≡ 5) → IsSettled (D.history disk.new) }
     // A crash at any moment leaves what the command may leave: the disk as it was, where it only reads.
-    ensures crash { EachCrash D.tells (D.history disk.old) (D.history disk.new) ((meaning ids now (command (map string_bytes words.now))).leaves (reads (D.history disk.old))) }
-    ensures ends { Runs (command (map string_bytes words.now)) (meaning ids now (command (map string_bytes words.now))) (IsTrue D.tells) (reads (D.history disk.old)) result
+    ensures crash { EachCrash D.tells (D.history disk.old) (D.history disk.new) ((meant ids now (map string_bytes words.now)).leaves (reads (D.history disk.old))) }
+    ensures ends { Runs (command (map string_bytes words.now)) (meant ids now (map string_bytes words.now)) (IsTrue D.tells) (reads (D.history disk.old)) result
         (IsTrue O.tells) (O.taken out.old) (O.taken out.new) (IsTrue E.tells) (E.faults err.old) (E.faults err.new) (E.taken err.old) (E.taken err.new) }
     // Also over a disk that tells nothing, a run that isn't done prints nothing.
     ensures quiet { IsTrue O.tells → result ≢ 0 → result ≢ 5 → O.taken out.new ≡ O.taken out.old }
     // Where no count rose and nothing is to be refused, the command is done, unless memory was short.
-    ensures complete { IsTrue D.tells → (meaning ids now (command (map string_bytes words.now))).is_done (reads (D.history disk.old))
+    ensures complete { IsTrue D.tells → (meant ids now (map string_bytes words.now)).is_done (reads (D.history disk.old))
         → D.faults disk.new ≡ D.faults disk.old → D.faults disk.old < 2 ^ 64 - 1
         → O.faults out.new ≡ O.faults out.old → O.faults out.old < 2 ^ 64 - 1 → (result ≡ 0) ⊎ (result ≡ 4) }
 {
@@ -77,15 +77,15 @@ fn perform<D: Disk, O: Sink>(
     requires moment { now < 2 ^ 63 }
     requires wanted { IfSome (option_and_then opens (command (map string_bytes words.now))) (λ o. D.wants o.0 o.1) }
     ensures usage { (result ≡ Ending.Usage) ↔ (command (map string_bytes words.now) ≡ None) }
-    ensures right { ((meaning ids.now now (command (map string_bytes words.now))).asks_disk → IsTrue D.tells) → EndsRight (command (map string_bytes words.now)) (meaning ids.now now (command (map string_bytes words.now))) (reads (D.history disk.old)) result }
-    ensures printed { ((meaning ids.now now (command (map string_bytes words.now))).asks_disk → IsTrue D.tells) → IsTrue O.tells → Prints ((meaning ids.now now (command (map string_bytes words.now))).is_text (reads (D.history disk.old))) result (O.taken out.old) (O.taken out.new) }
+    ensures right { ((meant ids.now now (map string_bytes words.now)).asks_disk → IsTrue D.tells) → EndsRight (command (map string_bytes words.now)) (meant ids.now now (map string_bytes words.now)) (reads (D.history disk.old)) result }
+    ensures printed { ((meant ids.now now (map string_bytes words.now)).asks_disk → IsTrue D.tells) → IsTrue O.tells → Prints ((meant ids.now now (map string_bytes words.now)).is_text (reads (D.history disk.old))) result (O.taken out.old) (O.taken out.new) }
     ensures quiet { IsTrue O.tells → IsQuiet result → O.taken out.new ≡ O.taken out.old }
-    ensures unchanged { IsTrue D.tells → (meaning ids.now now (command (map string_bytes words.now))).keeps (status result) → D.history disk.new ≡ D.history disk.old }
-    ensures changed { IsTrue D.tells → IsDoneWith result → (meaning ids.now now (command (map string_bytes words.now))).becomes (reads (D.history disk.old)) (reads (D.history disk.new)) }
+    ensures unchanged { IsTrue D.tells → (meant ids.now now (map string_bytes words.now)).keeps (status result) → D.history disk.new ≡ D.history disk.old }
+    ensures changed { IsTrue D.tells → IsDoneWith result → (meant ids.now now (map string_bytes words.now)).becomes (reads (D.history disk.old)) (reads (D.history disk.new)) }
     ensures settled { IsTrue D.tells → IsSettled (D.history disk.old) → IsDoneWith result → IsSettled (D.history disk.new) }
-    ensures crash { EachCrash D.tells (D.history disk.old) (D.history disk.new) ((meaning ids.now now (command (map string_bytes words.now))).leaves (reads (D.history disk.old))) }
-    ensures memory { result ≡ Ending.Failed Answer.Memory → (meaning ids.now now (command (map string_bytes words.now))).takes_memory }
-    ensures known { Knows (meaning ids.now now (command (map string_bytes words.now))) result }
+    ensures crash { EachCrash D.tells (D.history disk.old) (D.history disk.new) ((meant ids.now now (map string_bytes words.now)).leaves (reads (D.history disk.old))) }
+    ensures memory { result ≡ Ending.Failed Answer.Memory → (meant ids.now now (map string_bytes words.now)).takes_memory }
+    ensures known { Knows (meant ids.now now (map string_bytes words.now)) result }
     ensures faults { HasFaults result (D.faults disk.old) (D.faults disk.new) (O.faults out.old) (O.faults out.new) }
 {
     match read_words(words) {
