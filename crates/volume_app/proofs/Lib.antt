@@ -4,3 +4,4 @@ pub mod Inspecting
 pub mod Listing
 pub mod OneText
 pub mod Outcomes
+pub mod Performing

@@ -134,14 +134,22 @@ failed_done ids now (Some (convert o path)) disk answer disk_old disk_new done r
 failed_done ids now (Some help) disk answer disk_old disk_new done right device same low = absurd right
 failed_done ids now (Some version) disk answer disk_old disk_new done right device same low = absurd right
 
+usage_not_done : (ids : Ids) (now : ℕ) (asked : Option Asked) (disk : Image) → (meaning ids now asked).is_done disk → (meaning ids now asked).is_usage → ⊥
+usage_not_done ids now None disk done usage = done
+usage_not_done ids now (Some (inspect path)) disk done usage = usage
+usage_not_done ids now (Some (list path)) disk done usage = usage
+usage_not_done ids now (Some (convert o path)) disk done usage = usage
+usage_not_done ids now (Some help) disk done usage = usage
+usage_not_done ids now (Some version) disk done usage = usage
+
 -- a command that is to be done is done, where no call failed and there was memory
 pub done_or_memory : (ids : Ids) (now : ℕ) (asked : Option Asked) (disk : Image) (ending : Ending) (disk_old disk_new out_old out_new : ℕ) → (meaning ids now asked).is_done disk
-    → EndsRight asked (meaning ids now asked) disk ending
+    → EndsRight (meaning ids now asked) disk ending
     → HasFaults ending disk_old disk_new out_old out_new → disk_new ≡ disk_old → disk_old < 2 ^ 64 - 1 → out_new ≡ out_old → out_old < 2 ^ 64 - 1
     → (status ending ≡ 0) ⊎ (status ending ≡ 4)
 done_or_memory ids now asked disk Done disk_old disk_new out_old out_new done right faults same low out_same out_low = inl refl
 done_or_memory ids now asked disk Usage disk_old disk_new out_old out_new done right faults same low out_same out_low =
-    absurd (subst (λ (a : Option Asked). (meaning ids now a).is_done disk) right done)
+    absurd (usage_not_done ids now asked disk done right)
 done_or_memory ids now asked disk (Failed answer) disk_old disk_new out_old out_new done right faults same low out_same out_low =
     failed_done ids now asked disk answer disk_old disk_new done right (λ is. faults.device (ap (λ (a : Answer). Failed a) is)) same low
 done_or_memory ids now asked disk OutputFault disk_old disk_new out_old out_new done right faults same low out_same out_low =

@@ -31,6 +31,7 @@ IsConvertText o disk text = (told : ConvertSummary) × IsSummary o disk told × 
 -- has too little space, or the words are no command.
 abbrev pub convert_meaning : Ids → ℕ → Options → Meaning
 convert_meaning ids now o = record {
+  is_usage = ⊥;
   asks_disk = Unit {0};
   takes_memory = Unit {0};
   is_done = IsConvertible o;

@@ -14,7 +14,7 @@ use Rattle.btr_summary.specs.Text.{btrfs_text, summary_text as btrfs_summary_tex
 use Rattle.volume_app.specs.declared.inspect.Inspected.{Inspected}
 use Rattle.volume_app.specs.declared.inspect.Inspected.TheVariants.{Reiser, Btrfs}
 use Rattle.outside.specs.Format.{format_in}
-use Rattle.volume_app.specs.Meaning.{IsSame, Meaning}
+use Rattle.volume_app.specs.Meaning.{Meaning, reads_disk}
 use Rattle.volume_app.specs.Reiser.{IsReiserText, summary_text}
 
 -- a volume of this format of which `inspect` tells
@@ -68,14 +68,5 @@ IsInspectAnswer (ReservedUsed block) = ⊥
 
 -- what `inspect` means
 abbrev pub inspect_meaning : Meaning
-inspect_meaning = record {
-  asks_disk = Unit {0};
-  takes_memory = Unit {0};
-  is_done = λ disk. IsInspectable (format_in disk) disk;
-  is_text = λ disk text. IsInspectText (format_in disk) disk text;
-  answers = InspectRefuses;
-  knows = IsInspectAnswer;
-  keeps = λ status. Unit {0};
-  becomes = IsSame;
-  leaves = IsSame;
-}
+inspect_meaning =
+    reads_disk (λ disk. IsInspectable (format_in disk) disk) (λ disk text. IsInspectText (format_in disk) disk text) InspectRefuses IsInspectAnswer

@@ -13,7 +13,7 @@ use Rattle.reiser_volume.specs.Answers.{NamesVolumeRule}
 use Rattle.reiser_volume.specs.Volume.{AreRowsOf, IsAccepted, IsRefusal}
 use Rattle.btr_reader.specs.Parts.{HasBtrfsRows, AreRowsOfBtrfs, IsRowsRefusal}
 use Rattle.outside.specs.Format.{format_in}
-use Rattle.volume_app.specs.Meaning.{IsSame, Meaning}
+use Rattle.volume_app.specs.Meaning.{Meaning, reads_disk}
 
 -- a volume of this format that `list` reads
 abbrev pub IsListable : Format → Image → Type 0
@@ -66,14 +66,4 @@ IsListAnswer (ReservedUsed block) = ⊥
 
 -- what `list` means
 abbrev pub list_meaning : Meaning
-list_meaning = record {
-  asks_disk = Unit {0};
-  takes_memory = Unit {0};
-  is_done = λ disk. IsListable (format_in disk) disk;
-  is_text = IsListText;
-  answers = ListRefuses;
-  knows = IsListAnswer;
-  keeps = λ status. Unit {0};
-  becomes = IsSame;
-  leaves = IsSame;
-}
+list_meaning = reads_disk (λ disk. IsListable (format_in disk) disk) IsListText ListRefuses IsListAnswer

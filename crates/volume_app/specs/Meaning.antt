@@ -5,6 +5,8 @@ use Rattle.outside.specs.declared.answer.Answer.{Answer}
 
 -- All that is said of a command. A disk is seen as the blocks that it has when the command begins.
 pub record Meaning : Type 1 where
+  -- the words are no command
+  pub is_usage : Type 0
   -- it asks the disk; any other says the same whatever the disk is
   pub asks_disk : Type 0
   -- it takes memory, of which there may be too little
@@ -26,9 +28,25 @@ pub record Meaning : Type 1 where
 abbrev pub IsSame : Image → Image → Type 0
 IsSame disk other = other ≡ disk
 
+-- a command that reads the disk, and writes nothing
+abbrev pub reads_disk : (Image → Type 0) → (Image → List ℕ → Type 0) → (Image → Answer → Type 0) → (Answer → Type 0) → Meaning
+reads_disk done text refuses known = record {
+  is_usage = ⊥;
+  asks_disk = Unit {0};
+  takes_memory = Unit {0};
+  is_done = done;
+  is_text = text;
+  answers = refuses;
+  knows = known;
+  keeps = λ status. Unit {0};
+  becomes = IsSame;
+  leaves = IsSame;
+}
+
 -- a command that prints this text, and asks for nothing
 abbrev pub says : List ℕ → Meaning
 says text = record {
+  is_usage = ⊥;
   asks_disk = ⊥;
   takes_memory = ⊥;
   is_done = λ disk. Unit {0};
@@ -41,5 +59,5 @@ says text = record {
 }
 
 -- words that are no command
-abbrev pub says_nothing : Meaning
-says_nothing = record (says []) { is_done = λ disk. ⊥ }
+abbrev pub no_command : Meaning
+no_command = record (says []) { is_usage = Unit {0}; is_done = λ disk. ⊥ }

@@ -1,9 +1,9 @@
 -- What an ending means of the disk that was found, and what the sinks gained.
-use Rattle.std.specs.Prelude.{◌≡◌, ◌⊎◌, ℕ, ◌≤◌, List, ◌++◌, take, Option, Some, None, Result, Ok, Err}
+use Rattle.std.specs.Prelude.{◌≡◌, ◌⊎◌, ℕ, ◌≤◌, Bool, IsTrue, List, ◌++◌, take, Option, Some, None, Result, Ok, Err}
 use Rattle.outside.specs.Fault.{Rose}
-use Rattle.outside.specs.History.{Image}
+use Rattle.outside.specs.History.{EachCrash, History, Image, IsSettled, reads}
 use Rattle.outside.specs.declared.fault.Fault as faults
-use Rattle.outside.specs.declared.answer.Answer.TheVariants.{Fault}
+use Rattle.outside.specs.declared.answer.Answer.TheVariants.{Fault, Memory}
 use Rattle.volume_app.specs.declared.ending.Ending.{Ending}
 use Rattle.volume_app.specs.declared.ending.Ending.TheVariants.{Done, Usage, Failed, OutputFault}
 use Rattle.vol_block.specs.declared.ids.Ids.{Ids}
@@ -12,12 +12,12 @@ use Rattle.volume_app.specs.Converting.{convert_meaning}
 use Rattle.volume_app.specs.Ending.{status, error_line}
 use Rattle.volume_app.specs.Inspect.{inspect_meaning}
 use Rattle.volume_app.specs.Listing.{list_meaning}
-use Rattle.volume_app.specs.Meaning.{Meaning, says, says_nothing}
+use Rattle.volume_app.specs.Meaning.{Meaning, says, no_command}
 use Rattle.volume_app.specs.Texts.{help_text, version_text}
 
 -- what is asked for means, with these identifiers and at this time
 abbrev pub meaning : Ids → ℕ → Option Asked → Meaning
-meaning ids now None = says_nothing
+meaning ids now None = no_command
 meaning ids now (Some (inspect path)) = inspect_meaning
 meaning ids now (Some (list path)) = list_meaning
 meaning ids now (Some (convert o path)) = convert_meaning ids now o
@@ -36,11 +36,11 @@ Knows m (Failed answer) = m.knows answer
 Knows m OutputFault = Unit {0}
 
 -- an ending is right for the disk that was found
-abbrev pub EndsRight : Option Asked → Meaning → Image → Ending → Type 0
-EndsRight asked m disk Done = m.is_done disk
-EndsRight asked m disk Usage = asked ≡ None
-EndsRight asked m disk (Failed answer) = m.answers disk answer
-EndsRight asked m disk OutputFault = m.is_done disk
+abbrev pub EndsRight : Meaning → Image → Ending → Type 0
+EndsRight m disk Done = m.is_done disk
+EndsRight m disk Usage = m.is_usage
+EndsRight m disk (Failed answer) = m.answers disk answer
+EndsRight m disk OutputFault = m.is_done disk
 
 -- an ending of a command that was done, though its text may not be printed whole
 abbrev pub IsDoneWith : Ending → Type 0
@@ -84,10 +84,24 @@ Reports line faults_old faults_new old new =
 
 -- The status is that of an ending that the command knows, with its line on the error sink. Where the disk tells its blocks, or the
 -- command asks it nothing, the ending is right for it, and the output sink gained its text.
-pub record Runs (asked : Option Asked) (m : Meaning) (tells : Type 0) (disk : Image) (answer : ℕ) (out_tells : Type 0) (out_old out_new : List ℕ) (err_tells : Type 0) (faults_old faults_new : ℕ) (err_old err_new : List ℕ) : Type 0 where
+pub record Runs (m : Meaning) (tells : Type 0) (disk : Image) (answer : ℕ) (out_tells : Type 0) (out_old out_new : List ℕ) (err_tells : Type 0) (faults_old faults_new : ℕ) (err_old err_new : List ℕ) : Type 0 where
   pub ending : Ending
   pub answers : answer ≡ status ending
   pub known : Knows m ending
-  pub right : (m.asks_disk → tells) → EndsRight asked m disk ending
+  pub right : (m.asks_disk → tells) → EndsRight m disk ending
   pub printed : (m.asks_disk → tells) → out_tells → Prints (m.is_text disk) ending out_old out_new
   pub reported : err_tells → Reports (error_line ending) faults_old faults_new err_old err_new
+
+-- What is said of a command with this meaning that ended so: of the disk with its history and its faults, and of the output with what it
+-- took and its faults, before and after.
+pub record Performs (m : Meaning) (tells : Bool) (old new : History) (disk_old disk_new : ℕ) (out_tells : Bool) (taken_old taken_new : List ℕ) (out_old out_new : ℕ) (ending : Ending) : Type 0 where
+  pub right : (m.asks_disk → IsTrue tells) → EndsRight m (reads old) ending
+  pub known : Knows m ending
+  pub printed : (m.asks_disk → IsTrue tells) → IsTrue out_tells → Prints (m.is_text (reads old)) ending taken_old taken_new
+  pub quiet : IsTrue out_tells → IsQuiet ending → taken_new ≡ taken_old
+  pub memory : ending ≡ Failed Memory → m.takes_memory
+  pub unchanged : IsTrue tells → m.keeps (status ending) → new ≡ old
+  pub changed : IsTrue tells → IsDoneWith ending → m.becomes (reads old) (reads new)
+  pub settled : IsTrue tells → IsSettled old → IsDoneWith ending → IsSettled new
+  pub crash : EachCrash tells old new (m.leaves (reads old))
+  pub faults : HasFaults ending disk_old disk_new out_old out_new

@@ -6,8 +6,10 @@ ghost use Rattle.convert_core.specs.Converted.{IsConverted, IsEither};
 ghost use Rattle.convert_core.specs.Surveyed.{IsSummary};
 ghost use Rattle.outside.specs.Fault.{HasCause, HasCauseOf, Takes};
 ghost use Rattle.outside.specs.History.{EachCrash, IsSettled, reads};
-ghost use Rattle.volume_app.specs.Converting.{convert_text};
+ghost use Rattle.volume_app.specs.Converting.{convert_meaning, convert_text};
+ghost use Rattle.volume_app.specs.Outcome.{Performs};
 
+use crate::ending::{Ending, printed};
 use convert_core::ConvertSummary;
 use outside::{Access, Answer, Disk, Fault, Sink};
 use sink_text::Piece::{Decimal, Plain};
@@ -16,8 +18,31 @@ use std::alloc::Global;
 use unit_plan::Options;
 use vol_block::Ids;
 
-/// Opens the disk at a path for writing, and converts its ReiserFS volume.
-pub fn convert<D: Disk>(
+/// Converts the ReiserFS volume at a path, and prints what was done.
+pub fn convert_volume<D: Disk, O: Sink>(
+    alloc: Global,
+    path: &str,
+    ids: &Ids,
+    now: u64,
+    options: &Options,
+    disk: &mut D,
+    out: &mut O,
+) -> Ending
+    requires closed { D.opened disk.old ≡ None }
+    requires wanted { D.wants path.now Access.Write }
+    requires size { IsNodeSize options.now.nodesize }
+    requires moment { now < 2 ^ 63 }
+    ensures { Performs (convert_meaning ids.now now options.now) D.tells (D.history disk.old) (D.history disk.new) (D.faults disk.old) (D.faults disk.new)
+        O.tells (O.taken out.old) (O.taken out.new) (O.faults out.old) (O.faults out.new) result }
+{
+    match convert(alloc, path, ids, now, options, disk) {
+        Ok(summary) => printed(print_summary(&summary, out)),
+        Err(answer) => Ending::Failed(answer),
+    }
+}
+
+/// Opens the disk at a path for writing, and converts its volume.
+fn convert<D: Disk>(
     alloc: Global,
     path: &str,
     ids: &Ids,
@@ -44,7 +69,7 @@ pub fn convert<D: Disk>(
 }
 
 /// Prints what a conversion did.
-pub fn print_summary<O: Sink>(told: &ConvertSummary, out: &mut O) -> Result<(), Fault>
+fn print_summary<O: Sink>(told: &ConvertSummary, out: &mut O) -> Result<(), Fault>
     ensures taken { IsTrue O.tells → Takes (O.taken out.old) (convert_text told.now) result (O.taken out.new) }
     ensures cause { HasCause (O.faults out.old) (O.faults out.new) result }
 {

@@ -2,17 +2,15 @@ ghost use Rattle.std.specs.Prelude.{◌≡◌, ◌≢◌, ◌↔◌, ◌<◌, �
 ghost use Rattle.outside.specs.Fault.{Rose};
 ghost use Rattle.outside.specs.History.{EachCrash, IsSettled, reads};
 ghost use Rattle.volume_app.specs.Command.{command, opens};
-ghost use Rattle.volume_app.specs.Ending.{status};
-ghost use Rattle.volume_app.specs.Outcome.{EndsRight, HasFaults, IsDoneWith, IsQuiet, Knows, Prints, Runs, ending_of, meant};
+ghost use Rattle.volume_app.specs.Outcome.{Performs, Runs, meant};
 
-use crate::Ending;
 use crate::command::{Command, read_words};
-use crate::converting::{convert, print_summary};
-use crate::inspect::inspect;
-use crate::list::list;
+use crate::converting::convert_volume;
+use crate::ending::{Ending, printed};
+use crate::inspect::inspect_volume;
+use crate::list::list_volume;
 use crate::texts::{HELP, VERSION};
-use fs_rows::write_rows;
-use outside::{Answer, Disk, Fault, Sink};
+use outside::{Disk, Sink};
 use std::alloc::Global;
 use vol_block::Ids;
 
@@ -50,7 +48,7 @@ pub fn run<D: Disk, O: Sink, E: Sink>(
     ensures settled { IsTrue D.tells → IsSettled (D.history disk.old) → (result ≡ 0) ⊎ (result ≡ 5) → IsSettled (D.history disk.new) }
     // A crash at any moment leaves what the command may leave: the disk as it was, where it only reads.
     ensures crash { EachCrash D.tells (D.history disk.old) (D.history disk.new) ((meant ids now (map string_bytes words.now)).leaves (reads (D.history disk.old))) }
-    ensures ends { Runs (command (map string_bytes words.now)) (meant ids now (map string_bytes words.now)) (IsTrue D.tells) (reads (D.history disk.old)) result
+    ensures ends { Runs (meant ids now (map string_bytes words.now)) (IsTrue D.tells) (reads (D.history disk.old)) result
         (IsTrue O.tells) (O.taken out.old) (O.taken out.new) (IsTrue E.tells) (E.faults err.old) (E.faults err.new) (E.taken err.old) (E.taken err.new) }
     // Also over a disk that tells nothing, a run that isn't done prints nothing.
     ensures quiet { IsTrue O.tells → result ≢ 0 → result ≢ 5 → O.taken out.new ≡ O.taken out.old }
@@ -77,44 +75,17 @@ fn perform<D: Disk, O: Sink>(
     requires moment { now < 2 ^ 63 }
     requires wanted { IfSome (option_and_then opens (command (map string_bytes words.now))) (λ o. D.wants o.0 o.1) }
     ensures usage { (result ≡ Ending.Usage) ↔ (command (map string_bytes words.now) ≡ None) }
-    ensures right { ((meant ids.now now (map string_bytes words.now)).asks_disk → IsTrue D.tells) → EndsRight (command (map string_bytes words.now)) (meant ids.now now (map string_bytes words.now)) (reads (D.history disk.old)) result }
-    ensures printed { ((meant ids.now now (map string_bytes words.now)).asks_disk → IsTrue D.tells) → IsTrue O.tells → Prints ((meant ids.now now (map string_bytes words.now)).is_text (reads (D.history disk.old))) result (O.taken out.old) (O.taken out.new) }
-    ensures quiet { IsTrue O.tells → IsQuiet result → O.taken out.new ≡ O.taken out.old }
-    ensures unchanged { IsTrue D.tells → (meant ids.now now (map string_bytes words.now)).keeps (status result) → D.history disk.new ≡ D.history disk.old }
-    ensures changed { IsTrue D.tells → IsDoneWith result → (meant ids.now now (map string_bytes words.now)).becomes (reads (D.history disk.old)) (reads (D.history disk.new)) }
-    ensures settled { IsTrue D.tells → IsSettled (D.history disk.old) → IsDoneWith result → IsSettled (D.history disk.new) }
-    ensures crash { EachCrash D.tells (D.history disk.old) (D.history disk.new) ((meant ids.now now (map string_bytes words.now)).leaves (reads (D.history disk.old))) }
-    ensures memory { result ≡ Ending.Failed Answer.Memory → (meant ids.now now (map string_bytes words.now)).takes_memory }
-    ensures known { Knows (meant ids.now now (map string_bytes words.now)) result }
-    ensures faults { HasFaults result (D.faults disk.old) (D.faults disk.new) (O.faults out.old) (O.faults out.new) }
+    ensures performs { Performs (meant ids.now now (map string_bytes words.now)) D.tells (D.history disk.old) (D.history disk.new) (D.faults disk.old) (D.faults disk.new)
+        O.tells (O.taken out.old) (O.taken out.new) (O.faults out.old) (O.faults out.new) result }
 {
     match read_words(words) {
         None => Ending::Usage,
-        Some(Command::Inspect(path)) => match inspect(alloc, path, disk) {
-            Ok(found) => printed(found.print(out)),
-            Err(answer) => Ending::Failed(answer),
-        },
-        Some(Command::List(path)) => match list(alloc, path, disk) {
-            Ok(rows) => printed(write_rows(&rows, out)),
-            Err(answer) => Ending::Failed(answer),
-        },
+        Some(Command::Inspect(path)) => inspect_volume(alloc, path, disk, out),
+        Some(Command::List(path)) => list_volume(alloc, path, disk, out),
         Some(Command::Convert(path, options)) => {
-            match convert(alloc, path, ids, now, &options, disk) {
-                Ok(summary) => printed(print_summary(&summary, out)),
-                Err(answer) => Ending::Failed(answer),
-            }
+            convert_volume(alloc, path, ids, now, &options, disk, out)
         }
         Some(Command::Help) => printed(out.write(HELP)),
         Some(Command::Version) => printed(out.write(VERSION)),
-    }
-}
-
-/// How a run ends that has printed its text.
-fn printed(written: Result<(), Fault>) -> Ending
-    ensures { result ≡ ending_of written }
-{
-    match written {
-        Ok(()) => Ending::Done,
-        Err(Fault) => Ending::OutputFault,
     }
 }
