@@ -1,5 +1,5 @@
 -- What is said of a command that was done, or failed, from what is said of its parts.
-use Rattle.std.proofs.Common.{◌≡◌, ℕ, ◌≤◌, Bool, List, Result, Ok, Err, refl, sym, ap, subst, arith}
+use Rattle.std.proofs.Common.{◌≡◌, ◌⊎◌, ⊎_elim, ℕ, ◌≤◌, Bool, List, Result, Ok, Err, refl, sym, ap, subst, arith}
 use Rattle.std.specs.Prelude.{IsTrue}
 use Rattle.outside.specs.Fault.{HasCause, HasCauseOf, Rose, Takes}
 use Rattle.outside.specs.History.{EachCrash, History, Image, IsSettled, reads}
@@ -101,6 +101,11 @@ reading_leaves done text refuses known tells old new ending same = record {
   settled = λ told settled is. subst IsSettled (sym (same told)) settled;
   crash = λ told settled image left. left_unwritten old new settled (same told) image left;
 }
+
+-- the statuses of a command that was done are none of a refusal
+pub printed_keeps : (written : Result (Unit {0}) faults.Fault) → (status (ending_of written) ≡ 1) ⊎ ((status (ending_of written) ≡ 2) ⊎ (status (ending_of written) ≡ 6)) → ⊥
+printed_keeps (Ok done) is = ⊎_elim (λ (e : 0 ≡ 1). absurd (omega (arith, e))) (λ (or : (0 ≡ 2) ⊎ (0 ≡ 6)). ⊎_elim (λ (e : 0 ≡ 2). absurd (omega (arith, e))) (λ (e : 0 ≡ 6). absurd (omega (arith, e))) or) is
+printed_keeps (Err fault) is = ⊎_elim (λ (e : 5 ≡ 1). absurd (omega (arith, e))) (λ (or : (5 ≡ 2) ⊎ (5 ≡ 6)). ⊎_elim (λ (e : 5 ≡ 2). absurd (omega (arith, e))) (λ (e : 5 ≡ 6). absurd (omega (arith, e))) or) is
 
 -- ---- the commands
 
