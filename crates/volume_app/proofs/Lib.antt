@@ -1,4 +1,4 @@
-pub mod Converting
+pub mod Convertible
 pub mod Formats
 pub mod Inspecting
 pub mod Listing

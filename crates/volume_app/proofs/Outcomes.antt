@@ -28,7 +28,7 @@ use Rattle.outside.specs.Format.{format_in}
 use Rattle.volume_app.specs.Inspect.{IsInspectable, InspectRefuses}
 use Rattle.volume_app.specs.Listing.{IsListable, ListRefuses}
 use Rattle.btr_reader.proofs.PartsRead.{rows_not_refused}
-use Rattle.volume_app.proofs.Converting.{accepted_is_reiser}
+use Rattle.volume_app.proofs.Convertible.{accepted_is_reiser}
 use Rattle.volume_app.specs.Outcome.{EndsRight, HasFaults, IsDoneWith, Prints, Reports, ending_of, meaning}
 
 -- a text that was written is that of the ending

@@ -1,6 +1,6 @@
 use Rattle.std.proofs.Common.{refl}
 use Rattle.volume_app.specs.Converting.{convert_meaning, convert_text}
-use Rattle.volume_app.proofs.Converting.{converted_was}
+use Rattle.volume_app.proofs.Convertible.{converted_was}
 use Rattle.volume_app.proofs.Outcomes.{refusal_by}
 use Rattle.volume_app.proofs.Performing.{failed, ok_kept, performed, printed_keeps}
 use Rattle.volume_app.proofs.converting.convert_volume.Goals as goal
