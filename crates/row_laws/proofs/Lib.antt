@@ -1,0 +1,9 @@
+mod Indexing
+mod InodeRead
+mod Known
+mod Linking
+mod Links
+mod Lists
+mod Paths
+mod Ruling
+mod Telling

@@ -1,0 +1,20 @@
+ghost use Rattle.row_laws.specs.Names.{NamesAreKept, NamesKeepRules};
+
+use file_laws::{entries_are_there, inodes_are_there};
+
+/// The names of a tree with the items of the file tree keep the rules of a Btrfs tree.
+pub fn names_keep_rules()
+    ensures { NamesKeepRules }
+{
+    inodes_are_there();
+    entries_are_there();
+}
+
+/// The paths of such a tree are those of the volume, and lead to the inodes of the same objects; the one entry beside them is that
+/// of the saved image's tree.
+pub fn names_are_kept()
+    ensures { NamesAreKept }
+{
+    inodes_are_there();
+    entries_are_there();
+}
