@@ -1,18 +1,20 @@
 -- The objects and the links of an accepted volume that was opened.
-use Rattle.std.proofs.Common.{◌≡◌, ◌≢◌, ◌≤◌, ◌<◌, ℕ, zero, suc, ◌+◌, ◌*◌, ◌/◌, ◌%◌, ◌^◌, ◌==◌, Bool, true, false, not, List, [], ◌∷◌, map, filter, length, AllPairs, Contains, Option, Some, None, refl, sym, ap, subst, ◌∙◌, ◌⊎◌, ⊎_elim, arith}
+use Rattle.std.proofs.Common.{◌≡◌, ◌≢◌, ◌≤◌, ◌<◌, ℕ, zero, suc, ◌+◌, ◌*◌, ◌/◌, ◌%◌, ◌^◌, ◌==◌, Bool, true, false, not, List, [], ◌∷◌, map, filter, length, count_by, AllPairs, Contains, Option, Some, None, refl, sym, ap, subst, ◌∙◌, ◌⊎◌, ⊎_elim, true≢false, arith}
 use Rattle.std.proofs.lemmas.Bool.{cases_lt, ne_eqb}
 use Rattle.std.proofs.lemmas.List.Kept.{AllPairs-filter}
 use Rattle.std.specs.Prelude.{unwrap_or}
 use Rattle.indexmap.specs.IndexMap.{keys}
 use Rattle.outside.specs.History.{Image}
 use Rattle.path_list.proofs.Lists.{from_filter, in_filter}
-use Rattle.fs_rows.specs.Kinds.{kind_of_code}
+use Rattle.fs_rows.specs.Kinds.{is_directory, kind_of_code}
+use Rattle.fs_rows.specs.Rows.{NameList}
 use Rattle.fs_rows.specs.declared.row.Kind.{Kind}
 use Rattle.fs_rows.specs.declared.row.Kind.TheVariants.{Directory, File, Symlink}
 use Rattle.reiser_walk.specs.Items.{Item as ReiserItem}
 use Rattle.reiser_objects.specs.declared.key.ObjectKey.{ObjectKey}
 use Rattle.reiser_objects.specs.declared.naming.Naming.{Naming as Link}
 use Rattle.reiser_objects.specs.declared.stat.ObjectStat.{ObjectStat}
+use Rattle.reiser_objects.specs.Items.{stat_of_object}
 use Rattle.reiser_objects.specs.Keys.{root, same_key}
 use Rattle.reiser_objects.specs.Kinds.{kind_of_mode}
 use Rattle.reiser_objects.specs.Names.{IsNamed, is_followed, namings}
@@ -22,6 +24,7 @@ use Rattle.reiser_names.specs.Names.{AreNames, inode_of, is_name, saved_name}
 use Rattle.reiser_names.proofs.Uniqueness.{links_one}
 use Rattle.reiser_volume.specs.Made.{kind_by, no_stat}
 use Rattle.reiser_volume.specs.Opened.{IsOpened, links_in}
+use Rattle.reiser_volume.specs.Rows.{Leads}
 use Rattle.reiser_volume.specs.Volume.{IsAccepted, volume_items}
 use Rattle.reiser_volume.specs.declared.volume.Volume.{Volume}
 use Rattle.reiser_volume.proofs.Leading.{link_entry}
@@ -109,6 +112,11 @@ module _ (volume : Volume) (image : Image) (accepted : IsAccepted image) (opened
         free = names.keeps.not_taken n among;
       }
 
+  -- what a path leads to is known
+  pub path_known : (from key : ObjectKey) (path : NameList) → Contains all from → Leads links from path key → Contains all key
+  path_known from key [] among leads = subst (Contains all) leads among
+  path_known from key (name ∷ path) among leads = path_known leads.0.target key path (good leads.0 leads.1).target_known leads.4
+
   pub links_short : (n : Link) → Contains links n → length n.name ≤ 255
   links_short n h = names.keeps.short n (subst (λ (ns : List Link). Contains ns n) (sym links_same) h)
 
@@ -149,3 +157,15 @@ module _ (volume : Volume) (image : Image) (accepted : IsAccepted image) (opened
         let few = names.keeps.targets key object.stat ((opened.are_keys.exact key).0 h) object.has_stat (object.known ∙ ap (λ (k : Kind). let r : Option Kind = Some k in r) kind) in
         let stat = ap (λ (st : ObjectStat). st.fields.size) (stat_there items key object) in
         omega (arith, few, stat)
+
+    -- the stat data of an object
+    pub stat_of_key : (key : ObjectKey) → Contains all key → stat_of_object items key ≡ Some (stat_in s key)
+    stat_of_key key h =
+        let object = object_of key h in
+        object.has_stat ∙ ap (λ (st : ObjectStat). let r : Option ObjectStat = Some st in r) (sym (stat_there items key object))
+
+    -- what is no directory has not too many names
+    pub few_names : (key : ObjectKey) → Contains all key → is_directory (kind_in s key) ≡ false → count_by (λ n. same_key n.target key) links < 2 ^ 32
+    few_names key h no_dir =
+        subst (λ (ns : List Link). count_by (λ n. same_key n.target key) ns < 2 ^ 32) links_same
+        (names.keeps.counts key ((opened.are_keys.exact key).0 h) (λ is. true≢false (sym (ap is_directory (directory_there key is)) ∙ no_dir)))

@@ -1,3 +1,5 @@
+mod Exact
+mod Fields
 mod Indexing
 mod InodeRead
 mod Known
@@ -5,5 +7,7 @@ mod Linking
 mod Links
 mod Lists
 mod Paths
+mod Rowing
 mod Ruling
+mod Stats
 mod Telling

@@ -100,9 +100,9 @@ module _ {X Y : Type 0} (R : Y → Y → Type 0) (f : X → List Y) where
       one [] across = tt
       one (b ∷ bs) across = all_both (λ y. R x y) (f b) (flat_map f bs) (all_from (λ y. R x y) (f b) (λ y h. across.0 x y (among x (at_head x xs)) h)) (one bs across.1)
 
-  pub apart_flat : (as : List X) → AllByRecursion (λ a. Apart R (f a)) as → Apart Across as → Apart R (flat_map f as)
+  pub apart_flat : (xs : List X) → AllByRecursion (λ a. Apart R (f a)) xs → Apart Across xs → Apart R (flat_map f xs)
   apart_flat [] inner across = tt
-  apart_flat (a ∷ as) inner across = apart_both R (f a) (flat_map f as) inner.0 (apart_flat as inner.1 across.1) (across_flat a as (f a) (λ x h. h) across.0)
+  apart_flat (a ∷ xs) inner across = apart_both R (f a) (flat_map f xs) inner.0 (apart_flat xs inner.1 across.1) (across_flat a xs (f a) (λ x h. h) across.0)
 
 -- ---- filters
 

@@ -1,4 +1,5 @@
 ghost use Rattle.row_laws.specs.Names.{NamesAreKept, NamesKeepRules};
+ghost use Rattle.row_laws.specs.Rows.{InodesAreRead, RowsAreKept};
 
 use file_laws::{entries_are_there, inodes_are_there};
 
@@ -17,4 +18,19 @@ pub fn names_are_kept()
 {
     inodes_are_there();
     entries_are_there();
+}
+
+/// The inode that is read of each object of the volume in such a tree is the one that was made of its stat data.
+pub fn inodes_are_read()
+    ensures { InodesAreRead }
+{
+    inodes_are_there();
+}
+
+/// The rows of the volume are the rows of such a tree, where that has the bytes of the files.
+pub fn rows_are_kept()
+    ensures { RowsAreKept }
+{
+    names_are_kept();
+    inodes_are_read();
 }
