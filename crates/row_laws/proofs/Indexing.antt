@@ -1,16 +1,18 @@
 -- Each directory index of the file tree's items has an entry.
-use Rattle.std.proofs.Common.{◌≡◌, ◌≤◌, ◌<◌, ℕ, ◌+◌, ◌*◌, ◌^◌, ◌&&◌, not, Bool, true, false, cond, List, [], ◌∷◌, ◌++◌, length, map, count_by, Contains, Option, Some, None, sym, ap, subst, ◌∙◌, if◌then◌else◌, arith}
-use Rattle.std.specs.List.{AllByRecursion, IsDistinct, flat_map}
+use Rattle.std.proofs.Common.{◌≡◌, ◌≤◌, ◌<◌, ℕ, ◌+◌, ◌*◌, ◌^◌, ◌&&◌, not, Bool, true, false, cond, List, [], ◌∷◌, ◌++◌, length, map, filter, count_by, Contains, Option, Some, None, refl, sym, ap, subst, ◌∙◌, if◌then◌else◌, arith}
+use Rattle.std.specs.List.{AllByRecursion, flat_map}
 use Rattle.std.specs.Ordering.{is_lt}
 use Rattle.std.proofs.lemmas.List.{append-nil}
 use Rattle.std.proofs.lemmas.List.Sums.{sum_by-cons}
-use Rattle.castagnoli.specs.Castagnoli.{name_hash}
+use Rattle.castagnoli.specs.Castagnoli.{extref_hash, name_hash}
 use Rattle.indexmap.specs.IndexMap.{keys}
 use Rattle.outside.specs.History.{Image}
 use Rattle.path_list.proofs.Lists.{in_map}
 use Rattle.fs_rows.specs.declared.row.Kind.{Kind}
 use Rattle.fs_rows.specs.declared.row.Kind.TheVariants.{Directory, File, Symlink, Character, Block, Fifo, Socket, Subvolume}
 use Rattle.btr_keys.specs.DirEntry.{DirEntryValue, dir_entry_bytes, dir_entry_head, dir_items_of}
+use Rattle.btr_keys.specs.Extref.{extref_bytes}
+use Rattle.btr_keys.specs.InodeRef.{inode_ref_bytes}
 use Rattle.btr_keys.specs.Key.{key_layout, make_key}
 use Rattle.btr_keys.proofs.Records.{dir_items_read_back}
 use Rattle.btr_names.specs.Links.{index_entry, only_one}
@@ -19,14 +21,13 @@ use Rattle.btr_walk.specs.Events.{TreeItem}
 use Rattle.btr_walk.specs.Tree.{bare_item}
 use Rattle.conversion.specs.Source.{HasPieces, made_from}
 use Rattle.file_items.specs.Extents.{extents_at, file_block, pieces_of}
-use Rattle.file_items.specs.Names.{Entry, Indexed, entry_items, entry_kind, entry_to, indexed_in, names_in, next_index, saved_entry}
+use Rattle.file_items.specs.Names.{Entry, Indexed, entry_items, entry_kind, entry_to, extref, extrefs, indexed_in, inode_ref, inode_refs, names_in, names_of, next_index, parent_of, saved_entry}
 use Rattle.file_items.specs.Tree.{Source, content_items, extent_items, inline_in, kind_in, name_items, number_of, object_items, size_in, tree_items}
-use Rattle.file_laws.proofs.FileBlocks.{starts, starts_none}
-use Rattle.file_laws.proofs.Keys.{names_part}
-use Rattle.file_laws.proofs.Rising.{IsOf, all_append, all_each, all_flat, all_mapped, all_true}
+use Rattle.file_items.proofs.Named.{name_items_other, name_items_root}
+use Rattle.file_laws.proofs.Rising.{all_append, all_each, all_flat, all_mapped, all_true}
 use Rattle.file_laws.proofs.Short.{names_low}
 use Rattle.item_list.specs.Extents.{extent_item, inline_extent, regular_extent}
-use Rattle.item_list.specs.Groups.{grouped}
+use Rattle.item_list.specs.Groups.{ascending, grouped}
 use Rattle.reiser_files.specs.Bytes.{target_bytes}
 use Rattle.reiser_names.specs.Links.{object_cmp}
 use Rattle.reiser_names.specs.Names.{inode_of}
@@ -109,7 +110,7 @@ index_readable e fits = not_none e (index_entry (dir_entry_bytes e)) (ap only_on
 other_kind : (k : ℕ) (r : Option DirEntryValue) → k ≤ 95 → k ≡ 96 → r ≡ None → ⊥
 other_kind k r low is none = omega (arith, low, is)
 
-module _ (s : Source) (distinct : IsDistinct starts s.pieces) (fit : (key : ObjectKey) → AllByRecursion (λ (e : Indexed). dir_entry_head.fits e.1) (indexed_in (kind_in s) s.keys s.links key)) where
+module _ (s : Source) (fit : (key : ObjectKey) → AllByRecursion (λ (e : Indexed). dir_entry_head.fits e.1) (indexed_in (kind_in s) s.keys s.links key)) where
   entries_readable : (ino : ℕ) (list : List Indexed) → AllByRecursion (λ (e : Indexed). dir_entry_head.fits e.1) list → AllByRecursion IsReadable (entry_items ino list)
   entries_readable ino list all =
       all_append IsReadable
@@ -138,12 +139,30 @@ module _ (s : Source) (distinct : IsDistinct starts s.pieces) (fit : (key : Obje
   content_readable key Socket = tt
   content_readable key Subvolume = tt
 
+  refs_readable : (key : ObjectKey) → AllByRecursion IsReadable (inode_refs s.keys s.links key ++ extrefs s.keys s.links key)
+  refs_readable key =
+      let plain : List Entry = filter (λ e. not e.extended) (names_of s.links key) in
+      let far : List Entry = ascending (parent_of s.keys) (filter (λ e. e.extended) (names_of s.links key)) in
+      let hash : Entry → ℕ = λ e. extref_hash (parent_of s.keys e) e.link.name in
+      all_append IsReadable (inode_refs s.keys s.links key) (extrefs s.keys s.links key)
+      (all_mapped IsReadable (λ (g : ℕ × List Entry). (make_key (number_of s key) 12 g.0, flat_map (λ (e : Entry). inode_ref_bytes (inode_ref e)) g.1)) (grouped (parent_of s.keys) plain)
+      (all_true _ (grouped (parent_of s.keys) plain) (λ g is none. absurd (omega (arith, is)))))
+      (all_mapped IsReadable (λ (g : ℕ × List Entry). (make_key (number_of s key) 13 g.0, flat_map (λ (e : Entry). extref_bytes (extref s.keys e)) g.1)) (grouped hash far)
+      (all_true _ (grouped hash far) (λ g is none. absurd (omega (arith, is)))))
+
+  names_readable : (key : ObjectKey) → AllByRecursion IsReadable (name_items s key)
+  names_readable key = by (same_key key root) refl
+    where
+      by : (b : Bool) → same_key key root ≡ b → AllByRecursion IsReadable (name_items s key)
+      by true is = subst (AllByRecursion IsReadable) (sym (name_items_root s key is)) (λ at none. absurd (omega (arith, at)), tt)
+      by false is = subst (AllByRecursion IsReadable) (sym (name_items_other s key s.keys s.links is refl refl)) (refs_readable key)
+
   object_readable : (key : ObjectKey) → AllByRecursion IsReadable (object_items s key)
   unfolding object_items
   object_readable key = (
     λ is none. absurd (omega (arith, is)),
     all_append IsReadable (name_items s key) (content_items s key (kind_in s key))
-        (all_each (IsOf (number_of s key) 12 13) IsReadable (name_items s key) (λ i of is none. let high = of.high in absurd (omega (arith, high, is))) (names_part s distinct key).each)
+        (names_readable key)
         (content_readable key (kind_in s key)),
   )
 
@@ -157,7 +176,7 @@ pub indexes_readable : (volume : Volume) (image : Image) (o : Options) (plan : P
 indexes_readable volume image o plan pieces items i has read among is none =
     let s : Source = made_from volume image o pieces in
     let few = (accepted_is_small image has.accepted).objects (keys volume.named) has.opened.are_keys in
-    let readable = tree_readable s (starts_none image has.found o plan has.plan_ pieces has.placed)
+    let readable = tree_readable s
     (λ key. all_fit (kind_in s) s.keys s.links key few (names_low (kind_in s) s.keys s.links key (links_short volume image has.accepted has.opened))) in
     let there : Contains (tree_items s) (bare_item i) = subst (λ (l : List Item). Contains l (bare_item i)) read (in_map bare_item items i among) in
     all_in IsReadable (tree_items s) (bare_item i) readable there is none

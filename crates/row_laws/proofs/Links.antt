@@ -1,12 +1,12 @@
 -- The links of an accepted volume: each is an entry of a directory, and its name one that a Btrfs tree may have.
-use Rattle.std.proofs.Common.{◌≡◌, ℕ, zero, suc, ◌+◌, ◌<◌, ◌==◌, ◌&&◌, ◌||◌, nat_eq, nat_lt, not, codes, Bool, true, false, cond, List, [], ◌∷◌, map, filter, flat_map, length, get_or, Contains, Option, Some, if◌then◌else◌, refl, sym, ap, subst, ◌∙◌, true≢false, arith}
+use Rattle.std.proofs.Common.{◌≡◌, ℕ, zero, suc, ◌+◌, ◌<◌, ◌==◌, ◌&&◌, ◌||◌, nat_eq, nat_lt, not, codes, Bool, true, false, cond, List, [], ◌∷◌, map, filter, flat_map, length, get_or, Contains, Option, Some, if◌then◌else◌, refl, sym, ap, subst, ◌∙◌, ⊎_elim, true≢false, arith}
 use Rattle.std.specs.List.{All, list_all, list_any}
 use Rattle.std.specs.Cmp.Lexicographic.{pointwise}
 use Rattle.std.proofs.lemmas.List.Elements.{All-contains}
 use Rattle.std.proofs.lemmas.List.Sums.{AllPass-from_list_all, take_while-cons}
 use Rattle.fs_rows.specs.declared.row.Kind.{Kind}
 use Rattle.fs_rows.specs.declared.row.Kind.TheVariants.{Directory, File, Symlink, Character, Block, Fifo, Socket, Subvolume}
-use Rattle.path_list.proofs.Lists.{in_filter, from_map, from_filter, from_flat_map}
+use Rattle.path_list.proofs.Lists.{head_or_tail, in_filter, from_map, from_filter, from_flat_map}
 use Rattle.reiser_node.specs.declared.head.ItemKind.{ItemKind}
 use Rattle.reiser_node.specs.declared.head.ItemKind.TheVariants.{Stat, Indirect, Direct, Directory as Entries}
 use Rattle.reiser_items.specs.Entries.{EntryValue, are_entries, entries, entries_from, entry_at, is_of_name, name_area, until_zero}
@@ -35,11 +35,8 @@ record IsEntryOf (i : Item) (kind : ItemKind) (n : Naming) : Type 0 where
 
 cut_names : (body : List ℕ) (first count : ℕ) (e : EntryValue) → Contains (entries_from body first count) e → (k : ℕ) × (entry_at body k ≡ e)
 cut_names body first zero e h = absurd (omega (arith, h.1))
-cut_names body first (suc n) e h = by h.0 h.1 h.2
-  where
-    by : (k : ℕ) → k < length (entry_at body first ∷ entries_from body (first + 1) n) → get_or (entry_at body first ∷ entries_from body (first + 1) n) k e ≡ e → (k : ℕ) × (entry_at body k ≡ e)
-    by zero within is = (first, is)
-    by (suc k) within is = cut_names body (first + 1) n e (k, omega (arith, within), is)
+cut_names body first (suc n) e h =
+    ⊎_elim (λ (here : entry_at body first ≡ e). (first, here)) (λ (later : Contains (entries_from body (first + 1) n) e). cut_names body (first + 1) n e later) (head_or_tail (entry_at body first) (entries_from body (first + 1) n) e h)
 
 entry_of : (i : Item) (kind : ItemKind) (n : Naming) → Contains (namings_by_kind kind i) n → IsEntryOf i kind n
 entry_of i Stat n among = absurd (omega (arith, among.1))

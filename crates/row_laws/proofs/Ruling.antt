@@ -246,17 +246,17 @@ module _ (volume : Volume) (image : Image) (o : Options) (plan : Plan) (pieces :
         let same : there.at.own ≡ own = same_inode there.at.own own (inode_of i.body) (read_own ino i there found) told in
         some_kind (kind_in s there.key) (tree_kind own.mode) (ap (λ (j : Inode). tree_kind j.mode) (sym same) ∙ there.at.kind) none
     keeps has_root at r (long_target ino i own named found told kind long is) = let few = short_target ino i own named found told kind in omega (arith, few, long)
-    keeps has_root at r (bad_index i among index open none is) = indexes_readable volume image o plan pieces items i has read among (eqb-true i.key.kind 96 index) none
-    keeps has_root at r (bad_name n among open bad is) = never (is_name n.name) (good_name n among) bad
-    keeps has_root at r (twice m n are open dir name is) = apart_in Differ (namings items) m n names_differ are dir name
-    keeps has_root at r (bad_location n among open no_one no_other is) = never (names_inode n) (names_one n among) no_one
-    keeps has_root at r (no_inode n among open names none is) =
+    keeps has_root at r (bad_index i among index opened none is) = indexes_readable volume image o plan pieces items i has read among (eqb-true i.key.kind 96 index) none
+    keeps has_root at r (bad_name n among opened bad is) = never (is_name n.name) (good_name n among) bad
+    keeps has_root at r (twice m n are opened dir name is) = apart_in Differ (namings items) m n names_differ are dir name
+    keeps has_root at r (bad_location n among opened no_one no_other is) = never (names_inode n) (names_one n among) no_one
+    keeps has_root at r (no_inode n among opened names none is) =
         let l = link_by n among in
         let own = inode_of_key l.link_.target (known l.link_ l.among) in
         some_item own.item (item_of items n.location.objectid) (ap (item_of items) (leads_to n l.link_ l.is) ∙ own.found) none
-    keeps has_root at r (no_tree n among open names none is) = never (names_tree n) names (names_no_tree n among)
+    keeps has_root at r (no_tree n among opened names none is) = never (names_tree n) names (names_no_tree n among)
     keeps has_root at r (directory_twice m n are open_m open_n names_m names_n same directory is) = directories_once m n are same directory
-    keeps has_root at r (root_named n among open names to_root is) =
+    keeps has_root at r (root_named n among opened names to_root is) =
         let l = link_by n among in
         (good_link volume image o plan pieces has l.link_ l.among).not_root (one l.link_.target root (known l.link_ l.among) root_there (sym (leads_to n l.link_ l.is) ∙ (to_root ∙ sym (root_number volume image o plan pieces has))))
 

@@ -100,14 +100,14 @@ no_stat_there stat is = absurd (cc)
 same_stat : (a b : ObjectStat) → (let o : Option ObjectStat = Some a in o) ≡ Some b → a ≡ b
 same_stat a b is = cc
 
+abbrev told_by : Item → StatData → ObjectStat
+told_by i fields = record { leaf = i.leaf; old_form = i.head.old; fields = fields }
+
 item_fits : (kind : ItemKind) (i : Item) (stat : ObjectStat) → stat_by_kind kind i ≡ Some stat → AreBytes i.body → FitsStat stat.fields
 item_fits Stat i stat is are = by (length i.body == stat_length i.head.old) is
   where
-    abbrev made : StatData → ObjectStat
-    made fields = record { leaf = i.leaf; old_form = i.head.old; fields = fields }
-
-    by : (b : Bool) → option_map made (if b then Some (stat_fields i.head.old i.body) else None) ≡ Some stat → FitsStat stat.fields
-    by true is = subst (λ (s : ObjectStat). FitsStat s.fields) (same_stat (made (stat_fields i.head.old i.body)) stat is) (fields_fit i.head.old i.body are)
+    by : (b : Bool) → option_map (told_by i) (if b then Some (stat_fields i.head.old i.body) else None) ≡ Some stat → FitsStat stat.fields
+    by true is = subst (λ (s : ObjectStat). FitsStat s.fields) (same_stat (told_by i (stat_fields i.head.old i.body)) stat is) (fields_fit i.head.old i.body are)
     by false is = absurd (no_stat_there stat is)
 item_fits Indirect i stat is are = absurd (no_stat_there stat is)
 item_fits Direct i stat is are = absurd (no_stat_there stat is)
