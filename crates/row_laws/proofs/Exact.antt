@@ -1,5 +1,5 @@
 -- The inode that is read of an object is the one that was made of its stat data.
-use Rattle.std.proofs.Common.{◌≡◌, ◌≤◌, ◌<◌, ℕ, ◌+◌, ◌*◌, ◌/◌, ◌%◌, ◌^◌, Bool, true, false, not, cond, ◌&&◌, List, [], ◌∷◌, ◌++◌, map, filter, length, sum_by, count_by, Contains, Option, Some, option_and_then, if◌then◌else◌, refl, sym, ap, subst, ◌∙◌, true≢false, arith}
+use Rattle.std.proofs.Common.{◌≡◌, ◌≤◌, ◌<◌, ℕ, ◌+◌, ◌*◌, ◌^◌, Bool, true, false, not, cond, ◌&&◌, List, [], ◌∷◌, map, filter, length, sum_by, count_by, Contains, option_and_then, if◌then◌else◌, refl, ap, ◌∙◌, arith}
 use Rattle.std.proofs.lemmas.List.Sums.{sum_by-append, sum_by-cons, sum_by-le-sum_by}
 use Rattle.indexmap.specs.IndexMap.{keys}
 use Rattle.outside.specs.History.{Image}
@@ -8,9 +8,7 @@ use Rattle.fs_rows.specs.declared.row.Kind.{Kind}
 use Rattle.fs_rows.specs.declared.row.Kind.TheVariants.{Directory, File, Symlink, Character, Block, Fifo, Socket, Subvolume}
 use Rattle.btr_keys.specs.Inode.{inode_layout, inode_of}
 use Rattle.btr_keys.specs.Stamp.{stamp_layout}
-use Rattle.btr_keys.specs.declared.inode.Inode.{Inode}
 use Rattle.btr_keys.proofs.Records.{inodes_read_back}
-use Rattle.btr_names.specs.Inodes.{inode_on}
 use Rattle.btr_node.specs.Leaf.{Item}
 use Rattle.btr_walk.specs.Events.{TreeItem}
 use Rattle.conversion.specs.Source.{HasPieces, made_from}
@@ -22,25 +20,21 @@ use Rattle.file_items.specs.Tree.{Source, bytes_by, inline_in, inode_in, kind_in
 use Rattle.file_items.proofs.Ordering.{bytes_are, owned_within}
 use Rattle.file_laws.specs.Inodes.{InodesAreThere}
 use Rattle.file_laws.proofs.Short.{sum_kept, sum_links, sum_mapped}
-use Rattle.item_list.specs.Inodes.{inode_item, stamp_of}
-use Rattle.reiser_names.specs.Links.{AreLinks}
+use Rattle.item_list.specs.Inodes.{stamp_of}
 use Rattle.reiser_objects.specs.declared.key.ObjectKey.{ObjectKey}
 use Rattle.reiser_objects.specs.declared.naming.Naming.{Naming as Link}
 use Rattle.reiser_objects.specs.declared.stat.ObjectStat.{ObjectStat}
 use Rattle.reiser_objects.specs.Keys.{root, same_key}
-use Rattle.reiser_objects.specs.Rules.{IsDirectory}
 use Rattle.reiser_volume.specs.Bounds.{IsSmall}
 use Rattle.reiser_volume.specs.Rows.{flag, major_of, minor_of}
-use Rattle.reiser_volume.specs.Volume.{volume_items}
 use Rattle.reiser_volume.specs.declared.volume.Volume.{Volume}
 use Rattle.reiser_volume.proofs.Bounds.{accepted_is_small}
 use Rattle.reiser_volume.proofs.Holding.{used_length}
 use Rattle.unit_plan.specs.declared.options.Options.{Options}
 use Rattle.unit_plan.specs.declared.piece.Piece.{Piece}
 use Rattle.unit_plan.specs.declared.plan.Plan.{Plan}
-use Rattle.row_laws.specs.Names.{ReadAs}
 use Rattle.row_laws.specs.Rows.{HasBytes, InodesAreRead}
-use Rattle.row_laws.proofs.Fields.{packed, packed_low, seconds_fit}
+use Rattle.row_laws.proofs.Fields.{packed_low, seconds_fit}
 use Rattle.row_laws.proofs.Known.{few_names, kind_is, mode_low, stat_of_key}
 use Rattle.row_laws.proofs.Stats.{FitsStat, stat_fits}
 

@@ -1,5 +1,5 @@
 -- What is read of an inode that was written: each field that fits.
-use Rattle.std.proofs.Common.{◌≡◌, ◌<◌, ℕ, ◌^◌, ◌==◌, Bool, true, List, length, Option, Some, None, refl, ap, eq-eqb, arith, if◌then◌else◌}
+use Rattle.std.proofs.Common.{◌≡◌, ◌<◌, ◌^◌, Bool, length, Option, Some, None, ap, eq-eqb, arith, if◌then◌else◌}
 use Rattle.btr_keys.specs.Inode.{inode_bytes, inode_layout, inode_of}
 use Rattle.btr_keys.specs.Stamp.{stamp_layout}
 use Rattle.btr_keys.specs.declared.inode.Inode.{Inode}

@@ -1,5 +1,5 @@
 -- The objects and the links of an accepted volume that was opened.
-use Rattle.std.proofs.Common.{◌≡◌, ◌≢◌, ◌≤◌, ◌<◌, ℕ, zero, suc, ◌+◌, ◌*◌, ◌/◌, ◌%◌, ◌^◌, ◌==◌, Bool, true, false, not, List, [], ◌∷◌, map, filter, length, count_by, AllPairs, Contains, Option, Some, None, refl, sym, ap, subst, ◌∙◌, ◌⊎◌, ⊎_elim, true≢false, arith}
+use Rattle.std.proofs.Common.{◌≡◌, ◌≢◌, ◌≤◌, ◌<◌, ℕ, suc, ◌/◌, ◌%◌, ◌^◌, true, false, List, [], ◌∷◌, length, count_by, AllPairs, Contains, Option, Some, None, refl, sym, ap, subst, ◌∙◌, ⊎_elim, true≢false, arith}
 use Rattle.std.proofs.lemmas.Bool.{cases_lt, ne_eqb}
 use Rattle.std.proofs.lemmas.List.Kept.{AllPairs-filter}
 use Rattle.std.specs.Prelude.{unwrap_or}
@@ -17,10 +17,9 @@ use Rattle.reiser_objects.specs.declared.stat.ObjectStat.{ObjectStat}
 use Rattle.reiser_objects.specs.Items.{stat_of_object}
 use Rattle.reiser_objects.specs.Keys.{root, same_key}
 use Rattle.reiser_objects.specs.Kinds.{kind_of_mode}
-use Rattle.reiser_objects.specs.Names.{IsNamed, is_followed, namings}
+use Rattle.reiser_objects.specs.Names.{is_followed, namings}
 use Rattle.reiser_objects.specs.Rules.{IsDirectory, IsObject}
-use Rattle.reiser_objects.proofs.Tables.{same_key-self}
-use Rattle.reiser_names.specs.Names.{AreNames, inode_of, is_name, saved_name}
+use Rattle.reiser_names.specs.Names.{AreNames, inode_of, saved_name}
 use Rattle.reiser_names.proofs.Uniqueness.{links_one}
 use Rattle.reiser_volume.specs.Made.{kind_by, no_stat}
 use Rattle.reiser_volume.specs.Opened.{IsOpened, links_in}
@@ -37,8 +36,7 @@ use Rattle.unit_plan.specs.declared.piece.Piece.{Piece}
 use Rattle.btr_names.specs.Inodes.{kind_of_mode as tree_kind}
 use Rattle.btr_names.specs.Links.{is_name as is_tree_name}
 use Rattle.conversion.specs.Source.{made_from}
-use Rattle.file_items.specs.Tree.{Source, kind_in, number_of, size_in, stat_in}
-use Rattle.file_laws.proofs.Keys.{root_first}
+use Rattle.file_items.specs.Tree.{Source, kind_in, size_in, stat_in}
 use Rattle.row_laws.proofs.Links.{entries_directory, tree_name}
 
 -- ---- modes

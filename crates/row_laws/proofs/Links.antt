@@ -1,6 +1,6 @@
 -- The links of an accepted volume: each is an entry of a directory, and its name one that a Btrfs tree may have.
-use Rattle.std.proofs.Common.{◌≡◌, ℕ, zero, suc, ◌+◌, ◌<◌, ◌==◌, ◌&&◌, ◌||◌, nat_eq, nat_lt, not, codes, Bool, true, false, cond, List, [], ◌∷◌, map, filter, flat_map, length, get_or, Contains, Option, Some, if◌then◌else◌, refl, sym, ap, subst, ◌∙◌, ⊎_elim, true≢false, arith}
-use Rattle.std.specs.List.{All, list_all, list_any}
+use Rattle.std.proofs.Common.{◌≡◌, ℕ, zero, suc, ◌+◌, ◌==◌, ◌&&◌, ◌||◌, nat_eq, nat_lt, not, codes, Bool, true, false, cond, List, [], ◌∷◌, map, filter, length, Contains, Some, if◌then◌else◌, refl, sym, ap, ◌∙◌, ⊎_elim, true≢false, arith}
+use Rattle.std.specs.List.{list_any}
 use Rattle.std.specs.Cmp.Lexicographic.{pointwise}
 use Rattle.std.proofs.lemmas.List.Elements.{All-contains}
 use Rattle.std.proofs.lemmas.List.Sums.{AllPass-from_list_all, take_while-cons}
@@ -11,7 +11,6 @@ use Rattle.reiser_node.specs.declared.head.ItemKind.{ItemKind}
 use Rattle.reiser_node.specs.declared.head.ItemKind.TheVariants.{Stat, Indirect, Direct, Directory as Entries}
 use Rattle.reiser_items.specs.Entries.{EntryValue, are_entries, entries, entries_from, entry_at, is_of_name, name_area, until_zero}
 use Rattle.reiser_walk.specs.Items.{Item}
-use Rattle.reiser_objects.specs.declared.key.ObjectKey.{ObjectKey}
 use Rattle.reiser_objects.specs.declared.naming.Naming.{Naming}
 use Rattle.reiser_objects.specs.Keys.{same_key, key_of, items_of}
 use Rattle.reiser_objects.specs.Kinds.{may_have, is_directory}

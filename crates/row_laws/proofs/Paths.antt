@@ -1,7 +1,7 @@
 -- The paths of a tree of the file tree's items are those of the volume.
-use Rattle.std.proofs.Common.{◌≡◌, ◌≢◌, ℕ, ◌==◌, ◌&&◌, not, Bool, true, false, List, [], ◌∷◌, ◌++◌, map, filter, Contains, refl, sym, ap, subst, ◌∙◌, true≢false, if◌then◌else◌, arith}
-use Rattle.std.specs.List.{AllByRecursion, flat_map}
-use Rattle.std.proofs.lemmas.Bool.{eqb-true, ne_eqb, not_from_false}
+use Rattle.std.proofs.Common.{◌≡◌, ◌≢◌, ℕ, ◌==◌, ◌&&◌, not, Bool, false, List, [], ◌∷◌, ◌++◌, map, filter, Contains, refl, sym, ap, subst, ◌∙◌, true≢false}
+use Rattle.std.specs.List.{flat_map}
+use Rattle.std.proofs.lemmas.Bool.{ne_eqb}
 use Rattle.std.proofs.lemmas.List.{map-append}
 use Rattle.std.proofs.lemmas.List.Elements.{filter-append}
 use Rattle.indexmap.specs.IndexMap.{keys}
@@ -11,19 +11,17 @@ use Rattle.fs_rows.specs.Rows.{NameList}
 use Rattle.fs_rows.specs.declared.row.Kind.{Kind}
 use Rattle.fs_rows.specs.declared.row.Kind.TheVariants.{Directory, File, Symlink, Character, Block, Fifo, Socket, Subvolume}
 use Rattle.btr_keys.specs.declared.key.Key.{Key}
-use Rattle.btr_names.specs.Links.{followed, is_followed, is_saved_name, namings, names_inode, names_tree, Names, Target, inode, tree, Leads as LeadsOn}
+use Rattle.btr_names.specs.Links.{is_followed, is_saved_name, namings, Names, Target, inode, tree, Leads as LeadsOn}
 use Rattle.btr_names.specs.declared.naming.Naming.{Naming}
 use Rattle.btr_walk.specs.Events.{TreeItem}
 use Rattle.conversion.specs.Source.{HasPieces, made_from}
-use Rattle.file_items.specs.Names.{Entry, Indexed, indexed, indexed_in, names_in, next_index, saved_entry}
+use Rattle.file_items.specs.Names.{Indexed, indexed, indexed_in, names_in, next_index, saved_entry}
 use Rattle.file_items.specs.Tree.{Source, kind_in, number_of}
 use Rattle.file_laws.specs.Entries.{EntriesAreThere, naming_by, namings_by, unplaced}
 use Rattle.file_laws.specs.Inodes.{InodesAreThere}
 use Rattle.reiser_objects.specs.declared.key.ObjectKey.{ObjectKey}
 use Rattle.reiser_objects.specs.declared.naming.Naming.{Naming as Link}
 use Rattle.reiser_objects.specs.Keys.{root, same_key}
-use Rattle.reiser_objects.proofs.Tables.{same_key-self}
-use Rattle.reiser_volume.specs.Numbers.{by_inode}
 use Rattle.reiser_volume.specs.Rows.{Leads}
 use Rattle.reiser_volume.specs.declared.volume.Volume.{Volume}
 use Rattle.unit_plan.specs.declared.options.Options.{Options}
@@ -33,7 +31,7 @@ use Rattle.row_laws.specs.Names.{NamesAreKept, ReadAs}
 use Rattle.row_laws.proofs.Known.{directory_there, root_known}
 use Rattle.row_laws.proofs.Linking.{is_link}
 use Rattle.row_laws.proofs.Lists.{all_from, kept_flat_none, kept_map, kept_none}
-use Rattle.row_laws.proofs.Telling.{IsLinkOf, directory_in, good_link, inode_there, link_directory, link_followed, link_there, link_told, one_object, root_number}
+use Rattle.row_laws.proofs.Telling.{IsLinkOf, directory_in, good_link, inode_there, link_directory, link_followed, link_there, link_told, one_object}
 
 -- an entry is no part of the paths
 abbrev aside : Naming → Bool
@@ -56,8 +54,7 @@ module _ (volume : Volume) (image : Image) (o : Options) (plan : Plan) (pieces :
         let l : Link = leads.0 in
         let n = link_there volume image o plan pieces has items read entries l leads.1 in
         let g = good_link volume image o plan pieces has l leads.1 in
-        let directory : kind_in s from ≡ Directory = subst (λ (k : ObjectKey). kind_in s k ≡ Directory) leads.2 (link_directory volume image o plan pieces has l leads.1) in
-        (
+        let directory : kind_in s from ≡ Directory = subst (λ (k : ObjectKey). kind_in s k ≡ Directory) leads.2 (link_directory volume image o plan pieces has l leads.1) in (
           n.0,
           inode (number_of s l.target),
           n.1,

@@ -1,17 +1,16 @@
 -- The rows of a volume are the rows of a tree of the file tree's items.
-use Rattle.std.proofs.Common.{◌≡◌, ◌≤◌, ◌<◌, ℕ, ◌+◌, ◌*◌, ◌/◌, ◌%◌, ◌^◌, ◌==◌, Bool, true, false, not, ◌&&◌, List, [], Contains, Option, Some, if◌then◌else◌, refl, sym, ap, subst, ◌∙◌, true≢false, arith}
+use Rattle.std.proofs.Common.{◌≡◌, ◌<◌, ℕ, ◌+◌, ◌*◌, ◌/◌, ◌%◌, ◌^◌, Bool, true, false, not, ◌&&◌, List, [], Contains, Option, Some, if◌then◌else◌, refl, sym, ap, subst, ◌∙◌, true≢false, arith}
 use Rattle.std.specs.Prelude.{unwrap_or}
-use Rattle.std.specs.Ordering.{is_le}
 use Rattle.indexmap.specs.IndexMap.{keys}
 use Rattle.outside.specs.History.{Image}
-use Rattle.fs_rows.specs.Kinds.{has_bytes, is_device, is_directory, is_file, is_symlink}
-use Rattle.fs_rows.specs.Rows.{NameList, WholeRow, path_cmp}
+use Rattle.fs_rows.specs.Kinds.{has_bytes, is_device, is_file, is_symlink}
+use Rattle.fs_rows.specs.Rows.{WholeRow}
 use Rattle.fs_rows.specs.declared.row.Kind.{Kind}
 use Rattle.fs_rows.specs.declared.row.Kind.TheVariants.{Directory, File, Symlink, Character, Block, Fifo, Socket, Subvolume}
 use Rattle.btr_files.specs.Extents.{file_bytes as bytes_on}
 use Rattle.btr_keys.specs.declared.inode.Inode.{Inode}
-use Rattle.btr_names.specs.Links.{Target, inode, Leads as LeadsOn}
-use Rattle.btr_reader.specs.Rows.{AreRows, HasInode, IsInodeRow, IsRowOf, has_flag, top}
+use Rattle.btr_names.specs.Links.{inode}
+use Rattle.btr_reader.specs.Rows.{AreRows, HasInode, IsInodeRow, has_flag}
 use Rattle.btr_walk.specs.Events.{TreeItem}
 use Rattle.btr_walk.specs.declared.map.MapRange.{MapRange}
 use Rattle.conversion.specs.Source.{HasPieces, made_from}
@@ -24,10 +23,9 @@ use Rattle.reiser_objects.specs.declared.naming.Naming.{Naming as Link}
 use Rattle.reiser_objects.specs.declared.stat.ObjectStat.{ObjectStat}
 use Rattle.reiser_objects.specs.Items.{stat_of_object}
 use Rattle.reiser_objects.specs.Keys.{root, items_of}
-use Rattle.reiser_objects.specs.Kinds.{kind_of_mode}
 use Rattle.reiser_volume.specs.Made.{kind_by, no_stat}
 use Rattle.reiser_volume.specs.Opened.{links_in}
-use Rattle.reiser_volume.specs.Rows.{AreReiserRows, HasStat, IsLeastPath, IsRow, Leads, flag, major_of, minor_of}
+use Rattle.reiser_volume.specs.Rows.{AreReiserRows, HasStat, IsRow, Leads, flag, major_of, minor_of}
 use Rattle.reiser_volume.specs.Volume.{superblock, volume_items}
 use Rattle.reiser_volume.specs.declared.volume.Volume.{Volume}
 use Rattle.unit_plan.specs.declared.options.Options.{Options}
@@ -101,8 +99,8 @@ size_is s key Subvolume is = absurd (true≢false (sym is))
 -- ---- rows
 
 module _ (volume : Volume) (image other : Image) (o : Options) (plan : Plan) (pieces : List Piece) (ranges : List MapRange) (items : List TreeItem) (rows : List WholeRow) (has : HasPieces volume image o plan pieces)
-  (read : ReadAs (made_from volume image o pieces) items) (bytes : HasBytes image) (held : KeepsBytes (made_from volume image o pieces) image other ranges items)
-  (paths : HasSamePaths (made_from volume image o pieces) items) (inodes : InodesAreRead) where
+    (read : ReadAs (made_from volume image o pieces) items) (bytes : HasBytes image) (held : KeepsBytes (made_from volume image o pieces) image other ranges items)
+    (paths : HasSamePaths (made_from volume image o pieces) items) (inodes : InodesAreRead) where
   abbrev s : Source
   s = made_from volume image o pieces
 

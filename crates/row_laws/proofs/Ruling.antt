@@ -1,18 +1,18 @@
 -- The names of a tree of the file tree's items keep the rules of a Btrfs tree.
-use Rattle.std.proofs.Common.{◌≡◌, ◌≢◌, ◌≤◌, ◌<◌, ℕ, ◌^◌, ◌==◌, Bool, true, false, List, [], ◌∷◌, ◌++◌, map, filter, Contains, Option, Some, None, refl, sym, ap, subst, ◌∙◌, ⊎_elim, true≢false, if◌then◌else◌, arith}
+use Rattle.std.proofs.Common.{◌≡◌, ◌≢◌, ◌≤◌, ◌<◌, ℕ, ◌^◌, ◌==◌, Bool, true, false, List, [], ◌∷◌, map, Contains, Option, Some, None, refl, sym, ap, subst, ◌∙◌, ⊎_elim, true≢false, if◌then◌else◌, arith}
 use Rattle.std.specs.List.{AllByRecursion, flat_map}
 use Rattle.std.proofs.lemmas.Bool.{eqb-true}
 use Rattle.indexmap.specs.IndexMap.{keys}
 use Rattle.outside.specs.History.{Image}
 use Rattle.outside.specs.declared.refusal.BtrRefusal.{BtrRefusal}
-use Rattle.path_list.proofs.Lists.{from_filter, from_map}
+use Rattle.path_list.proofs.Lists.{from_map}
 use Rattle.fs_rows.specs.declared.row.Kind.{Kind}
 use Rattle.fs_rows.specs.declared.row.Kind.TheVariants.{Directory, File, Symlink, Character, Block, Fifo, Socket, Subvolume}
 use Rattle.btr_keys.specs.Inode.{inode_of}
 use Rattle.btr_keys.specs.declared.inode.Inode.{Inode}
 use Rattle.btr_keys.specs.declared.key.Key.{Key}
 use Rattle.btr_names.specs.Inodes.{inode_item as item_of, inode_on, IsDirectory, kind_of_mode as tree_kind}
-use Rattle.btr_names.specs.Links.{followed, is_followed, is_name, is_index, namings, names_inode, names_tree, IsNamed, root as top, entry}
+use Rattle.btr_names.specs.Links.{followed, is_followed, is_name, namings, names_inode, names_tree, IsNamed, root as top, entry}
 use Rattle.btr_names.specs.Rules.{AreIn, BreaksNames, no_root_directory, root_is_none, bad_inode, bad_mode, long_target, bad_index, bad_name, twice, bad_location, no_inode, no_tree, directory_twice, root_named}
 use Rattle.btr_names.specs.declared.naming.Naming.{Naming}
 use Rattle.btr_walk.specs.Events.{TreeItem}
@@ -30,7 +30,6 @@ use Rattle.reiser_objects.specs.declared.naming.Naming.{Naming as Link}
 use Rattle.reiser_objects.specs.Keys.{root, same_key}
 use Rattle.reiser_objects.specs.Rules.{IsDirectory as IsDirectoryObject}
 use Rattle.reiser_objects.proofs.Tables.{same_key-true}
-use Rattle.reiser_names.specs.Names.{saved_name}
 use Rattle.reiser_volume.specs.Numbers.{by_inode}
 use Rattle.reiser_volume.specs.Volume.{volume_items}
 use Rattle.reiser_volume.specs.declared.volume.Volume.{Volume}

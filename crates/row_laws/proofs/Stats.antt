@@ -1,5 +1,5 @@
 -- The fields of stat data fit, where the blocks hold bytes.
-use Rattle.std.proofs.Common.{◌≡◌, ◌≢◌, ◌<◌, ℕ, zero, suc, ◌+◌, ◌-◌, ◌^◌, ◌==◌, Bool, true, false, List, [], ◌∷◌, ◌++◌, length, Contains, Option, Some, None, if◌then◌else◌, refl, sym, ap, subst, ◌∙◌, ⊎_elim, arith}
+use Rattle.std.proofs.Common.{◌≡◌, ◌<◌, ℕ, zero, suc, ◌+◌, ◌-◌, ◌^◌, ◌==◌, Bool, true, false, List, [], ◌∷◌, length, Contains, Option, Some, None, if◌then◌else◌, refl, sym, ap, subst, ◌∙◌, ⊎_elim, arith}
 use Rattle.std.specs.List.{flat_map}
 use Rattle.std.specs.Option.{option_map, option_or}
 use Rattle.std.proofs.lemmas.List.Elements.{Contains-append_cases}
@@ -10,7 +10,7 @@ use Rattle.reiser_node.specs.declared.head.ItemKind.{ItemKind}
 use Rattle.reiser_node.specs.declared.head.ItemKind.TheVariants.{Stat, Indirect, Direct, Directory as Entries}
 use Rattle.reiser_node.specs.Head.{head_at}
 use Rattle.reiser_node.specs.Leaf.{IsLeaf, body_at, body_length, count, head_place, location}
-use Rattle.reiser_items.specs.Stat.{new_stat, old_stat, stat_fields, stat_length, stat_of}
+use Rattle.reiser_items.specs.Stat.{stat_fields, stat_length}
 use Rattle.reiser_items.specs.declared.stat.StatData.{StatData}
 use Rattle.reiser_walk.specs.declared.pointer.Pointer.{Pointer}
 use Rattle.reiser_walk.specs.declared.tree.Tree.{Tree}
