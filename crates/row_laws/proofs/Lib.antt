@@ -1,13 +1,13 @@
-mod Exact
-mod Fields
-mod Indexing
-mod InodeRead
-mod Known
-mod Linking
-mod Links
-mod Lists
-mod Paths
-mod Rowing
-mod Ruling
-mod Stats
-mod Telling
+pub mod Exact
+pub mod Fields
+pub mod Indexing
+pub mod InodeRead
+pub mod Known
+pub mod Linking
+pub mod Links
+pub mod Lists
+pub mod Paths
+pub mod Rowing
+pub mod Ruling
+pub mod Stats
+pub mod Telling

@@ -20,7 +20,7 @@ use Rattle.unit_plan.specs.declared.piece.Piece.{Piece}
 use Rattle.unit_plan.specs.declared.plan.Plan.{Plan}
 use Rattle.row_laws.specs.Names.{ReadAs}
 
--- the blocks hold bytes
+-- each number in a block is a byte
 abbrev pub HasBytes : Image → Type 0
 HasBytes image = (b i : ℕ) → slice_index (block_at image b) i < 256
 

@@ -20,14 +20,15 @@ pub fn names_are_kept()
     entries_are_there();
 }
 
-/// The inode that is read of each object of the volume in such a tree is the one that was made of its stat data.
+/// Over blocks of bytes below 256, the inode that is read of each object of the volume in such a tree is the one that was made of
+/// its stat data.
 pub fn inodes_are_read()
     ensures { InodesAreRead }
 {
     inodes_are_there();
 }
 
-/// The rows of the volume are the rows of such a tree, where that has the bytes of the files.
+/// Over such blocks, the rows of the volume are the rows of such a tree, where that has the bytes of the files.
 pub fn rows_are_kept()
     ensures { RowsAreKept }
 {
