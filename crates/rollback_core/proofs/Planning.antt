@@ -1,0 +1,2 @@
+-- What is planned.
+use Rattle.std.proofs.Common.{◌≡◌}
