@@ -8,6 +8,7 @@ use outside::{Access, Answer, BtrRefusal, BtrRule, Disk, VolumeRefusal};
 use outside_mem::MemDisk;
 use reiser_make::make;
 use std::alloc::Global;
+use std::process::Abort;
 use std::test::Fail;
 use vol_block::{Block, BlockNo, Format};
 
@@ -88,7 +89,7 @@ fn has(disk: &MemDisk, n: BlockNo, wanted: &Block) -> bool
 
 /// Recovers a disk, and then once more, which writes nothing; and whether the block of the copy is then this one.
 fn recovers(
-    rt: &HostRuntime,
+    rt: &(impl Abort + AllocGlobal),
     disk: MemDisk,
     format: Format,
     mirrors: u64,
@@ -146,7 +147,7 @@ fn a_copy_that_differs_is_written(rt: HostRuntime) -> Result<(), Fail> {
 }
 
 /// What is answered where no block may be written.
-fn refuses(rt: &HostRuntime, disk: MemDisk, answer: Answer) -> Result<(), Fail>
+fn refuses(rt: &(impl Abort + AllocGlobal), disk: MemDisk, answer: Answer) -> Result<(), Fail>
     requires closed { disk.opened ≡ None }
 {
     let mut disk = disk;
@@ -188,7 +189,7 @@ fn what_is_wrong_is_refused(rt: HostRuntime) -> Result<(), Fail> {
 
 /// A recovery that stops at its write, and one whose sync fails, leave the block as it was or as it is to be.
 fn crashes(
-    rt: &HostRuntime,
+    rt: &(impl Abort + AllocGlobal),
     disk: MemDisk,
     format: Format,
     old: &Block,
