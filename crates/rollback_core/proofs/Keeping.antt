@@ -54,7 +54,7 @@ partly_of image other is = record {
 
 module _ (image other : Image) (can : IsRecoverable image) (is : IsPartly image other) where
   outside : (b : ℕ) → ¬ IsMirror b → block_at other b ≡ block_at image b
-  outside b no = ⊎_elim (λ same. same) (λ both. absurd (no both.0)) (is.each b)
+  outside b elsewhere = ⊎_elim (λ same. same) (λ both. absurd (elsewhere both.0)) (is.each b)
 
   super_same : block_at other 16 ≡ block_at image 16
   super_same = outside 16 mirror_16
@@ -139,7 +139,7 @@ stays = record {
         can = both.0;
         size = made.size ∙ both.1.size;
         copies = λ b mirror. made.copies b mirror ∙ mended_again image left both.0 both.1 b;
-        others = λ b no. made.others b no ∙ outside image left both.0 both.1 b no;
+        others = λ b elsewhere. made.others b elsewhere ∙ outside image left both.0 both.1 b elsewhere;
       })
       is;
 }
@@ -176,9 +176,15 @@ no_volume_refusal image r Reiser order refused = front_not_refused image r refus
 no_volume_refusal image r Btrfs order refused = refused
 no_volume_refusal image r Neither order refused = order
 
+abbrev ok : Super → Result Super BtrRefusal
+ok s = Ok s
+
+abbrev err : BtrRefusal → Result Super BtrRefusal
+err r = Err r
+
 no_super_refusal : (image : Image) (r : BtrRefusal) → IsInOrder Btrfs image → super_of (block_at image 16) 16 (length image) ≡ Err r → ⊥
 no_super_refusal image r order refused =
-    let both : Ok {T = Super} {E = BtrRefusal} order.0 ≡ Err r = sym order.1 ∙ refused in
+    let both : ok order.0 ≡ err r = sym order.1 ∙ refused in
     absurd cc
 
 has_bitmap : (image : Image) (f : Format) → IsInOrder f image → f ≢ Btrfs → f ≡ Reiser

@@ -1,6 +1,6 @@
 pub mod Fronts
 pub mod Keeping
 pub mod Mended
-pub mod Planning
+pub mod Plans
+pub mod Standing
 pub mod Supers
-pub mod Writing

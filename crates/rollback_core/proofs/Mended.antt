@@ -1,5 +1,5 @@
 -- What is to stand in the blocks of copies, and how many of them are to change.
-use Rattle.std.proofs.Common.{◌≡◌, ◌≢◌, ◌∙◌, ℕ, Bool, true, false, cond, not, ◌&&◌, nat_lt, List, [], ◌∷◌, length, codes, refl, sym, ap, subst}
+use Rattle.std.proofs.Common.{◌≡◌, ◌≢◌, ◌∙◌, ℕ, Bool, true, false, cond, not, ◌&&◌, nat_lt, List, [], ◌∷◌, length, Some, None, codes, refl, sym, ap, subst}
 use Rattle.std.specs.Prelude.{◌+◌, bytes_eq, filter}
 use Rattle.std.proofs.lemmas.Slice.Eq.{bytes_eq-Decides}
 use Rattle.outside.specs.History.{Image, block_at}
@@ -10,9 +10,10 @@ use Rattle.reiser_super.specs.declared.superblock.Super.{Super}
 use Rattle.reiser_volume.specs.Volume.{superblock, used_of}
 use Rattle.vol_block.specs.Format.{has_bytes_at}
 use Rattle.vol_block.specs.Volume.{zeros}
+use Rattle.vol_block.specs.declared.block.Block.{Block}
 use Rattle.vol_block.specs.declared.format.Format.{Format}
 use Rattle.vol_block.specs.declared.format.Format.TheVariants.{Reiser, Btrfs, Neither}
-use Rattle.rollback_core.specs.Mending.{blocks_of, copied, mended_by, wiped}
+use Rattle.rollback_core.specs.Mending.{Gives, blocks_of, copied, mended_by, wiped}
 use Rattle.rollback_core.specs.Recovered.{copy_blocks}
 
 -- ---- one of two lists
@@ -84,10 +85,14 @@ unfolding copied
 copy_beyond blocks superblock b bytes high = high_chosen (nat_lt b blocks) (mirror_bytes b superblock) bytes high
 
 -- ---- what differs
+not_true : (t : Bool) → (t ≡ true → ⊥) → t ≡ false
+not_true true never = absurd (never refl)
+not_true false never = refl
+
 pub same_bytes : (xs ys : List ℕ) → xs ≡ ys → not (bytes_eq xs ys) ≡ false
 same_bytes xs ys is = ap not ((bytes_eq-Decides xs ys).1 is)
 
-two_tests : (s t : Bool) → length (cond s (16384 ∷ cond t (67108864 ∷ []) []) (cond t (67108864 ∷ []) [])) ≡ cond s 1 0 + cond t 1 0
+two_tests : (s t : Bool) → length {A = ℕ} (cond s (16384 ∷ cond t (67108864 ∷ []) []) (cond t (67108864 ∷ []) [])) ≡ cond s 1 0 + cond t 1 0
 two_tests true true = refl
 two_tests true false = refl
 two_tests false true = refl
@@ -96,8 +101,8 @@ two_tests false false = refl
 -- how many of the two blocks of copies pass a test
 pub two_of : (P : ℕ → Bool) (s t : Bool) → P 16384 ≡ s → P 67108864 ≡ t → length (filter P copy_blocks) ≡ cond s 1 0 + cond t 1 0
 two_of P s t first second =
-    ap (λ (u : Bool). length (cond u (16384 ∷ cond (P 67108864) (67108864 ∷ []) []) (cond (P 67108864) (67108864 ∷ []) []))) first
-    ∙ (ap (λ (u : Bool). length (cond s (16384 ∷ cond u (67108864 ∷ []) []) (cond u (67108864 ∷ []) []))) second ∙ two_tests s t)
+    ap (λ (u : Bool). length {A = ℕ} (cond u (16384 ∷ cond (P 67108864) (67108864 ∷ []) []) (cond (P 67108864) (67108864 ∷ []) []))) first
+    ∙ (ap (λ (u : Bool). length {A = ℕ} (cond s (16384 ∷ cond u (67108864 ∷ []) []) (cond u (67108864 ∷ []) []))) second ∙ two_tests s t)
 
 -- no Btrfs superblock is left in a block without use
 clean_chosen : (low had : Bool) (bytes : List ℕ) → low ≡ true → had ≡ false
@@ -113,3 +118,10 @@ clean_chosen false had bytes below free = absurd cc
 pub wiped_clean : (blocks : ℕ) (used : List Bool) (b : ℕ) (bytes : List ℕ) → nat_lt b blocks ≡ true → has used b ≡ false → has_bytes_at (wiped blocks used b bytes) 64 (codes "_BHRfS_M") ≡ false
 unfolding wiped
 wiped_clean blocks used b bytes low free = clean_chosen (nat_lt b blocks) (has used b) bytes low free
+
+-- a block is written where something else is to stand than does
+pub gives_same : (bytes wanted : List ℕ) → wanted ≡ bytes → Gives bytes wanted None
+gives_same bytes wanted same = record { bytes_are = sym same; needed = sym (same_bytes wanted bytes same) }
+
+pub gives_other : (bytes wanted : List ℕ) (block : Block) → block.bytes ≡ wanted → wanted ≢ bytes → Gives bytes wanted (Some block)
+gives_other bytes wanted block is other = record { bytes_are = is; needed = sym (ap not (not_true (bytes_eq wanted bytes) (λ same. other ((bytes_eq-Decides wanted bytes).0 same)))) }

@@ -1,20 +1,26 @@
 -- What is written, and what a crash leaves of it.
 use Rattle.std.proofs.Common.{◌≡◌, ◌∙◌, ◌⊎◌, inl, inr, ⊎_elim, ℕ, ◌+◌, ◌<◌, true, cond, List, [], length, get_or, Option, Some, None, Result, Ok, Err, OnOk, refl, sym, ap, subst, arith}
 use Rattle.std.specs.Prelude.{IsSomeAnd, filter, is_some}
+use Rattle.outside.specs.Format.{format_in}
 use Rattle.outside.specs.History.{History, Image, IsSettled, LeftSince, WritesBlock, WritesOnly, block_at, clock, reads}
 use Rattle.outside.proofs.Crash.{left_each, reads_only, write_only, writes_length, writes_then, writes_weaker}
 use Rattle.outside.proofs.Phases.{set_stands, write_reads}
 use Rattle.convert_steps.specs.Switch.{IsMirror}
 use Rattle.vol_block.specs.declared.block.Block.{Block}
+use Rattle.vol_block.specs.declared.format.Format.{Format}
 use Rattle.rollback_core.specs.Mending.{given, is_torn, mended}
 use Rattle.rollback_core.specs.Planned.{IsGiven, IsGivenAt, IsPlanned, Stands, number_of}
 use Rattle.rollback_core.specs.Recovered.{IsPartly, IsRecovered, copy_blocks, summary}
 use Rattle.rollback_core.specs.declared.mending.Mending.{Mending}
+use Rattle.rollback_core.specs.declared.recovery.RecoverSummary.{RecoverSummary}
 use Rattle.rollback_core.proofs.Mended.{two_of}
 
 some_given : (found : Option Block) (bytes old wanted : List ℕ) → IsSomeAnd found (λ block. bytes ≡ block.bytes) → given found old ≡ wanted → bytes ≡ wanted
 some_given None bytes old wanted is gives = absurd is
 some_given (Some block) bytes old wanted is gives = is ∙ gives
+
+abbrev told_of : Format → ℕ → RecoverSummary
+told_of format n = record { format = format; mirrors = n }
 
 module _ (image : Image) (m : Mending) (planned : IsPlanned image m) where
   -- what is written goes to the blocks of copies, and is what is to stand there
@@ -51,6 +57,9 @@ module _ (image : Image) (m : Mending) (planned : IsPlanned image m) where
   -- the blocks that are written are those that are to change
   pub counts : number_of m.first + number_of m.second ≡ length (filter (is_torn image) copy_blocks)
   counts = sym (two_of (is_torn image) (is_some m.first) (is_some m.second) (sym planned.first.needed) (sym planned.second.needed))
+
+  pub summary_is : (n : ℕ) → n ≡ number_of m.first + number_of m.second → told_of m.format n ≡ summary image
+  summary_is n is = ap (λ (f : Format). told_of f n) planned.format ∙ ap (λ (k : ℕ). told_of (format_in image) k) (is ∙ counts)
 
 -- ---- one block, if there is one to be written
 module _ (place : ℕ) (block : Block) (h₀ h₁ : History) {T E : Type 0} (result : Result T E) where

@@ -1,2 +1,0 @@
--- What is planned.
-use Rattle.std.proofs.Common.{◌≡◌}
