@@ -1,12 +1,11 @@
 -- What is to stand in the blocks of copies, and how many of them are to change.
-use Rattle.std.proofs.Common.{◌≡◌, ◌≢◌, ◌∙◌, ℕ, Bool, true, false, cond, not, ◌&&◌, nat_lt, List, [], ◌∷◌, length, Some, None, codes, refl, sym, ap, subst}
+use Rattle.std.proofs.Common.{◌≡◌, ◌≢◌, ◌∙◌, ℕ, Bool, true, false, cond, not, ◌&&◌, nat_lt, List, [], ◌∷◌, length, Some, None, codes, refl, sym, ap, true≢false}
 use Rattle.std.specs.Prelude.{◌+◌, bytes_eq, filter}
 use Rattle.std.proofs.lemmas.Slice.Eq.{bytes_eq-Decides}
 use Rattle.outside.specs.History.{Image, block_at}
 use Rattle.btr_super.specs.Super.{mirror_bytes}
 use Rattle.reiser_bitmap.specs.Bits.{has}
 use Rattle.reiser_super.specs.Superblock.{super_of}
-use Rattle.reiser_super.specs.declared.superblock.Super.{Super}
 use Rattle.reiser_volume.specs.Volume.{superblock, used_of}
 use Rattle.vol_block.specs.Format.{has_bytes_at}
 use Rattle.vol_block.specs.Volume.{zeros}
@@ -66,6 +65,39 @@ used_chosen true false magic z bytes is = absurd cc
 pub used_stays : (blocks : ℕ) (used : List Bool) (b : ℕ) (bytes : List ℕ) → has used b ≡ true → wiped blocks used b bytes ≡ bytes
 unfolding wiped
 used_stays blocks used b bytes is = used_chosen (nat_lt b blocks) (has used b) (has_bytes_at bytes 64 (codes "_BHRfS_M")) zeros bytes is
+
+-- so does one that the volume has not, and one without the magic
+beyond_chosen : (low had magic : Bool) (z bytes : List ℕ) → low ≡ false → cond (low && (not had && magic)) z bytes ≡ bytes
+beyond_chosen false had magic z bytes is = refl
+beyond_chosen true had magic z bytes is = absurd cc
+
+pub beyond_stays : (blocks : ℕ) (used : List Bool) (b : ℕ) (bytes : List ℕ) → nat_lt b blocks ≡ false → wiped blocks used b bytes ≡ bytes
+unfolding wiped
+beyond_stays blocks used b bytes is = beyond_chosen (nat_lt b blocks) (has used b) (has_bytes_at bytes 64 (codes "_BHRfS_M")) zeros bytes is
+
+other_chosen : (low had magic : Bool) (z bytes : List ℕ) → magic ≡ false → cond (low && (not had && magic)) z bytes ≡ bytes
+other_chosen true true false z bytes is = refl
+other_chosen true false false z bytes is = refl
+other_chosen false had magic z bytes is = refl
+other_chosen true had true z bytes is = absurd cc
+
+pub other_stays : (blocks : ℕ) (used : List Bool) (b : ℕ) (bytes : List ℕ) → has_bytes_at bytes 64 (codes "_BHRfS_M") ≡ false → wiped blocks used b bytes ≡ bytes
+unfolding wiped
+other_stays blocks used b bytes is = other_chosen (nat_lt b blocks) (has used b) (has_bytes_at bytes 64 (codes "_BHRfS_M")) zeros bytes is
+
+-- and one that is to become zeros isn't zeros
+stale_chosen : (low had magic : Bool) (z bytes : List ℕ) → low ≡ true → had ≡ false → magic ≡ true → cond (low && (not had && magic)) z bytes ≡ z
+stale_chosen true false true z bytes below free is = refl
+stale_chosen false had magic z bytes below free is = absurd cc
+stale_chosen true true magic z bytes below free is = absurd cc
+stale_chosen true false false z bytes below free is = absurd cc
+
+pub stale_wiped : (blocks : ℕ) (used : List Bool) (b : ℕ) (bytes : List ℕ) → nat_lt b blocks ≡ true → has used b ≡ false → has_bytes_at bytes 64 (codes "_BHRfS_M") ≡ true → wiped blocks used b bytes ≡ zeros
+unfolding wiped
+stale_wiped blocks used b bytes low free is = stale_chosen (nat_lt b blocks) (has used b) (has_bytes_at bytes 64 (codes "_BHRfS_M")) zeros bytes low free is
+
+pub not_zeros : (bytes : List ℕ) → has_bytes_at bytes 64 (codes "_BHRfS_M") ≡ true → zeros ≢ bytes
+not_zeros bytes is same = true≢false (sym is ∙ ap (λ (z : List ℕ). has_bytes_at z 64 (codes "_BHRfS_M")) (sym same))
 
 -- the copy stands where the volume has the block
 low_chosen : (t : Bool) (z bytes : List ℕ) → t ≡ true → cond t z bytes ≡ z
