@@ -6,7 +6,7 @@ use Rattle.outside.specs.History.{Image, block_at}
 use Rattle.btr_files.specs.Extents.{extents_of, is_hole}
 use Rattle.btr_keys.specs.FileExtent.{ContentValue, FileExtentValue, Inline, Prealloc, Regular, file_extent_of}
 use Rattle.btr_reader.specs.Chunks.{range_of}
-use Rattle.btr_reader.specs.Image.{items_at, pointer_in, saved_entry, tree_number}
+use Rattle.btr_reader.specs.Image.{ImageFile, image_place, items_at, pointer_in, saved_entry, saved_image, tree_number}
 use Rattle.btr_reader.specs.Opening.{boot_chunks, boot_list, chunk_tree, root_tree, tree_of}
 use Rattle.btr_reader.specs.Parts.{own_map, own_super}
 use Rattle.btr_reader.specs.Roots.{root_item}
@@ -42,11 +42,6 @@ abbrev pub AreExtentsApart : (ℕ → Bool) → List MapRange → List TreeItem 
 AreExtentsApart test ranges items =
     (ino : ℕ) (i : TreeItem) (e : FileExtentValue) → Contains (extents_of items ino) i → file_extent_of i.body ≡ Some e → IsContentApart test ranges e.content
 
--- the nodes of a file tree, and the extents of its files
-pub record IsTreeApart (test : ℕ → Bool) (image : Image) (number : ℕ) (p : Pointer) : Type 0 where
-  pub nodes : AreNodesApart test image (own_map image) (tree_of (own_super image) number p)
-  pub extents : AreExtentsApart test (own_map image) (items_at image (own_super image) (own_map image) number p)
-
 -- the root of a tree, as the root tree has it
 abbrev pub root_of : Image → ℕ → Option Pointer
 root_of image number = pointer_in (root_item number (roots_on image (own_super image) (own_map image)))
@@ -59,14 +54,16 @@ saved_tree image p = option_and_then tree_number (saved_entry (items_at image (o
 abbrev pub boot_map : Super → List MapRange
 boot_map s = map range_of (boot_list (boot_chunks s))
 
--- In none of the blocks lies the superblock, a node of the chunk tree, the root tree, the file tree or the saved image's tree, or an
--- extent of a file in the last two.
+-- In none of the blocks lies the superblock, a node of the chunk tree, the root tree, the file tree or the saved image's tree, an extent
+-- of a file in the file tree, or a block of the saved image.
 pub record IsVolumeApart (test : ℕ → Bool) (image : Image) : Type 0 where
   pub superblock : test 16 ≡ false
   pub chunks : AreNodesApart test image (boot_map (own_super image)) (chunk_tree (own_super image))
   pub roots : AreNodesApart test image (own_map image) (root_tree (own_super image))
-  pub files : (p : Pointer) → root_of image 5 ≡ Some p → IsTreeApart test image 5 p
-  pub saved : (p : Pointer) (number : ℕ) (q : Pointer) → root_of image 5 ≡ Some p → saved_tree image p ≡ Some number → root_of image number ≡ Some q → IsTreeApart test image number q
+  pub files : (p : Pointer) → root_of image 5 ≡ Some p → AreNodesApart test image (own_map image) (tree_of (own_super image) 5 p)
+  pub extents : (p : Pointer) → root_of image 5 ≡ Some p → AreExtentsApart test (own_map image) (items_at image (own_super image) (own_map image) 5 p)
+  pub saved : (p : Pointer) (number : ℕ) (q : Pointer) → root_of image 5 ≡ Some p → saved_tree image p ≡ Some number → root_of image number ≡ Some q → AreNodesApart test image (own_map image) (tree_of (own_super image) number q)
+  pub blocks : (f : ImageFile) (b place : ℕ) → saved_image image (own_super image) (own_map image) ≡ Some f → image_place (own_map image) f b ≡ Some place → test place ≡ false
 
 -- the two disks have the same in all other blocks
 pub record IsSameOutside (test : ℕ → Bool) (image other : Image) : Type 0 where
