@@ -2,12 +2,17 @@
 use Rattle.std.proofs.Common.{◌≡◌, ◌∙◌, ℕ, ◌/◌, Bool, List, length, sym, ap, subst, Ok}
 use Rattle.outside.specs.Format.{format_in}
 use Rattle.outside.specs.History.{Image, block_at}
+use Rattle.outside.specs.declared.answer.VolAnswer.{VolAnswer}
+use Rattle.outside.specs.declared.answer.VolAnswer.TheVariants as vol
 use Rattle.btr_super.specs.Rules.{super_of}
 use Rattle.btr_super.specs.declared.superblock.Super.{Super}
+use Rattle.convert_steps.specs.Prepared.{by_volume}
 use Rattle.reiser_super.specs.declared.superblock.Super.{Super as ReiserSuper}
+use Rattle.reiser_volume.specs.Front.{RefusesFront}
 use Rattle.reiser_volume.specs.Volume.{IsFrontAccepted, superblock, used_of}
 use Rattle.vol_block.specs.declared.format.Format.{Format}
 use Rattle.vol_block.specs.declared.format.Format.TheVariants.{Reiser, Btrfs}
+use Rattle.rollback_core.specs.Answers.{IsRefusedAs, RefusesRecover}
 use Rattle.rollback_core.specs.Mending.{Gives, blocks_of, copied, mended, mended_by, wiped}
 use Rattle.rollback_core.specs.Planned.{IsPlanned}
 use Rattle.rollback_core.specs.Recovered.{IsInOrder}
@@ -46,3 +51,9 @@ module _ (image : Image) (m : Mending) where
       first = subst (λ (wanted : List ℕ). Gives (block_at image 16384) wanted m.first) (wiped_is 16384) first;
       second = subst (λ (wanted : List ℕ). Gives (block_at image 67108864) wanted m.second) (wiped_is 67108864) second;
     }
+
+-- what is refused of superblock, journal and bitmap
+pub front_refused : (image : Image) (a : VolAnswer) → Reiser ≡ format_in image → RefusesFront image a → RefusesRecover image (by_volume a)
+front_refused image (vol.Refused r) format refused = subst (λ (f : Format). IsRefusedAs f image r) format refused
+front_refused image vol.Fault format refused = tt
+front_refused image vol.Memory format refused = λ btrfs. (let both : Reiser ≡ Btrfs = format ∙ btrfs in absurd cc)
