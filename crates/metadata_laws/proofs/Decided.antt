@@ -1,5 +1,5 @@
 -- What is read of a volume depends on the blocks of its nodes and of its files' extents alone.
-use Rattle.std.proofs.Common.{◌≡◌, ◌∙◌, ◌↔◌, ⊎_elim, inl, inr, ℕ, ◌+◌, ◌/◌, ◌%◌, ◌<◌, Bool, true, false, cond, List, length, nat_le, Option, Some, None, refl, sym, ap, subst}
+use Rattle.std.proofs.Common.{◌≡◌, ◌∙◌, ⊎_elim, inl, inr, ℕ, ◌+◌, ◌/◌, ◌%◌, ◌<◌, Bool, true, false, cond, List, length, nat_le, Option, Some, None, refl, sym, ap, subst}
 use Rattle.std.specs.Prelude.{Contains, slice_index}
 use Rattle.outside.specs.Format.{format_in}
 use Rattle.outside.specs.History.{Image, block_at}
@@ -9,20 +9,19 @@ use Rattle.btr_files.specs.Extents.{byte_of_place, content_byte, extent_length, 
 use Rattle.btr_keys.specs.FileExtent.{ContentValue, Inline, Prealloc, Regular}
 use Rattle.btr_reader.specs.Image.{items_at, pointer_in}
 use Rattle.btr_reader.specs.Laws.{SameExtents, unplaced}
-use Rattle.btr_reader.specs.Opening.{tree_of}
 use Rattle.btr_reader.specs.Parts.{AreRowsOfBtrfs, IsBtrfsRefusal, Opening, Part, SavedImage, Superblock, Tree, log_of, own_map, own_super}
 use Rattle.btr_reader.specs.Roots.{root_item}
 use Rattle.btr_reader.specs.Rows.{AreRows, roots_on}
 use Rattle.btr_reader.proofs.SameItems.{items_decide_rows}
 use Rattle.btr_walk.specs.Events.{TreeItem}
 use Rattle.btr_walk.specs.Map.{place}
-use Rattle.btr_walk.specs.Walks.{found}
 use Rattle.btr_walk.specs.declared.map.MapRange.{MapRange}
-use Rattle.btr_walk.specs.declared.tree.Pointer.{Pointer}
+use Rattle.btr_super.specs.declared.superblock.Super.{Super}
 use Rattle.vol_block.specs.Format.{format}
+use Rattle.vol_block.specs.Volume.{is_reserved}
 use Rattle.vol_block.specs.declared.format.Format.TheVariants.{Neither}
-use Rattle.metadata_laws.specs.Apart.{AreExtentsApart, IsApart, IsContentApart, IsSameOutside, IsVolumeApart, root_of}
-use Rattle.metadata_laws.specs.Laws.{IsSameBtrfs, MetadataDecides}
+use Rattle.metadata_laws.specs.Apart.{AreExtentsApart, IsApart, IsContentApart, IsSameOutside, IsVolumeApart, is_reserved_in, root_of}
+use Rattle.metadata_laws.specs.Laws.{IsSameBtrfs, MetadataDecides, ReservedBlocksAreSpare}
 use Rattle.metadata_laws.proofs.Volumes.{apart_again, both, fields_same, image_same, items_same, map_same, opening_same, over, root_item_same, super_same, tree_refused, way_same}
 
 -- ---- the bytes of extents
@@ -97,3 +96,9 @@ same_btrfs test image other apart same =
 
 pub metadata_decides : MetadataDecides
 metadata_decides test image other apart same = record { same = same_btrfs test image other apart same; apart = apart_again test image other apart same }
+
+-- the reserved blocks are those of the superblock, which is the same
+pub reserved_blocks_are_spare : ReservedBlocksAreSpare
+reserved_blocks_are_spare image other free same =
+    let decided = metadata_decides (is_reserved_in image) image other free same in
+    (decided.same, subst (λ (s : Super). IsVolumeApart (λ b. is_reserved b (s.total_bytes / 4096)) other) (sym decided.same.fields) decided.apart)

@@ -1,12 +1,12 @@
 -- What a tree gives depends on the blocks of its nodes alone.
-use Rattle.std.proofs.Common.{◌≡◌, ◌∙◌, ℕ, zero, suc, ◌+◌, ◌*◌, ◌/◌, ◌<◌, Bool, false, List, [], ◌∷◌, ◌++◌, length, Option, Some, None, refl, sym, ap, subst, arith, if◌then◌else◌}
+use Rattle.std.proofs.Common.{◌≡◌, ◌∙◌, ℕ, zero, suc, ◌+◌, ◌*◌, ◌/◌, ◌<◌, Bool, List, [], ◌∷◌, ◌++◌, Option, Some, None, refl, sym, ap, subst, arith, if◌then◌else◌}
 use Rattle.std.specs.List.{All, flat_map}
 use Rattle.std.proofs.lemmas.List.Elements.{All-nil, All-cons, All-head, All-tail}
-use Rattle.outside.specs.History.{Image, block_at}
+use Rattle.outside.specs.History.{Image}
 use Rattle.outside.specs.declared.refusal.BtrRefusal.{BtrRefusal}
 use Rattle.outside.specs.declared.rule.BtrRule.{BtrRule}
 use Rattle.outside.specs.declared.rule.BtrRule.TheVariants.{Unmapped}
-use Rattle.btr_walk.specs.Events.{Event, TreeItem, items_in_events, may_be_bare, nodes_in}
+use Rattle.btr_walk.specs.Events.{Event, items_in_events, may_be_bare, nodes_in}
 use Rattle.btr_walk.specs.Map.{block_of_place, blocks_at, is_mapped, node_at, place}
 use Rattle.btr_walk.specs.Node.{content_damages, node_damages, want}
 use Rattle.btr_walk.specs.Tree.{at_address, node_faults, order_damages, pointer_damages}

@@ -1,5 +1,5 @@
 -- What is found of a volume depends on the blocks of its nodes alone.
-use Rattle.std.proofs.Common.{◌≡◌, ◌∙◌, ℕ, Bool, List, [], ◌∷◌, ◌++◌, length, Option, Some, None, Result, Ok, Err, refl, sym, ap, subst}
+use Rattle.std.proofs.Common.{◌≡◌, ◌∙◌, ℕ, Bool, List, [], ◌∷◌, ◌++◌, length, Option, Some, Result, Ok, Err, refl, sym, ap, subst}
 use Rattle.std.specs.Prelude.{Contains}
 use Rattle.std.specs.Option.{option_and_then}
 use Rattle.outside.specs.History.{Image, block_at}
@@ -7,10 +7,10 @@ use Rattle.outside.specs.declared.refusal.BtrRefusal.{BtrRefusal}
 use Rattle.btr_names.specs.Roots.{has_root}
 use Rattle.btr_names.specs.Rules.{BreaksNames}
 use Rattle.btr_reader.specs.Chunks.{items_refusals, with_items}
-use Rattle.btr_reader.specs.Image.{ImageFile, entry_refusals, image_below, image_from, image_in, image_place, image_refusals, image_refusals_in, items_at, pointer_in, refusals_below, refusals_from, root_refusals, saved_entry, saved_image, tree_number, if_there, after_root}
+use Rattle.btr_reader.specs.Image.{entry_refusals, image_below, image_from, image_in, image_place, image_refusals, image_refusals_in, items_at, pointer_in, refusals_below, refusals_from, root_refusals, saved_entry, saved_image, tree_number, if_there}
 use Rattle.btr_reader.specs.Opening.{boot_chunks, boot_list, boot_refusals, chunk_map, chunk_tree, map_from, opening_refusals, or_later, refusals_after, root_tree, super_on, tree_of, trees_refusals}
 use Rattle.btr_reader.specs.Parts.{own_map, own_super, way_refusals}
-use Rattle.btr_reader.specs.Roots.{pointer_of, root_item}
+use Rattle.btr_reader.specs.Roots.{root_item}
 use Rattle.btr_reader.specs.Rows.{BreaksExtents, IsTreeRefusal, bad_extents, bad_names, bad_root_item, bad_tree, no_root_item, roots_on}
 use Rattle.btr_super.specs.Rules.{super_of, super_refusals, unless_refused}
 use Rattle.btr_super.specs.Super.{super_in}
@@ -19,7 +19,6 @@ use Rattle.btr_walk.specs.Events.{TreeItem}
 use Rattle.btr_walk.specs.Walks.{found, wrong}
 use Rattle.btr_walk.specs.declared.map.MapRange.{MapRange}
 use Rattle.btr_walk.specs.declared.tree.Pointer.{Pointer}
-use Rattle.btr_walk.specs.declared.tree.Tree.{Tree}
 use Rattle.metadata_laws.specs.Apart.{AreExtentsApart, AreNodesApart, IsSameOutside, IsVolumeApart, boot_map, root_of, saved_tree}
 use Rattle.metadata_laws.proofs.Chosen.{after_root_same, and_then_same, if_there_same}
 use Rattle.metadata_laws.proofs.Nodes.{apart_same, found_same, wrong_same}

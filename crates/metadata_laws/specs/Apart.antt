@@ -18,6 +18,7 @@ use Rattle.btr_walk.specs.Walks.{met}
 use Rattle.btr_walk.specs.declared.map.MapRange.{MapRange}
 use Rattle.btr_walk.specs.declared.tree.Pointer.{Pointer}
 use Rattle.btr_walk.specs.declared.tree.Tree.{Tree}
+use Rattle.vol_block.specs.Volume.{is_reserved}
 
 -- Some blocks are given by a test. A place, in bytes, lies in none of them.
 abbrev pub IsApart : (ℕ → Bool) → Option ℕ → Type 0
@@ -69,3 +70,11 @@ pub record IsVolumeApart (test : ℕ → Bool) (image : Image) : Type 0 where
 pub record IsSameOutside (test : ℕ → Bool) (image other : Image) : Type 0 where
   pub size : length other ≡ length image
   pub others : (b : ℕ) → test b ≡ false → block_at other b ≡ block_at image b
+
+-- No part of the volume lies in a reserved block: in the first MiB, in the 64 KiB from the place of a copy of the superblock on, or
+-- behind the last multiple of 64 KiB.
+abbrev pub is_reserved_in : Image → ℕ → Bool
+is_reserved_in image b = is_reserved b ((own_super image).total_bytes / 4096)
+
+abbrev pub IsReservedFree : Image → Type 0
+IsReservedFree image = IsVolumeApart (is_reserved_in image) image

@@ -7,7 +7,7 @@ use Rattle.fs_rows.specs.Rows.{WholeRow}
 use Rattle.btr_reader.specs.Image.{ImageFile, image_place, saved_image}
 use Rattle.btr_reader.specs.Opening.{super_on}
 use Rattle.btr_reader.specs.Parts.{AreRowsOfBtrfs, IsBtrfsRefusal, Part, log_tree, own_map, own_super}
-use Rattle.metadata_laws.specs.Apart.{IsSameOutside, IsVolumeApart}
+use Rattle.metadata_laws.specs.Apart.{IsReservedFree, IsSameOutside, IsVolumeApart, is_reserved_in}
 
 -- The other disk holds the same volume: with the same superblock and map of addresses, the same refusals of each part, the same rows,
 -- and the same saved image.
@@ -30,3 +30,7 @@ pub record IsDecided (test : ℕ → Bool) (image other : Image) : Type 0 where
 
 abbrev pub MetadataDecides : Type 0
 MetadataDecides = (test : ℕ → Bool) (image other : Image) → IsVolumeApart test image → IsSameOutside test image other → IsDecided test image other
+
+-- The reserved blocks decide nothing of a volume that lies in none of them.
+abbrev pub ReservedBlocksAreSpare : Type 0
+ReservedBlocksAreSpare = (image other : Image) → IsReservedFree image → IsSameOutside (is_reserved_in image) image other → IsSameBtrfs image other × IsReservedFree other

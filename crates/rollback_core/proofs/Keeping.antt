@@ -1,5 +1,5 @@
 -- What a recovery keeps.
-use Rattle.std.proofs.Common.{◌≡◌, ◌≢◌, ◌∙◌, ◌⊎◌, inl, inr, ⊎_elim, ℕ, ◌+◌, ◌<◌, ◌≤◌, Bool, true, false, cond, not, nat_lt, nat_le, List, [], ◌∷◌, length, codes, refl, sym, ap, subst, arith}
+use Rattle.std.proofs.Common.{◌≡◌, ◌≢◌, ◌∙◌, ◌⊎◌, inl, inr, ⊎_elim, ℕ, ◌+◌, ◌/◌, ◌<◌, ◌≤◌, Bool, true, false, true≢false, cond, not, nat_lt, nat_le, List, [], ◌∷◌, length, codes, refl, sym, ap, subst, arith}
 use Rattle.std.specs.Prelude.{bytes_eq, filter, Ok, Err, Result}
 use Rattle.std.proofs.lemmas.Bool.{cases_lt}
 use Rattle.std.proofs.lemmas.Bool.Decides.{nat_tests}
@@ -13,12 +13,16 @@ use Rattle.btr_super.specs.Rules.{super_of}
 use Rattle.btr_super.specs.Super.{mirror_bytes}
 use Rattle.btr_super.specs.declared.superblock.Super.{Super}
 use Rattle.convert_steps.specs.Switch.{HasCopies, IsMirror}
+use Rattle.btr_reader.specs.Parts.{own_super}
+use Rattle.metadata_laws.specs.Apart.{IsSameOutside, is_reserved_in}
+use Rattle.metadata_laws.proofs.Decided.{reserved_blocks_are_spare}
 use Rattle.object_files.specs.Laws.{SameUsed}
 use Rattle.reiser_bitmap.specs.Bits.{has}
 use Rattle.reiser_volume.specs.Volume.{IsAccepted, IsFrontAccepted, superblock, used_of}
 use Rattle.reiser_volume.proofs.Refusals.{accepted_front, front_not_refused}
 use Rattle.reiser_volume.proofs.Unchanged.{same_volume}
 use Rattle.vol_block.specs.Format.{format, has_bytes_at}
+use Rattle.vol_block.specs.Volume.{is_reserved}
 use Rattle.vol_block.specs.declared.format.Format.{Format}
 use Rattle.vol_block.specs.declared.format.Format.TheVariants.{Reiser, Btrfs, Neither}
 use Rattle.rollback_core.specs.Answers.{IsRefusedAs, RefusesRecover}
@@ -112,10 +116,22 @@ same_as_itself image = record {
   volume = λ reiser accepted. same_volume image image accepted (λ b used. refl) accepted.clean.superblock.fits;
 }
 
+-- the blocks of copies are reserved
+not_reserved : (blocks b : ℕ) → is_reserved b blocks ≡ false → IsMirror b → ⊥
+not_reserved blocks b free mirror =
+    ⊎_elim (λ one. true≢false (subst (λ (n : ℕ). is_reserved n blocks ≡ false) one free)) (λ two. true≢false (subst (λ (n : ℕ). is_reserved n blocks ≡ false) two free)) mirror
+
+left_outside : (image other : Image) → IsSameBut image other → IsSameOutside (is_reserved_in image) image other
+left_outside image other is = record { size = is.size; others = λ b free. is.others b (not_reserved ((own_super image).total_bytes / 4096) b free) }
+
+left_same : (image other : Image) → IsLeft image other → IsSameBut image other
+left_same image other is = ⊎_elim (λ same. subst (IsSameBut image) (sym same) (same_as_itself image)) (λ both. same_but image other both.0 both.1) is
+
 pub keeps : RecoveryKeeps
 keeps = record {
-  left = λ image other is. ⊎_elim (λ same. subst (IsSameBut image) (sym same) (same_as_itself image)) (λ both. same_but image other both.0 both.1) is;
-  recovered = λ image other is. same_but image other is.can (partly_of image other is);
+  recovered = λ image other is. inr (is.can, partly_of image other is);
+  left = left_same;
+  btrfs = λ image other free is. reserved_blocks_are_spare image other free (left_outside image other (left_same image other is));
 }
 
 -- ---- again

@@ -5,6 +5,8 @@ use Rattle.outside.specs.History.{Image, block_at}
 use Rattle.outside.specs.declared.answer.Answer.{Answer}
 use Rattle.outside.specs.declared.answer.Answer.TheVariants as answer
 use Rattle.convert_steps.specs.Switch.{HasCopies, IsMirror}
+use Rattle.metadata_laws.specs.Apart.{IsReservedFree}
+use Rattle.metadata_laws.specs.Laws.{IsSameBtrfs}
 use Rattle.object_files.specs.Laws.{SameUsed}
 use Rattle.reiser_bitmap.specs.Bits.{has}
 use Rattle.reiser_volume.specs.Laws.{IsSameVolume}
@@ -33,10 +35,12 @@ pub record IsSameBut (image other : Image) : Type 0 where
   -- so an accepted one is the same volume, with the same rows
   pub volume : format_in image ≡ Reiser → IsAccepted image → IsSameVolume image other
 
--- So is each disk that a recovery makes, or a crash of it leaves.
+-- So is each disk that a crash of a recovery leaves, and what a recovery makes is one of them. Where no part of a Btrfs volume lies in
+-- a reserved block, it is the same volume, with the same rows and the same saved image, and so again.
 pub record RecoveryKeeps : Type 0 where
+  pub recovered : (image other : Image) → IsRecovered image other → IsLeft image other
   pub left : (image other : Image) → IsLeft image other → IsSameBut image other
-  pub recovered : (image other : Image) → IsRecovered image other → IsSameBut image other
+  pub btrfs : (image other : Image) → IsReservedFree image → IsLeft image other → IsSameBtrfs image other × IsReservedFree other
 
 -- What stands in the blocks of copies: on a Btrfs volume the copies of its superblock, on a ReiserFS volume no Btrfs superblock in a
 -- block without use. A Btrfs volume whose copies stand is recovered as it is.
