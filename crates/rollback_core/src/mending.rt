@@ -122,11 +122,7 @@ fn wipe_both<S: BlockSource>(src: &mut S, front: &Front) -> Result<Mending, Faul
 }
 
 /// What is to be written to a Btrfs volume of so many blocks with this superblock.
-fn copy_both<S: BlockSource>(
-    src: &mut S,
-    superblock: &Block,
-    blocks: u64,
-) -> Result<Mending, Fault>
+fn copy_both<S: BlockSource>(src: &mut S, superblock: &Block, blocks: u64) -> Result<Mending, Fault>
     requires device { blocks ≤ S.size src.old }
     ensures kept { S.kept src.old src.new }
     ensures format { IfOk result (λ m. m.format ≡ formats.Btrfs) }

@@ -50,9 +50,7 @@ fn superblock(alloc: Global, blocks: u64) -> Result<Block, Fail>
     let sample = Sample::PLAIN.disk(alloc)?;
     let mut block = Block::zero();
     sample.block(16, &mut block);
-    let sup = Super::read(&block, 16, blocks)
-        .ok()
-        .ok_or("a superblock")?;
+    let sup = Super::read(&block, 16, blocks).ok().ok_or("a superblock")?;
     let sup = Super {
         total_bytes: 4096 * blocks,
         ..sup
@@ -100,12 +98,18 @@ fn recovers(
 {
     let mut disk = disk;
     disk.open("", Access::Write)?;
-    assert_eq!(rt; recover(rt.alloc(), &mut disk), Ok(RecoverSummary { format, mirrors }));
+    assert_eq!(rt;
+        recover(rt.alloc(), &mut disk),
+        Ok(RecoverSummary { format, mirrors })
+    );
     assert_eq!(rt; disk.writes(), mirrors);
     assert!(rt; has(&disk, COPY, copy));
     disk.settle();
     disk.open("", Access::Write)?;
-    assert_eq!(rt; recover(rt.alloc(), &mut disk), Ok(RecoverSummary { format, mirrors: 0 }));
+    assert_eq!(rt;
+        recover(rt.alloc(), &mut disk),
+        Ok(RecoverSummary { format, mirrors: 0 })
+    );
     assert_eq!(rt; disk.writes(), 0);
     assert!(rt; has(&disk, COPY, copy));
     Ok(())

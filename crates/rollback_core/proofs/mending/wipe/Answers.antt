@@ -11,7 +11,7 @@ use Rattle.rollback_core.proofs.mending.wipe.Goals.{then-place-front-via-then-pl
 pub returns-then-place-front-clause-gives : goal.returns-then-place-front-clause-gives
 returns-then-place-front-clause-gives g c = λ tells image is.
     elim c.then-place-front.branch [
-      then-place-front-via-then-place-front w ↦
+      | then-place-front-via-then-place-front w ↦
           let high : nat_lt c.args.place c.args.front.now.sup.blocks ≡ false = grind (arith, nat_tests, w.if-place-front.true) in
           gives_same (block_at image c.args.place) _ (beyond_stays c.args.front.now.sup.blocks c.args.front.now.bitmap c.args.place (block_at image c.args.place) high)
       | then-place-front-via-else-place-front+then-is_used w ↦

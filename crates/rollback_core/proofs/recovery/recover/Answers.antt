@@ -37,8 +37,7 @@ returns-in-Ok-clause-recovered g c = λ tells image is.
     let same : g.D.Disk.history c.plan.new.src ≡ g.D.Disk.history c.args.disk.now = g.met.D.Disk.kept_history _ _ tells c.plan.ensures.kept in
     let planned = c.in_ok-mending.ensures.planned tells image (g.met.D.Disk.open_blocks c.args.disk.now _ tells c.requires.«open» ∙ is) in
     let only = subst (λ (h : History). WritesOnly (IsGiven c.in_ok-mending.mending) h (g.D.Disk.history c.write_mending.new.disk)) same (c.write_mending.ensures.only tells) in
-    let stands = subst (λ (h : History). Stands c.in_ok-mending.mending (reads h) (reads (g.D.Disk.history c.write_mending.new.disk))) same (c.in-Ok.ensures.written tells) in
-    (
+    let stands = subst (λ (h : History). Stands c.in_ok-mending.mending (reads h) (reads (g.D.Disk.history c.write_mending.new.disk))) same (c.in-Ok.ensures.written tells) in (
       recovers image c.in_ok-mending.mending planned (g.D.Disk.history c.args.disk.now) (g.D.Disk.history c.write_mending.new.disk) is only stands,
       summary_is image c.in_ok-mending.mending planned c.in-Ok.mirrors c.in-Ok.ensures.count,
     )
