@@ -1,5 +1,5 @@
 -- The used blocks decide superblock, journal and bitmap of a ReiserFS volume that has them in order.
-use Rattle.std.proofs.Common.{◌≡◌, ◌∙◌, ◌≤◌, ◌+◌, ℕ, true, Bool, List, [], length, sym, ap, subst, arith}
+use Rattle.std.proofs.Common.{◌≡◌, ◌∙◌, ◌+◌, ℕ, true, Bool, List, [], length, sym, ap, subst, arith}
 use Rattle.std.specs.Prelude.{Contains}
 use Rattle.outside.specs.History.{Image, block_at}
 use Rattle.object_files.specs.Laws.{SameUsed}

@@ -1,34 +1,32 @@
 -- What a recovery keeps.
-use Rattle.std.proofs.Common.{◌≡◌, ◌≢◌, ◌∙◌, ◌⊎◌, inl, inr, ⊎_elim, ℕ, ◌+◌, ◌/◌, ◌<◌, ◌≤◌, Bool, true, false, true≢false, cond, not, nat_lt, nat_le, List, [], ◌∷◌, length, codes, refl, sym, ap, subst, arith}
-use Rattle.std.specs.Prelude.{bytes_eq, filter, Ok, Err, Result}
+use Rattle.std.proofs.Common.{◌≡◌, ◌≢◌, ◌∙◌, ◌⊎◌, inl, inr, ⊎_elim, ℕ, ◌/◌, ◌<◌, ◌≤◌, true, false, true≢false, cond, nat_lt, nat_le, List, length, codes, refl, sym, ap, subst, arith}
+use Rattle.std.specs.Prelude.{Ok, Err, Result}
 use Rattle.std.proofs.lemmas.Bool.{cases_lt}
 use Rattle.std.proofs.lemmas.Bool.Decides.{nat_tests}
 use Rattle.outside.specs.Format.{format_in}
 use Rattle.outside.specs.History.{Image, block_at}
-use Rattle.outside.specs.declared.answer.Answer.{Answer}
 use Rattle.outside.specs.declared.answer.Answer.TheVariants as answer
 use Rattle.outside.specs.declared.refusal.BtrRefusal.{BtrRefusal}
 use Rattle.outside.specs.declared.refusal.VolumeRefusal.{VolumeRefusal}
 use Rattle.btr_super.specs.Rules.{super_of}
 use Rattle.btr_super.specs.Super.{mirror_bytes}
 use Rattle.btr_super.specs.declared.superblock.Super.{Super}
-use Rattle.convert_steps.specs.Switch.{HasCopies, IsMirror}
+use Rattle.convert_steps.specs.Switch.{IsMirror}
 use Rattle.btr_reader.specs.Parts.{own_super}
 use Rattle.metadata_laws.specs.Apart.{IsSameOutside, is_reserved_in}
 use Rattle.metadata_laws.proofs.Decided.{reserved_blocks_are_spare}
 use Rattle.object_files.specs.Laws.{SameUsed}
-use Rattle.reiser_bitmap.specs.Bits.{has}
-use Rattle.reiser_volume.specs.Volume.{IsAccepted, IsFrontAccepted, superblock, used_of}
-use Rattle.reiser_volume.proofs.Refusals.{accepted_front, front_not_refused}
+use Rattle.reiser_volume.specs.Volume.{IsFrontAccepted, superblock, used_of}
+use Rattle.reiser_volume.proofs.Refusals.{front_not_refused}
 use Rattle.reiser_volume.proofs.Unchanged.{same_volume}
 use Rattle.vol_block.specs.Format.{format, has_bytes_at}
 use Rattle.vol_block.specs.Volume.{is_reserved}
 use Rattle.vol_block.specs.declared.format.Format.{Format}
 use Rattle.vol_block.specs.declared.format.Format.TheVariants.{Reiser, Btrfs, Neither}
-use Rattle.rollback_core.specs.Answers.{IsRefusedAs, RefusesRecover}
+use Rattle.rollback_core.specs.Answers.{IsRefusedAs}
 use Rattle.rollback_core.specs.Laws.{IsSameBut, RecoversWhatIsInOrder, RecoveryKeeps, RecoveryMends, RecoveryStays}
 use Rattle.rollback_core.specs.Mending.{blocks_of, is_torn, mended, mended_by}
-use Rattle.rollback_core.specs.Recovered.{IsInOrder, IsLeft, IsPartly, IsRecoverable, IsRecovered, summary}
+use Rattle.rollback_core.specs.Recovered.{IsInOrder, IsLeft, IsPartly, IsRecoverable, IsRecovered}
 use Rattle.rollback_core.proofs.Fronts.{front_same, used_same}
 use Rattle.rollback_core.proofs.Mended.{copy_beyond, copy_wanted, mend_again, mend_same, same_bytes, two_of, used_stays, wiped_clean}
 

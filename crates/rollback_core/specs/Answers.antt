@@ -1,5 +1,5 @@
 -- What `recover` may answer.
-use Rattle.std.specs.Prelude.{◌≡◌, ◌≢◌, ◌⊎◌, length, Err}
+use Rattle.std.specs.Prelude.{◌≡◌, ◌≢◌, length, Err}
 use Rattle.outside.specs.Format.{format_in}
 use Rattle.outside.specs.History.{Image, block_at}
 use Rattle.outside.specs.declared.answer.Answer.{Answer}

@@ -1,5 +1,5 @@
 -- What is to stand at the places of the copies of a Btrfs superblock, and what is written there.
-use Rattle.std.specs.Prelude.{◌≡◌, ℕ, ◌/◌, nat_lt, Bool, ◌&&◌, not, List, [], ◌∷◌, bytes_eq, codes, Option, Some, None, is_some, if◌then◌else◌}
+use Rattle.std.specs.Prelude.{◌≡◌, ℕ, ◌/◌, nat_lt, Bool, ◌&&◌, not, List, bytes_eq, codes, Option, Some, None, is_some, if◌then◌else◌}
 use Rattle.outside.specs.Format.{format_in}
 use Rattle.outside.specs.History.{Image, block_at}
 use Rattle.btr_super.specs.Super.{mirror_bytes, super_in}

@@ -4,7 +4,7 @@ ghost use Rattle.std.specs.Prelude.{◌≡◌, IfOk, length, None};
 use crate::{RecoverSummary, recover};
 use btr_samples::Sample;
 use btr_super::{Super, mirror};
-use outside::{Access, Answer, BtrRefusal, BtrRule, Disk, VolumeRefusal};
+use outside::{Access, Answer, BlockSource, BtrRefusal, BtrRule, Disk, VolumeRefusal};
 use outside_mem::MemDisk;
 use reiser_make::make;
 use std::alloc::Global;
@@ -77,12 +77,14 @@ fn copy_of(superblock: &Block) -> Block {
     copy
 }
 
-fn has(disk: &MemDisk, n: BlockNo, wanted: &Block) -> bool
-    requires { n < length disk.now.history.start }
-{
+/// Whether an open disk has this block.
+fn has(disk: &mut MemDisk, n: BlockNo, wanted: &Block) -> Result<bool, Fail> {
     let mut block = Block::zero();
-    disk.block(n, &mut block);
-    block == *wanted
+    if n >= disk.len() {
+        return Ok(false);
+    }
+    disk.read(n, &mut block)?;
+    Ok(block == *wanted)
 }
 
 /// Recovers a disk, and then once more, which writes nothing; and whether the block of the copy is then this one.
@@ -93,8 +95,7 @@ fn recovers(
     mirrors: u64,
     copy: &Block,
 ) -> Result<(), Fail>
-    requires size { length disk.history.start ≡ 20000 }
-    requires closed { disk.opened ≡ None }
+    requires { disk.opened ≡ None }
 {
     let mut disk = disk;
     disk.open("", Access::Write)?;
@@ -103,7 +104,7 @@ fn recovers(
         Ok(RecoverSummary { format, mirrors })
     );
     assert_eq!(rt; disk.writes(), mirrors);
-    assert!(rt; has(&disk, COPY, copy));
+    assert!(rt; has(&mut disk, COPY, copy)?);
     disk.settle();
     disk.open("", Access::Write)?;
     assert_eq!(rt;
@@ -111,7 +112,7 @@ fn recovers(
         Ok(RecoverSummary { format, mirrors: 0 })
     );
     assert_eq!(rt; disk.writes(), 0);
-    assert!(rt; has(&disk, COPY, copy));
+    assert!(rt; has(&mut disk, COPY, copy)?);
     Ok(())
 }
 
@@ -152,7 +153,7 @@ fn a_copy_that_differs_is_written(rt: HostRuntime) -> Result<(), Fail> {
 
 /// What is answered where no block may be written.
 fn refuses(rt: &(impl Abort + AllocGlobal), disk: MemDisk, answer: Answer) -> Result<(), Fail>
-    requires closed { disk.opened ≡ None }
+    requires { disk.opened ≡ None }
 {
     let mut disk = disk;
     disk.open("", Access::Write)?;
@@ -199,16 +200,17 @@ fn crashes(
     old: &Block,
     new: &Block,
 ) -> Result<(), Fail>
-    requires size { length disk.history.start ≡ 20000 }
-    requires closed { disk.opened ≡ None }
+    requires { disk.opened ≡ None }
 {
     let mut disk = disk;
     disk.open("", Access::Write)?;
     disk.stop_at_write(1);
     assert_eq!(rt; recover(rt.alloc(), &mut disk), Err(Answer::Fault));
     for (choice, block, mirrors) in [(0, old, 1), (1, new, 0)] {
-        let left = disk.after_crash(&[choice])?;
-        assert!(rt; has(&left, COPY, block));
+        let mut left = disk.after_crash(&[choice])?;
+        left.open("", Access::Read)?;
+        assert!(rt; has(&mut left, COPY, block)?);
+        left.settle();
         recovers(rt, left, format, mirrors, new)?;
     }
     Ok(())

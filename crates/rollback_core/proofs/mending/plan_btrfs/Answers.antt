@@ -1,8 +1,6 @@
-use Rattle.std.proofs.Common.{◌≡◌, ◌∙◌, ◌≤◌, ◌/◌, ℕ, List, length, Ok, Result, sym, ap, subst}
+use Rattle.std.proofs.Common.{◌≡◌, ◌∙◌, ◌≤◌, ◌/◌, ℕ, List, length, Ok, sym, ap, subst}
 use Rattle.outside.specs.History.{Image, block_at}
-use Rattle.outside.specs.declared.refusal.BtrRefusal.{BtrRefusal}
 use Rattle.btr_super.specs.Rules.{super_of}
-use Rattle.btr_super.specs.declared.superblock.Super.{Super}
 use Rattle.rollback_core.proofs.Plans.{btrfs_planned}
 use Rattle.rollback_core.proofs.Supers.{super_fits}
 use Rattle.rollback_core.proofs.mending.plan_btrfs.Goals as goal
