@@ -17,10 +17,13 @@ use Rattle.convert_core.specs.Surveyed.{IsSurvey}
 use Rattle.convert_core.specs.declared.survey.Survey.{Survey}
 use Rattle.convert_core.proofs.One.{surveys_are_one}
 use Rattle.convert_steps.specs.Prepared.{LacksSpace}
+use Rattle.rollback_core.specs.Answers.{RefusesRecover}
+use Rattle.rollback_core.specs.Recovered.{IsRecoverable}
+use Rattle.rollback_core.proofs.Keeping.{in_order_recovers}
 use Rattle.unit_plan.specs.Choice.{HasEnoughSpace}
 use Rattle.unit_plan.specs.Needed.{need}
 use Rattle.unit_plan.specs.declared.options.Options.{Options}
-use Rattle.volume_app.specs.Command.{Asked, inspect, list, convert, help, version}
+use Rattle.volume_app.specs.Command.{Asked, inspect, list, convert, recover, help, version}
 use Rattle.volume_app.specs.Ending.{status}
 use Rattle.reiser_volume.specs.Volume.{IsAccepted, used_of}
 use Rattle.reiser_volume.proofs.Refusals.{not_refused}
@@ -125,12 +128,23 @@ convert_done o disk (ImageMoved block) disk_old disk_new done refuses device sam
 convert_done o disk (ImageDamaged refusal) disk_old disk_new done refuses device same low = absurd refuses
 convert_done o disk (ReservedUsed block) disk_old disk_new done refuses device same low = absurd refuses
 
+by_recovery : (disk : Image) (answer : Answer) (disk_old disk_new : ℕ) → (answer ≡ Fault) ⊎ ((answer ≡ Memory) × (format_in disk ≡ formats.Reiser))
+    → (answer ≡ Fault → Rose disk_old disk_new) → disk_new ≡ disk_old → disk_old < 2 ^ 64 - 1 → (status (Failed answer) ≡ 0) ⊎ (status (Failed answer) ≡ 4)
+by_recovery disk answer disk_old disk_new (inl fault) device same low = absurd (not_risen disk_old disk_new same low (device fault))
+by_recovery disk answer disk_old disk_new (inr short) device same low = inr (ap (λ (a : Answer). status (Failed a)) short.0)
+
+recover_done : (disk : Image) (answer : Answer) (disk_old disk_new : ℕ) → IsRecoverable disk → RefusesRecover disk answer
+    → (answer ≡ Fault → Rose disk_old disk_new) → disk_new ≡ disk_old → disk_old < 2 ^ 64 - 1 → (status (Failed answer) ≡ 0) ⊎ (status (Failed answer) ≡ 4)
+recover_done disk answer disk_old disk_new done refuses device same low =
+    by_recovery disk answer disk_old disk_new (in_order_recovers disk answer done refuses) device same low
+
 failed_done : (ids : Ids) (now : ℕ) (asked : Option Asked) (disk : Image) (answer : Answer) (disk_old disk_new : ℕ) → (meaning ids now asked).is_done disk → (meaning ids now asked).answers disk answer
     → (answer ≡ Fault → Rose disk_old disk_new) → disk_new ≡ disk_old → disk_old < 2 ^ 64 - 1 → (status (Failed answer) ≡ 0) ⊎ (status (Failed answer) ≡ 4)
 failed_done ids now None disk answer disk_old disk_new done right device same low = absurd done
 failed_done ids now (Some (inspect path)) disk answer disk_old disk_new done right device same low = inspect_done disk answer disk_old disk_new done right device same low
 failed_done ids now (Some (list path)) disk answer disk_old disk_new done right device same low = list_done disk answer disk_old disk_new done right device same low
 failed_done ids now (Some (convert o path)) disk answer disk_old disk_new done right device same low = convert_done o disk answer disk_old disk_new done right device same low
+failed_done ids now (Some (recover path)) disk answer disk_old disk_new done right device same low = recover_done disk answer disk_old disk_new done right device same low
 failed_done ids now (Some help) disk answer disk_old disk_new done right device same low = absurd right
 failed_done ids now (Some version) disk answer disk_old disk_new done right device same low = absurd right
 
@@ -139,6 +153,7 @@ usage_not_done ids now None disk done usage = done
 usage_not_done ids now (Some (inspect path)) disk done usage = usage
 usage_not_done ids now (Some (list path)) disk done usage = usage
 usage_not_done ids now (Some (convert o path)) disk done usage = usage
+usage_not_done ids now (Some (recover path)) disk done usage = usage
 usage_not_done ids now (Some help) disk done usage = usage
 usage_not_done ids now (Some version) disk done usage = usage
 
@@ -187,3 +202,10 @@ refusal_by answer is = (
   λ e. no_other 3 (subst (λ (a : Answer). (status (Failed a) ≡ 1) ⊎ ((status (Failed a) ≡ 2) ⊎ (status (Failed a) ≡ 6))) e is) (omega arith, omega arith),
   λ e. no_other 4 (subst (λ (a : Answer). (status (Failed a) ≡ 1) ⊎ ((status (Failed a) ≡ 2) ⊎ (status (Failed a) ≡ 6))) e is) (omega arith, omega arith),
 )
+
+no_low : (n : ℕ) → (n ≡ 1) ⊎ ((n ≡ 2) ⊎ (n ≡ 4)) → n ≡ 3 → ⊥
+no_low n is three = ⊎_elim (λ (e : n ≡ 1). absurd (omega (arith, three, e))) (λ (or : (n ≡ 2) ⊎ (n ≡ 4)). ⊎_elim (λ (e : n ≡ 2). absurd (omega (arith, three, e))) (λ (e : n ≡ 4). absurd (omega (arith, three, e))) or) is
+
+-- an answer of `recover` with status 1, 2 or 4 is no fault
+pub no_fault_by : (answer : Answer) → (status (Failed answer) ≡ 1) ⊎ ((status (Failed answer) ≡ 2) ⊎ (status (Failed answer) ≡ 4)) → answer ≢ Fault
+no_fault_by answer is = λ e. no_low 3 (subst (λ (a : Answer). (status (Failed a) ≡ 1) ⊎ ((status (Failed a) ≡ 2) ⊎ (status (Failed a) ≡ 4))) e is) refl

@@ -107,6 +107,10 @@ pub printed_keeps : (written : Result (Unit {0}) faults.Fault) → (status (endi
 printed_keeps (Ok done) is = ⊎_elim (λ (e : 0 ≡ 1). absurd (omega (arith, e))) (λ (or : (0 ≡ 2) ⊎ (0 ≡ 6)). ⊎_elim (λ (e : 0 ≡ 2). absurd (omega (arith, e))) (λ (e : 0 ≡ 6). absurd (omega (arith, e))) or) is
 printed_keeps (Err fault) is = ⊎_elim (λ (e : 5 ≡ 1). absurd (omega (arith, e))) (λ (or : (5 ≡ 2) ⊎ (5 ≡ 6)). ⊎_elim (λ (e : 5 ≡ 2). absurd (omega (arith, e))) (λ (e : 5 ≡ 6). absurd (omega (arith, e))) or) is
 
+pub recovered_keeps : (written : Result (Unit {0}) faults.Fault) → (status (ending_of written) ≡ 1) ⊎ ((status (ending_of written) ≡ 2) ⊎ (status (ending_of written) ≡ 4)) → ⊥
+recovered_keeps (Ok done) is = ⊎_elim (λ (e : 0 ≡ 1). absurd (omega (arith, e))) (λ (or : (0 ≡ 2) ⊎ (0 ≡ 4)). ⊎_elim (λ (e : 0 ≡ 2). absurd (omega (arith, e))) (λ (e : 0 ≡ 4). absurd (omega (arith, e))) or) is
+recovered_keeps (Err fault) is = ⊎_elim (λ (e : 5 ≡ 1). absurd (omega (arith, e))) (λ (or : (5 ≡ 2) ⊎ (5 ≡ 4)). ⊎_elim (λ (e : 5 ≡ 2). absurd (omega (arith, e))) (λ (e : 5 ≡ 4). absurd (omega (arith, e))) or) is
+
 -- ---- the commands
 
 right_of : (m : Meaning) (disk : Image) (written : Result (Unit {0}) faults.Fault) → m.is_done disk → EndsRight m disk (ending_of written)

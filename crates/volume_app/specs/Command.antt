@@ -7,12 +7,13 @@ use Rattle.outside.specs.declared.disk.Access.{Access}
 use Rattle.outside.specs.declared.disk.Access.TheVariants.{Read, Write}
 use Rattle.unit_plan.specs.declared.options.Options.{Options}
 use Rattle.volume_app.specs.declared.command.Command.{Command}
-use Rattle.volume_app.specs.declared.command.Command.TheVariants.{Inspect, List as ListRows, Convert, Help, Version}
+use Rattle.volume_app.specs.declared.command.Command.TheVariants.{Inspect, List as ListRows, Convert, Recover, Help, Version}
 
 pub data Asked : Type 0 where
   inspect : List ℕ → Asked
   list : List ℕ → Asked
   convert : Options → List ℕ → Asked
+  recover : List ℕ → Asked
   help : Asked
   version : Asked
 
@@ -21,6 +22,7 @@ abbrev pub opens : Asked → Option (List ℕ × Access)
 opens (inspect path) = Some (path, Read)
 opens (list path) = Some (path, Read)
 opens (convert o path) = Some (path, Write)
+opens (recover path) = Some (path, Write)
 opens help = None
 opens version = None
 
@@ -30,7 +32,10 @@ alone word = if bytes_eq word (codes "--help") then Some help else (if bytes_eq 
 
 -- a command with its path
 abbrev pub named : List ℕ → List ℕ → Option Asked
-named name path = if bytes_eq name (codes "inspect") then Some (inspect path) else (if bytes_eq name (codes "list") then Some (list path) else None)
+named name path =
+    if bytes_eq name (codes "inspect") then Some (inspect path)
+    else (if bytes_eq name (codes "list") then Some (list path)
+    else (if bytes_eq name (codes "recover") then Some (recover path) else None))
 
 -- the options of `convert`, and behind them a path
 abbrev pub converting : List (List ℕ) → List ℕ → Option Asked
@@ -56,6 +61,7 @@ abbrev pub seen : Command → Asked
 seen (Inspect path) = inspect path.now
 seen (ListRows path) = list path.now
 seen (Convert path o) = convert o path.now
+seen (Recover path) = recover path.now
 seen Help = help
 seen Version = version
 
@@ -64,5 +70,6 @@ abbrev pub HasSize : Command → Type 0
 HasSize (Inspect path) = Unit {0}
 HasSize (ListRows path) = Unit {0}
 HasSize (Convert path o) = IsNodeSize o.nodesize
+HasSize (Recover path) = Unit {0}
 HasSize Help = Unit {0}
 HasSize Version = Unit {0}

@@ -8,5 +8,6 @@ pub mod Laws
 pub mod Listing
 pub mod Meaning
 pub mod Outcome
+pub mod Recovering
 pub mod Reiser
 pub mod Texts

@@ -17,6 +17,7 @@ help_text =
     ++ codes "  inspect PATH   check the volume at PATH, and print what it is" ++ 10 ∷ []
     ++ codes "  list PATH      print a line for each path of the volume at PATH" ++ 10 ∷ []
     ++ codes "  convert PATH   turn the ReiserFS volume at PATH into a Btrfs volume" ++ 10 ∷ []
+    ++ codes "  recover PATH   finish a conversion of the volume at PATH that was interrupted" ++ 10 ∷ []
     ++ codes "  --help         print this text" ++ 10 ∷ []
     ++ codes "  --version      print the version of this program" ++ 10 ∷ []
     ++ codes "Options of convert, before the path:" ++ 10 ∷ []

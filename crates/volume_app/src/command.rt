@@ -14,6 +14,8 @@ pub enum Command<'a> {
     List(&'a str),
     /// To turn the ReiserFS volume at a path into a Btrfs volume, with these options.
     Convert(&'a str, Options),
+    /// To finish what was interrupted on the volume at a path.
+    Recover(&'a str),
     /// To print how the program is called.
     Help,
     /// To print the program's version.
@@ -91,6 +93,7 @@ fn named<'a>(name: &str, path: &'a str) -> Option<Command<'a>>
     match name {
         "inspect" => Some(Command::Inspect(path)),
         "list" => Some(Command::List(path)),
+        "recover" => Some(Command::Recover(path)),
         _ => None,
     }
 }

@@ -12,6 +12,7 @@ mod format;
 mod inspect;
 mod laws;
 mod list;
+mod recovering;
 mod reiser;
 #[cfg(test)]
 mod tests;

@@ -2,6 +2,7 @@
 ghost use Rattle.std.specs.Prelude.{◌≡◌, ◌≤◌, None, IfOk, length};
 
 mod converting;
+mod recovering;
 mod sample;
 
 use crate::run;

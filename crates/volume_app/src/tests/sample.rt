@@ -117,3 +117,65 @@ pub fn pointing_to(alloc: Global, block: u16) -> Result<MemDisk, Memory>
     disk.set_block(51, &leaf)?;
     Ok(disk)
 }
+
+/// The entries `.`, `..` and `m` of the root directory.
+const NAMED: [u8; 72] = [
+    0x01, 0x00, 0x00, 0x00, 0x01, 0x00, 0x00, 0x00, 0x02, 0x00, 0x00, 0x00, 0x40, 0x00, 0x04, 0x00,
+    0x02, 0x00, 0x00, 0x00, 0x00, 0x00, 0x00, 0x00, 0x01, 0x00, 0x00, 0x00, 0x38, 0x00, 0x04, 0x00,
+    0x80, 0x10, 0x00, 0x00, 0x02, 0x00, 0x00, 0x00, 0x04, 0x00, 0x00, 0x00, 0x30, 0x00, 0x04, 0x00,
+    0x6d, 0x00, 0x00, 0x00, 0x00, 0x00, 0x00, 0x00, 0x2e, 0x2e, 0x00, 0x00, 0x00, 0x00, 0x00, 0x00,
+    0x2e, 0x00, 0x00, 0x00, 0x00, 0x00, 0x00, 0x00,
+];
+
+/// The leaf of the sample with a file `m` in the root directory, whose one block is `block`.
+fn leaf_with_file(block: u32) -> Block {
+    let mut leaf = root_leaf();
+    let bytes = &mut leaf.bytes;
+    put_u16(bytes, 2, 4);
+    put_u16(bytes, 4, 3812);
+    // the directory item
+    put_u16(bytes, 64, 3);
+    put_u16(bytes, 66, 72);
+    put_u16(bytes, 68, 3980);
+    bytes[3980..4052].copy_from_slice(&NAMED);
+    put_u64(bytes, 4060, 72);
+    // the stat item of the file, and its body
+    put_u32(bytes, 72, 2);
+    put_u32(bytes, 76, 4);
+    put_u16(bytes, 90, 44);
+    put_u16(bytes, 92, 3936);
+    put_u16(bytes, 94, 1);
+    put_u16(bytes, 3936, 0o100644);
+    put_u32(bytes, 3940, 1);
+    put_u64(bytes, 3944, 4096);
+    put_u32(bytes, 3960, MOMENT);
+    put_u32(bytes, 3964, MOMENT);
+    put_u32(bytes, 3968, MOMENT);
+    put_u32(bytes, 3972, 8);
+    // its pointer
+    put_u32(bytes, 96, 2);
+    put_u32(bytes, 100, 4);
+    put_u64(bytes, 104, 0x1000_0000_0000_0001);
+    put_u16(bytes, 114, 4);
+    put_u16(bytes, 116, 3932);
+    put_u16(bytes, 118, 1);
+    put_u32(bytes, 3932, block);
+    leaf
+}
+
+/// A volume of 20,000 blocks with a file `m` of 4096 bytes 0x5A, which lies in block 16384, where the first copy of a Btrfs
+/// superblock belongs.
+pub fn sample_with_file(alloc: Global) -> Result<MemDisk, Memory>
+    ensures size { IfOk result (λ d. length d.history.start ≡ 20000) }
+    ensures closed { IfOk result (λ d. d.opened ≡ None) }
+{
+    let mut disk = sample(alloc, 20000)?;
+    change(&mut disk, 16, 0, &20000u32.to_le_bytes())?;
+    change(&mut disk, 16, 4, &19947u32.to_le_bytes())?;
+    change(&mut disk, 17, 2048, &[1])?;
+    disk.set_block(51, &leaf_with_file(16384))?;
+    let mut data = Block::zero();
+    data.bytes.fill(0x5a);
+    disk.set_block(16384, &data)?;
+    Ok(disk)
+}

@@ -1,0 +1,31 @@
+use Rattle.std.proofs.Common.{◌≡◌, List, ap, refl}
+use Rattle.rollback_core.specs.declared.recovery.RecoverSummary.{RecoverSummary}
+use Rattle.volume_app.specs.Recovering.{recover_meaning, recover_text}
+use Rattle.volume_app.proofs.Outcomes.{no_fault_by}
+use Rattle.volume_app.proofs.Performing.{failed, ok_kept, performed, recovered_keeps}
+use Rattle.volume_app.proofs.recovering.recover_volume.Goals as goal
+
+pub returns-in-Ok-clause-performs : goal.returns-in-Ok
+returns-in-Ok-clause-performs g c =
+    rw c.printed.ensures
+    (performed recover_meaning _ _ _ _ _ _ _ _ _ _ (recover_text c.in-Ok.told) c.print_recovered.result
+    (λ told. (c.in-Ok.ensures.right (told tt)).0.can)
+    (λ told. ap recover_text (c.in-Ok.ensures.right (told tt)).1)
+    (record {
+      unchanged = λ told keeps. absurd (recovered_keeps c.print_recovered.result keeps);
+      changed = λ told is. (c.in-Ok.ensures.right told).0;
+      settled = λ told settled is. c.in-Ok.ensures.settled told settled;
+      crash = c.recover.ensures.crash;
+    })
+    (ok_kept c.in-Ok.told _ _ c.in-Ok.ensures.cause) c.print_recovered.ensures.taken c.print_recovered.ensures.cause)
+
+pub returns-in-Err-clause-performs : goal.returns-in-Err
+returns-in-Err-clause-performs g c =
+    failed recover_meaning _ _ _ _ _ _ _ _ c.in-Err.answer (λ told. c.in-Err.ensures.right (told tt)) c.in-Err.ensures.known (λ is. tt)
+    (record {
+      unchanged = λ told keeps. c.in-Err.ensures.refused told (no_fault_by c.in-Err.answer keeps);
+      changed = λ told is. absurd is;
+      settled = λ told settled is. absurd is;
+      crash = c.recover.ensures.crash;
+    })
+    c.in-Err.ensures.cause

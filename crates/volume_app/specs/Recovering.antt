@@ -1,0 +1,44 @@
+-- What `recover` answers, prints and writes.
+use Rattle.std.specs.Prelude.{◌≡◌, ◌⊎◌, ℕ, List, [], ◌∷◌, codes, decimal}
+use Rattle.outside.specs.History.{Image}
+use Rattle.rollback_core.specs.Answers.{IsRecoverAnswer, RefusesRecover}
+use Rattle.rollback_core.specs.Recovered.{IsLeft, IsRecoverable, IsRecovered, summary}
+use Rattle.rollback_core.specs.declared.recovery.RecoverSummary.{RecoverSummary}
+use Rattle.vol_block.specs.declared.format.Format.{Format}
+use Rattle.vol_block.specs.declared.format.Format.TheVariants.{Reiser, Btrfs, Neither}
+use Rattle.volume_app.specs.Meaning.{Meaning}
+use Rattle.volume_app.specs.Texts.{text_of_lines}
+
+-- the word for a format; a disk that has neither is never recovered
+abbrev pub format_word : Format → List ℕ
+format_word Reiser = codes "reiserfs"
+format_word Btrfs = codes "btrfs"
+format_word Neither = codes "neither"
+
+abbrev pub recover_lines : RecoverSummary → List (List ℕ × List (List ℕ))
+recover_lines told =
+    (codes "volume", codes "is" ∷ format_word told.format ∷ [])
+    ∷ (codes "mirrors", decimal told.mirrors ∷ [])
+    ∷ []
+
+abbrev pub recover_text : RecoverSummary → List ℕ
+recover_text told = text_of_lines (recover_lines told)
+
+-- the text for a disk: its format, and how many blocks of it are written
+abbrev pub IsRecoverText : Image → List ℕ → Type 0
+IsRecoverText disk text = text ≡ recover_text (summary disk)
+
+-- What `recover` means. Nothing is written where the volume is refused, memory is short, or the words are no command.
+abbrev pub recover_meaning : Meaning
+recover_meaning = record {
+  is_usage = ⊥;
+  asks_disk = Unit {0};
+  takes_memory = Unit {0};
+  is_done = IsRecoverable;
+  is_text = IsRecoverText;
+  answers = RefusesRecover;
+  knows = IsRecoverAnswer;
+  keeps = λ status. (status ≡ 1) ⊎ ((status ≡ 2) ⊎ (status ≡ 4));
+  becomes = IsRecovered;
+  leaves = IsLeft;
+}
