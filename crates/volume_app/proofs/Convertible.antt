@@ -32,10 +32,10 @@ pub accepted_is_reiser : (disk : Image) → IsAccepted disk → format_in disk �
 accepted_is_reiser disk accepted is =
     let block : List ℕ = block_at disk 16 in
     let magic : has_bytes_at block 64 (codes "_BHRfS_M") ≡ true =
-        magic_by (has_bytes_at block 64 (codes "_BHRfS_M")) (has_reiser_magic block) (sym (format_long disk accepted.clean.superblock.there) ∙ is) in
+    magic_by (has_bytes_at block 64 (codes "_BHRfS_M")) (has_reiser_magic block) (sym (format_long disk accepted.clean.superblock.there) ∙ is) in
     let height : field 2 block 68 ≡ 21350 =
-        ap (little_number 2) (sym (drop-drop 4 64 block))
-        ∙ height_by_magic (drop 64 block) ((starts_is (λ a b. Decides-eqb a b) (drop 64 block) (codes "_BHRfS_M") _ refl).0 magic) in
+    ap (little_number 2) (sym (drop-drop 4 64 block))
+    ∙ height_by_magic (drop 64 block) ((starts_is (λ a b. Decides-eqb a b) (drop 64 block) (codes "_BHRfS_M") _ refl).0 magic) in
     absurd (omega (arith, height, accepted.clean.superblock.bounds.height_high))
 
 -- a volume that was converted is one that can be

@@ -19,12 +19,7 @@ use std::alloc::Global;
 use vol_block::{Block, Format};
 
 /// Lists the volume at a path: prints a line for each of its paths.
-pub fn list_volume<D: Disk, O: Sink>(
-    alloc: Global,
-    path: &str,
-    disk: &mut D,
-    out: &mut O,
-) -> Ending
+pub fn list_volume<D: Disk, O: Sink>(alloc: Global, path: &str, disk: &mut D, out: &mut O) -> Ending
     requires closed { D.opened disk.old ≡ None }
     requires wanted { D.wants path.now Access.Read }
     ensures { Performs list_meaning D.tells (D.history disk.old) (D.history disk.new) (D.faults disk.old) (D.faults disk.new)

@@ -136,14 +136,7 @@ fn power_that_fails_leaves_one_volume(rt: HostRuntime) -> Result<(), Fail> {
     for call in 0..writes(&rt)? {
         let mut disk = sample(rt.alloc(), 2048)?;
         disk.stop_at_write(call);
-        ends(
-            &rt,
-            &["convert", "x"],
-            &mut disk,
-            3,
-            "",
-            "device fault\n",
-        )?;
+        ends(&rt, &["convert", "x"], &mut disk, 3, "", "device fault\n")?;
         for choice in CHOICES {
             let mut numbers = Vec::new(rt.alloc());
             for _ in 0..32 {

@@ -13,29 +13,29 @@ returns-in-None-clause-performs g c =
 pub returns-in-Some-Inspect-clause-performs : goal.returns-in-Some-Inspect-clause-performs
 returns-in-Some-Inspect-clause-performs g c =
     let asked : command (map string_bytes c.args.words.now) ≡ Some (inspect c.in-Some-Inspect.path.now) =
-        sym c.in-Some-Inspect.ensures.read ∙ ap (λ (k : Command). Some (seen k)) c.in-Some-Inspect.field-0-is in
+    sym c.in-Some-Inspect.ensures.read ∙ ap (λ (k : Command). Some (seen k)) c.in-Some-Inspect.field-0-is in
     rw asked c.inspect_volume.ensures
 
 pub returns-in-Some-List-clause-performs : goal.returns-in-Some-List-clause-performs
 returns-in-Some-List-clause-performs g c =
     let asked : command (map string_bytes c.args.words.now) ≡ Some (list c.in-Some-List.path.now) =
-        sym c.in-Some-List.ensures.read ∙ ap (λ (k : Command). Some (seen k)) c.in-Some-List.field-0-is in
+    sym c.in-Some-List.ensures.read ∙ ap (λ (k : Command). Some (seen k)) c.in-Some-List.field-0-is in
     rw asked c.list_volume.ensures
 
 pub returns-in-Some-Convert-clause-performs : goal.returns-in-Some-Convert-clause-performs
 returns-in-Some-Convert-clause-performs g c =
     let asked : command (map string_bytes c.args.words.now) ≡ Some (convert c.in-Some-Convert.options c.in-Some-Convert.path.now) =
-        sym c.in-Some-Convert.ensures.read ∙ ap (λ (k : Command). Some (seen k)) c.in-Some-Convert.field-0-is in
+    sym c.in-Some-Convert.ensures.read ∙ ap (λ (k : Command). Some (seen k)) c.in-Some-Convert.field-0-is in
     rw asked c.convert_volume.ensures
 
 pub returns-in-Some-Help-clause-performs : goal.returns-in-Some-Help-clause-performs
 returns-in-Some-Help-clause-performs g c =
     let asked : command (map string_bytes c.args.words.now) ≡ Some help =
-        sym c.in-Some-Help.ensures.read ∙ ap (λ (k : Command). Some (seen k)) c.in-Some-Help.field-0-is in
+    sym c.in-Some-Help.ensures.read ∙ ap (λ (k : Command). Some (seen k)) c.in-Some-Help.field-0-is in
     rw asked (rw c.printed.ensures (said help_text _ _ _ _ _ _ _ _ c.write.result c.write.ensures.taken c.write.ensures.cause))
 
 pub returns-in-Some-Version-clause-performs : goal.returns-in-Some-Version-clause-performs
 returns-in-Some-Version-clause-performs g c =
     let asked : command (map string_bytes c.args.words.now) ≡ Some version =
-        sym c.in-Some-Version.ensures.read ∙ ap (λ (k : Command). Some (seen k)) c.in-Some-Version.field-0-is in
+    sym c.in-Some-Version.ensures.read ∙ ap (λ (k : Command). Some (seen k)) c.in-Some-Version.field-0-is in
     rw asked (rw c.printed-in-Some-Version.ensures (said version_text _ _ _ _ _ _ _ _ c.write-in-Some-Version.result c.write-in-Some-Version.ensures.taken c.write-in-Some-Version.ensures.cause))
