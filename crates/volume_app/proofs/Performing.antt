@@ -58,29 +58,35 @@ printed_faults (Err fault) disk_old disk_new out_old out_new same cause = record
   output_kept = λ other. absurd (other refl);
 }
 
-err_answer : {T : Type 0} (a b : Answer) → a ≡ b → Err {T} {Answer} a ≡ Err b
-err_answer a b is = ap (λ (c : Answer). Err c) is
+abbrev err : (T : Type 0) → Answer → Result T Answer
+err T a = Err a
 
-ok_no_err : {T : Type 0} (found : T) (a : Answer) → Ok {T} {Answer} found ≡ Err a → ⊥
+abbrev ok : {T : Type 0} → T → Result T Answer
+ok found = Ok found
+
+err_answer : (T : Type 0) (a b : Answer) → a ≡ b → err T a ≡ err T b
+err_answer T a b is = ap (err T) is
+
+ok_no_err : {T : Type 0} (found : T) (a : Answer) → ok found ≡ Err a → ⊥
 ok_no_err found a is = cc
 
-err_same : {T : Type 0} (a b : Answer) → Err {T} {Answer} a ≡ Err b → Failed a ≡ Failed b
-err_same a b is = cc
+err_same : (T : Type 0) (a b : Answer) → err T a ≡ err T b → Failed a ≡ Failed b
+err_same T a b is = cc
 
 -- of one that was not
-pub failed_faults : {T : Type 0} (answer : Answer) (disk_old disk_new out_old : ℕ) → HasCauseOf Fault disk_old disk_new (Err {T} {Answer} answer)
+pub failed_faults : (T : Type 0) (answer : Answer) (disk_old disk_new out_old : ℕ) → HasCauseOf Fault disk_old disk_new (err T answer)
     → HasFaults (Failed answer) disk_old disk_new out_old out_old
-failed_faults answer disk_old disk_new out_old cause = record {
+failed_faults T answer disk_old disk_new out_old cause = record {
   disk_later = cause.later;
   out_later = omega arith;
-  device = λ is. cause.failed (err_answer answer Fault (same_answer answer Fault is));
-  device_kept = λ other. cause.kept (λ is. other (err_same answer Fault is));
+  device = λ is. cause.failed (err_answer T answer Fault (same_answer answer Fault is));
+  device_kept = λ other. cause.kept (λ is. other (err_same T answer Fault is));
   output = λ is. absurd (failed_no_output answer is);
   output_kept = λ other. refl;
 }
 
 -- a call that was Ok left the count of faults
-pub ok_kept : {T : Type 0} (found : T) (before now : ℕ) → HasCauseOf Fault before now (Ok {T} {Answer} found) → now ≡ before
+pub ok_kept : {T : Type 0} (found : T) (before now : ℕ) → HasCauseOf Fault before now (ok found) → now ≡ before
 ok_kept found before now cause = cause.kept (λ is. ok_no_err found Fault is)
 
 -- ---- the disk
@@ -149,10 +155,10 @@ module _ (m : Meaning) (tells : Bool) (old new : History) (disk_old disk_new : �
   }
 
   -- it failed, and printed nothing
-  pub failed : {T : Type 0} (taken : List ℕ) (out : ℕ) (answer : Answer) → ((m.asks_disk → IsTrue tells) → m.answers (reads old) answer) → m.knows answer → (answer ≡ Memory → m.takes_memory)
-      → Leaves m tells old new (Failed answer) → HasCauseOf Fault disk_old disk_new (Err {T} {Answer} answer)
+  pub failed : (T : Type 0) (taken : List ℕ) (out : ℕ) (answer : Answer) → ((m.asks_disk → IsTrue tells) → m.answers (reads old) answer) → m.knows answer → (answer ≡ Memory → m.takes_memory)
+      → Leaves m tells old new (Failed answer) → HasCauseOf Fault disk_old disk_new (err T answer)
       → Performs m tells old new disk_old disk_new out_tells taken taken out out (Failed answer)
-  failed taken out answer right known memory leaves cause = record {
+  failed T taken out answer right known memory leaves cause = record {
     right = right;
     known = known;
     printed = λ told out_told. refl;
@@ -162,7 +168,7 @@ module _ (m : Meaning) (tells : Bool) (old new : History) (disk_old disk_new : �
     changed = leaves.changed;
     settled = leaves.settled;
     crash = leaves.crash;
-    faults = failed_faults answer disk_old disk_new out cause;
+    faults = failed_faults T answer disk_old disk_new out cause;
   }
 
 -- words that are no command

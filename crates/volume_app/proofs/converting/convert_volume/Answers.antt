@@ -5,8 +5,8 @@ use Rattle.volume_app.proofs.Outcomes.{refusal_by}
 use Rattle.volume_app.proofs.Performing.{failed, ok_kept, performed, printed_keeps}
 use Rattle.volume_app.proofs.converting.convert_volume.Goals as goal
 
-pub returns-in-Ok-clause-performs : goal.returns-in-Ok-clause-performs
-returns-in-Ok-clause-performs g c =
+pub returns-in-Ok : goal.returns-in-Ok
+returns-in-Ok g c =
     rw c.printed.ensures
     (performed (convert_meaning c.args.ids.now c.args.now c.args.options.now) _ _ _ _ _ _ _ _ _ _ (convert_text c.in-Ok.summary) c.print_summary.result
     (λ told. converted_was c.args.options.now c.args.ids.now c.args.now _ _ (c.in-Ok.ensures.right (told tt)).0)
@@ -19,9 +19,9 @@ returns-in-Ok-clause-performs g c =
     })
     (ok_kept c.in-Ok.summary _ _ c.in-Ok.ensures.cause) c.print_summary.ensures.taken c.print_summary.ensures.cause)
 
-pub returns-in-Err-clause-performs : goal.returns-in-Err-clause-performs
-returns-in-Err-clause-performs g c =
-    failed (convert_meaning c.args.ids.now c.args.now c.args.options.now) _ _ _ _ _ _ _ _ c.in-Err.answer (λ told. c.in-Err.ensures.right (told tt)) c.in-Err.ensures.known (λ is. tt)
+pub returns-in-Err : goal.returns-in-Err
+returns-in-Err g c =
+    failed (convert_meaning c.args.ids.now c.args.now c.args.options.now) _ _ _ _ _ _ _ _ _ c.in-Err.answer (λ told. c.in-Err.ensures.right (told tt)) c.in-Err.ensures.known (λ is. tt)
     (record {
       unchanged = λ told keeps. (let no = refusal_by c.in-Err.answer keeps in c.in-Err.ensures.refused told no.0 no.1);
       changed = λ told is. absurd is;

@@ -5,8 +5,8 @@ use Rattle.volume_app.proofs.Outcomes.{no_fault_by}
 use Rattle.volume_app.proofs.Performing.{failed, ok_kept, performed, recovered_keeps}
 use Rattle.volume_app.proofs.recovering.recover_volume.Goals as goal
 
-pub returns-in-Ok-clause-performs : goal.returns-in-Ok
-returns-in-Ok-clause-performs g c =
+pub returns-in-Ok : goal.returns-in-Ok
+returns-in-Ok g c =
     rw c.printed.ensures
     (performed recover_meaning _ _ _ _ _ _ _ _ _ _ (recover_text c.in-Ok.told) c.print_recovered.result
     (λ told. (c.in-Ok.ensures.right (told tt)).0.can)
@@ -19,9 +19,9 @@ returns-in-Ok-clause-performs g c =
     })
     (ok_kept c.in-Ok.told _ _ c.in-Ok.ensures.cause) c.print_recovered.ensures.taken c.print_recovered.ensures.cause)
 
-pub returns-in-Err-clause-performs : goal.returns-in-Err
-returns-in-Err-clause-performs g c =
-    failed recover_meaning _ _ _ _ _ _ _ _ c.in-Err.answer (λ told. c.in-Err.ensures.right (told tt)) c.in-Err.ensures.known (λ is. tt)
+pub returns-in-Err : goal.returns-in-Err
+returns-in-Err g c =
+    failed recover_meaning _ _ _ _ _ _ _ _ _ c.in-Err.answer (λ told. c.in-Err.ensures.right (told tt)) c.in-Err.ensures.known (λ is. tt)
     (record {
       unchanged = λ told keeps. c.in-Err.ensures.refused told (no_fault_by c.in-Err.answer keeps);
       changed = λ told is. absurd is;

@@ -1,6 +1,6 @@
 use Rattle.std.proofs.Common.{◌≡◌, ◌∙◌, sym, ap, map, string_bytes, Some, None}
 use Rattle.volume_app.specs.declared.command.Command.{Command}
-use Rattle.volume_app.specs.Command.{command, convert, help, inspect, list, seen, version}
+use Rattle.volume_app.specs.Command.{command, convert, help, inspect, list, recover, seen, version}
 use Rattle.volume_app.specs.Texts.{help_text, version_text}
 use Rattle.volume_app.proofs.Performing.{no_words, said}
 use Rattle.volume_app.proofs.top.perform.Goals as goal
@@ -27,6 +27,12 @@ returns-in-Some-Convert-clause-performs g c =
     let asked : command (map string_bytes c.args.words.now) ≡ Some (convert c.in-Some-Convert.options c.in-Some-Convert.path.now) =
     sym c.in-Some-Convert.ensures.read ∙ ap (λ (k : Command). Some (seen k)) c.in-Some-Convert.field-0-is in
     rw asked c.convert_volume.ensures
+
+pub returns-in-Some-Recover-clause-performs : goal.returns-in-Some-Recover-clause-performs
+returns-in-Some-Recover-clause-performs g c =
+    let asked : command (map string_bytes c.args.words.now) ≡ Some (recover c.in-Some-Recover.path.now) =
+        sym c.in-Some-Recover.ensures.read ∙ ap (λ (k : Command). Some (seen k)) c.in-Some-Recover.field-0-is in
+    rw asked c.recover_volume.ensures
 
 pub returns-in-Some-Help-clause-performs : goal.returns-in-Some-Help-clause-performs
 returns-in-Some-Help-clause-performs g c =
