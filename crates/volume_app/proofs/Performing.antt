@@ -1,7 +1,7 @@
 -- What is said of a command that was done, or failed, from what is said of its parts.
-use Rattle.std.proofs.Common.{◌≡◌, ◌⊎◌, ⊎_elim, ℕ, ◌≤◌, Bool, List, Result, Ok, Err, refl, sym, ap, subst, arith}
+use Rattle.std.proofs.Common.{◌≡◌, ◌⊎◌, ⊎_elim, ℕ, Bool, List, Result, Ok, Err, refl, sym, ap, subst, arith}
 use Rattle.std.specs.Prelude.{IsTrue, Option, Some, None}
-use Rattle.outside.specs.Fault.{HasCause, HasCauseOf, Rose, Takes}
+use Rattle.outside.specs.Fault.{HasCause, HasCauseOf, Takes}
 use Rattle.outside.specs.History.{EachCrash, History, Image, IsSettled, reads}
 use Rattle.outside.specs.declared.answer.Answer.{Answer}
 use Rattle.outside.specs.declared.answer.Answer.TheVariants.{Fault, Memory}
