@@ -7,7 +7,6 @@ use Rattle.std.proofs.lemmas.Slice.Eq.{starts_is}
 use Rattle.byteorder.specs.Endian.{little_number}
 use Rattle.vol_block.specs.Format.{has_bytes_at, has_reiser_magic}
 use Rattle.vol_block.specs.Volume.{field}
-use Rattle.vol_block.specs.declared.format.Format.{Format}
 use Rattle.vol_block.specs.declared.format.Format.TheVariants as formats
 use Rattle.vol_block.specs.declared.ids.Ids.{Ids}
 use Rattle.outside.specs.Format.{format_in}

@@ -1,12 +1,13 @@
 -- What is said of a command that was done, or failed, from what is said of its parts.
-use Rattle.std.proofs.Common.{◌≡◌, ◌⊎◌, ⊎_elim, ℕ, ◌≤◌, Bool, List, Result, Ok, Err, refl, sym, ap, subst, arith}
-use Rattle.std.specs.Prelude.{IsTrue}
-use Rattle.outside.specs.Fault.{HasCause, HasCauseOf, Rose, Takes}
+use Rattle.std.proofs.Common.{◌≡◌, ◌⊎◌, ⊎_elim, ℕ, Bool, List, Result, Ok, Err, refl, sym, ap, subst, arith}
+use Rattle.std.specs.Prelude.{IsTrue, Option, Some, None}
+use Rattle.outside.specs.Fault.{HasCause, HasCauseOf, Takes}
 use Rattle.outside.specs.History.{EachCrash, History, Image, IsSettled, reads}
 use Rattle.outside.specs.declared.answer.Answer.{Answer}
 use Rattle.outside.specs.declared.answer.Answer.TheVariants.{Fault, Memory}
 use Rattle.outside.specs.declared.fault.Fault as faults
 use Rattle.outside.proofs.Phases.{left_unwritten}
+use Rattle.volume_app.specs.Command.{Asked}
 use Rattle.volume_app.specs.Ending.{status}
 use Rattle.volume_app.specs.Meaning.{Meaning, no_command, reads_disk, says}
 use Rattle.volume_app.specs.Outcome.{EndsRight, HasFaults, IsDoneWith, IsQuiet, Knows, Performs, ending_of}
@@ -35,6 +36,10 @@ usage_no_output is = cc
 
 same_answer : (a b : Answer) → Failed a ≡ Failed b → a ≡ b
 same_answer a b is = cc
+
+-- words that ask for something are a command
+pub some_is_not : (o : Option Asked) (a : Asked) → o ≡ Some a → o ≡ None → ⊥
+some_is_not o a is none = cc
 
 -- ---- the faults
 

@@ -33,7 +33,7 @@ meant ids now words = meaning ids now (command words)
 -- an ending that a command knows, also over a disk that tells nothing
 abbrev pub Knows : Meaning → Ending → Type 0
 Knows m Done = Unit {0}
-Knows m Usage = Unit {0}
+Knows m Usage = m.is_usage
 Knows m (Failed answer) = m.knows answer
 Knows m OutputFault = Unit {0}
 

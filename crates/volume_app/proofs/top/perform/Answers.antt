@@ -1,13 +1,18 @@
-use Rattle.std.proofs.Common.{◌≡◌, ◌∙◌, sym, ap, map, string_bytes, Some, None}
+use Rattle.std.proofs.Common.{◌≡◌, ◌∙◌, sym, ap, subst, map, string_bytes, Some, None}
 use Rattle.volume_app.specs.declared.command.Command.{Command}
 use Rattle.volume_app.specs.Command.{command, convert, help, inspect, list, recover, seen, version}
+use Rattle.volume_app.specs.Converting.{convert_meaning}
+use Rattle.volume_app.specs.Inspect.{inspect_meaning}
+use Rattle.volume_app.specs.Listing.{list_meaning}
+use Rattle.volume_app.specs.Outcome.{Knows}
+use Rattle.volume_app.specs.Recovering.{recover_meaning}
 use Rattle.volume_app.specs.Texts.{help_text, version_text}
-use Rattle.volume_app.proofs.Performing.{no_words, said}
+use Rattle.volume_app.proofs.Performing.{no_words, said, some_is_not}
 use Rattle.volume_app.proofs.top.perform.Goals as goal
 
 pub returns-in-None-clause-performs : goal.returns-in-None-clause-performs
 returns-in-None-clause-performs g c =
-    let asked : command (map string_bytes c.args.words.now) ≡ None = sym c.read_words.ensures.read in
+    let asked : command (map string_bytes c.args.words.now) ≡ None = sym c.in-None.ensures.read in
     rw asked (no_words _ _ _ _ _ _)
 
 pub returns-in-Some-Inspect-clause-performs : goal.returns-in-Some-Inspect-clause-performs
@@ -45,3 +50,27 @@ returns-in-Some-Version-clause-performs g c =
     let asked : command (map string_bytes c.args.words.now) ≡ Some version =
     sym c.in-Some-Version.ensures.read ∙ ap (λ (k : Command). Some (seen k)) c.in-Some-Version.field-0-is in
     rw asked (rw c.printed-in-Some-Version.ensures (said version_text _ _ _ _ _ _ _ _ c.write-in-Some-Version.result c.write-in-Some-Version.ensures.taken c.write-in-Some-Version.ensures.cause))
+
+pub returns-in-Some-Inspect-clause-usage : goal.returns-in-Some-Inspect-clause-usage
+returns-in-Some-Inspect-clause-usage g c =
+    let asked : command (map string_bytes c.args.words.now) ≡ Some (inspect c.in-Some-Inspect.path.now) =
+        sym c.in-Some-Inspect.ensures.read ∙ ap (λ (k : Command). Some (seen k)) c.in-Some-Inspect.field-0-is in
+    (λ is. absurd (subst (Knows inspect_meaning) is c.inspect_volume.ensures.known), λ none. absurd (some_is_not _ _ asked none))
+
+pub returns-in-Some-List-clause-usage : goal.returns-in-Some-List-clause-usage
+returns-in-Some-List-clause-usage g c =
+    let asked : command (map string_bytes c.args.words.now) ≡ Some (list c.in-Some-List.path.now) =
+        sym c.in-Some-List.ensures.read ∙ ap (λ (k : Command). Some (seen k)) c.in-Some-List.field-0-is in
+    (λ is. absurd (subst (Knows list_meaning) is c.list_volume.ensures.known), λ none. absurd (some_is_not _ _ asked none))
+
+pub returns-in-Some-Convert-clause-usage : goal.returns-in-Some-Convert-clause-usage
+returns-in-Some-Convert-clause-usage g c =
+    let asked : command (map string_bytes c.args.words.now) ≡ Some (convert c.in-Some-Convert.options c.in-Some-Convert.path.now) =
+        sym c.in-Some-Convert.ensures.read ∙ ap (λ (k : Command). Some (seen k)) c.in-Some-Convert.field-0-is in
+    (λ is. absurd (subst (Knows (convert_meaning c.args.ids.now c.args.now c.in-Some-Convert.options)) is c.convert_volume.ensures.known), λ none. absurd (some_is_not _ _ asked none))
+
+pub returns-in-Some-Recover-clause-usage : goal.returns-in-Some-Recover-clause-usage
+returns-in-Some-Recover-clause-usage g c =
+    let asked : command (map string_bytes c.args.words.now) ≡ Some (recover c.in-Some-Recover.path.now) =
+        sym c.in-Some-Recover.ensures.read ∙ ap (λ (k : Command). Some (seen k)) c.in-Some-Recover.field-0-is in
+    (λ is. absurd (subst (Knows recover_meaning) is c.recover_volume.ensures.known), λ none. absurd (some_is_not _ _ asked none))
