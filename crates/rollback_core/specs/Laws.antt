@@ -4,13 +4,14 @@ use Rattle.outside.specs.Format.{format_in}
 use Rattle.outside.specs.History.{Image, block_at}
 use Rattle.outside.specs.declared.answer.Answer.{Answer}
 use Rattle.outside.specs.declared.answer.Answer.TheVariants as answer
+use Rattle.btr_reader.specs.Parts.{IsReadable, Superblock}
 use Rattle.convert_steps.specs.Switch.{HasCopies, IsMirror}
 use Rattle.metadata_laws.specs.Apart.{IsReservedFree}
 use Rattle.metadata_laws.specs.Laws.{IsSameBtrfs}
 use Rattle.object_files.specs.Laws.{SameUsed}
 use Rattle.reiser_bitmap.specs.Bits.{has}
 use Rattle.reiser_volume.specs.Laws.{IsSameVolume}
-use Rattle.reiser_volume.specs.Volume.{IsAccepted, superblock, used_of}
+use Rattle.reiser_volume.specs.Volume.{IsAccepted, IsFrontAccepted, superblock, used_of}
 use Rattle.vol_block.specs.Format.{has_bytes_at}
 use Rattle.vol_block.specs.declared.format.Format.TheVariants.{Reiser, Btrfs}
 use Rattle.rollback_core.specs.Answers.{RefusesRecover}
@@ -53,3 +54,11 @@ pub record RecoveryMends : Type 0 where
 -- A disk that can be recovered is not refused: all that is answered is a failed call, or too little memory for a ReiserFS bitmap.
 abbrev pub RecoversWhatIsInOrder : Type 0
 RecoversWhatIsInOrder = (image : Image) (e : Answer) → IsRecoverable image → RefusesRecover image e → (e ≡ answer.Fault) ⊎ ((e ≡ answer.Memory) × (format_in image ≡ Reiser))
+
+-- Each volume that is in order has its format by block 16, and none has both: the height of a ReiserFS tree, at most 7, stands where a
+-- Btrfs superblock has a part of its magic. So every accepted ReiserFS volume can be recovered, and every Btrfs volume whose superblock is
+-- readable.
+pub record InOrderHasFormat : Type 0 where
+  pub reiser : (image : Image) → IsFrontAccepted image → (format_in image ≡ Reiser) × IsRecoverable image
+  pub accepted : (image : Image) → IsAccepted image → (format_in image ≡ Reiser) × IsRecoverable image
+  pub btrfs : (image : Image) → IsReadable image Superblock → (format_in image ≡ Btrfs) × IsRecoverable image
