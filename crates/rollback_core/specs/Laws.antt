@@ -1,5 +1,5 @@
 -- What a recovery and its crashes keep.
-use Rattle.std.specs.Prelude.{◌≡◌, ◌⊎◌, ℕ, ◌<◌, false, length, codes}
+use Rattle.std.specs.Prelude.{◌≡◌, ◌≢◌, ◌⊎◌, ◌↔◌, ℕ, ◌<◌, false, length, codes, Contains}
 use Rattle.outside.specs.Format.{format_in}
 use Rattle.outside.specs.History.{Image, block_at}
 use Rattle.outside.specs.declared.answer.Answer.{Answer}
@@ -16,7 +16,7 @@ use Rattle.vol_block.specs.Format.{has_bytes_at}
 use Rattle.vol_block.specs.declared.format.Format.TheVariants.{Reiser, Btrfs}
 use Rattle.rollback_core.specs.Answers.{RefusesRecover}
 use Rattle.rollback_core.specs.Mending.{blocks_of}
-use Rattle.rollback_core.specs.Recovered.{IsLeft, IsRecoverable, IsRecovered, summary}
+use Rattle.rollback_core.specs.Recovered.{IsLeft, IsRecoverable, IsRecovered, summary, torn_blocks}
 
 -- A recovered disk stays as it is when it is recovered again: no block is to be written. And after a crash of a recovery another one
 -- makes of the disk what the first would have made.
@@ -50,6 +50,10 @@ pub record RecoveryMends : Type 0 where
   pub wiped : (image other : Image) → IsRecovered image other → format_in image ≡ Reiser
       → (b : ℕ) → IsMirror b → b < (superblock image).blocks → has (used_of image) b ≡ false → has_bytes_at (block_at other b) 64 (codes "_BHRfS_M") ≡ false
   pub whole : (image : Image) → IsRecoverable image → format_in image ≡ Btrfs → HasCopies (block_at image 16) (blocks_of (block_at image 16)) image → IsRecovered image image
+
+-- The blocks that are counted, no two of which are one, are those that differ.
+abbrev pub RecoveryCounts : Type 0
+RecoveryCounts = (image other : Image) → IsRecovered image other → (b : ℕ) → Contains (torn_blocks image) b ↔ (block_at other b ≢ block_at image b)
 
 -- A disk that can be recovered is not refused: all that is answered is a failed call, or too little memory for a ReiserFS bitmap.
 abbrev pub RecoversWhatIsInOrder : Type 0

@@ -1,5 +1,5 @@
 // Laws of the definitions, each the contract of a function that does nothing.
-ghost use Rattle.rollback_core.specs.Laws.{InOrderHasFormat, RecoversWhatIsInOrder, RecoveryKeeps, RecoveryMends, RecoveryStays};
+ghost use Rattle.rollback_core.specs.Laws.{InOrderHasFormat, RecoversWhatIsInOrder, RecoveryCounts, RecoveryKeeps, RecoveryMends, RecoveryStays};
 
 /// A disk that was recovered stays as it is when it is recovered again, and nothing is written. After a crash of a recovery
 /// another one ends as the first would have.
@@ -28,4 +28,9 @@ pub fn recovers_what_is_in_order()
 /// whose superblock does that of Btrfs. So each of them can be recovered, and no disk holds both.
 pub fn in_order_has_format()
     ensures { InOrderHasFormat }
+{}
+
+/// The blocks that a recovery counts are those that differ before and after it.
+pub fn recovery_counts()
+    ensures { RecoveryCounts }
 {}
