@@ -1,5 +1,5 @@
 -- The format of a disk whose volume is in order.
-use Rattle.std.proofs.Common.{◌≡◌, ◌∙◌, ℕ, zero, suc, ◌+◌, ◌*◌, ◌<◌, ◌≤◌, Bool, true, false, cond, ◌&&◌, nat_lt, nat_le, List, [], ◌∷◌, length, get_or, drop, codes, Result, Ok, Err, refl, sym, ap, subst, arith}
+use Rattle.std.proofs.Common.{◌≡◌, ◌∙◌, ℕ, zero, suc, ◌+◌, ◌*◌, ◌<◌, Bool, true, false, cond, nat_lt, nat_le, List, [], ◌∷◌, length, get_or, drop, codes, Result, Ok, Err, refl, sym, subst, arith}
 use Rattle.std.specs.Prelude.{nat_eq}
 use Rattle.std.specs.List.{starts_with}
 use Rattle.std.proofs.lemmas.Bool.{and_parts, eqb-true}
@@ -12,10 +12,9 @@ use Rattle.btr_reader.specs.Opening.{super_on}
 use Rattle.btr_reader.specs.Parts.{IsReadable, Superblock}
 use Rattle.btr_super.specs.Rules.{super_of}
 use Rattle.btr_super.specs.declared.superblock.Super.{Super}
-use Rattle.reiser_super.specs.Superblock.{super_of as reiser_super_of}
-use Rattle.reiser_volume.specs.Volume.{IsAccepted, IsFrontAccepted, superblock}
+use Rattle.reiser_volume.specs.Volume.{IsFrontAccepted}
 use Rattle.reiser_volume.proofs.Refusals.{accepted_front}
-use Rattle.vol_block.specs.Format.{format, has_bytes_at, has_reiser_magic}
+use Rattle.vol_block.specs.Format.{has_bytes_at, has_reiser_magic}
 use Rattle.vol_block.specs.Volume.{field}
 use Rattle.vol_block.specs.declared.format.Format.{Format}
 use Rattle.vol_block.specs.declared.format.Format.TheVariants.{Reiser, Btrfs, Neither}

@@ -11,8 +11,8 @@ mod recovery;
 mod writing;
 
 pub use laws::{
-    in_order_has_format, recovers_what_is_in_order, recovery_counts, recovery_keeps, recovery_mends,
-    recovery_stays,
+    in_order_has_format, recovers_what_is_in_order, recovery_counts, recovery_keeps,
+    recovery_mends, recovery_stays,
 };
 pub use recovery::{RecoverSummary, recover};
 
