@@ -1,5 +1,5 @@
 // Recoveries of small volumes in memory.
-ghost use Rattle.std.specs.Prelude.{◌≤◌, ◌^◌, ◌≡◌, IfOk, length, None};
+ghost use Rattle.std.specs.Prelude.{◌≤◌, ◌<◌, ◌^◌, ◌≡◌, IfOk, length, None};
 
 use crate::{RecoverSummary, recover};
 use btr_samples::Sample;
@@ -241,6 +241,16 @@ fn each_failed_call_is_a_fault(rt: HostRuntime) -> Result<(), Fail> {
     Ok(())
 }
 
+/// A disk of so many blocks with this superblock and zeros in all others.
+fn without_copies(alloc: Global, blocks: u64, superblock: &Block) -> Result<MemDisk, Fail>
+    requires { 16 < blocks }
+    ensures { IfOk result (λ d. d.opened ≡ None) }
+{
+    let mut disk = MemDisk::new(alloc, blocks)?;
+    disk.set_block(16, superblock)?;
+    Ok(disk)
+}
+
 /// How many of two writes a crash by this choice keeps, where so many were made.
 fn kept(writes: u64, choice: [u32; 2]) -> u64
     ensures { result ≤ 2 }
@@ -256,8 +266,7 @@ fn both_copies_are_written(rt: HostRuntime) -> Result<(), Fail> {
     let superblock = superblock(rt.alloc(), LARGE)?;
     for writes in 0..4 {
         for choice in [[0, 0], [1, 0], [0, 1], [1, 1]] {
-            let mut disk = MemDisk::new(rt.alloc(), LARGE)?;
-            disk.set_block(16, &superblock)?;
+            let mut disk = without_copies(rt.alloc(), LARGE, &superblock)?;
             disk.open("", Access::Write)?;
             disk.stop_at_write(writes);
             let done = recover(rt.alloc(), &mut disk).is_ok();
