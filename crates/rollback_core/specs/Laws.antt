@@ -1,11 +1,12 @@
 -- What a recovery and its crashes keep.
-use Rattle.std.specs.Prelude.{◌≡◌, ◌≢◌, ◌⊎◌, ◌↔◌, ℕ, ◌<◌, false, length, codes, Contains}
+use Rattle.std.specs.Prelude.{◌≡◌, ◌≢◌, ◌⊎◌, ◌↔◌, ℕ, ◌<◌, false, List, length, codes, Contains}
 use Rattle.outside.specs.Format.{format_in}
 use Rattle.outside.specs.History.{Image, block_at}
 use Rattle.outside.specs.declared.answer.Answer.{Answer}
 use Rattle.outside.specs.declared.answer.Answer.TheVariants as answer
 use Rattle.btr_reader.specs.Parts.{IsReadable, Superblock}
 use Rattle.convert_steps.specs.Switch.{HasCopies, IsMirror}
+use Rattle.fs_rows.specs.Rows.{WholeRow}
 use Rattle.metadata_laws.specs.Apart.{IsReservedFree}
 use Rattle.metadata_laws.specs.Laws.{IsSameBtrfs}
 use Rattle.object_files.specs.Laws.{SameUsed}
@@ -13,9 +14,11 @@ use Rattle.reiser_bitmap.specs.Bits.{has}
 use Rattle.reiser_volume.specs.Laws.{IsSameVolume}
 use Rattle.reiser_volume.specs.Volume.{IsAccepted, IsFrontAccepted, superblock, used_of}
 use Rattle.vol_block.specs.Format.{has_bytes_at}
+use Rattle.vol_block.specs.declared.format.Format.{Format}
 use Rattle.vol_block.specs.declared.format.Format.TheVariants.{Reiser, Btrfs}
 use Rattle.rollback_core.specs.Answers.{RefusesRecover}
 use Rattle.rollback_core.specs.Mending.{blocks_of}
+use Rattle.rollback_core.specs.Opens.{OpensAs}
 use Rattle.rollback_core.specs.Recovered.{IsLeft, IsRecoverable, IsRecovered, summary, torn_blocks}
 
 -- A recovered disk stays as it is when it is recovered again: no block is to be written. And after a crash of a recovery another one
@@ -66,3 +69,9 @@ pub record InOrderHasFormat : Type 0 where
   pub reiser : (image : Image) → IsFrontAccepted image → (format_in image ≡ Reiser) × IsRecoverable image
   pub accepted : (image : Image) → IsAccepted image → (format_in image ≡ Reiser) × IsRecoverable image
   pub btrfs : (image : Image) → IsReadable image Superblock → (format_in image ≡ Btrfs) × IsRecoverable image
+
+-- A disk that can be opened can be recovered, as the format that it has. What a recovery makes of it, or a crash of one leaves, can be opened
+-- as the same format, with the same rows.
+pub record RecoveryOpens : Type 0 where
+  pub left : (f : Format) (image other : Image) (rows : List WholeRow) → OpensAs f image rows → IsLeft image other → OpensAs f other rows
+  pub recovers : (f : Format) (image : Image) (rows : List WholeRow) → OpensAs f image rows → (format_in image ≡ f) × IsRecoverable image

@@ -1,5 +1,5 @@
 // Laws of the definitions, each the contract of a function that does nothing.
-ghost use Rattle.rollback_core.specs.Laws.{InOrderHasFormat, RecoversWhatIsInOrder, RecoveryCounts, RecoveryKeeps, RecoveryMends, RecoveryStays};
+ghost use Rattle.rollback_core.specs.Laws.{InOrderHasFormat, RecoversWhatIsInOrder, RecoveryCounts, RecoveryKeeps, RecoveryMends, RecoveryOpens, RecoveryStays};
 
 /// A disk that was recovered stays as it is when it is recovered again, and nothing is written. After a crash of a recovery
 /// another one ends as the first would have.
@@ -33,4 +33,10 @@ pub fn in_order_has_format()
 /// The blocks that a recovery counts are those that differ before and after it.
 pub fn recovery_counts()
     ensures { RecoveryCounts }
+{}
+
+/// A disk whose volume can be opened can be recovered, and what a recovery makes of it, or a crash of one at any moment leaves, can be
+/// opened as the same format with the same rows.
+pub fn recovery_opens()
+    ensures { RecoveryOpens }
 {}
