@@ -1,5 +1,5 @@
 -- A disk that can be opened stays one, with the same rows.
-use Rattle.std.proofs.Common.{◌≡◌, ◌∙◌, ⊎_elim, inl, List, [], ◌∷◌, Result, Err, refl, sym, ap, subst, arith}
+use Rattle.std.proofs.Common.{◌≡◌, ◌∙◌, inl, List, [], ◌∷◌, Result, Err, refl, sym, ap, subst, arith}
 use Rattle.std.specs.Prelude.{Contains}
 use Rattle.outside.specs.Format.{format_in}
 use Rattle.outside.specs.History.{Image}
