@@ -1,6 +1,7 @@
 -- What is read of a volume depends on the blocks of its nodes and of its files' extents alone.
-use Rattle.std.proofs.Common.{◌≡◌, ◌∙◌, ⊎_elim, inl, inr, ℕ, ◌+◌, ◌/◌, ◌%◌, ◌<◌, Bool, true, false, cond, List, length, nat_le, Option, Some, None, refl, sym, ap, subst}
-use Rattle.std.specs.Prelude.{Contains, slice_index}
+use Rattle.std.proofs.Common.{◌≡◌, ◌∙◌, ⊎_elim, inl, inr, ℕ, ◌+◌, ◌/◌, ◌%◌, ◌<◌, Bool, true, not, false, cond, List, length, nat_le, Option, Some, None, refl, sym, ap, subst}
+use Rattle.std.specs.Prelude.{Contains, bytes_eq, slice_index}
+use Rattle.std.proofs.lemmas.Slice.Eq.{bytes_eq-Decides}
 use Rattle.outside.specs.Format.{format_in}
 use Rattle.outside.specs.History.{Image, block_at}
 use Rattle.outside.specs.declared.refusal.BtrRefusal.{BtrRefusal}
@@ -20,8 +21,8 @@ use Rattle.btr_super.specs.declared.superblock.Super.{Super}
 use Rattle.vol_block.specs.Format.{format}
 use Rattle.vol_block.specs.Volume.{is_reserved}
 use Rattle.vol_block.specs.declared.format.Format.TheVariants.{Neither}
-use Rattle.metadata_laws.specs.Apart.{AreExtentsApart, IsApart, IsContentApart, IsSameOutside, IsVolumeApart, is_reserved_in, root_of}
-use Rattle.metadata_laws.specs.Laws.{IsSameBtrfs, MetadataDecides, ReservedBlocksAreSpare}
+use Rattle.metadata_laws.specs.Apart.{AreExtentsApart, IsApart, IsContentApart, IsSameOutside, IsVolumeApart, differs, is_reserved_in, root_of}
+use Rattle.metadata_laws.specs.Laws.{IsSameBtrfs, MetadataDecides, ReservedBlocksAreSpare, SamePartsDecide}
 use Rattle.metadata_laws.proofs.Volumes.{apart_again, both, fields_same, image_same, items_same, map_same, opening_same, over, root_item_same, super_same, tree_refused, way_same}
 
 -- ---- the bytes of extents
@@ -102,3 +103,14 @@ pub reserved_blocks_are_spare : ReservedBlocksAreSpare
 reserved_blocks_are_spare image other free same =
     let decided = metadata_decides (is_reserved_in image) image other free same in
     (decided.same, subst (λ (s : Super). IsVolumeApart (λ b. is_reserved b (s.total_bytes / 4096)) other) (sym decided.same.fields) decided.apart)
+
+-- ---- by the blocks that differ
+equal_where : (t : Bool) → not t ≡ false → t ≡ true
+equal_where true is = refl
+equal_where false is = absurd cc
+
+same_outside : (image other : Image) → length other ≡ length image → IsSameOutside (differs image other) image other
+same_outside image other size = record { size = size; others = λ b same. (bytes_eq-Decides (block_at other b) (block_at image b)).0 (equal_where (bytes_eq (block_at other b) (block_at image b)) same) }
+
+pub same_parts_decide : SamePartsDecide
+same_parts_decide image other size apart = metadata_decides (differs image other) image other apart (same_outside image other size)

@@ -1,5 +1,5 @@
 -- Where the parts of a Btrfs volume don't lie.
-use Rattle.std.specs.Prelude.{◌≡◌, ℕ, ◌+◌, ◌*◌, ◌/◌, ◌<◌, Bool, false, List, length, map, Contains, Option, Some, None}
+use Rattle.std.specs.Prelude.{◌≡◌, ℕ, ◌+◌, ◌*◌, ◌/◌, ◌<◌, Bool, false, not, bytes_eq, List, length, map, Contains, Option, Some, None}
 use Rattle.std.specs.List.{All}
 use Rattle.std.specs.Option.{option_and_then}
 use Rattle.outside.specs.History.{Image, block_at}
@@ -70,6 +70,10 @@ pub record IsVolumeApart (test : ℕ → Bool) (image : Image) : Type 0 where
 pub record IsSameOutside (test : ℕ → Bool) (image other : Image) : Type 0 where
   pub size : length other ≡ length image
   pub others : (b : ℕ) → test b ≡ false → block_at other b ≡ block_at image b
+
+-- the block is another one on the other disk
+abbrev pub differs : Image → Image → ℕ → Bool
+differs image other b = not (bytes_eq (block_at other b) (block_at image b))
 
 -- No part of the volume lies in a reserved block: in the first MiB, in the 64 KiB from the place of a copy of the superblock on, or
 -- behind the last multiple of 64 KiB.

@@ -1,5 +1,5 @@
 -- What decides the readable parts of a Btrfs volume.
-use Rattle.std.specs.Prelude.{◌≡◌, ◌↔◌, ℕ, Bool, List, Some}
+use Rattle.std.specs.Prelude.{◌≡◌, ◌↔◌, ℕ, Bool, List, length, Some}
 use Rattle.outside.specs.Format.{format_in}
 use Rattle.outside.specs.History.{Image, block_at}
 use Rattle.outside.specs.declared.refusal.BtrRefusal.{BtrRefusal}
@@ -7,7 +7,7 @@ use Rattle.fs_rows.specs.Rows.{WholeRow}
 use Rattle.btr_reader.specs.Image.{ImageFile, image_place, saved_image}
 use Rattle.btr_reader.specs.Opening.{super_on}
 use Rattle.btr_reader.specs.Parts.{AreRowsOfBtrfs, IsBtrfsRefusal, Part, log_tree, own_map, own_super}
-use Rattle.metadata_laws.specs.Apart.{IsReservedFree, IsSameOutside, IsVolumeApart, is_reserved_in}
+use Rattle.metadata_laws.specs.Apart.{IsReservedFree, IsSameOutside, IsVolumeApart, differs, is_reserved_in}
 
 -- The other disk holds the same volume: with the same superblock and map of addresses, the same refusals of each part, the same rows,
 -- and the same saved image.
@@ -30,6 +30,10 @@ pub record IsDecided (test : ℕ → Bool) (image other : Image) : Type 0 where
 
 abbrev pub MetadataDecides : Type 0
 MetadataDecides = (test : ℕ → Bool) (image other : Image) → IsVolumeApart test image → IsSameOutside test image other → IsDecided test image other
+
+-- The same in other words: where two disks are as long, and no part of the volume lies in a block that differs, they hold the same volume.
+abbrev pub SamePartsDecide : Type 0
+SamePartsDecide = (image other : Image) → length other ≡ length image → IsVolumeApart (differs image other) image → IsDecided (differs image other) image other
 
 -- The reserved blocks decide nothing of a volume that lies in none of them.
 abbrev pub ReservedBlocksAreSpare : Type 0

@@ -6,4 +6,4 @@
 
 mod laws;
 
-pub use laws::{metadata_decides, reserved_blocks_are_spare};
+pub use laws::{metadata_decides, reserved_blocks_are_spare, same_parts_decide};

@@ -1,8 +1,9 @@
 -- What a recovery keeps.
-use Rattle.std.proofs.Common.{◌≡◌, ◌≢◌, ◌∙◌, ◌⊎◌, inl, inr, ⊎_elim, ℕ, ◌/◌, ◌<◌, ◌≤◌, true, false, true≢false, cond, nat_lt, nat_le, List, length, codes, refl, sym, ap, subst, arith}
-use Rattle.std.specs.Prelude.{Ok, Err, Result}
+use Rattle.std.proofs.Common.{◌≡◌, ◌≢◌, ◌∙◌, ◌⊎◌, inl, inr, ⊎_elim, ℕ, zero, suc, Bool, not, ◌/◌, ◌<◌, ◌≤◌, true, false, true≢false, cond, nat_lt, nat_le, List, length, codes, refl, sym, ap, subst, arith}
+use Rattle.std.specs.Prelude.{Contains, Ok, Err, Result, bytes_eq}
 use Rattle.std.proofs.lemmas.Bool.{cases_lt}
 use Rattle.std.proofs.lemmas.Bool.Decides.{nat_tests}
+use Rattle.std.proofs.lemmas.Slice.Eq.{bytes_eq-Decides}
 use Rattle.outside.specs.Format.{format_in}
 use Rattle.outside.specs.History.{Image, block_at}
 use Rattle.outside.specs.declared.answer.Answer.TheVariants as answer
@@ -16,6 +17,7 @@ use Rattle.btr_reader.specs.Parts.{own_super}
 use Rattle.metadata_laws.specs.Apart.{IsSameOutside, is_reserved_in}
 use Rattle.metadata_laws.proofs.Decided.{reserved_blocks_are_spare}
 use Rattle.object_files.specs.Laws.{SameUsed}
+use Rattle.reiser_bitmap.proofs.Ranges.{contains_filter, filter_contains}
 use Rattle.reiser_volume.specs.Volume.{IsFrontAccepted, superblock, used_of}
 use Rattle.reiser_volume.proofs.Refusals.{front_not_refused}
 use Rattle.reiser_volume.proofs.Unchanged.{same_volume}
@@ -24,9 +26,9 @@ use Rattle.vol_block.specs.Volume.{is_reserved}
 use Rattle.vol_block.specs.declared.format.Format.{Format}
 use Rattle.vol_block.specs.declared.format.Format.TheVariants.{Reiser, Btrfs, Neither}
 use Rattle.rollback_core.specs.Answers.{IsRefusedAs}
-use Rattle.rollback_core.specs.Laws.{IsSameBut, RecoversWhatIsInOrder, RecoveryKeeps, RecoveryMends, RecoveryStays}
+use Rattle.rollback_core.specs.Laws.{IsSameBut, RecoversWhatIsInOrder, RecoveryCounts, RecoveryKeeps, RecoveryMends, RecoveryStays}
 use Rattle.rollback_core.specs.Mending.{blocks_of, is_torn, mended, mended_by}
-use Rattle.rollback_core.specs.Recovered.{IsInOrder, IsLeft, IsPartly, IsRecoverable, IsRecovered}
+use Rattle.rollback_core.specs.Recovered.{IsInOrder, IsLeft, IsPartly, IsRecoverable, IsRecovered, copy_blocks}
 use Rattle.rollback_core.proofs.Fronts.{front_same, used_same}
 use Rattle.rollback_core.proofs.Mended.{copy_beyond, copy_wanted, mend_again, mend_same, same_bytes, two_of, used_stays, wiped_clean}
 
@@ -183,6 +185,37 @@ mends = record {
     others = λ b outside. refl;
   };
 }
+
+-- ---- what differs
+not_false : (t : Bool) → not t ≡ true → t ≡ true → ⊥
+not_false true is holds = absurd cc
+not_false false is holds = absurd cc
+
+not_so : (t : Bool) → (t ≡ true → ⊥) → not t ≡ true
+not_so true never = absurd (never refl)
+not_so false never = refl
+
+copy_among : (b : ℕ) → IsMirror b → Contains copy_blocks b
+copy_among b mirror = ⊎_elim (λ one. (0, omega arith, sym one)) (λ two. (1, omega arith, sym two)) mirror
+
+copy_of : (b : ℕ) → Contains copy_blocks b → IsMirror b
+copy_of b (zero, below, is) = inl (sym is)
+copy_of b (suc zero, below, is) = inr (sym is)
+copy_of b (suc (suc n), below, is) = absurd (omega (arith, below))
+
+pub counts : RecoveryCounts
+counts image other is b = (
+  λ among.
+      let parts = filter_contains (is_torn image) copy_blocks b among in
+      let here = is.copies b (copy_of b parts.0) in
+      λ same. not_false (bytes_eq (mended image b) (block_at image b)) parts.1 ((bytes_eq-Decides (mended image b) (block_at image b)).1 (sym here ∙ same)),
+  λ differs.
+      ⊎_elim
+      (λ mirror. contains_filter (is_torn image) copy_blocks b
+      (not_so (bytes_eq (mended image b) (block_at image b)) (λ equal. differs (is.copies b mirror ∙ (bytes_eq-Decides (mended image b) (block_at image b)).0 equal))) (copy_among b mirror))
+      (λ outside. absurd (differs (is.others b outside)))
+      (mirror_or b),
+)
 
 -- ---- what is answered
 no_volume_refusal : (image : Image) (r : VolumeRefusal) (f : Format) → IsInOrder f image → IsRefusedAs f image r → ⊥

@@ -1,5 +1,5 @@
 -- What is written, and what a crash leaves of it.
-use Rattle.std.proofs.Common.{◌≡◌, ◌∙◌, inl, inr, ⊎_elim, ℕ, ◌+◌, ◌<◌, List, length, Option, Some, None, Result, OnOk, refl, sym, ap, subst, arith}
+use Rattle.std.proofs.Common.{◌≡◌, ◌∙◌, inl, inr, ⊎_elim, ℕ, true, ◌+◌, ◌<◌, List, length, Option, Some, None, Result, OnOk, refl, sym, ap, subst, arith}
 use Rattle.std.specs.Prelude.{IsSomeAnd, filter, is_some}
 use Rattle.outside.specs.Format.{format_in}
 use Rattle.outside.specs.History.{History, Image, IsSettled, LeftSince, WritesBlock, WritesOnly, block_at, clock, reads}
@@ -10,7 +10,7 @@ use Rattle.vol_block.specs.declared.block.Block.{Block}
 use Rattle.vol_block.specs.declared.format.Format.{Format}
 use Rattle.rollback_core.specs.Mending.{given, is_torn, mended}
 use Rattle.rollback_core.specs.Planned.{IsGiven, IsGivenAt, IsPlanned, Stands, number_of}
-use Rattle.rollback_core.specs.Recovered.{IsPartly, IsRecovered, copy_blocks, summary}
+use Rattle.rollback_core.specs.Recovered.{IsMend, IsPartly, IsRecovered, copy_blocks, summary}
 use Rattle.rollback_core.specs.declared.mending.Mending.{Mending}
 use Rattle.rollback_core.specs.declared.recovery.RecoverSummary.{RecoverSummary}
 use Rattle.rollback_core.proofs.Mended.{two_of}
@@ -22,6 +22,10 @@ some_given (Some block) bytes old wanted is gives = is ∙ gives
 abbrev told_of : Format → ℕ → RecoverSummary
 told_of format n = record { format = format; mirrors = n }
 
+some_there : (found : Option Block) (bytes : List ℕ) → IsSomeAnd found (λ block. bytes ≡ block.bytes) → is_some found ≡ true
+some_there None bytes is = absurd is
+some_there (Some block) bytes is = refl
+
 module _ (image : Image) (m : Mending) (planned : IsPlanned image m) where
   -- what is written goes to the blocks of copies, and is what is to stand there
   given_mended : (b : ℕ) (bytes : List ℕ) → IsGiven m b bytes → IsMirror b × (bytes ≡ mended image b)
@@ -30,6 +34,19 @@ module _ (image : Image) (m : Mending) (planned : IsPlanned image m) where
       (λ one. (inl one.0, some_given m.first bytes (block_at image 16384) (mended image 16384) one.1 planned.first.bytes_are ∙ ap (mended image) (sym one.0)))
       (λ two. (inr two.0, some_given m.second bytes (block_at image 67108864) (mended image 67108864) two.1 planned.second.bytes_are ∙ ap (mended image) (sym two.0)))
       is
+
+  -- and it is written only where something else stands
+  given_mend : (b : ℕ) (bytes : List ℕ) → IsGiven m b bytes → IsMend image b bytes
+  given_mend b bytes is = record {
+    mirror = (given_mended b bytes is).0;
+    torn = ⊎_elim
+        (λ one. subst (λ (n : ℕ). is_torn image n ≡ true) (sym one.0) (sym planned.first.needed ∙ some_there m.first bytes one.1))
+        (λ two. subst (λ (n : ℕ). is_torn image n ≡ true) (sym two.0) (sym planned.second.needed ∙ some_there m.second bytes two.1)) is;
+    bytes_are = (given_mended b bytes is).1;
+  }
+
+  pub mends_only : (h₀ h₁ : History) → WritesOnly (IsGiven m) h₀ h₁ → WritesOnly (IsMend image) h₀ h₁
+  mends_only = writes_weaker (IsGiven m) (IsMend image) given_mend
 
   module _ (h₀ h₁ : History) (start : reads h₀ ≡ image) (only : WritesOnly (IsGiven m) h₀ h₁) where
     pub crash_partly : IsSettled h₀ → (other : Image) → LeftSince (clock h₀) h₁ other → IsPartly image other

@@ -61,3 +61,8 @@ super_fits block device s h =
     let fields = rule_holds (has_fields (super_in block) 16 device) bad_field (feature_rules (super_in block)) sum.1 in
     let fits : s.total_bytes ≤ 4096 * device = subst (λ (t : Super). t.total_bytes ≤ 4096 * device) read.1 (fields_fit (super_in block) device fields.0) in
     omega (arith, fits)
+
+-- the device has block 16, which has the magic of Btrfs
+pub super_magic : (block : List ℕ) (device : ℕ) (s : Super) → super_of block 16 device ≡ Ok s → is_super block 16 device ≡ true
+unfolding super_of
+super_magic block device s h = (rule_holds (is_super block 16 device) bad_field (kind_rules block device) (none_refused (super_refusals block 16 device) (super_in block) s h).0).0

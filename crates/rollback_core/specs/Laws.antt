@@ -1,21 +1,25 @@
 -- What a recovery and its crashes keep.
-use Rattle.std.specs.Prelude.{◌≡◌, ◌⊎◌, ℕ, ◌<◌, false, length, codes}
+use Rattle.std.specs.Prelude.{◌≡◌, ◌≢◌, ◌⊎◌, ◌↔◌, ℕ, ◌<◌, false, List, length, codes, Contains}
 use Rattle.outside.specs.Format.{format_in}
 use Rattle.outside.specs.History.{Image, block_at}
 use Rattle.outside.specs.declared.answer.Answer.{Answer}
 use Rattle.outside.specs.declared.answer.Answer.TheVariants as answer
+use Rattle.btr_reader.specs.Parts.{IsReadable, Superblock}
 use Rattle.convert_steps.specs.Switch.{HasCopies, IsMirror}
+use Rattle.fs_rows.specs.Rows.{WholeRow}
 use Rattle.metadata_laws.specs.Apart.{IsReservedFree}
 use Rattle.metadata_laws.specs.Laws.{IsSameBtrfs}
 use Rattle.object_files.specs.Laws.{SameUsed}
 use Rattle.reiser_bitmap.specs.Bits.{has}
 use Rattle.reiser_volume.specs.Laws.{IsSameVolume}
-use Rattle.reiser_volume.specs.Volume.{IsAccepted, superblock, used_of}
+use Rattle.reiser_volume.specs.Volume.{IsAccepted, IsFrontAccepted, superblock, used_of}
 use Rattle.vol_block.specs.Format.{has_bytes_at}
+use Rattle.vol_block.specs.declared.format.Format.{Format}
 use Rattle.vol_block.specs.declared.format.Format.TheVariants.{Reiser, Btrfs}
 use Rattle.rollback_core.specs.Answers.{RefusesRecover}
 use Rattle.rollback_core.specs.Mending.{blocks_of}
-use Rattle.rollback_core.specs.Recovered.{IsLeft, IsRecoverable, IsRecovered, summary}
+use Rattle.rollback_core.specs.Opens.{OpensAs}
+use Rattle.rollback_core.specs.Recovered.{IsLeft, IsRecoverable, IsRecovered, summary, torn_blocks}
 
 -- A recovered disk stays as it is when it is recovered again: no block is to be written. And after a crash of a recovery another one
 -- makes of the disk what the first would have made.
@@ -50,6 +54,24 @@ pub record RecoveryMends : Type 0 where
       → (b : ℕ) → IsMirror b → b < (superblock image).blocks → has (used_of image) b ≡ false → has_bytes_at (block_at other b) 64 (codes "_BHRfS_M") ≡ false
   pub whole : (image : Image) → IsRecoverable image → format_in image ≡ Btrfs → HasCopies (block_at image 16) (blocks_of (block_at image 16)) image → IsRecovered image image
 
+-- The blocks that are counted, no two of which are one, are those that differ.
+abbrev pub RecoveryCounts : Type 0
+RecoveryCounts = (image other : Image) → IsRecovered image other → (b : ℕ) → Contains (torn_blocks image) b ↔ (block_at other b ≢ block_at image b)
+
 -- A disk that can be recovered is not refused: all that is answered is a failed call, or too little memory for a ReiserFS bitmap.
 abbrev pub RecoversWhatIsInOrder : Type 0
 RecoversWhatIsInOrder = (image : Image) (e : Answer) → IsRecoverable image → RefusesRecover image e → (e ≡ answer.Fault) ⊎ ((e ≡ answer.Memory) × (format_in image ≡ Reiser))
+
+-- Each volume that is in order has its format by block 16, and none has both: the height of a ReiserFS tree, at most 7, stands where a
+-- Btrfs superblock has a part of its magic. So every accepted ReiserFS volume can be recovered, and every Btrfs volume whose superblock is
+-- readable.
+pub record InOrderHasFormat : Type 0 where
+  pub reiser : (image : Image) → IsFrontAccepted image → (format_in image ≡ Reiser) × IsRecoverable image
+  pub accepted : (image : Image) → IsAccepted image → (format_in image ≡ Reiser) × IsRecoverable image
+  pub btrfs : (image : Image) → IsReadable image Superblock → (format_in image ≡ Btrfs) × IsRecoverable image
+
+-- A disk that can be opened can be recovered, as the format that it has. What a recovery makes of it, or a crash of one leaves, can be opened
+-- as the same format, with the same rows.
+pub record RecoveryOpens : Type 0 where
+  pub left : (f : Format) (image other : Image) (rows : List WholeRow) → OpensAs f image rows → IsLeft image other → OpensAs f other rows
+  pub recovers : (f : Format) (image : Image) (rows : List WholeRow) → OpensAs f image rows → (format_in image ≡ f) × IsRecoverable image

@@ -2,5 +2,6 @@ pub mod Answers
 pub mod Found
 pub mod Laws
 pub mod Mending
+pub mod Opens
 pub mod Planned
 pub mod Recovered

@@ -1,5 +1,5 @@
 -- What `recover` makes of a disk, and what a crash of it leaves.
-use Rattle.std.specs.Prelude.{◌≡◌, ◌⊎◌, ℕ, List, [], ◌∷◌, length, filter, Ok}
+use Rattle.std.specs.Prelude.{◌≡◌, ◌⊎◌, ℕ, true, List, [], ◌∷◌, length, filter, Ok}
 use Rattle.outside.specs.Format.{format_in}
 use Rattle.outside.specs.History.{Image, block_at}
 use Rattle.btr_super.specs.Rules.{super_of}
@@ -36,10 +36,20 @@ pub record IsPartly (image other : Image) : Type 0 where
 abbrev pub IsLeft : Image → Image → Type 0
 IsLeft image other = (other ≡ image) ⊎ (IsRecoverable image × IsPartly image other)
 
+-- a write that mends the block of a copy, which holds something else
+pub record IsMend (image : Image) (b : ℕ) (bytes : List ℕ) : Type 0 where
+  pub mirror : IsMirror b
+  pub torn : is_torn image b ≡ true
+  pub bytes_are : bytes ≡ mended image b
+
 -- the blocks of the copies
 abbrev pub copy_blocks : List ℕ
 copy_blocks = 16384 ∷ 67108864 ∷ []
 
+-- those that are to change
+abbrev pub torn_blocks : Image → List ℕ
+torn_blocks image = filter (is_torn image) copy_blocks
+
 -- the format, and how many blocks are to change
 abbrev pub summary : Image → RecoverSummary
-summary image = record { format = format_in image; mirrors = length (filter (is_torn image) copy_blocks) }
+summary image = record { format = format_in image; mirrors = length (torn_blocks image) }

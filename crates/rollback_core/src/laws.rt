@@ -1,5 +1,5 @@
 // Laws of the definitions, each the contract of a function that does nothing.
-ghost use Rattle.rollback_core.specs.Laws.{RecoversWhatIsInOrder, RecoveryKeeps, RecoveryMends, RecoveryStays};
+ghost use Rattle.rollback_core.specs.Laws.{InOrderHasFormat, RecoversWhatIsInOrder, RecoveryCounts, RecoveryKeeps, RecoveryMends, RecoveryOpens, RecoveryStays};
 
 /// A disk that was recovered stays as it is when it is recovered again, and nothing is written. After a crash of a recovery
 /// another one ends as the first would have.
@@ -22,4 +22,21 @@ pub fn recovery_mends()
 /// or memory be short for a ReiserFS volume's bitmap.
 pub fn recovers_what_is_in_order()
     ensures { RecoversWhatIsInOrder }
+{}
+
+/// A ReiserFS volume whose superblock, journal and bitmap keep their rules has the format of ReiserFS by block 16, and a Btrfs volume
+/// whose superblock does that of Btrfs. So each of them can be recovered, and no disk holds both.
+pub fn in_order_has_format()
+    ensures { InOrderHasFormat }
+{}
+
+/// The blocks that a recovery counts are those that differ before and after it.
+pub fn recovery_counts()
+    ensures { RecoveryCounts }
+{}
+
+/// A disk whose volume can be opened can be recovered, and what a recovery makes of it, or a crash of one at any moment leaves, can be
+/// opened as the same format with the same rows.
+pub fn recovery_opens()
+    ensures { RecoveryOpens }
 {}

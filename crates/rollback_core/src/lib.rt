@@ -10,7 +10,10 @@ mod mending;
 mod recovery;
 mod writing;
 
-pub use laws::{recovers_what_is_in_order, recovery_keeps, recovery_mends, recovery_stays};
+pub use laws::{
+    in_order_has_format, recovers_what_is_in_order, recovery_counts, recovery_keeps,
+    recovery_mends, recovery_opens, recovery_stays,
+};
 pub use recovery::{RecoverSummary, recover};
 
 #[cfg(test)]

@@ -2,9 +2,9 @@
 ghost use Rattle.std.specs.Prelude.{◌≡◌, ◌≢◌, Some, IfErr, IfOk, IsTrue};
 ghost use Rattle.std.specs.Result.{MatchResult};
 ghost use Rattle.outside.specs.Fault.{HasCauseOf};
-ghost use Rattle.outside.specs.History.{EachCrash, IsSettled, OverTold, reads};
+ghost use Rattle.outside.specs.History.{EachCrash, IsSettled, OverTold, WritesOnly, reads};
 ghost use Rattle.rollback_core.specs.Answers.{IsRecoverAnswer, RefusesRecover};
-ghost use Rattle.rollback_core.specs.Recovered.{IsLeft, IsRecovered, summary};
+ghost use Rattle.rollback_core.specs.Recovered.{IsLeft, IsMend, IsRecovered, summary};
 
 use crate::mending::plan;
 use crate::writing::write_mending;
@@ -35,6 +35,7 @@ pub fn recover<D: Disk>(alloc: Global, disk: &mut D) -> Result<RecoverSummary, A
     ensures open { D.opened disk.new ≡ D.opened disk.old }
     ensures size { D.size disk.new ≡ D.size disk.old }
     ensures borrow { D.borrow disk.new ≡ D.borrow disk.old }
+    ensures only { IsTrue D.tells → WritesOnly (IsMend (reads (D.history disk.old))) (D.history disk.old) (D.history disk.new) }
     ensures recovered { OverTold D.tells (reads (D.history disk.old)) (λ image.
         MatchResult result (λ told. IsRecovered image (reads (D.history disk.new)) × (told ≡ summary image)) (RefusesRecover image)) }
     ensures unwritten { IsTrue D.tells → IfOk result (λ told. told.mirrors ≡ 0 → D.history disk.new ≡ D.history disk.old) }

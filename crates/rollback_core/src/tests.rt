@@ -1,5 +1,5 @@
 // Recoveries of small volumes in memory.
-ghost use Rattle.std.specs.Prelude.{◌≡◌, IfOk, length, None};
+ghost use Rattle.std.specs.Prelude.{◌≤◌, ◌<◌, ◌^◌, ◌≡◌, IfOk, length, None};
 
 use crate::{RecoverSummary, recover};
 use btr_samples::Sample;
@@ -16,6 +16,9 @@ use vol_block::{Block, BlockNo, Format};
 const BLOCKS: u64 = 20_000;
 
 const COPY: BlockNo = 16384;
+
+/// The blocks of a volume that has both copies.
+const LARGE: u64 = 67_108_880;
 
 fn filled(byte: u8) -> Block {
     Block {
@@ -45,7 +48,7 @@ fn reiser(alloc: Global, copy: &Block) -> Result<MemDisk, Fail>
 
 /// The superblock of a sample, on a volume of so many blocks.
 fn superblock(alloc: Global, blocks: u64) -> Result<Block, Fail>
-    requires { blocks ≡ 20000 }
+    requires { blocks ≤ 2 ^ 32 }
 {
     let sample = Sample::PLAIN.disk(alloc)?;
     let mut block = Block::zero();
@@ -234,6 +237,50 @@ fn each_failed_call_is_a_fault(rt: HostRuntime) -> Result<(), Fail> {
         disk.open("", Access::Write)?;
         disk.fail_call(k)?;
         assert_eq!(rt; recover(rt.alloc(), &mut disk), Err(Answer::Fault));
+    }
+    Ok(())
+}
+
+/// A disk of so many blocks with this superblock and zeros in all others.
+fn without_copies(alloc: Global, blocks: u64, superblock: &Block) -> Result<MemDisk, Fail>
+    requires { 16 < blocks }
+    ensures { IfOk result (λ d. d.opened ≡ None) }
+{
+    let mut disk = MemDisk::new(alloc, blocks)?;
+    disk.set_block(16, superblock)?;
+    Ok(disk)
+}
+
+/// How many of two writes a crash by this choice keeps, where so many were made.
+fn kept(writes: u64, choice: [u32; 2]) -> u64
+    ensures { result ≤ 2 }
+{
+    let first = if writes > 0 && choice[0] == 1 { 1 } else { 0 };
+    let second = if writes > 1 && choice[1] == 1 { 1 } else { 0 };
+    first + second
+}
+
+/// A crash of a recovery that writes both copies tears the two writes apart as it likes, and the next recovery writes what is missing.
+#[test]
+fn both_copies_are_written(rt: HostRuntime) -> Result<(), Fail> {
+    let superblock = superblock(rt.alloc(), LARGE)?;
+    for writes in 0..4 {
+        for choice in [[0, 0], [1, 0], [0, 1], [1, 1]] {
+            let mut disk = without_copies(rt.alloc(), LARGE, &superblock)?;
+            disk.open("", Access::Write)?;
+            disk.stop_at_write(writes);
+            let done = recover(rt.alloc(), &mut disk).is_ok();
+            assert_eq!(rt; done, writes == 3);
+            let mut left = disk.after_crash(&choice)?;
+            left.open("", Access::Write)?;
+            let missing = if done { 0 } else { 2 - kept(writes, choice) };
+            let told = RecoverSummary {
+                format: Format::Btrfs,
+                mirrors: missing,
+            };
+            assert_eq!(rt; recover(rt.alloc(), &mut left), Ok(told));
+            assert_eq!(rt; left.writes(), missing);
+        }
     }
     Ok(())
 }
