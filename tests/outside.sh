@@ -465,6 +465,11 @@ samples() {
     done <"$top/tests/samples.table"
 }
 
+# ---- convert ---------------------------------------------------------------------------------------------------------
+
+# shellcheck source=tests/outside/convert.sh
+. "$top/tests/outside/convert.sh"
+
 # ---- all -------------------------------------------------------------------------------------------------------------
 
 if ! "$top/reiserconv" --version >/dev/null; then
@@ -490,6 +495,9 @@ if need mkfs.reiserfs reiserfsprogs && need debugreiserfs reiserfsprogs; then
     maker_statuses
     samples
     rare_volumes
+    if need btrfs btrfs-progs && need zstd zstd; then convert_volumes; else
+        echo 'skipped: convert, since btrfs and zstd are not to be had'
+    fi
 else
     echo 'skipped: all checks on volumes, since reiserfsprogs is not to be had'
 fi

@@ -1,5 +1,5 @@
 -- What an ending that is right for a disk comes to.
-use Rattle.std.proofs.Common.{◌≡◌, ◌⊎◌, inl, inr, ℕ, ◌-◌, ◌^◌, ◌<◌, List, refl, ap, subst, arith, Result, Ok, Err}
+use Rattle.std.proofs.Common.{◌≡◌, ◌⊎◌, inl, inr, ℕ, ◌-◌, ◌^◌, ◌<◌, List, refl, ap, subst, ⊎_elim, arith, Result, Ok, Err}
 use Rattle.std.specs.Prelude.{◌≢◌, Option, Some, None}
 use Rattle.vol_block.specs.declared.format.Format.{Format}
 use Rattle.vol_block.specs.declared.format.Format.TheVariants as formats
@@ -10,15 +10,26 @@ use Rattle.outside.specs.declared.answer.Answer.{Answer}
 use Rattle.outside.specs.declared.answer.Answer.TheVariants.{Volume, Btr, NoSpace, WrongFormat, ImageMissing, ImageMoved, ImageDamaged, ReservedUsed, Fault, Memory}
 use Rattle.volume_app.specs.declared.ending.Ending.{Ending}
 use Rattle.volume_app.specs.declared.ending.Ending.TheVariants.{Done, Usage, Failed, OutputFault}
-use Rattle.volume_app.specs.Command.{Asked, inspect, list, help, version}
+use Rattle.vol_block.specs.declared.ids.Ids.{Ids}
+use Rattle.convert_core.specs.Answers.{RefusesConvert}
+use Rattle.convert_core.specs.Converted.{IsConvertible}
+use Rattle.convert_core.specs.Surveyed.{IsSurvey}
+use Rattle.convert_core.specs.declared.survey.Survey.{Survey}
+use Rattle.convert_core.proofs.One.{surveys_are_one}
+use Rattle.convert_steps.specs.Prepared.{LacksSpace}
+use Rattle.unit_plan.specs.Choice.{HasEnoughSpace}
+use Rattle.unit_plan.specs.Needed.{need}
+use Rattle.unit_plan.specs.declared.options.Options.{Options}
+use Rattle.volume_app.specs.Command.{Asked, inspect, list, convert, help, version}
 use Rattle.volume_app.specs.Ending.{status}
-use Rattle.reiser_volume.specs.Volume.{IsAccepted}
+use Rattle.reiser_volume.specs.Volume.{IsAccepted, used_of}
 use Rattle.reiser_volume.proofs.Refusals.{not_refused}
 use Rattle.outside.specs.Format.{format_in}
 use Rattle.volume_app.specs.Inspect.{IsInspectable, InspectRefuses}
 use Rattle.volume_app.specs.Listing.{IsListable, ListRefuses}
 use Rattle.btr_reader.proofs.PartsRead.{rows_not_refused}
-use Rattle.volume_app.specs.Outcome.{IsDone, EndsRight, Prints, Reports, HasFaults, ending_of}
+use Rattle.volume_app.proofs.Convertible.{accepted_is_reiser}
+use Rattle.volume_app.specs.Outcome.{EndsRight, HasFaults, IsDoneWith, Prints, Reports, ending_of, meaning}
 
 -- a text that was written is that of the ending
 pub prints_text : (is_text : List ℕ → Type 0) (text old new : List ℕ) (written : Result (Unit {0}) faults.Fault) → is_text text → Takes old text written new → Prints is_text (ending_of written) old new
@@ -73,22 +84,106 @@ list_done disk (ImageMoved block) disk_old disk_new done refuses device same low
 list_done disk (ImageDamaged refusal) disk_old disk_new done refuses device same low = absurd refuses
 list_done disk (ReservedUsed block) disk_old disk_new done refuses device same low = absurd refuses
 
-failed_done : (asked : Option Asked) (disk : Image) (answer : Answer) (disk_old disk_new : ℕ) → IsDone asked disk → EndsRight asked disk (Failed answer)
+-- a volume that can be converted lacks no space
+lacks_none : (o : Options) (disk : Image) (needed free run_needed longest : ℕ) → IsConvertible o disk → LacksSpace disk o needed free run_needed longest → ⊥
+lacks_none o disk needed free run_needed longest c l =
+    let told : Survey = record { counts = c.found.counts; need = need c.found.counts o } in
+    let other : Survey = record { counts = l.found.counts; need = need l.found.counts o } in
+    let first : IsSurvey o disk told = record {
+      keys = c.keys;
+      are_keys = c.sorted.are_keys;
+      ascend = c.sorted.ascend;
+      visible = c.visible;
+      links = c.links;
+      are_links = c.are_links;
+      counts_are = c.found_.counts_are;
+      need_is = refl;
+    } in
+    let second : IsSurvey o disk other = record {
+      keys = l.keys;
+      are_keys = l.sorted.are_keys;
+      ascend = l.sorted.ascend;
+      visible = l.visible;
+      links = l.links;
+      are_links = l.are_links;
+      counts_are = l.found_.counts_are;
+      need_is = refl;
+    } in
+    l.space.missing (subst (λ (s : Survey). HasEnoughSpace (used_of disk) s.need) (surveys_are_one o disk told other first second) c.enough)
+
+convert_done : (o : Options) (disk : Image) (answer : Answer) (disk_old disk_new : ℕ) → IsConvertible o disk → RefusesConvert o disk answer
     → (answer ≡ Fault → Rose disk_old disk_new) → disk_new ≡ disk_old → disk_old < 2 ^ 64 - 1 → (status (Failed answer) ≡ 0) ⊎ (status (Failed answer) ≡ 4)
-failed_done None disk answer disk_old disk_new done right device same low = absurd done
-failed_done (Some (inspect path)) disk answer disk_old disk_new done right device same low = inspect_done disk answer disk_old disk_new done right device same low
-failed_done (Some (list path)) disk answer disk_old disk_new done right device same low = list_done disk answer disk_old disk_new done right device same low
-failed_done (Some help) disk answer disk_old disk_new done right device same low = absurd right
-failed_done (Some version) disk answer disk_old disk_new done right device same low = absurd right
+convert_done o disk (Volume refusal) disk_old disk_new done refuses device same low = absurd (not_refused disk refusal refuses.1 done.sorted.accepted)
+convert_done o disk (Btr refusal) disk_old disk_new done refuses device same low = absurd refuses
+convert_done o disk Fault disk_old disk_new done refuses device same low = absurd (not_risen disk_old disk_new same low (device refl))
+convert_done o disk Memory disk_old disk_new done refuses device same low = inr refl
+convert_done o disk WrongFormat disk_old disk_new done refuses device same low = absurd (accepted_is_reiser disk done.sorted.accepted refuses)
+convert_done o disk (NoSpace needed free run_needed longest_run) disk_old disk_new done refuses device same low =
+    absurd (lacks_none o disk needed free run_needed longest_run done refuses.1)
+convert_done o disk ImageMissing disk_old disk_new done refuses device same low = absurd refuses
+convert_done o disk (ImageMoved block) disk_old disk_new done refuses device same low = absurd refuses
+convert_done o disk (ImageDamaged refusal) disk_old disk_new done refuses device same low = absurd refuses
+convert_done o disk (ReservedUsed block) disk_old disk_new done refuses device same low = absurd refuses
+
+failed_done : (ids : Ids) (now : ℕ) (asked : Option Asked) (disk : Image) (answer : Answer) (disk_old disk_new : ℕ) → (meaning ids now asked).is_done disk → (meaning ids now asked).answers disk answer
+    → (answer ≡ Fault → Rose disk_old disk_new) → disk_new ≡ disk_old → disk_old < 2 ^ 64 - 1 → (status (Failed answer) ≡ 0) ⊎ (status (Failed answer) ≡ 4)
+failed_done ids now None disk answer disk_old disk_new done right device same low = absurd done
+failed_done ids now (Some (inspect path)) disk answer disk_old disk_new done right device same low = inspect_done disk answer disk_old disk_new done right device same low
+failed_done ids now (Some (list path)) disk answer disk_old disk_new done right device same low = list_done disk answer disk_old disk_new done right device same low
+failed_done ids now (Some (convert o path)) disk answer disk_old disk_new done right device same low = convert_done o disk answer disk_old disk_new done right device same low
+failed_done ids now (Some help) disk answer disk_old disk_new done right device same low = absurd right
+failed_done ids now (Some version) disk answer disk_old disk_new done right device same low = absurd right
+
+usage_not_done : (ids : Ids) (now : ℕ) (asked : Option Asked) (disk : Image) → (meaning ids now asked).is_done disk → (meaning ids now asked).is_usage → ⊥
+usage_not_done ids now None disk done usage = done
+usage_not_done ids now (Some (inspect path)) disk done usage = usage
+usage_not_done ids now (Some (list path)) disk done usage = usage
+usage_not_done ids now (Some (convert o path)) disk done usage = usage
+usage_not_done ids now (Some help) disk done usage = usage
+usage_not_done ids now (Some version) disk done usage = usage
 
 -- a command that is to be done is done, where no call failed and there was memory
-pub done_or_memory : (asked : Option Asked) (disk : Image) (ending : Ending) (disk_old disk_new out_old out_new : ℕ) → IsDone asked disk → EndsRight asked disk ending
+pub done_or_memory : (ids : Ids) (now : ℕ) (asked : Option Asked) (disk : Image) (ending : Ending) (disk_old disk_new out_old out_new : ℕ) → (meaning ids now asked).is_done disk
+    → EndsRight (meaning ids now asked) disk ending
     → HasFaults ending disk_old disk_new out_old out_new → disk_new ≡ disk_old → disk_old < 2 ^ 64 - 1 → out_new ≡ out_old → out_old < 2 ^ 64 - 1
     → (status ending ≡ 0) ⊎ (status ending ≡ 4)
-done_or_memory asked disk Done disk_old disk_new out_old out_new done right faults same low out_same out_low = inl refl
-done_or_memory asked disk Usage disk_old disk_new out_old out_new done right faults same low out_same out_low =
-    absurd (subst (λ (a : Option Asked). IsDone a disk) right done)
-done_or_memory asked disk (Failed answer) disk_old disk_new out_old out_new done right faults same low out_same out_low =
-    failed_done asked disk answer disk_old disk_new done right (λ is. faults.device (ap (λ (a : Answer). Failed a) is)) same low
-done_or_memory asked disk OutputFault disk_old disk_new out_old out_new done right faults same low out_same out_low =
+done_or_memory ids now asked disk Done disk_old disk_new out_old out_new done right faults same low out_same out_low = inl refl
+done_or_memory ids now asked disk Usage disk_old disk_new out_old out_new done right faults same low out_same out_low =
+    absurd (usage_not_done ids now asked disk done right)
+done_or_memory ids now asked disk (Failed answer) disk_old disk_new out_old out_new done right faults same low out_same out_low =
+    failed_done ids now asked disk answer disk_old disk_new done right (λ is. faults.device (ap (λ (a : Answer). Failed a) is)) same low
+done_or_memory ids now asked disk OutputFault disk_old disk_new out_old out_new done right faults same low out_same out_low =
     absurd (not_risen out_old out_new out_same out_low (faults.output refl))
+
+-- a number that is none of these
+other_than : (n : ℕ) → (n ≡ 0) ⊎ (n ≡ 5) → (n ≢ 0) × (n ≢ 5) → ⊥
+other_than n is not = ⊎_elim (λ (e : n ≡ 0). not.0 e) (λ (e : n ≡ 5). not.1 e) is
+
+no_other : (n : ℕ) → (n ≡ 1) ⊎ ((n ≡ 2) ⊎ (n ≡ 6)) → 2 < n × n < 6 → ⊥
+no_other n is among = ⊎_elim (λ (e : n ≡ 1). absurd (omega (arith, among.0, e))) (λ (or : (n ≡ 2) ⊎ (n ≡ 6)). ⊎_elim (λ (e : n ≡ 2). absurd (omega (arith, among.0, e))) (λ (e : n ≡ 6). absurd (omega (arith, among.1, e))) or) is
+
+failed_is : (answer : Answer) → (status (Failed answer) ≡ 0) ⊎ (status (Failed answer) ≡ 5) → ⊥
+failed_is (Volume refusal) is = other_than 1 is (λ e. absurd (omega (arith, e)), λ e. absurd (omega (arith, e)))
+failed_is (Btr refusal) is = other_than 1 is (λ e. absurd (omega (arith, e)), λ e. absurd (omega (arith, e)))
+failed_is (NoSpace needed free run_needed longest_run) is = other_than 6 is (λ e. absurd (omega (arith, e)), λ e. absurd (omega (arith, e)))
+failed_is WrongFormat is = other_than 1 is (λ e. absurd (omega (arith, e)), λ e. absurd (omega (arith, e)))
+failed_is ImageMissing is = other_than 1 is (λ e. absurd (omega (arith, e)), λ e. absurd (omega (arith, e)))
+failed_is (ImageMoved block) is = other_than 1 is (λ e. absurd (omega (arith, e)), λ e. absurd (omega (arith, e)))
+failed_is (ImageDamaged refusal) is = other_than 1 is (λ e. absurd (omega (arith, e)), λ e. absurd (omega (arith, e)))
+failed_is (ReservedUsed block) is = other_than 1 is (λ e. absurd (omega (arith, e)), λ e. absurd (omega (arith, e)))
+failed_is Fault is = other_than 3 is (λ e. absurd (omega (arith, e)), λ e. absurd (omega (arith, e)))
+failed_is Memory is = other_than 4 is (λ e. absurd (omega (arith, e)), λ e. absurd (omega (arith, e)))
+
+-- statuses 0 and 5 are those of a command that was done
+pub done_by : (ending : Ending) → (status ending ≡ 0) ⊎ (status ending ≡ 5) → IsDoneWith ending
+done_by Done is = tt
+done_by Usage is = ⊎_elim (λ (e : 2 ≡ 0). absurd (omega (arith, e))) (λ (e : 2 ≡ 5). absurd (omega (arith, e))) is
+done_by (Failed answer) is = absurd (failed_is answer is)
+done_by OutputFault is = tt
+
+-- a refusal of `convert` with status 1, 2 or 6 is neither a fault nor want of memory
+pub refusal_by : (answer : Answer) → (status (Failed answer) ≡ 1) ⊎ ((status (Failed answer) ≡ 2) ⊎ (status (Failed answer) ≡ 6)) → (answer ≢ Fault) × (answer ≢ Memory)
+refusal_by answer is = (
+  λ e. no_other 3 (subst (λ (a : Answer). (status (Failed a) ≡ 1) ⊎ ((status (Failed a) ≡ 2) ⊎ (status (Failed a) ≡ 6))) e is) (omega arith, omega arith),
+  λ e. no_other 4 (subst (λ (a : Answer). (status (Failed a) ≡ 1) ⊎ ((status (Failed a) ≡ 2) ⊎ (status (Failed a) ≡ 6))) e is) (omega arith, omega arith),
+)

@@ -1,14 +1,18 @@
 -- What the words of a command line ask for.
-use Rattle.std.specs.Prelude.{ℕ, List, [], ◌∷◌, codes, bytes_eq, Option, Some, None, if◌then◌else◌}
+use Rattle.std.specs.Prelude.{ℕ, ◌-◌, List, [], ◌∷◌, codes, bytes_eq, length, take, slice_index_or, Option, Some, None, option_map, if◌then◌else◌}
 use Rattle.app_words.specs.Words.{is_path}
+use Rattle.btr_node.specs.NodeSize.{IsNodeSize}
+use Rattle.convert_words.specs.Settings.{options}
 use Rattle.outside.specs.declared.disk.Access.{Access}
-use Rattle.outside.specs.declared.disk.Access.TheVariants.{Read}
+use Rattle.outside.specs.declared.disk.Access.TheVariants.{Read, Write}
+use Rattle.unit_plan.specs.declared.options.Options.{Options}
 use Rattle.volume_app.specs.declared.command.Command.{Command}
-use Rattle.volume_app.specs.declared.command.Command.TheVariants.{Inspect, List as ListRows, Help, Version}
+use Rattle.volume_app.specs.declared.command.Command.TheVariants.{Inspect, List as ListRows, Convert, Help, Version}
 
 pub data Asked : Type 0 where
   inspect : List ℕ → Asked
   list : List ℕ → Asked
+  convert : Options → List ℕ → Asked
   help : Asked
   version : Asked
 
@@ -16,6 +20,7 @@ pub data Asked : Type 0 where
 abbrev pub opens : Asked → Option (List ℕ × Access)
 opens (inspect path) = Some (path, Read)
 opens (list path) = Some (path, Read)
+opens (convert o path) = Some (path, Write)
 opens help = None
 opens version = None
 
@@ -27,14 +32,37 @@ alone word = if bytes_eq word (codes "--help") then Some help else (if bytes_eq 
 abbrev pub named : List ℕ → List ℕ → Option Asked
 named name path = if bytes_eq name (codes "inspect") then Some (inspect path) else (if bytes_eq name (codes "list") then Some (list path) else None)
 
+-- the options of `convert`, and behind them a path
+abbrev pub converting : List (List ℕ) → List ℕ → Option Asked
+converting words path = if is_path path then option_map (λ o. convert o path) (options words) else None
+
+-- a command that has its path alone
+abbrev pub with_path : List ℕ → List (List ℕ) → Option Asked
+with_path name [] = None
+with_path name (path ∷ []) = if is_path path then named name path else None
+with_path name (path ∷ more ∷ rest) = None
+
+abbrev pub begun_by : List ℕ → List (List ℕ) → Option Asked
+begun_by name words =
+    if bytes_eq name (codes "convert") then converting (take (length words - 1) words) (slice_index_or words (length words - 1) []) else with_path name words
+
+-- what the words ask for
 abbrev pub command : List (List ℕ) → Option Asked
 command [] = None
 command (word ∷ []) = alone word
-command (name ∷ path ∷ []) = if is_path path then named name path else None
-command (name ∷ path ∷ more ∷ rest) = None
+command (name ∷ word ∷ words) = begun_by name (word ∷ words)
 
 abbrev pub seen : Command → Asked
 seen (Inspect path) = inspect path.now
 seen (ListRows path) = list path.now
+seen (Convert path o) = convert o path.now
 seen Help = help
 seen Version = version
+
+-- the size of a node that is asked for is one that nodes have
+abbrev pub HasSize : Command → Type 0
+HasSize (Inspect path) = Unit {0}
+HasSize (ListRows path) = Unit {0}
+HasSize (Convert path o) = IsNodeSize o.nodesize
+HasSize Help = Unit {0}
+HasSize Version = Unit {0}

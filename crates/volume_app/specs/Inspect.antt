@@ -14,6 +14,7 @@ use Rattle.btr_summary.specs.Text.{btrfs_text, summary_text as btrfs_summary_tex
 use Rattle.volume_app.specs.declared.inspect.Inspected.{Inspected}
 use Rattle.volume_app.specs.declared.inspect.Inspected.TheVariants.{Reiser, Btrfs}
 use Rattle.outside.specs.Format.{format_in}
+use Rattle.volume_app.specs.Meaning.{Meaning, reads_disk}
 use Rattle.volume_app.specs.Reiser.{IsReiserText, summary_text}
 
 -- a volume of this format of which `inspect` tells
@@ -64,3 +65,8 @@ IsInspectAnswer ImageMissing = ⊥
 IsInspectAnswer (ImageMoved block) = ⊥
 IsInspectAnswer (ImageDamaged refusal) = ⊥
 IsInspectAnswer (ReservedUsed block) = ⊥
+
+-- what `inspect` means
+abbrev pub inspect_meaning : Meaning
+inspect_meaning =
+    reads_disk (λ disk. IsInspectable (format_in disk) disk) (λ disk text. IsInspectText (format_in disk) disk text) InspectRefuses IsInspectAnswer

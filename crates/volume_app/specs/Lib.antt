@@ -1,10 +1,12 @@
 pub mod Answers
 pub mod Command
+pub mod Converting
 pub mod Ending
 pub mod Found
 pub mod Inspect
 pub mod Laws
 pub mod Listing
+pub mod Meaning
 pub mod Outcome
 pub mod Reiser
 pub mod Texts

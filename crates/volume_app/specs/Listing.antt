@@ -13,6 +13,7 @@ use Rattle.reiser_volume.specs.Answers.{NamesVolumeRule}
 use Rattle.reiser_volume.specs.Volume.{AreRowsOf, IsAccepted, IsRefusal}
 use Rattle.btr_reader.specs.Parts.{HasBtrfsRows, AreRowsOfBtrfs, IsRowsRefusal}
 use Rattle.outside.specs.Format.{format_in}
+use Rattle.volume_app.specs.Meaning.{Meaning, reads_disk}
 
 -- a volume of this format that `list` reads
 abbrev pub IsListable : Format → Image → Type 0
@@ -62,3 +63,7 @@ IsListAnswer ImageMissing = ⊥
 IsListAnswer (ImageMoved block) = ⊥
 IsListAnswer (ImageDamaged refusal) = ⊥
 IsListAnswer (ReservedUsed block) = ⊥
+
+-- what `list` means
+abbrev pub list_meaning : Meaning
+list_meaning = reads_disk (λ disk. IsListable (format_in disk) disk) IsListText ListRefuses IsListAnswer

@@ -1,80 +1,53 @@
 -- What an ending means of the disk that was found, and what the sinks gained.
-use Rattle.std.specs.Prelude.{◌≡◌, ◌⊎◌, ℕ, ◌≤◌, List, [], ◌++◌, take, Option, Some, None, Result, Ok, Err}
+use Rattle.std.specs.Prelude.{◌≡◌, ◌⊎◌, ℕ, ◌≤◌, Bool, IsTrue, List, ◌++◌, take, Option, Some, None, Result, Ok, Err}
 use Rattle.outside.specs.Fault.{Rose}
-use Rattle.outside.specs.History.{Image}
+use Rattle.outside.specs.History.{EachCrash, History, Image, IsSettled, reads}
 use Rattle.outside.specs.declared.fault.Fault as faults
-use Rattle.outside.specs.declared.answer.Answer.{Answer}
-use Rattle.outside.specs.declared.answer.Answer.TheVariants.{Fault}
+use Rattle.outside.specs.declared.answer.Answer.TheVariants.{Fault, Memory}
 use Rattle.volume_app.specs.declared.ending.Ending.{Ending}
 use Rattle.volume_app.specs.declared.ending.Ending.TheVariants.{Done, Usage, Failed, OutputFault}
-use Rattle.volume_app.specs.Command.{Asked, inspect, list, help, version}
+use Rattle.vol_block.specs.declared.ids.Ids.{Ids}
+use Rattle.volume_app.specs.Command.{Asked, command, inspect, list, convert, help, version}
+use Rattle.volume_app.specs.Converting.{convert_meaning}
 use Rattle.volume_app.specs.Ending.{status, error_line}
-use Rattle.outside.specs.Format.{format_in}
-use Rattle.volume_app.specs.Inspect.{IsInspectable, IsInspectText, InspectRefuses, IsInspectAnswer}
-use Rattle.volume_app.specs.Listing.{IsListable, IsListText, ListRefuses, IsListAnswer}
+use Rattle.volume_app.specs.Inspect.{inspect_meaning}
+use Rattle.volume_app.specs.Listing.{list_meaning}
+use Rattle.volume_app.specs.Meaning.{Meaning, says, no_command}
 use Rattle.volume_app.specs.Texts.{help_text, version_text}
 
--- a command is done on these disks
-abbrev pub IsDone : Option Asked → Image → Type 0
-IsDone None disk = ⊥
-IsDone (Some (inspect path)) disk = IsInspectable (format_in disk) disk
-IsDone (Some (list path)) disk = IsListable (format_in disk) disk
-IsDone (Some help) disk = Unit {0}
-IsDone (Some version) disk = Unit {0}
+-- what is asked for means, with these identifiers and at this time
+abbrev pub meaning : Ids → ℕ → Option Asked → Meaning
+meaning ids now None = no_command
+meaning ids now (Some (inspect path)) = inspect_meaning
+meaning ids now (Some (list path)) = list_meaning
+meaning ids now (Some (convert o path)) = convert_meaning ids now o
+meaning ids now (Some help) = says help_text
+meaning ids now (Some version) = says version_text
 
--- a command that takes memory, of which there may be too little
-abbrev pub TakesMemory : Option Asked → Type 0
-TakesMemory None = ⊥
-TakesMemory (Some (inspect path)) = Unit {0}
-TakesMemory (Some (list path)) = Unit {0}
-TakesMemory (Some help) = ⊥
-TakesMemory (Some version) = ⊥
-
--- a command that asks the disk; any other says the same whatever the disk is
-abbrev pub AsksDisk : Option Asked → Type 0
-AsksDisk None = ⊥
-AsksDisk (Some (inspect path)) = Unit {0}
-AsksDisk (Some (list path)) = Unit {0}
-AsksDisk (Some help) = ⊥
-AsksDisk (Some version) = ⊥
-
--- the text that a command prints of a disk
-abbrev pub IsTextOf : Option Asked → Image → List ℕ → Type 0
-IsTextOf None disk text = text ≡ []
-IsTextOf (Some (inspect path)) disk text = IsInspectText (format_in disk) disk text
-IsTextOf (Some (list path)) disk text = IsListText disk text
-IsTextOf (Some help) disk text = text ≡ help_text
-IsTextOf (Some version) disk text = text ≡ version_text
-
--- an answer that a command knows
-abbrev pub KnowsAnswer : Option Asked → Answer → Type 0
-KnowsAnswer None answer = ⊥
-KnowsAnswer (Some (inspect path)) answer = IsInspectAnswer answer
-KnowsAnswer (Some (list path)) answer = IsListAnswer answer
-KnowsAnswer (Some help) answer = ⊥
-KnowsAnswer (Some version) answer = ⊥
+-- what words mean
+abbrev pub meant : Ids → ℕ → List (List ℕ) → Meaning
+meant ids now words = meaning ids now (command words)
 
 -- an ending that a command knows, also over a disk that tells nothing
-abbrev pub Knows : Option Asked → Ending → Type 0
-Knows asked Done = Unit {0}
-Knows asked Usage = Unit {0}
-Knows asked (Failed answer) = KnowsAnswer asked answer
-Knows asked OutputFault = Unit {0}
-
--- a command may answer so on a disk
-abbrev pub Answers : Option Asked → Image → Answer → Type 0
-Answers None disk answer = ⊥
-Answers (Some (inspect path)) disk answer = InspectRefuses disk answer
-Answers (Some (list path)) disk answer = ListRefuses disk answer
-Answers (Some help) disk answer = ⊥
-Answers (Some version) disk answer = ⊥
+abbrev pub Knows : Meaning → Ending → Type 0
+Knows m Done = Unit {0}
+Knows m Usage = Unit {0}
+Knows m (Failed answer) = m.knows answer
+Knows m OutputFault = Unit {0}
 
 -- an ending is right for the disk that was found
-abbrev pub EndsRight : Option Asked → Image → Ending → Type 0
-EndsRight asked disk Done = IsDone asked disk
-EndsRight asked disk Usage = asked ≡ None
-EndsRight asked disk (Failed answer) = Answers asked disk answer
-EndsRight asked disk OutputFault = IsDone asked disk
+abbrev pub EndsRight : Meaning → Image → Ending → Type 0
+EndsRight m disk Done = m.is_done disk
+EndsRight m disk Usage = m.is_usage
+EndsRight m disk (Failed answer) = m.answers disk answer
+EndsRight m disk OutputFault = m.is_done disk
+
+-- an ending of a command that was done, though its text may not be printed whole
+abbrev pub IsDoneWith : Ending → Type 0
+IsDoneWith Done = Unit {0}
+IsDoneWith Usage = ⊥
+IsDoneWith (Failed answer) = ⊥
+IsDoneWith OutputFault = Unit {0}
 
 -- how a run ends that has printed its text
 abbrev pub ending_of : Result (Unit {0}) faults.Fault → Ending
@@ -111,10 +84,24 @@ Reports line faults_old faults_new old new =
 
 -- The status is that of an ending that the command knows, with its line on the error sink. Where the disk tells its blocks, or the
 -- command asks it nothing, the ending is right for it, and the output sink gained its text.
-pub record Runs (asked : Option Asked) (tells : Type 0) (disk : Image) (answer : ℕ) (out_tells : Type 0) (out_old out_new : List ℕ) (err_tells : Type 0) (faults_old faults_new : ℕ) (err_old err_new : List ℕ) : Type 0 where
+pub record Runs (m : Meaning) (tells : Type 0) (disk : Image) (answer : ℕ) (out_tells : Type 0) (out_old out_new : List ℕ) (err_tells : Type 0) (faults_old faults_new : ℕ) (err_old err_new : List ℕ) : Type 0 where
   pub ending : Ending
   pub answers : answer ≡ status ending
-  pub known : Knows asked ending
-  pub right : (AsksDisk asked → tells) → EndsRight asked disk ending
-  pub printed : (AsksDisk asked → tells) → out_tells → Prints (IsTextOf asked disk) ending out_old out_new
+  pub known : Knows m ending
+  pub right : (m.asks_disk → tells) → EndsRight m disk ending
+  pub printed : (m.asks_disk → tells) → out_tells → Prints (m.is_text disk) ending out_old out_new
   pub reported : err_tells → Reports (error_line ending) faults_old faults_new err_old err_new
+
+-- What is said of a command with this meaning that ended so: of the disk with its history and its faults, and of the output with what it
+-- took and its faults, before and after.
+pub record Performs (m : Meaning) (tells : Bool) (old new : History) (disk_old disk_new : ℕ) (out_tells : Bool) (taken_old taken_new : List ℕ) (out_old out_new : ℕ) (ending : Ending) : Type 0 where
+  pub right : (m.asks_disk → IsTrue tells) → EndsRight m (reads old) ending
+  pub known : Knows m ending
+  pub printed : (m.asks_disk → IsTrue tells) → IsTrue out_tells → Prints (m.is_text (reads old)) ending taken_old taken_new
+  pub quiet : IsTrue out_tells → IsQuiet ending → taken_new ≡ taken_old
+  pub memory : ending ≡ Failed Memory → m.takes_memory
+  pub unchanged : IsTrue tells → m.keeps (status ending) → new ≡ old
+  pub changed : IsTrue tells → IsDoneWith ending → m.becomes (reads old) (reads new)
+  pub settled : IsTrue tells → IsSettled old → IsDoneWith ending → IsSettled new
+  pub crash : EachCrash tells old new (m.leaves (reads old))
+  pub faults : HasFaults ending disk_old disk_new out_old out_new

@@ -16,8 +16,16 @@ help_text =
     usage_line
     ++ codes "  inspect PATH   check the volume at PATH, and print what it is" ++ 10 ∷ []
     ++ codes "  list PATH      print a line for each path of the volume at PATH" ++ 10 ∷ []
+    ++ codes "  convert PATH   turn the ReiserFS volume at PATH into a Btrfs volume" ++ 10 ∷ []
     ++ codes "  --help         print this text" ++ 10 ∷ []
     ++ codes "  --version      print the version of this program" ++ 10 ∷ []
+    ++ codes "Options of convert, before the path:" ++ 10 ∷ []
+    ++ codes "  --nodesize N   bytes of a tree's node: 4096, 8192, 16384 (the default), 32768 or 65536" ++ 10 ∷ []
+    ++ codes "  --no-inline    keep no small file in the tree" ++ 10 ∷ []
+    ++ codes "  --no-datasum   make no checksums of data" ++ 10 ∷ []
+    ++ codes "  --label TEXT   give the new volume this label" ++ 10 ∷ []
+    ++ codes "  --copy-label   keep the label of the volume" ++ 10 ∷ []
+    ++ codes "  --uuid SPEC    new (the default), copy for that of the volume, or the one to give" ++ 10 ∷ []
 
 abbrev pub version_text : List ℕ
 version_text = codes "reiserconv 0.1.0" ++ 10 ∷ []

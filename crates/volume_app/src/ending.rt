@@ -1,6 +1,7 @@
 ghost use Rattle.std.specs.Prelude.{◌≡◌, IsTrue};
 ghost use Rattle.outside.specs.Fault.{HasCause, Takes};
 ghost use Rattle.volume_app.specs.Ending.{status, error_line};
+ghost use Rattle.volume_app.specs.Outcome.{ending_of};
 
 use crate::texts::USAGE;
 use app_words::{answer_status, write_answer};
@@ -43,5 +44,15 @@ impl Ending {
             Ending::Failed(answer) => write_answer(answer, err),
             Ending::OutputFault => err.write(b"output fault\n"),
         }
+    }
+}
+
+/// How a run ends that has printed its text.
+pub fn printed(written: Result<(), Fault>) -> Ending
+    ensures { result ≡ ending_of written }
+{
+    match written {
+        Ok(()) => Ending::Done,
+        Err(Fault) => Ending::OutputFault,
     }
 }

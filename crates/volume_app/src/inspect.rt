@@ -5,9 +5,11 @@ ghost use Rattle.outside.specs.History.{block_at, reads, OverTold};
 ghost use Rattle.vol_block.specs.declared.format.Format.TheVariants as formats;
 ghost use Rattle.outside.specs.Format.{format_in};
 ghost use Rattle.volume_app.specs.Found.{IsFoundOn};
-ghost use Rattle.volume_app.specs.Inspect.{inspected_text, Inspects, InspectRefuses, IsInspectAnswer};
+ghost use Rattle.volume_app.specs.Inspect.{inspect_meaning, inspected_text, Inspects, InspectRefuses, IsInspectAnswer};
+ghost use Rattle.volume_app.specs.Outcome.{Performs};
 
 use crate::answers::{of_btrfs, of_volume};
+use crate::ending::{Ending, printed};
 use crate::format::{Found, open_format};
 use crate::reiser::ReiserSummary;
 use btr_summary::Summary;
@@ -37,8 +39,26 @@ impl Inspected {
     }
 }
 
+/// Inspects the volume at a path, and prints what it is.
+pub fn inspect_volume<D: Disk, O: Sink>(
+    alloc: Global,
+    path: &str,
+    disk: &mut D,
+    out: &mut O,
+) -> Ending
+    requires closed { D.opened disk.old ≡ None }
+    requires wanted { D.wants path.now Access.Read }
+    ensures { Performs inspect_meaning D.tells (D.history disk.old) (D.history disk.new) (D.faults disk.old) (D.faults disk.new)
+        O.tells (O.taken out.old) (O.taken out.new) (O.faults out.old) (O.faults out.new) result }
+{
+    match inspect(alloc, path, disk) {
+        Ok(found) => printed(found.print(out)),
+        Err(answer) => Ending::Failed(answer),
+    }
+}
+
 /// Opens the disk for reading, checks the volume, and reads what is printed of it.
-pub fn inspect<D: Disk>(alloc: Global, path: &str, disk: &mut D) -> Result<Inspected, Answer>
+fn inspect<D: Disk>(alloc: Global, path: &str, disk: &mut D) -> Result<Inspected, Answer>
     requires closed { D.opened disk.old ≡ None }
     requires wanted { D.wants path.now Access.Read }
     ensures unchanged { IsTrue D.tells → D.history disk.new ≡ D.history disk.old }

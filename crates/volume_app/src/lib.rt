@@ -6,6 +6,7 @@
 
 mod answers;
 mod command;
+mod converting;
 mod ending;
 mod format;
 mod inspect;

@@ -5,19 +5,39 @@ ghost use Rattle.outside.specs.History.{block_at, reads, OverTold};
 ghost use Rattle.vol_block.specs.declared.format.Format.TheVariants as formats;
 ghost use Rattle.outside.specs.Format.{format_in};
 ghost use Rattle.volume_app.specs.Found.{IsFoundOn};
-ghost use Rattle.volume_app.specs.Listing.{Lists, ListRefuses, IsListAnswer};
+ghost use Rattle.volume_app.specs.Listing.{Lists, ListRefuses, IsListAnswer, list_meaning};
+ghost use Rattle.volume_app.specs.Outcome.{Performs};
 
 use crate::answers::{of_btrfs, of_volume};
+use crate::ending::{Ending, printed};
 use crate::format::{Found, open_format};
 use crate::reiser::reiser_rows;
 use btr_reader::Btrfs;
-use fs_rows::Rows;
-use outside::{Access, Answer, BlockSource, Disk, Fault};
+use fs_rows::{Rows, write_rows};
+use outside::{Access, Answer, BlockSource, Disk, Fault, Sink};
 use std::alloc::Global;
 use vol_block::{Block, Format};
 
+/// Lists the volume at a path: prints a line for each of its paths.
+pub fn list_volume<D: Disk, O: Sink>(
+    alloc: Global,
+    path: &str,
+    disk: &mut D,
+    out: &mut O,
+) -> Ending
+    requires closed { D.opened disk.old ≡ None }
+    requires wanted { D.wants path.now Access.Read }
+    ensures { Performs list_meaning D.tells (D.history disk.old) (D.history disk.new) (D.faults disk.old) (D.faults disk.new)
+        O.tells (O.taken out.old) (O.taken out.new) (O.faults out.old) (O.faults out.new) result }
+{
+    match list(alloc, path, disk) {
+        Ok(rows) => printed(write_rows(&rows, out)),
+        Err(answer) => Ending::Failed(answer),
+    }
+}
+
 /// Opens the disk for reading, checks the volume, and makes its rows.
-pub fn list<D: Disk>(alloc: Global, path: &str, disk: &mut D) -> Result<Rows, Answer>
+fn list<D: Disk>(alloc: Global, path: &str, disk: &mut D) -> Result<Rows, Answer>
     requires closed { D.opened disk.old ≡ None }
     requires wanted { D.wants path.now Access.Read }
     ensures unchanged { IsTrue D.tells → D.history disk.new ≡ D.history disk.old }

@@ -1,6 +1,7 @@
 // Runs of the top call over a disk in memory.
 ghost use Rattle.std.specs.Prelude.{◌≡◌, ◌≤◌, None, IfOk, length};
 
+mod converting;
 mod sample;
 
 use crate::run;

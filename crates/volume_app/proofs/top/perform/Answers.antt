@@ -1,42 +1,41 @@
-use Rattle.std.proofs.Common.{◌≡◌, ◌∙◌, refl, sym, ap, subst, map, string_bytes, Some}
-use Rattle.std.specs.Prelude.{Option}
-use Rattle.outside.specs.History.{Image, reads}
-use Rattle.fs_rows.specs.Text.{rows_text}
+use Rattle.std.proofs.Common.{◌≡◌, ◌∙◌, sym, ap, map, string_bytes, Some, None}
 use Rattle.volume_app.specs.declared.command.Command.{Command}
-use Rattle.volume_app.specs.declared.ending.Ending.{Ending}
-use Rattle.volume_app.specs.Command.{Asked, command, inspect, list, version, seen}
-use Rattle.volume_app.specs.Inspect.{inspected_text}
-use Rattle.volume_app.specs.Texts.{version_text}
-use Rattle.volume_app.specs.Outcome.{AsksDisk, IsTextOf, Prints}
-use Rattle.volume_app.proofs.Listing.{listed_text}
-use Rattle.volume_app.proofs.Outcomes.{prints_text}
+use Rattle.volume_app.specs.Command.{command, convert, help, inspect, list, seen, version}
+use Rattle.volume_app.specs.Texts.{help_text, version_text}
+use Rattle.volume_app.proofs.Performing.{no_words, said}
 use Rattle.volume_app.proofs.top.perform.Goals as goal
 
-pub returns-in-Ok-clause-printed : goal.returns-in-Ok-clause-printed
-returns-in-Ok-clause-printed g c = λ told out_tells.
-    let disk : Image = reads (g.D.Disk.history c.args.disk.now) in
+pub returns-in-None-clause-performs : goal.returns-in-None-clause-performs
+returns-in-None-clause-performs g c =
+    let asked : command (map string_bytes c.args.words.now) ≡ None = sym c.read_words.ensures.read in
+    rw asked (no_words _ _ _ _ _ _)
+
+pub returns-in-Some-Inspect-clause-performs : goal.returns-in-Some-Inspect-clause-performs
+returns-in-Some-Inspect-clause-performs g c =
     let asked : command (map string_bytes c.args.words.now) ≡ Some (inspect c.in-Some-Inspect.path.now) =
-    sym c.in-Some-Inspect.ensures ∙ ap (λ (k : Command). Some (seen k)) c.in-Some-Inspect.field-0-is in
-    let right : IsTextOf (command (map string_bytes c.args.words.now)) disk (inspected_text c.in-Ok.found) =
-    subst (λ (a : Option Asked). IsTextOf a disk (inspected_text c.in-Ok.found)) (sym asked) (c.in-Ok.ensures.right (told (subst AsksDisk (sym asked) tt))).text in
-    subst (λ (e : Ending). Prints (IsTextOf (command (map string_bytes c.args.words.now)) disk) e (g.O.Sink.taken c.args.out.now) (g.O.Sink.taken c.print.new.out)) (sym c.printed.ensures)
-    (prints_text (IsTextOf (command (map string_bytes c.args.words.now)) disk) _ _ _ c.print.result right (c.print.ensures.taken out_tells))
+        sym c.in-Some-Inspect.ensures.read ∙ ap (λ (k : Command). Some (seen k)) c.in-Some-Inspect.field-0-is in
+    rw asked c.inspect_volume.ensures
 
-pub returns-in-Ok-list-clause-printed : goal.returns-in-Ok-list-clause-printed
-returns-in-Ok-list-clause-printed g c = λ told out_tells.
-    let disk : Image = reads (g.D.Disk.history c.args.disk.now) in
+pub returns-in-Some-List-clause-performs : goal.returns-in-Some-List-clause-performs
+returns-in-Some-List-clause-performs g c =
     let asked : command (map string_bytes c.args.words.now) ≡ Some (list c.in-Some-List.path.now) =
-    sym c.in-Some-List.ensures ∙ ap (λ (k : Command). Some (seen k)) c.in-Some-List.field-0-is in
-    let right : IsTextOf (command (map string_bytes c.args.words.now)) disk (rows_text c.in-Ok-list.rows) =
-    subst (λ (a : Option Asked). IsTextOf a disk (rows_text c.in-Ok-list.rows)) (sym asked) (listed_text disk c.in-Ok-list.rows (c.in-Ok-list.ensures.right (told (subst AsksDisk (sym asked) tt)))) in
-    subst (λ (e : Ending). Prints (IsTextOf (command (map string_bytes c.args.words.now)) disk) e (g.O.Sink.taken c.args.out.now) (g.O.Sink.taken c.write_rows.new.out)) (sym c.printed-in-Ok-list.ensures)
-    (prints_text (IsTextOf (command (map string_bytes c.args.words.now)) disk) _ _ _ c.write_rows.result right (c.write_rows.ensures.taken out_tells))
+        sym c.in-Some-List.ensures.read ∙ ap (λ (k : Command). Some (seen k)) c.in-Some-List.field-0-is in
+    rw asked c.list_volume.ensures
 
-pub returns-in-Some-Version-clause-printed : goal.returns-in-Some-Version-clause-printed
-returns-in-Some-Version-clause-printed g c = λ told out_tells.
-    let disk : Image = reads (g.D.Disk.history c.args.disk.now) in
+pub returns-in-Some-Convert-clause-performs : goal.returns-in-Some-Convert-clause-performs
+returns-in-Some-Convert-clause-performs g c =
+    let asked : command (map string_bytes c.args.words.now) ≡ Some (convert c.in-Some-Convert.options c.in-Some-Convert.path.now) =
+        sym c.in-Some-Convert.ensures.read ∙ ap (λ (k : Command). Some (seen k)) c.in-Some-Convert.field-0-is in
+    rw asked c.convert_volume.ensures
+
+pub returns-in-Some-Help-clause-performs : goal.returns-in-Some-Help-clause-performs
+returns-in-Some-Help-clause-performs g c =
+    let asked : command (map string_bytes c.args.words.now) ≡ Some help =
+        sym c.in-Some-Help.ensures.read ∙ ap (λ (k : Command). Some (seen k)) c.in-Some-Help.field-0-is in
+    rw asked (rw c.printed.ensures (said help_text _ _ _ _ _ _ _ _ c.write.result c.write.ensures.taken c.write.ensures.cause))
+
+pub returns-in-Some-Version-clause-performs : goal.returns-in-Some-Version-clause-performs
+returns-in-Some-Version-clause-performs g c =
     let asked : command (map string_bytes c.args.words.now) ≡ Some version =
-    sym c.in-Some-Version.ensures ∙ ap (λ (k : Command). Some (seen k)) c.in-Some-Version.field-0-is in
-    subst (λ (a : Option Asked). Prints (IsTextOf a disk) c.printed-in-Some-Version.result (g.O.Sink.taken c.args.out.now) (g.O.Sink.taken c.write-in-Some-Version.new.self)) (sym asked)
-    (subst (λ (e : Ending). Prints (IsTextOf (Some version) disk) e (g.O.Sink.taken c.args.out.now) (g.O.Sink.taken c.write-in-Some-Version.new.self)) (sym c.printed-in-Some-Version.ensures)
-    (prints_text (IsTextOf (Some version) disk) version_text _ _ c.write-in-Some-Version.result refl (c.write-in-Some-Version.ensures.taken out_tells)))
+        sym c.in-Some-Version.ensures.read ∙ ap (λ (k : Command). Some (seen k)) c.in-Some-Version.field-0-is in
+    rw asked (rw c.printed-in-Some-Version.ensures (said version_text _ _ _ _ _ _ _ _ c.write-in-Some-Version.result c.write-in-Some-Version.ensures.taken c.write-in-Some-Version.ensures.cause))

@@ -1,0 +1,31 @@
+use Rattle.std.proofs.Common.{refl}
+use Rattle.volume_app.specs.Converting.{convert_meaning, convert_text}
+use Rattle.volume_app.proofs.Convertible.{converted_was}
+use Rattle.volume_app.proofs.Outcomes.{refusal_by}
+use Rattle.volume_app.proofs.Performing.{failed, ok_kept, performed, printed_keeps}
+use Rattle.volume_app.proofs.converting.convert_volume.Goals as goal
+
+pub returns-in-Ok-clause-performs : goal.returns-in-Ok-clause-performs
+returns-in-Ok-clause-performs g c =
+    rw c.printed.ensures
+    (performed (convert_meaning c.args.ids.now c.args.now c.args.options.now) _ _ _ _ _ _ _ _ _ _ (convert_text c.in-Ok.summary) c.print_summary.result
+    (λ told. converted_was c.args.options.now c.args.ids.now c.args.now _ _ (c.in-Ok.ensures.right (told tt)).0)
+    (λ told. (c.in-Ok.summary, (c.in-Ok.ensures.right (told tt)).1, refl))
+    (record {
+      unchanged = λ told keeps. absurd (printed_keeps c.print_summary.result keeps);
+      changed = λ told is. (c.in-Ok.ensures.right told).0;
+      settled = λ told settled is. c.in-Ok.ensures.settled told;
+      crash = c.convert.ensures.crash;
+    })
+    (ok_kept c.in-Ok.summary _ _ c.in-Ok.ensures.cause) c.print_summary.ensures.taken c.print_summary.ensures.cause)
+
+pub returns-in-Err-clause-performs : goal.returns-in-Err-clause-performs
+returns-in-Err-clause-performs g c =
+    failed (convert_meaning c.args.ids.now c.args.now c.args.options.now) _ _ _ _ _ _ _ _ c.in-Err.answer (λ told. c.in-Err.ensures.right (told tt)) c.in-Err.ensures.known (λ is. tt)
+    (record {
+      unchanged = λ told keeps. (let no = refusal_by c.in-Err.answer keeps in c.in-Err.ensures.refused told no.0 no.1);
+      changed = λ told is. absurd is;
+      settled = λ told settled is. absurd is;
+      crash = c.convert.ensures.crash;
+    })
+    c.in-Err.ensures.cause

@@ -1,0 +1,44 @@
+-- What `convert` answers, prints and writes.
+use Rattle.std.specs.Prelude.{◌≡◌, ◌⊎◌, ℕ, List, [], ◌∷◌, codes, decimal}
+use Rattle.convert_core.specs.Answers.{IsConvertAnswer, RefusesConvert}
+use Rattle.convert_core.specs.Converted.{IsConverted, IsConvertible, IsEither}
+use Rattle.convert_core.specs.Surveyed.{IsSummary}
+use Rattle.convert_core.specs.declared.summary.ConvertSummary.{ConvertSummary}
+use Rattle.outside.specs.History.{Image}
+use Rattle.unit_plan.specs.declared.options.Options.{Options}
+use Rattle.vol_block.specs.declared.ids.Ids.{Ids}
+use Rattle.volume_app.specs.Meaning.{Meaning}
+use Rattle.volume_app.specs.Texts.{text_of_lines}
+
+abbrev pub convert_lines : ConvertSummary → List (List ℕ × List (List ℕ))
+convert_lines told =
+    (codes "converted", codes "to" ∷ codes "btrfs" ∷ [])
+    ∷ (codes "pieces", decimal told.pieces ∷ [])
+    ∷ (codes "blocks", decimal told.blocks ∷ [])
+    ∷ (codes "copied", decimal told.copied ∷ [])
+    ∷ (codes "tails", decimal told.tails ∷ [])
+    ∷ (codes "units", decimal told.units ∷ [])
+    ∷ []
+
+abbrev pub convert_text : ConvertSummary → List ℕ
+convert_text told = text_of_lines (convert_lines told)
+
+-- the text for a disk
+abbrev pub IsConvertText : Options → Image → List ℕ → Type 0
+IsConvertText o disk text = (told : ConvertSummary) × IsSummary o disk told × (text ≡ convert_text told)
+
+-- What `convert` with these options means, for these identifiers and at this time. Nothing is written where the volume is refused,
+-- has too little space, or the words are no command.
+abbrev pub convert_meaning : Ids → ℕ → Options → Meaning
+convert_meaning ids now o = record {
+  is_usage = ⊥;
+  asks_disk = Unit {0};
+  takes_memory = Unit {0};
+  is_done = IsConvertible o;
+  is_text = IsConvertText o;
+  answers = RefusesConvert o;
+  knows = IsConvertAnswer;
+  keeps = λ status. (status ≡ 1) ⊎ ((status ≡ 2) ⊎ (status ≡ 6));
+  becomes = IsConverted o ids now;
+  leaves = IsEither o ids now;
+}

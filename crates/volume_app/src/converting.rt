@@ -1,0 +1,90 @@
+ghost use Rattle.std.specs.Prelude.{◌≡◌, ◌≢◌, ◌<◌, ◌^◌, None, IfErr, IsTrue, OnOk};
+ghost use Rattle.std.specs.Result.{MatchResult};
+ghost use Rattle.btr_node.specs.NodeSize.{IsNodeSize};
+ghost use Rattle.convert_core.specs.Answers.{IsConvertAnswer, RefusesConvert};
+ghost use Rattle.convert_core.specs.Converted.{IsConverted, IsEither};
+ghost use Rattle.convert_core.specs.Surveyed.{IsSummary};
+ghost use Rattle.outside.specs.Fault.{HasCause, HasCauseOf, Takes};
+ghost use Rattle.outside.specs.History.{EachCrash, IsSettled, reads};
+ghost use Rattle.volume_app.specs.Converting.{convert_meaning, convert_text};
+ghost use Rattle.volume_app.specs.Outcome.{Performs};
+
+use crate::ending::{Ending, printed};
+use convert_core::ConvertSummary;
+use outside::{Access, Answer, Disk, Fault, Sink};
+use sink_text::Piece::{Decimal, Plain};
+use sink_text::write_pieces;
+use std::alloc::Global;
+use unit_plan::Options;
+use vol_block::Ids;
+
+/// Converts the ReiserFS volume at a path, and prints what was done.
+pub fn convert_volume<D: Disk, O: Sink>(
+    alloc: Global,
+    path: &str,
+    ids: &Ids,
+    now: u64,
+    options: &Options,
+    disk: &mut D,
+    out: &mut O,
+) -> Ending
+    requires closed { D.opened disk.old ≡ None }
+    requires wanted { D.wants path.now Access.Write }
+    requires size { IsNodeSize options.now.nodesize }
+    requires moment { now < 2 ^ 63 }
+    ensures { Performs (convert_meaning ids.now now options.now) D.tells (D.history disk.old) (D.history disk.new) (D.faults disk.old) (D.faults disk.new)
+        O.tells (O.taken out.old) (O.taken out.new) (O.faults out.old) (O.faults out.new) result }
+{
+    match convert(alloc, path, ids, now, options, disk) {
+        Ok(summary) => printed(print_summary(&summary, out)),
+        Err(answer) => Ending::Failed(answer),
+    }
+}
+
+/// Opens the disk at a path for writing, and converts its volume.
+fn convert<D: Disk>(
+    alloc: Global,
+    path: &str,
+    ids: &Ids,
+    now: u64,
+    options: &Options,
+    disk: &mut D,
+) -> Result<ConvertSummary, Answer>
+    requires closed { D.opened disk.old ≡ None }
+    requires wanted { D.wants path.now Access.Write }
+    requires size { IsNodeSize options.now.nodesize }
+    requires moment { now < 2 ^ 63 }
+    ensures crash { EachCrash D.tells (D.history disk.old) (D.history disk.new) (IsEither options.now ids.now now (reads (D.history disk.old))) }
+    ensures right { IsTrue D.tells → MatchResult result (λ s. IsConverted options.now ids.now now (reads (D.history disk.old)) (reads (D.history disk.new)) × IsSummary options.now (reads (D.history disk.old)) s)
+        (RefusesConvert options.now (reads (D.history disk.old))) }
+    ensures settled { IsTrue D.tells → OnOk result (IsSettled (D.history disk.new)) }
+    ensures refused { IsTrue D.tells → IfErr result (λ e. e ≢ Answer.Fault → e ≢ Answer.Memory → D.history disk.new ≡ D.history disk.old) }
+    ensures cause { HasCauseOf Answer.Fault (D.faults disk.old) (D.faults disk.new) result }
+    ensures known { IfErr result IsConvertAnswer }
+{
+    match disk.open(path, Access::Write) {
+        Ok(()) => convert_core::convert(alloc, disk, ids, now, options),
+        Err(Fault) => Err(Answer::Fault),
+    }
+}
+
+/// Prints what a conversion did.
+fn print_summary<O: Sink>(told: &ConvertSummary, out: &mut O) -> Result<(), Fault>
+    ensures taken { IsTrue O.tells → Takes (O.taken out.old) (convert_text told.now) result (O.taken out.new) }
+    ensures cause { HasCause (O.faults out.old) (O.faults out.new) result }
+{
+    let pieces = [
+        Plain(b"converted to btrfs\npieces "),
+        Decimal(told.pieces),
+        Plain(b"\nblocks "),
+        Decimal(told.blocks),
+        Plain(b"\ncopied "),
+        Decimal(told.copied),
+        Plain(b"\ntails "),
+        Decimal(told.tails),
+        Plain(b"\nunits "),
+        Decimal(told.units),
+        Plain(b"\n"),
+    ];
+    write_pieces(&pieces, out)
+}

@@ -1,0 +1,157 @@
+// Runs of `convert`.
+ghost use Rattle.std.specs.Prelude.{◌≡◌, None};
+
+use super::sample::{change, changed, sample};
+use super::{ROOT, ends, is_usage, run_on};
+use outside_mem::MemDisk;
+use std::process::Abort;
+use std::test::Fail;
+
+/// What `convert` prints of the sample: its 52 used blocks are reserved, so each of them is copied.
+const DONE: &str = "converted to btrfs\npieces 52\nblocks 52\ncopied 52\ntails 0\nunits 4\n";
+
+/// What `inspect` prints of the sample behind it.
+const CONVERTED: &str =
+    "format btrfs\nfsid 11111111-1111-1111-1111-111111111111\nblocks 2048\ngeneration 1\nnodesize 16384\nlabel -\nimage 2048\n";
+
+/// The next command, over the disk that the last one closed, ends so.
+fn then(
+    rt: &(impl Abort + AllocGlobal),
+    words: &[&str],
+    disk: &mut MemDisk,
+    status: u8,
+    out: &str,
+    err: &str,
+) -> Result<(), Fail> {
+    disk.settle();
+    ends(rt, words, disk, status, out, err)
+}
+
+#[test]
+fn a_converted_volume_has_the_same_rows(rt: HostRuntime) -> Result<(), Fail> {
+    let mut disk = sample(rt.alloc(), 2048)?;
+    ends(&rt, &["convert", "x"], &mut disk, 0, DONE, "")?;
+    then(&rt, &["inspect", "x"], &mut disk, 0, CONVERTED, "")?;
+    then(&rt, &["list", "x"], &mut disk, 0, ROOT, "")?;
+    then(
+        &rt,
+        &["convert", "x"],
+        &mut disk,
+        1,
+        "",
+        "refused 16 format\n",
+    )?;
+    assert_eq!(rt; disk.writes(), 0);
+    Ok(())
+}
+
+#[test]
+fn options_make_another_volume(rt: HostRuntime) -> Result<(), Fail> {
+    let mut disk = sample(rt.alloc(), 2048)?;
+    change(&mut disk, 16, 84, &[7])?;
+    let words = [
+        "convert",
+        "--nodesize",
+        "4096",
+        "--uuid",
+        "copy",
+        "--label",
+        "old home",
+        "--no-inline",
+        "--no-datasum",
+        "x",
+    ];
+    let done = "converted to btrfs\npieces 52\nblocks 52\ncopied 52\ntails 0\nunits 3\n";
+    ends(&rt, &words, &mut disk, 0, done, "")?;
+    let told =
+        "format btrfs\nfsid 07000000-0000-0000-0000-000000000000\nblocks 2048\ngeneration 1\nnodesize 4096\nlabel old\\x20home\nimage 2048\n";
+    then(&rt, &["inspect", "x"], &mut disk, 0, told, "")?;
+    then(&rt, &["list", "x"], &mut disk, 0, ROOT, "")
+}
+
+#[test]
+fn words_that_are_no_options(rt: HostRuntime) -> Result<(), Fail> {
+    is_usage(&rt, &["convert"])?;
+    is_usage(&rt, &["convert", "-x"])?;
+    is_usage(&rt, &["convert", "x", "y"])?;
+    is_usage(&rt, &["convert", "--nodesize", "16383", "x"])?;
+    is_usage(&rt, &["convert", "--label", "a", "--copy-label", "x"])?;
+    is_usage(&rt, &["convert", "--no-inline", "--no-inline", "x"])?;
+    is_usage(&rt, &["convert", "--uuid", "12", "x"])?;
+    is_usage(&rt, &["convert", "--label", "x"])?;
+    is_usage(&rt, &["list", "--no-inline", "x"])
+}
+
+/// The volume is refused, and nothing was written.
+fn refused(
+    rt: &(impl Abort + AllocGlobal),
+    disk: &mut MemDisk,
+    status: u8,
+    line: &str,
+) -> Result<(), Fail>
+    requires { disk.old.opened ≡ None }
+{
+    ends(rt, &["convert", "x"], disk, status, "", line)?;
+    assert_eq!(rt; disk.writes(), 0);
+    Ok(())
+}
+
+#[test]
+fn what_is_refused_is_not_written(rt: HostRuntime) -> Result<(), Fail> {
+    let mut disk = MemDisk::new(rt.alloc(), 2048)?;
+    refused(&rt, &mut disk, 1, "refused 1 novolume\n")?;
+    let mut disk = changed(rt.alloc(), 16, 50, &[2])?;
+    refused(&rt, &mut disk, 1, "refused 2 unclean 2\n")?;
+    let mut disk = changed(rt.alloc(), 16, 64, b"_BHRfS_M")?;
+    refused(&rt, &mut disk, 1, "refused 16 format\n")?;
+    // A block is used in each of four units, so that three are free.
+    let mut disk = sample(rt.alloc(), 2048)?;
+    for unit in [1, 2, 3, 4] {
+        change(&mut disk, 17, unit * 32, &[1])?;
+    }
+    refused(&rt, &mut disk, 6, "refused 15 space 4 3 1 3\n")
+}
+
+#[test]
+fn an_output_that_fails_leaves_the_volume_converted(rt: HostRuntime) -> Result<(), Fail> {
+    let mut disk = sample(rt.alloc(), 2048)?;
+    let ended = run_on(rt.alloc(), &["convert", "x"], &mut disk, Some(0))?;
+    assert_eq!(rt; ended.status, 5);
+    then(&rt, &["inspect", "x"], &mut disk, 0, CONVERTED, "")
+}
+
+/// Which of the values that a block may have behind a crash it has: the last one at the sync before, the one that waited, or one
+/// and the other in turn.
+const CHOICES: [[u32; 8]; 3] = [[0; 8], [1; 8], [0, 1, 0, 1, 1, 0, 1, 0]];
+
+/// How many writes one conversion of the sample makes.
+fn writes(rt: &(impl Abort + AllocGlobal)) -> Result<u64, Fail> {
+    let mut disk = sample(rt.alloc(), 2048)?;
+    ends(rt, &["convert", "x"], &mut disk, 0, DONE, "")?;
+    Ok(disk.writes())
+}
+
+#[test]
+fn power_that_fails_leaves_one_volume(rt: HostRuntime) -> Result<(), Fail> {
+    for call in 0..writes(&rt)? {
+        let mut disk = sample(rt.alloc(), 2048)?;
+        disk.stop_at_write(call);
+        ends(
+            &rt,
+            &["convert", "x"],
+            &mut disk,
+            3,
+            "",
+            "device fault\n",
+        )?;
+        for choice in CHOICES {
+            let mut numbers = Vec::new(rt.alloc());
+            for _ in 0..32 {
+                numbers.extend_from_slice(&choice)?;
+            }
+            let mut left = disk.after_crash(&numbers)?;
+            ends(&rt, &["list", "x"], &mut left, 0, ROOT, "")?;
+        }
+    }
+    Ok(())
+}
