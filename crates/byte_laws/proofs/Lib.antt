@@ -1,0 +1,5 @@
+pub mod Holding
+pub mod Kept
+pub mod Owned
+pub mod Pieces
+pub mod Reading

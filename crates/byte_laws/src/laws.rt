@@ -1,0 +1,17 @@
+// Laws of the definitions, each the contract of a function that does nothing.
+ghost use Rattle.byte_laws.specs.Kept.{BytesAreKept, PiecesStand};
+
+use file_laws::files_are_held;
+
+/// Two ways to say that the pieces of a conversion stand on a disk are one.
+pub fn pieces_stand()
+    ensures { PiecesStand }
+{}
+
+/// A tree of the file tree's items, over a disk on which the pieces stand, has for each named file and symlink the bytes
+/// that the volume has.
+pub fn bytes_are_kept()
+    ensures { BytesAreKept }
+{
+    files_are_held();
+}
