@@ -1,5 +1,6 @@
 pub mod Holding
 pub mod Kept
+pub mod Mapped
 pub mod Owned
 pub mod Pieces
 pub mod Reading

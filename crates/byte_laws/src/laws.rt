@@ -1,5 +1,6 @@
 // Laws of the definitions, each the contract of a function that does nothing.
 ghost use Rattle.byte_laws.specs.Kept.{BytesAreKept, PiecesStand};
+ghost use Rattle.byte_laws.specs.Mapped.{ChunksMapPieces};
 
 use file_laws::files_are_held;
 
@@ -15,3 +16,8 @@ pub fn bytes_are_kept()
 {
     files_are_held();
 }
+
+/// The chunks of a conversion map each address of its pieces, to itself.
+pub fn chunks_map_pieces()
+    ensures { ChunksMapPieces }
+{}
