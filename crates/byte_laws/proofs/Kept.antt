@@ -1,6 +1,6 @@
 -- The bytes of a named file or symlink are those that the volume had.
 use Rattle.std.proofs.Common.{◌≡◌, ◌≢◌, ◌≤◌, ◌<◌, ℕ, ◌+◌, ◌-◌, ◌*◌, ◌/◌, ◌%◌, ◌^◌, ◌==◌, ◌&&◌, nat_le, nat_lt, inl, Bool, true, false, List, [], ◌∷◌, length, map, filter, get_or, take, Option, Some, None, refl, sym, ap, subst, ◌∙◌, ⊎_elim, if◌then◌else◌, arith}
-use Rattle.std.specs.Prelude.{All, Contains}
+use Rattle.std.specs.Prelude.{All, Contains, MatchOption}
 use Rattle.std.specs.List.{AllByRecursion, range_with_len}
 use Rattle.std.specs.Option.{option_map_or}
 use Rattle.std.proofs.lemmas.Bool.{cases_lt}
@@ -50,9 +50,11 @@ use Rattle.unit_plan.specs.declared.options.Options.{Options}
 use Rattle.unit_plan.specs.declared.piece.Piece.{Piece}
 use Rattle.unit_plan.specs.declared.plan.Plan.{Plan}
 use Rattle.byte_laws.specs.Kept.{BytesAreKept, MapsPieces, PiecesStand}
+use Rattle.byte_laws.specs.Sound.{ExtentsKeepRules}
 use Rattle.byte_laws.proofs.Holding.{StaysInTree, held_byte, other_is_file, stays, up_to_byte}
 use Rattle.byte_laws.proofs.Owned.{extents_found}
 use Rattle.byte_laws.proofs.Pieces.{Fits, all_of_inode, covers_byte, one_of_inode, piece_byte, placed_byte, read_pieces}
+use Rattle.byte_laws.proofs.Sound.{AreSound, IsWell, all_follow, bare_extents, inline_sound, no_refusals, owner_is, pieces_sound}
 use Rattle.byte_laws.proofs.Reading.{bare_byte, byte_by, inline_read, is_extent, item_byte}
 
 -- ---- two ways to say that pieces stand
@@ -89,8 +91,8 @@ inline_byte other ranges ino k bytes few below =
     inside : (n : ℕ) → k < n → (nat_le (4096 * 0) k && nat_lt k (4096 * 0 + n)) ≡ true
     inside n less = grind (arith, nat_tests)
 
-module _ (volume : Volume) (image other : Image) (o : Options) (plan : Plan) (pieces : List Piece) (ranges : List MapRange) (has : HasPieces volume image o plan pieces)
-    (hold : HoldMoved volume image other pieces) (maps : MapsPieces pieces ranges) (files : HoldFiles (made_from volume image o pieces)) where
+module _ (volume : Volume) (image : Image) (o : Options) (plan : Plan) (pieces : List Piece) (ranges : List MapRange) (has : HasPieces volume image o plan pieces)
+    (maps : MapsPieces pieces ranges) (files : HoldFiles (made_from volume image o pieces)) where
   abbrev s : Source
   s = made_from volume image o pieces
 
@@ -145,16 +147,6 @@ module _ (volume : Volume) (image other : Image) (o : Options) (plan : Plan) (pi
 
     -- ---- bytes in pieces
 
-    owner_is : (p : Piece) → is_owned_by ino p ≡ true → p.owner ≡ Some (ino, file_block p)
-    owner_is p is = by p.owner is
-      where
-        equal : (a b : ℕ) → (a == b) ≡ true → a ≡ b
-        equal a b t = grind (arith, nat_tests)
-
-        by : (w : Option (ℕ × ℕ)) → option_map_or (λ x. x.0 == ino) w false ≡ true → w ≡ Some (ino, option_map_or (λ x. x.1) w 0)
-        by None t = absurd (cc)
-        by (Some w) t = ap (λ (m : ℕ). let x : Option (ℕ × ℕ) = Some (m, w.1) in x) (equal w.0 ino t)
-
     owned_test : (p : Piece) (k : ℕ) → p.owner ≡ Some (ino, k) → is_owned_by ino p ≡ true
     owned_test p k own = ap (λ (w : Option (ℕ × ℕ)). option_map_or (λ x. x.0 == ino) w false) own ∙ self ino
       where
@@ -170,87 +162,120 @@ module _ (volume : Volume) (image other : Image) (o : Options) (plan : Plan) (pi
         both : (n x y : ℕ) → x ≤ n → n < y → (nat_le x n && nat_lt n y) ≡ true
         both n x y from to = grind (arith, nat_tests)
 
-    -- what the blocks of a piece hold
-    stands : (p : Piece) (j n : ℕ) → Contains pieces p → p.owner ≡ Some (ino, file_block p) → j < p.count → n / 4096 ≡ file_block p + j → n < size
-        → get_or (block_at other (p.place + j)) (n % 4096) 0 ≡ get_or (held_from image items size (n / 4096) (Some (in_piece p j))) (n % 4096) 0
-    stands p j n among own inside at below = by p.from refl
-      where
-        by : (x : Option ℕ) → p.from ≡ x → get_or (block_at other (p.place + j)) (n % 4096) 0 ≡ get_or (held_from image items size (n / 4096) (Some (option_map_or (λ b. Disk (b + j)) p.from Tail))) (n % 4096) 0
-        by (Some b) is =
-            let k : ℕ = n / 4096 in
-            ap (λ (bytes : List ℕ). get_or bytes (n % 4096) 0) ((hold p among).blocks b j is inside)
-            ∙ (sym (up_to_byte (block_at image (b + j)) size k (n % 4096) (omega arith) (omega (arith, below)))
-            ∙ sym (ap (λ (x : Option ℕ). get_or (held_from image items size k (Some (option_map_or (λ c. Disk (c + j)) x Tail))) (n % 4096) 0) is))
-        by None is =
-            let k : ℕ = n / 4096 in
-            let one = one_block p among is in
-            let here : p.place + j ≡ p.place = omega (arith, one, inside) in
-            let block : file_block p ≡ k = omega (arith, one, inside, at) in
-            ap (λ (b : ℕ). get_or (block_at other b) (n % 4096) 0) here
-            ∙ (ap (λ (bytes : List ℕ). get_or bytes (n % 4096) 0) ((hold p among).tail key (file_block p) is among_keys own)
-            ∙ (ap (λ (m : ℕ). get_or (tail_block items size m) (n % 4096) 0) block
-            ∙ sym (ap (λ (x : Option ℕ). get_or (held_from image items size k (Some (option_map_or (λ c. Disk (c + j)) x Tail))) (n % 4096) 0) is)))
+    -- ---- the rules of extents
 
-    -- a piece in which the byte lies gives it
-    gives : (n : ℕ) → n < size → (p : Piece) → Contains pieces p → is_owned_by ino p ≡ true → covers_byte p n ≡ true → piece_byte other ranges p n ≡ wanted n
-    gives n below p among owned in_it =
-        let own = owner_is p owned in
-        let parts = cover_parts (file_block p) p.count n in_it in
-        let low = parts.0 in
-        let high = parts.1 in
-        let j : ℕ = n / 4096 - file_block p in
-        let inside : j < p.count = omega (arith, low, high) in
-        let at : n / 4096 ≡ file_block p + j = omega (arith, low) in
-        let whose = files.each p ino (file_block p) among own in
-        let same : whose.0 ≡ key = one_key whose.0 key whose.1.named among_keys whose.2 in
-        let lies : block_from items size (file_block p + j) ≡ Some (in_piece p j) = subst (λ (x : ObjectKey). LiesIn s x (file_block p + j) (in_piece p j)) same (whose.3 j inside) in
-        placed_byte other ranges p n (place_high p among (omega (arith, inside))) low high (λ a from to. maps.places p a among from to)
-        ∙ (stands p j n among own inside at below
-        ∙ ap (λ (from : Option RunFrom). get_or (held_from image items size (n / 4096) from) (n % 4096) 0) (sym (ap (block_from items size) at ∙ lies)))
+    well_made : (p : Piece) → Contains pieces p → is_owned_by ino p ≡ true → IsWell ranges p
+    well_made p among owned =
+        let own = owner_is ino p owned in
+        let some : 1 ≤ p.count = all_at (λ q. 1 ≤ q.count) pieces p (well volume image o plan pieces has).apart.some among in
+        let bound : MatchOption p.owner (Unit {0}) (λ w. w.1 + p.count ≤ 2 ^ 32) = all_at (λ (r : Piece). MatchOption r.owner (Unit {0}) (λ w. w.1 + r.count ≤ 2 ^ 32)) pieces p (well volume image o plan pieces has).apart.owners among in
+        record {
+          fits = fits p among;
+          high = place_high p among (omega (arith, some));
+          short = subst (λ (w : Option (ℕ × ℕ)). MatchOption w (Unit {0}) (λ x. x.1 + p.count ≤ 2 ^ 32)) own bound;
+          mapped = λ a low high. maps.places p a among low high;
+        }
 
-    -- a block that lies anywhere lies in a piece
-    in_none : (n : ℕ) → HasExtents s key → AllByRecursion (λ p. covers_byte p n ≡ false) (pieces_of pieces ino) → wanted n ≡ 0
-    in_none n ext none = by (block_from items size (n / 4096)) refl
-      where
-        never : (b : Bool) → b ≡ true → b ≡ false → ⊥
-        never b yes no = absurd (cc)
-
-        by : (x : Option RunFrom) → block_from items size (n / 4096) ≡ x → wanted n ≡ 0
-        by None is = ap (λ (from : Option RunFrom). get_or (held_from image items size (n / 4096) from) (n % 4096) 0) is ∙ zero_at
-          where
-            zero_at : get_or (held_from image items size (n / 4096) None) (n % 4096) 0 ≡ 0
-            zero_at = get_or-replicate 4096 (n % 4096) 0 0 (omega arith)
-        by (Some from) is =
-            let w = files.whole key (n / 4096) from ext is in
-            let p : Piece = w.0 in
-            let own : p.owner ≡ Some (ino, w.1) = w.3 in
-            let block : file_block p ≡ w.1 = ap (λ (x : Option (ℕ × ℕ)). option_map_or (λ y. y.1) x 0) own in
-            let low = w.4 in
-            let high = w.5 in
-            let out : covers_byte p n ≡ false = one_of_inode (λ q. covers_byte q n ≡ false) pieces ino p none w.2 (owned_test p w.1 own) in
-            absurd (never (covers_byte p n) (cover_from (file_block p) p.count n (omega (arith, block, low)) (omega (arith, block, high))) out)
-
-    extent_byte : (n : ℕ) → HasExtents s key → n < size → item_byte other ranges (extents_at ino file_block (pieces_of pieces ino)) n ≡ wanted n
-    extent_byte n ext below =
-        read_pieces other ranges ino n (wanted n) (pieces_of pieces ino) (all_of_inode Fits pieces ino (λ p among owned. fits p among))
-        (all_of_inode (λ p. covers_byte p n ≡ true → piece_byte other ranges p n ≡ wanted n) pieces ino (λ p among owned. gives n below p among owned)) (in_none n ext)
-
-    -- ---- the extents of the object
-
-    byte_kept : has_bytes (kind_in s key) ≡ true → (n : ℕ) → n < size → item_byte other ranges (extent_items s key) n ≡ file_byte image items n
+    sound : has_bytes (kind_in s key) ≡ true → AreSound ranges 0 0 (extent_items s key)
     unfolding extent_items
-    byte_kept kind n below = by (inline_in s key) refl
+    sound kind = by (inline_in s key) refl
       where
-        by : (b : Bool) → inline_in s key ≡ b → item_byte other ranges (if b then extent_item ino 0 (inline_extent (target_bytes items size)) ∷ [] else extents_at ino file_block (pieces_of pieces ino)) n ≡ file_byte image items n
+        none_before : (ps : List Piece) → AllByRecursion (λ p. 0 ≤ 4096 * file_block p) ps
+        none_before [] = tt
+        none_before (p ∷ ps) = (omega arith, none_before ps)
+
+        by : (b : Bool) → inline_in s key ≡ b → AreSound ranges 0 0 (if b then extent_item ino 0 (inline_extent (target_bytes items size)) ∷ [] else extents_at ino file_block (pieces_of pieces ino))
         by true is =
             let st : StaysInTree image has.accepted key is_named = stays image has.accepted key is_named o.inline is in
             let short = st.short in
             let long : length (target_bytes items size) ≡ size = ap length st.bytes ∙ length_bytes size (file_byte image items) 0 in
-            inline_byte other ranges ino n (target_bytes items size) (omega (arith, long, short)) (omega (arith, long, below))
-            ∙ (ap (λ (bytes : List ℕ). get_or bytes n 0) st.bytes ∙ (byte_at size (file_byte image items) 0 n below ∙ zero_read (file_byte image items) n))
+            inline_sound ranges ino (target_bytes items size) (omega (arith, long, short))
         by false is =
-            let file : kind_in s key ≡ File = other_is_file image has.accepted key is_named o.inline (kind_in s key) kind is in
-            extent_byte n (record { named = among_keys; file = file; not_inline = is }) below ∙ sym (held_byte image has.accepted key is_named n below)
+            pieces_sound ranges ino (pieces_of pieces ino) 0 0 (omega arith) (all_of_inode (IsWell ranges) pieces ino well_made)
+            (all_follow pieces (λ p among. all_at (λ q. 1 ≤ q.count) pieces p (well volume image o plan pieces has).apart.some among) files.once ino) (none_before (pieces_of pieces ino))
+
+    module _ (other : Image) (hold : HoldMoved volume image other pieces) where
+      -- what the blocks of a piece hold
+      stands : (p : Piece) (j n : ℕ) → Contains pieces p → p.owner ≡ Some (ino, file_block p) → j < p.count → n / 4096 ≡ file_block p + j → n < size
+          → get_or (block_at other (p.place + j)) (n % 4096) 0 ≡ get_or (held_from image items size (n / 4096) (Some (in_piece p j))) (n % 4096) 0
+      stands p j n among own inside at below = by p.from refl
+        where
+          by : (x : Option ℕ) → p.from ≡ x → get_or (block_at other (p.place + j)) (n % 4096) 0 ≡ get_or (held_from image items size (n / 4096) (Some (option_map_or (λ b. Disk (b + j)) p.from Tail))) (n % 4096) 0
+          by (Some b) is =
+              let k : ℕ = n / 4096 in
+              ap (λ (bytes : List ℕ). get_or bytes (n % 4096) 0) ((hold p among).blocks b j is inside)
+              ∙ (sym (up_to_byte (block_at image (b + j)) size k (n % 4096) (omega arith) (omega (arith, below)))
+              ∙ sym (ap (λ (x : Option ℕ). get_or (held_from image items size k (Some (option_map_or (λ c. Disk (c + j)) x Tail))) (n % 4096) 0) is))
+          by None is =
+              let k : ℕ = n / 4096 in
+              let one = one_block p among is in
+              let here : p.place + j ≡ p.place = omega (arith, one, inside) in
+              let block : file_block p ≡ k = omega (arith, one, inside, at) in
+              ap (λ (b : ℕ). get_or (block_at other b) (n % 4096) 0) here
+              ∙ (ap (λ (bytes : List ℕ). get_or bytes (n % 4096) 0) ((hold p among).tail key (file_block p) is among_keys own)
+              ∙ (ap (λ (m : ℕ). get_or (tail_block items size m) (n % 4096) 0) block
+              ∙ sym (ap (λ (x : Option ℕ). get_or (held_from image items size k (Some (option_map_or (λ c. Disk (c + j)) x Tail))) (n % 4096) 0) is)))
+
+      -- a piece in which the byte lies gives it
+      gives : (n : ℕ) → n < size → (p : Piece) → Contains pieces p → is_owned_by ino p ≡ true → covers_byte p n ≡ true → piece_byte other ranges p n ≡ wanted n
+      gives n below p among owned in_it =
+          let own = owner_is ino p owned in
+          let parts = cover_parts (file_block p) p.count n in_it in
+          let low = parts.0 in
+          let high = parts.1 in
+          let j : ℕ = n / 4096 - file_block p in
+          let inside : j < p.count = omega (arith, low, high) in
+          let at : n / 4096 ≡ file_block p + j = omega (arith, low) in
+          let whose = files.each p ino (file_block p) among own in
+          let same : whose.0 ≡ key = one_key whose.0 key whose.1.named among_keys whose.2 in
+          let lies : block_from items size (file_block p + j) ≡ Some (in_piece p j) = subst (λ (x : ObjectKey). LiesIn s x (file_block p + j) (in_piece p j)) same (whose.3 j inside) in
+          placed_byte other ranges p n (place_high p among (omega (arith, inside))) low high (λ a from to. maps.places p a among from to)
+          ∙ (stands p j n among own inside at below
+          ∙ ap (λ (from : Option RunFrom). get_or (held_from image items size (n / 4096) from) (n % 4096) 0) (sym (ap (block_from items size) at ∙ lies)))
+
+      -- a block that lies anywhere lies in a piece
+      in_none : (n : ℕ) → HasExtents s key → AllByRecursion (λ p. covers_byte p n ≡ false) (pieces_of pieces ino) → wanted n ≡ 0
+      in_none n ext none = by (block_from items size (n / 4096)) refl
+        where
+          never : (b : Bool) → b ≡ true → b ≡ false → ⊥
+          never b on off = absurd (cc)
+
+          by : (x : Option RunFrom) → block_from items size (n / 4096) ≡ x → wanted n ≡ 0
+          by None is = ap (λ (from : Option RunFrom). get_or (held_from image items size (n / 4096) from) (n % 4096) 0) is ∙ zero_at
+            where
+              zero_at : get_or (held_from image items size (n / 4096) None) (n % 4096) 0 ≡ 0
+              zero_at = get_or-replicate 4096 (n % 4096) 0 0 (omega arith)
+          by (Some from) is =
+              let w = files.whole key (n / 4096) from ext is in
+              let p : Piece = w.0 in
+              let own : p.owner ≡ Some (ino, w.1) = w.3 in
+              let block : file_block p ≡ w.1 = ap (λ (x : Option (ℕ × ℕ)). option_map_or (λ y. y.1) x 0) own in
+              let low = w.4 in
+              let high = w.5 in
+              let out : covers_byte p n ≡ false = one_of_inode (λ q. covers_byte q n ≡ false) pieces ino p none w.2 (owned_test p w.1 own) in
+              absurd (never (covers_byte p n) (cover_from (file_block p) p.count n (omega (arith, block, low)) (omega (arith, block, high))) out)
+
+      extent_byte : (n : ℕ) → HasExtents s key → n < size → item_byte other ranges (extents_at ino file_block (pieces_of pieces ino)) n ≡ wanted n
+      extent_byte n ext below =
+          read_pieces other ranges ino n (wanted n) (pieces_of pieces ino) (all_of_inode Fits pieces ino (λ p among owned. fits p among))
+          (all_of_inode (λ p. covers_byte p n ≡ true → piece_byte other ranges p n ≡ wanted n) pieces ino (λ p among owned. gives n below p among owned)) (in_none n ext)
+
+      -- ---- the extents of the object
+
+      byte_kept : has_bytes (kind_in s key) ≡ true → (n : ℕ) → n < size → item_byte other ranges (extent_items s key) n ≡ file_byte image items n
+      unfolding extent_items
+      byte_kept kind n below = by (inline_in s key) refl
+        where
+          by : (b : Bool) → inline_in s key ≡ b → item_byte other ranges (if b then extent_item ino 0 (inline_extent (target_bytes items size)) ∷ [] else extents_at ino file_block (pieces_of pieces ino)) n ≡ file_byte image items n
+          by true is =
+              let st : StaysInTree image has.accepted key is_named = stays image has.accepted key is_named o.inline is in
+              let short = st.short in
+              let long : length (target_bytes items size) ≡ size = ap length st.bytes ∙ length_bytes size (file_byte image items) 0 in
+              inline_byte other ranges ino n (target_bytes items size) (omega (arith, long, short)) (omega (arith, long, below))
+              ∙ (ap (λ (bytes : List ℕ). get_or bytes n 0) st.bytes ∙ (byte_at size (file_byte image items) 0 n below ∙ zero_read (file_byte image items) n))
+          by false is =
+              let file : kind_in s key ≡ File = other_is_file image has.accepted key is_named o.inline (kind_in s key) kind is in
+              extent_byte n (record { named = among_keys; file = file; not_inline = is }) below ∙ sym (held_byte image has.accepted key is_named n below)
 
 pub bytes_kept : FilesAreHeld → BytesAreKept
 bytes_kept held volume image other o plan pieces ranges items key has hold maps read named kind =
@@ -265,4 +290,13 @@ bytes_kept held volume image other o plan pieces ranges items key has hold maps 
     bare_byte other ranges items (number_of s key) n
     ∙ (ap (λ (l : List TreeEntry). item_byte other ranges (filter (is_extent (number_of s key)) l) n) read
     ∙ (ap (λ (l : List TreeEntry). item_byte other ranges l n) (extents_found s key at.0 at.1 named kind)
-    ∙ byte_kept volume image other o plan pieces ranges has hold maps (held volume image o plan pieces has) key named kind n low)))
+    ∙ byte_kept volume image o plan pieces ranges has maps (held volume image o plan pieces has) key named other hold kind n low)))
+
+pub extents_kept : FilesAreHeld → ExtentsKeepRules
+extents_kept held volume image o plan pieces ranges items key has maps read named kind =
+    let s : Source = made_from volume image o pieces in
+    let at = numbered image (keys volume.named) (record { accepted = has.accepted; are_keys = has.opened.are_keys; ascend = has.opened.ascends }) in
+    let bare : map bare_item (extents_of items (number_of s key)) ≡ extent_items s key =
+    bare_extents items (number_of s key) ∙ (ap (filter (is_extent (number_of s key))) read ∙ extents_found s key at.0 at.1 named kind) in
+    no_refusals ranges 0 0 (extents_of items (number_of s key))
+    (subst (AreSound ranges 0 0) (sym bare) (sound volume image o plan pieces ranges has maps (held volume image o plan pieces has) key named kind))

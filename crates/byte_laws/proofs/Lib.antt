@@ -4,3 +4,4 @@ pub mod Mapped
 pub mod Owned
 pub mod Pieces
 pub mod Reading
+pub mod Sound

@@ -38,22 +38,24 @@ use Rattle.byte_laws.specs.Mapped.{AreRangesOf, ChunksMapPieces, range_of}
 -- a map that gives each of its addresses itself
 own_address : (ranges : List MapRange) (r : MapRange) (a : ℕ) → ((x : MapRange) → Contains ranges x → x.physical ≡ x.logical) → Contains ranges r → holds r a ≡ true → place ranges a ≡ Some a
 own_address [] r a same h is = absurd (omega (arith, h.1))
-own_address (x ∷ ranges) r a same h is = by (holds x a) refl
+own_address (x ∷ ranges) r a same h is =
+    by (λ (f : holds x a ≡ false).
+    ⊎_elim (λ (own : x ≡ r). absurd (never (holds x a) (subst (λ (y : MapRange). holds y a ≡ true) (sym own) is) f))
+    (λ (later : Contains ranges r). own_address ranges r a (λ y among. same y (contains_tail y x ranges among)) later is) (contains_cases r x ranges h))
+    (holds x a) refl
   where
     low : (l n : ℕ) → (nat_le l a && nat_lt a (l + n)) ≡ true → l ≤ a
     low l n t = grind (arith, nat_tests)
 
     never : (b : Bool) → b ≡ true → b ≡ false → ⊥
-    never b yes no = absurd (cc)
+    never b on off = absurd (cc)
 
-    by : (b : Bool) → holds x a ≡ b → (if b then Some (x.physical + (a - x.logical)) else place ranges a) ≡ Some a
-    by true t =
+    by : (holds x a ≡ false → place ranges a ≡ Some a) → (b : Bool) → holds x a ≡ b → (if b then Some (x.physical + (a - x.logical)) else place ranges a) ≡ Some a
+    by later true t =
         let from = low x.logical x.length t in
         let there = same x (contains_head x ranges) in
         ap (λ (n : ℕ). let o : Option ℕ = Some n in o) (let e : x.physical + (a - x.logical) ≡ a = omega (arith, from, there) in e)
-    by false f =
-        ⊎_elim (λ (own : x ≡ r). absurd (never (holds x a) (subst (λ (y : MapRange). holds y a ≡ true) (sym own) is) f))
-        (λ (later : Contains ranges r). own_address ranges r a (λ y among. same y (contains_tail y x ranges among)) later is) (contains_cases r x ranges h)
+    by later false f = later f
 
 some_use : (used : List Bool) (plan : Plan) (u : ℕ) → is_data_unit used plan u ≡ true → (r : Role) × (use_of used plan u ≡ Some r)
 some_use used plan u is = by (is_among plan.system u) (is_among plan.metadata u)

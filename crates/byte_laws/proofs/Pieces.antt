@@ -35,11 +35,13 @@ module _ (other : Image) (ranges : List MapRange) (ino k byte : ℕ) where
       → (AllByRecursion (λ p. covers_byte p k ≡ false) ps → byte ≡ 0) → item_byte other ranges (extents_at ino file_block ps) k ≡ byte
   read_pieces [] fit gives none = sym (none tt)
   read_pieces (p ∷ ps) fit gives none =
-      ap (λ (e : Option FileExtentValue). byte_by other ranges (4096 * file_block p) e k (item_byte other ranges (extents_at ino file_block ps) k)) (regular_read p.place p.count fit.0.low fit.0.few) ∙ by (covers_byte p k) refl
+      ap (λ (e : Option FileExtentValue). byte_by other ranges (4096 * file_block p) e k (item_byte other ranges (extents_at ino file_block ps) k)) (regular_read p.place p.count fit.0.low fit.0.few)
+      ∙ by (λ is. read_pieces ps fit.1 gives.1 (λ rest. none (is, rest))) (covers_byte p k) refl
     where
-      by : (b : Bool) → covers_byte p k ≡ b → (if b then piece_byte other ranges p k else item_byte other ranges (extents_at ino file_block ps) k) ≡ byte
-      by true is = gives.0 is
-      by false is = read_pieces ps fit.1 gives.1 (λ rest. none (is, rest))
+      by : (covers_byte p k ≡ false → item_byte other ranges (extents_at ino file_block ps) k ≡ byte)
+          → (b : Bool) → covers_byte p k ≡ b → (if b then piece_byte other ranges p k else item_byte other ranges (extents_at ino file_block ps) k) ≡ byte
+      by later true is = gives.0 is
+      by later false is = later is
 
 -- ---- the pieces of an inode
 

@@ -1,6 +1,7 @@
 // Laws of the definitions, each the contract of a function that does nothing.
 ghost use Rattle.byte_laws.specs.Kept.{BytesAreKept, PiecesStand};
 ghost use Rattle.byte_laws.specs.Mapped.{ChunksMapPieces};
+ghost use Rattle.byte_laws.specs.Sound.{ExtentsKeepRules};
 
 use file_laws::files_are_held;
 
@@ -21,3 +22,10 @@ pub fn bytes_are_kept()
 pub fn chunks_map_pieces()
     ensures { ChunksMapPieces }
 {}
+
+/// The extents of each named file and symlink keep the rules that a reader of Btrfs asks of extents.
+pub fn extents_keep_rules()
+    ensures { ExtentsKeepRules }
+{
+    files_are_held();
+}
