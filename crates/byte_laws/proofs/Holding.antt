@@ -108,6 +108,30 @@ module _ (image : Image) (a : IsAccepted image) (key : ObjectKey) (named : IsNam
   link_short : object.kind ≡ Symlink → size ≤ 3900
   link_short link = let low = a.names.keeps.targets key object.stat named object.has_stat (object.known ∙ ap (λ (k : Kind). let o : Option Kind = Some k in o) link) in let same = size_is in omega (arith, low, same)
 
+  -- a file has at most 2^44 bytes
+  file_short : (kind : Kind) → kind ≡ File → fits_size kind object.stat.fields.size ≡ true → object.stat.fields.size ≤ 2 ^ 44
+  file_short File is t = leb-true object.stat.fields.size (2 ^ 44) t
+  file_short Symlink is t = absurd (cc)
+  file_short Directory is t = absurd (cc)
+  file_short Character is t = absurd (cc)
+  file_short Block is t = absurd (cc)
+  file_short Fifo is t = absurd (cc)
+  file_short Socket is t = absurd (cc)
+  file_short Subvolume is t = absurd (cc)
+
+  pub size_small : has_bytes (kind_by (stat_at (volume_items image) key)) ≡ true → size ≤ 2 ^ 44
+  size_small has = by (kind_by (stat_at (volume_items image) key)) refl has
+    where
+      by : (kind : Kind) → kind_by (stat_at (volume_items image) key) ≡ kind → has_bytes kind ≡ true → size ≤ 2 ^ 44
+      by File same t = let short = file_short object.kind (sym kind_is ∙ same) object.size in let is = size_is in omega (arith, short, is)
+      by Symlink same t = let short = link_short (sym kind_is ∙ same) in omega (arith, short)
+      by Directory same t = absurd (cc)
+      by Character same t = absurd (cc)
+      by Block same t = absurd (cc)
+      by Fifo same t = absurd (cc)
+      by Socket same t = absurd (cc)
+      by Subvolume same t = absurd (cc)
+
   -- What stays in the tree has all bytes of the file, and these are few.
   pub record StaysInTree : Type 0 where
     pub short : size ≤ 4096

@@ -3,5 +3,6 @@ pub mod Kept
 pub mod Mapped
 pub mod Owned
 pub mod Pieces
+pub mod Read
 pub mod Reading
 pub mod Sound

@@ -1,3 +1,4 @@
 pub mod Kept
 pub mod Mapped
+pub mod Read
 pub mod Sound

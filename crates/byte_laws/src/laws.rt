@@ -1,9 +1,10 @@
 // Laws of the definitions, each the contract of a function that does nothing.
 ghost use Rattle.byte_laws.specs.Kept.{BytesAreKept, PiecesStand};
 ghost use Rattle.byte_laws.specs.Mapped.{ChunksMapPieces};
+ghost use Rattle.byte_laws.specs.Read.{BytesAreRead};
 ghost use Rattle.byte_laws.specs.Sound.{ExtentsKeepRules};
 
-use file_laws::files_are_held;
+use file_laws::{files_are_held, inodes_are_there};
 
 /// Two ways to say that the pieces of a conversion stand on a disk are one.
 pub fn pieces_stand()
@@ -28,4 +29,13 @@ pub fn extents_keep_rules()
     ensures { ExtentsKeepRules }
 {
     files_are_held();
+}
+
+/// A tree of the file tree's items, over a disk on which the pieces stand, has the inode of each named file and symlink, and
+/// up to the size that it says the bytes that the volume has.
+pub fn bytes_are_read()
+    ensures { BytesAreRead }
+{
+    bytes_are_kept();
+    inodes_are_there();
 }

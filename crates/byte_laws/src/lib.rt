@@ -5,4 +5,6 @@
 
 mod laws;
 
-pub use laws::{bytes_are_kept, chunks_map_pieces, extents_keep_rules, pieces_stand};
+pub use laws::{
+    bytes_are_kept, bytes_are_read, chunks_map_pieces, extents_keep_rules, pieces_stand,
+};
