@@ -1,3 +1,4 @@
+pub mod Converted
 pub mod Holding
 pub mod Kept
 pub mod Mapped

@@ -1,3 +1,4 @@
+pub mod Converted
 pub mod Kept
 pub mod Mapped
 pub mod Read

@@ -1,4 +1,5 @@
 // Laws of the definitions, each the contract of a function that does nothing.
+ghost use Rattle.byte_laws.specs.Converted.{ConvertedFilesAreRead};
 ghost use Rattle.byte_laws.specs.Kept.{BytesAreKept, PiecesStand};
 ghost use Rattle.byte_laws.specs.Mapped.{ChunksMapPieces};
 ghost use Rattle.byte_laws.specs.Read.{BytesAreRead};
@@ -38,4 +39,13 @@ pub fn bytes_are_read()
 {
     bytes_are_kept();
     inodes_are_there();
+}
+
+/// Where a conversion stands on a disk, a reader finds each named file and symlink as it was, and no rule of extents broken.
+pub fn converted_files_are_read()
+    ensures { ConvertedFilesAreRead }
+{
+    bytes_are_read();
+    extents_keep_rules();
+    chunks_map_pieces();
 }

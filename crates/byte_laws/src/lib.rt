@@ -6,5 +6,6 @@
 mod laws;
 
 pub use laws::{
-    bytes_are_kept, bytes_are_read, chunks_map_pieces, extents_keep_rules, pieces_stand,
+    bytes_are_kept, bytes_are_read, chunks_map_pieces, converted_files_are_read,
+    extents_keep_rules, pieces_stand,
 };
