@@ -1,21 +1,17 @@
 -- What the ReiserFS volume has for a file or a symlink, by where its blocks lie.
-use Rattle.std.proofs.Common.{◌≡◌, ◌≢◌, ◌≤◌, ◌<◌, ℕ, ◌+◌, ◌-◌, ◌*◌, ◌/◌, ◌%◌, ◌^◌, ◌&&◌, nat_le, nat_lt, Bool, true, false, cond, ltb, List, [], ◌∷◌, ◌++◌, length, get_or, take, replicate, All, Option, Some, None, unwrap_or, refl, sym, ap, subst, ◌∙◌, ⊎_elim, true≢false, false≢true, arith, length-append}
-use Rattle.std.specs.Prelude.{Contains}
-use Rattle.std.specs.List.{list_all}
-use Rattle.std.proofs.lemmas.Bool.{and_parts, cases_lt, leb-true}
-use Rattle.std.proofs.lemmas.List.{get_or_append_left, get_or-append_right, get_or_past, get_or-replicate, get_or-take, length-replicate, length-take}
+use Rattle.std.proofs.Common.{◌≡◌, ◌≤◌, ◌<◌, ℕ, ◌+◌, ◌-◌, ◌*◌, ◌/◌, ◌%◌, ◌^◌, ◌&&◌, nat_le, Bool, true, false, List, ◌++◌, length, get_or, take, All, Option, Some, None, refl, sym, ap, subst, ◌∙◌, ⊎_elim, true≢false, arith}
+use Rattle.std.proofs.lemmas.Bool.{and_parts, cases_lt, false≢true, leb-true}
+use Rattle.std.proofs.lemmas.List.{get_or_append_left, get_or-append_right, get_or_past, get_or-replicate, get_or-take, length-take}
 use Rattle.std.proofs.lemmas.List.Elements.{All-contains}
-use Rattle.outside.specs.History.{Image, block_at}
+use Rattle.outside.specs.History.{Image}
 use Rattle.vol_block.specs.Volume.{zeros}
-use Rattle.fs_rows.specs.Bytes.{up_to}
 use Rattle.fs_rows.specs.Kinds.{has_bytes}
 use Rattle.fs_rows.specs.declared.row.Kind.{Kind}
 use Rattle.fs_rows.specs.declared.row.Kind.TheVariants.{Directory, File, Symlink, Character, Block, Fifo, Socket, Subvolume}
 use Rattle.fs_rows.proofs.FileMarks.{below_size, short_is}
 use Rattle.fs_rows.proofs.Functions.{byte_at}
 use Rattle.path_list.proofs.Lists.{from_filter}
-use Rattle.reiser_node.specs.declared.head.ItemKind.{ItemKind}
-use Rattle.reiser_node.specs.declared.head.ItemKind.TheVariants.{Stat, Indirect, Direct, Directory as Entries}
+use Rattle.reiser_node.specs.declared.head.ItemKind.TheVariants.{Indirect}
 use Rattle.reiser_walk.specs.Items.{Item}
 use Rattle.reiser_walk.specs.Laws.{FitsHead}
 use Rattle.reiser_walk.specs.Tree.{items_of as items_of_tree}
@@ -23,7 +19,7 @@ use Rattle.reiser_walk.proofs.Rules.{sound_exactly}
 use Rattle.reiser_files.specs.declared.map.RunFrom.{RunFrom}
 use Rattle.reiser_files.specs.declared.map.RunFrom.TheVariants.{Disk, Tail}
 use Rattle.reiser_files.specs.Bytes.{IsAligned, content, file_block, file_byte, file_bytes, tail_block, target_bytes}
-use Rattle.reiser_files.specs.Laws.{AreApart, IsNoIndirect, held_from, up_to_size}
+use Rattle.reiser_files.specs.Laws.{IsNoIndirect, held_from, up_to_size}
 use Rattle.reiser_files.specs.Runs.{block_from}
 use Rattle.reiser_files.proofs.Sorts.{blocks_held, target_is}
 use Rattle.object_files.proofs.Files.{aligned_by}
@@ -47,11 +43,11 @@ up_to_byte bytes size k j inside below =
     let cut : ℕ = size - 4096 * k in
     get_or-take 4096 (take cut bytes ++ zeros) j 0 inside
     ∙ ⊎_elim
-      (λ (low : j < length (take cut bytes)). get_or_append_left (take cut bytes) zeros 0 j low ∙ get_or-take cut bytes j 0 (omega (arith, below)))
-      (λ (high : length (take cut bytes) ≤ j).
-      get_or-append_right (take cut bytes) zeros (length (take cut bytes)) j 0 refl high
-      ∙ (get_or-replicate 4096 (j - length (take cut bytes)) 0 0 (omega (arith, inside, high)) ∙ sym (get_or_past bytes j 0 (let long = length-take cut bytes in omega (arith, high, below, long)))))
-      (cases_lt j (length (take cut bytes)))
+    (λ (low : j < length (take cut bytes)). get_or_append_left (take cut bytes) zeros 0 j low ∙ get_or-take cut bytes j 0 (omega (arith, below)))
+    (λ (high : length (take cut bytes) ≤ j).
+    get_or-append_right (take cut bytes) zeros (length (take cut bytes)) j 0 refl high
+    ∙ (get_or-replicate 4096 (j - length (take cut bytes)) 0 0 (omega (arith, inside, high)) ∙ sym (get_or_past bytes j 0 (let long = length-take cut bytes in omega (arith, high, below, long)))))
+    (cases_lt j (length (take cut bytes)))
 
 module _ (image : Image) (a : IsAccepted image) (key : ObjectKey) (named : IsNamed (volume_items image) key) where
   abbrev items : List Item

@@ -1,6 +1,6 @@
 -- The bytes of a named file or symlink are those that the volume had.
-use Rattle.std.proofs.Common.{◌≡◌, ◌≢◌, ◌≤◌, ◌<◌, ℕ, ◌+◌, ◌-◌, ◌*◌, ◌/◌, ◌%◌, ◌^◌, ◌==◌, ◌&&◌, nat_le, nat_lt, inl, Bool, true, false, List, [], ◌∷◌, length, map, filter, get_or, take, Option, Some, None, refl, sym, ap, subst, ◌∙◌, ⊎_elim, if◌then◌else◌, arith}
-use Rattle.std.specs.Prelude.{All, Contains, MatchOption}
+use Rattle.std.proofs.Common.{◌≡◌, ◌≢◌, ◌≤◌, ◌<◌, ℕ, ◌+◌, ◌-◌, ◌*◌, ◌/◌, ◌%◌, ◌^◌, ◌==◌, ◌&&◌, nat_le, nat_lt, inl, Bool, true, false, List, [], ◌∷◌, length, map, filter, get_or, Option, Some, None, refl, sym, ap, subst, ◌∙◌, ⊎_elim, if◌then◌else◌, arith}
+use Rattle.std.specs.Prelude.{Contains, MatchOption}
 use Rattle.std.specs.List.{AllByRecursion, range_with_len}
 use Rattle.std.specs.Option.{option_map_or}
 use Rattle.std.proofs.lemmas.Bool.{cases_lt}
@@ -8,13 +8,12 @@ use Rattle.std.proofs.lemmas.Bool.Decides.{nat_tests}
 use Rattle.std.proofs.lemmas.List.{get_or-replicate}
 use Rattle.indexmap.specs.IndexMap.{keys}
 use Rattle.outside.specs.History.{Image, block_at}
-use Rattle.btr_files.specs.Extents.{extents_of, file_byte as byte_on, file_bytes as bytes_on}
+use Rattle.btr_files.specs.Extents.{extents_of, file_byte as byte_on}
 use Rattle.btr_node.specs.Leaf.{Item as TreeEntry}
-use Rattle.btr_walk.specs.Events.{TreeItem}
 use Rattle.btr_walk.specs.Tree.{bare_item}
 use Rattle.btr_walk.specs.declared.map.MapRange.{MapRange}
-use Rattle.conversion.specs.Source.{HasExtents, HasPieces, HoldFiles, LiesIn, StandAt, in_piece, made_from}
-use Rattle.convert_steps.specs.Moved.{CanMove, HoldMoved, HoldsPiece}
+use Rattle.conversion.specs.Source.{HasExtents, HasPieces, HoldFiles, LiesIn, in_piece, made_from}
+use Rattle.convert_steps.specs.Moved.{HoldMoved}
 use Rattle.convert_core.proofs.Moving.{can_move, well}
 use Rattle.convert_core.proofs.Reserved.{piece_apart}
 use Rattle.extent_pieces.specs.Laws.{AreSortedKeys}
@@ -23,25 +22,23 @@ use Rattle.extent_pieces.proofs.Named.{numbered}
 use Rattle.extent_pieces.proofs.Once.{inodes_apart}
 use Rattle.extent_pieces.proofs.Owning.{two_cases}
 use Rattle.file_items.specs.Extents.{extents_at, file_block, is_owned_by, pieces_of}
-use Rattle.file_items.specs.Tree.{Source, extent_items, inline_in, kind_in, number_of, size_in, tree_items}
+use Rattle.file_items.specs.Tree.{Source, extent_items, inline_in, kind_in, number_of, size_in}
 use Rattle.file_laws.specs.Held.{FilesAreHeld}
 use Rattle.fs_rows.specs.Bytes.{bytes_by}
 use Rattle.fs_rows.specs.Kinds.{has_bytes}
-use Rattle.fs_rows.specs.declared.row.Kind.{Kind}
 use Rattle.fs_rows.specs.declared.row.Kind.TheVariants.{File}
 use Rattle.fs_rows.proofs.Functions.{byte_at, length_bytes, same_bytes}
 use Rattle.item_list.specs.Extents.{extent_item, inline_extent}
 use Rattle.reiser_files.specs.declared.map.RunFrom.{RunFrom}
 use Rattle.reiser_files.specs.declared.map.RunFrom.TheVariants.{Disk, Tail}
-use Rattle.reiser_files.specs.Bytes.{file_byte, file_bytes, tail_block, target_bytes}
+use Rattle.reiser_files.specs.Bytes.{file_byte, tail_block, target_bytes}
 use Rattle.reiser_files.specs.Laws.{held_from}
 use Rattle.reiser_files.specs.Runs.{block_from}
 use Rattle.reiser_names.specs.Names.{inode_of}
 use Rattle.reiser_objects.specs.declared.key.ObjectKey.{ObjectKey}
 use Rattle.reiser_objects.specs.Keys.{items_of}
 use Rattle.reiser_objects.specs.Names.{IsNamed}
-use Rattle.reiser_volume.specs.Numbers.{AreNumbered}
-use Rattle.reiser_volume.specs.Volume.{superblock, used_of, volume_items}
+use Rattle.reiser_volume.specs.Volume.{used_of, volume_items}
 use Rattle.reiser_volume.specs.declared.volume.Volume.{Volume}
 use Rattle.reiser_volume.proofs.Bounds.{accepted_is_small}
 use Rattle.reiser_volume.proofs.Holding.{used_length}

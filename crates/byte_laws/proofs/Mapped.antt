@@ -1,15 +1,14 @@
 -- The chunks of a conversion map each address of a piece to its place.
-use Rattle.std.proofs.Common.{◌≡◌, ◌≢◌, ◌⊎◌, ◌≤◌, ◌<◌, ℕ, ◌+◌, ◌-◌, ◌*◌, ◌/◌, ◌==◌, ◌&&◌, ◌||◌, not, nat_le, nat_lt, min, inl, inr, Bool, true, false, List, [], ◌∷◌, length, Option, Some, None, if◌then◌else◌, refl, sym, ap, subst, ◌∙◌, ⊎_elim, arith}
-use Rattle.std.specs.Prelude.{All, Any, Contains}
+use Rattle.std.proofs.Common.{◌≡◌, ◌≤◌, ◌<◌, ℕ, ◌+◌, ◌-◌, ◌*◌, ◌/◌, ◌&&◌, not, nat_le, nat_lt, inl, inr, Bool, true, false, List, [], ◌∷◌, length, Option, Some, None, if◌then◌else◌, refl, sym, ap, subst, ◌∙◌, ⊎_elim, arith}
+use Rattle.std.specs.Prelude.{Contains}
 use Rattle.std.specs.List.{range_with_len}
-use Rattle.std.proofs.lemmas.Bool.{and_from, cases_Bool, cases_lt, not_from_false, or_left, or_right}
+use Rattle.std.proofs.lemmas.Bool.{and_from, cases_lt, not_from_false, or_left, or_right}
 use Rattle.std.proofs.lemmas.Bool.Decides.{nat_tests}
 use Rattle.std.proofs.lemmas.List.Folds.{list_any-from_Any}
 use Rattle.outside.specs.History.{Image}
-use Rattle.vol_block.specs.Volume.{IsReserved, is_reserved}
+use Rattle.vol_block.specs.Volume.{is_reserved}
 use Rattle.btr_walk.specs.Map.{holds, place}
 use Rattle.btr_walk.specs.declared.map.MapRange.{MapRange}
-use Rattle.conversion.specs.Making.{IsMaking, Making}
 use Rattle.conversion.specs.Source.{HasPieces}
 use Rattle.convert_core.proofs.Moving.{can_move, stays_or_moves, well}
 use Rattle.convert_core.proofs.Reserved.{piece_apart}
@@ -19,7 +18,7 @@ use Rattle.extent_pieces.proofs.Reserving.{reserved_no}
 use Rattle.reiser_bitmap.specs.Bits.{has}
 use Rattle.reiser_bitmap.proofs.Ranges.{contains_cases, contains_head, contains_range, contains_tail}
 use Rattle.reiser_super.specs.declared.superblock.Super.{Super}
-use Rattle.reiser_volume.specs.Volume.{superblock, used_of}
+use Rattle.reiser_volume.specs.Volume.{used_of}
 use Rattle.reiser_volume.specs.declared.volume.Volume.{Volume}
 use Rattle.reiser_volume.proofs.Holding.{used_length}
 use Rattle.unit_plan.specs.Choice.{holds_data, is_among, is_data}
@@ -32,8 +31,7 @@ use Rattle.unit_plan.specs.declared.options.Options.{Options}
 use Rattle.unit_plan.specs.declared.piece.Piece.{Piece}
 use Rattle.unit_plan.specs.declared.plan.Plan.{Plan}
 use Rattle.unit_plan.proofs.Uses.{roles_uses}
-use Rattle.byte_laws.specs.Kept.{MapsPieces}
-use Rattle.byte_laws.specs.Mapped.{AreRangesOf, ChunksMapPieces, range_of}
+use Rattle.byte_laws.specs.Mapped.{ChunksMapPieces, range_of}
 
 -- a map that gives each of its addresses itself
 own_address : (ranges : List MapRange) (r : MapRange) (a : ℕ) → ((x : MapRange) → Contains ranges x → x.physical ≡ x.logical) → Contains ranges r → holds r a ≡ true → place ranges a ≡ Some a
@@ -100,9 +98,9 @@ module _ (volume : Volume) (image : Image) (o : Options) (plan : Plan) (pieces :
       let n : ℕ = length used in
       let first : 256 ≤ b = ⊎_elim (λ (less : b < 256). absurd (apart (inl less))) (λ (more : 256 ≤ b). more) (cases_lt b 256) in
       let last : b < 16 * (n / 16) = ⊎_elim (λ (less : b < 16 * (n / 16)). less) (λ (more : 16 * (n / 16) ≤ b). absurd (apart (inr (inr (inr (more, omega (arith, high, inside))))))) (cases_lt b (16 * (n / 16))) in
-      let use = some_use used plan (b / 256) (data_unit p among b low high) in
-      let role : role_of plan n (b / 256) ≡ Some use.0 = roles_uses used (need of.found.counts o) plan of.plan_.enough of.plan_.plan_ (b / 256) (omega (arith, first)) ∙ use.1 in
-      let found = are.whole (b / 256) use.0 role in
+      let needed = some_use used plan (b / 256) (data_unit p among b low high) in
+      let role : role_of plan n (b / 256) ≡ Some needed.0 = roles_uses used (need of.found.counts o) plan of.plan_.enough of.plan_.plan_ (b / 256) (omega (arith, first)) ∙ needed.1 in
+      let found = are.whole (b / 256) needed.0 role in
       let c : Chunk = found.1 in
       let there : Contains chunks c = (found.0, found.2, found.3) in
       let unit : HoldsUnit c (b / 256) = found.4 in

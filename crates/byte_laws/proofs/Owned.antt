@@ -1,5 +1,5 @@
 -- The extents of one object among the items of the file tree.
-use Rattle.std.proofs.Common.{◌≡◌, ◌≢◌, ◌≤◌, ◌<◌, ℕ, ◌==◌, ◌&&◌, not, Bool, true, false, List, [], ◌∷◌, ◌++◌, map, filter, refl, sym, ap, subst, ◌∙◌, ⊎_elim, if◌then◌else◌, arith}
+use Rattle.std.proofs.Common.{◌≡◌, ◌≢◌, ◌<◌, ℕ, ◌*◌, ◌==◌, ◌&&◌, not, Bool, true, false, List, [], ◌∷◌, ◌++◌, map, filter, refl, sym, ap, subst, ◌∙◌, ⊎_elim, if◌then◌else◌, arith}
 use Rattle.std.specs.Prelude.{Contains}
 use Rattle.std.specs.List.{AllByRecursion, flat_map}
 use Rattle.std.proofs.lemmas.Bool.{cases_Bool, not_from_false}
@@ -13,7 +13,7 @@ use Rattle.btr_keys.specs.InodeRef.{inode_ref_bytes}
 use Rattle.btr_keys.specs.Key.{make_key}
 use Rattle.btr_node.specs.Leaf.{Item}
 use Rattle.file_items.specs.Extents.{extents_at, file_block, pieces_of}
-use Rattle.file_items.specs.Names.{Entry, Indexed, entry_items, extref, extrefs, indexed_in, inode_ref, inode_refs, names_of, parent_of, root_ref}
+use Rattle.file_items.specs.Names.{Entry, Indexed, extref, extrefs, indexed_in, inode_ref, inode_refs, names_of, parent_of, root_ref}
 use Rattle.file_items.specs.Tree.{Source, content_items, extent_items, inline_in, inode_in, kind_in, name_items, number_of, object_items, size_in, tree_items}
 use Rattle.file_laws.proofs.Keys.{inodes_climb, root_first}
 use Rattle.file_laws.proofs.Rising.{Climb, all_append, all_each, all_mapped, all_true}

@@ -1,17 +1,16 @@
 -- The bytes that the extents of pieces give.
-use Rattle.std.proofs.Common.{◌≡◌, ◌≤◌, ◌<◌, ℕ, ◌+◌, ◌-◌, ◌*◌, ◌/◌, ◌%◌, ◌^◌, ◌==◌, ◌&&◌, nat_le, nat_lt, Bool, true, false, cond, List, [], ◌∷◌, map, filter, get_or, Option, Some, None, refl, sym, ap, subst, ◌∙◌, ⊎_elim, if◌then◌else◌, arith}
+use Rattle.std.proofs.Common.{◌≡◌, ◌≤◌, ◌<◌, ℕ, ◌+◌, ◌-◌, ◌*◌, ◌/◌, ◌%◌, ◌^◌, ◌==◌, Bool, true, false, cond, List, [], ◌∷◌, filter, get_or, Option, Some, refl, sym, ap, subst, ◌∙◌, ⊎_elim, if◌then◌else◌, arith}
 use Rattle.std.specs.Prelude.{Contains}
 use Rattle.std.specs.List.{AllByRecursion}
 use Rattle.std.proofs.lemmas.Bool.Decides.{nat_tests}
 use Rattle.path_list.proofs.Lists.{from_filter, in_filter}
 use Rattle.outside.specs.History.{Image, block_at}
 use Rattle.btr_files.specs.Extents.{byte_of_place, content_byte, covers}
-use Rattle.btr_keys.specs.FileExtent.{FileExtentValue, file_extent_bytes, file_extent_of}
+use Rattle.btr_keys.specs.FileExtent.{FileExtentValue}
 use Rattle.btr_walk.specs.Map.{place}
 use Rattle.btr_walk.specs.declared.map.MapRange.{MapRange}
 use Rattle.file_items.specs.Extents.{extents_at, file_block, is_owned_by, pieces_of}
 use Rattle.item_list.specs.Extents.{regular_extent}
-use Rattle.item_list.specs.Groups.{ascending}
 use Rattle.item_list.proofs.Sorting.{ascending_all, ascending_filter}
 use Rattle.reiser_bitmap.proofs.Ranges.{contains_cases, contains_head, contains_tail}
 use Rattle.unit_plan.specs.declared.piece.Piece.{Piece}

@@ -1,28 +1,23 @@
 -- The size of a file is read back of its inode.
-use Rattle.std.proofs.Common.{◌≡◌, ◌≤◌, ◌<◌, ℕ, ◌+◌, ◌^◌, ◌==◌, Bool, true, false, List, ◌++◌, append_assoc, length, length-append, drop, Option, Some, None, refl, sym, ap, subst, ◌∙◌, if◌then◌else◌, arith, eq-eqb}
+use Rattle.std.proofs.Common.{◌≡◌, ◌<◌, ℕ, ◌^◌, Bool, true, List, ◌++◌, append_assoc, length, length-append, drop, Some, None, refl, sym, ap, ◌∙◌, if◌then◌else◌, arith, eq-eqb}
 use Rattle.std.specs.Option.{option_and_then}
 use Rattle.std.proofs.lemmas.List.{drop_at}
 use Rattle.byteorder.specs.Endian.{little_bytes, little_number}
 use Rattle.byteorder.specs.Numbers.{little_number-reads_back}
-use Rattle.indexmap.specs.IndexMap.{keys}
-use Rattle.outside.specs.History.{Image}
 use Rattle.btr_files.specs.Extents.{file_bytes as bytes_on}
 use Rattle.btr_keys.specs.Inode.{inode_bytes, inode_layout, inode_of}
 use Rattle.btr_keys.specs.Stamp.{stamp_layout}
 use Rattle.btr_keys.specs.declared.inode.Inode.{Inode}
-use Rattle.btr_names.specs.Inodes.{inode_on}
 use Rattle.btr_node.specs.Leaf.{Item}
 use Rattle.btr_walk.specs.Events.{TreeItem}
-use Rattle.conversion.specs.Source.{HasPieces, made_from}
+use Rattle.conversion.specs.Source.{made_from}
 use Rattle.file_items.specs.Tree.{Source, inode_in, kind_in, number_of, size_by, size_in}
 use Rattle.file_laws.specs.Inodes.{InodesAreThere}
 use Rattle.file_laws.proofs.Short.{inode_long}
 use Rattle.fs_rows.specs.Kinds.{has_bytes}
 use Rattle.fs_rows.specs.declared.row.Kind.{Kind}
 use Rattle.fs_rows.specs.declared.row.Kind.TheVariants.{Directory, File, Symlink, Character, Block, Fifo, Socket, Subvolume}
-use Rattle.reiser_files.specs.Bytes.{file_bytes}
 use Rattle.reiser_objects.specs.declared.key.ObjectKey.{ObjectKey}
-use Rattle.reiser_objects.specs.Keys.{items_of}
 use Rattle.byte_laws.specs.Kept.{BytesAreKept}
 use Rattle.byte_laws.specs.Read.{BytesAreRead}
 use Rattle.byte_laws.proofs.Holding.{size_small}

@@ -1,9 +1,9 @@
 -- The bytes that extents give.
-use Rattle.std.proofs.Common.{◌≡◌, ◌≤◌, ◌<◌, ℕ, ◌+◌, ◌-◌, ◌*◌, ◌^◌, ◌==◌, ◌&&◌, nat_le, nat_lt, Bool, true, false, cond, List, [], ◌∷◌, length, map, filter, Option, Some, None, refl, sym, ap, ◌∙◌, if◌then◌else◌, arith}
+use Rattle.std.proofs.Common.{◌≡◌, ◌<◌, ℕ, ◌-◌, ◌*◌, ◌^◌, Bool, true, false, cond, List, [], ◌∷◌, length, map, filter, Option, Some, None, refl, ap, ◌∙◌, if◌then◌else◌, arith}
 use Rattle.std.specs.List.{AllByRecursion}
 use Rattle.outside.specs.History.{Image}
 use Rattle.btr_files.specs.Extents.{byte_from, content_byte, covers, extents_of, file_byte, is_extent_key, is_extent_of}
-use Rattle.btr_keys.specs.FileExtent.{ContentValue, FileExtentValue, Inline, disk_range_layout, file_extent_bytes, file_extent_head, file_extent_of}
+use Rattle.btr_keys.specs.FileExtent.{FileExtentValue, disk_range_layout, file_extent_bytes, file_extent_head, file_extent_of}
 use Rattle.btr_keys.proofs.Records.{file_extents_read_back}
 use Rattle.btr_node.specs.Leaf.{Item}
 use Rattle.btr_walk.specs.Events.{TreeItem}

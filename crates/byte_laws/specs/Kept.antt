@@ -38,4 +38,4 @@ BytesAreKept =
     → HasPieces volume image o plan pieces → HoldMoved volume image other pieces → MapsPieces pieces ranges
     → map bare_item items ≡ tree_items (made_from volume image o pieces) → Contains (keys volume.named) key → has_bytes (kind_in (made_from volume image o pieces) key) ≡ true
     → bytes_on other ranges items (number_of (made_from volume image o pieces) key) (size_in (made_from volume image o pieces) key)
-      ≡ file_bytes image (items_of key (volume_items image)) (size_in (made_from volume image o pieces) key)
+    ≡ file_bytes image (items_of key (volume_items image)) (size_in (made_from volume image o pieces) key)

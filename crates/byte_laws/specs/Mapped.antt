@@ -1,5 +1,5 @@
 -- The map of addresses that the chunks of a conversion give.
-use Rattle.std.specs.Prelude.{◌≡◌, ℕ, ◌*◌, List, Contains}
+use Rattle.std.specs.Prelude.{◌≡◌, ◌*◌, List, Contains}
 use Rattle.outside.specs.History.{Image}
 use Rattle.btr_walk.specs.declared.map.MapRange.{MapRange}
 use Rattle.conversion.specs.Making.{IsMaking, Making}
