@@ -22,7 +22,7 @@ use Rattle.extent_pieces.proofs.Named.{numbered}
 use Rattle.extent_pieces.proofs.Once.{inodes_apart}
 use Rattle.extent_pieces.proofs.Owning.{two_cases}
 use Rattle.file_items.specs.Extents.{extents_at, file_block, is_owned_by, pieces_of}
-use Rattle.file_items.specs.Tree.{Source, extent_items, inline_in, kind_in, number_of, size_in}
+use Rattle.file_items.specs.Tree.{Source, extent_items, inline_in, kind_in, number_of, size_in, tree_items}
 use Rattle.file_laws.specs.Held.{FilesAreHeld}
 use Rattle.fs_rows.specs.Bytes.{bytes_by}
 use Rattle.fs_rows.specs.Kinds.{has_bytes}
@@ -49,7 +49,7 @@ use Rattle.unit_plan.specs.declared.plan.Plan.{Plan}
 use Rattle.byte_laws.specs.Kept.{BytesAreKept, MapsPieces, PiecesStand}
 use Rattle.byte_laws.specs.Sound.{ExtentsKeepRules}
 use Rattle.byte_laws.proofs.Holding.{StaysInTree, held_byte, other_is_file, stays, up_to_byte}
-use Rattle.byte_laws.proofs.Owned.{extents_found}
+use Rattle.byte_laws.proofs.Owned.{any_extents, extents_found}
 use Rattle.byte_laws.proofs.Pieces.{Fits, all_of_inode, covers_byte, one_of_inode, piece_byte, placed_byte, read_pieces}
 use Rattle.byte_laws.proofs.Sound.{AreSound, IsWell, all_follow, bare_extents, inline_sound, no_refusals, owner_is, pieces_sound}
 use Rattle.byte_laws.proofs.Reading.{bare_byte, byte_by, inline_read, is_extent, item_byte}
@@ -286,14 +286,16 @@ bytes_kept held volume image other o plan pieces ranges items key has hold maps 
     let low : n < size = omega (arith, below) in
     bare_byte other ranges items (number_of s key) n
     ∙ (ap (λ (l : List TreeEntry). item_byte other ranges (filter (is_extent (number_of s key)) l) n) read
-    ∙ (ap (λ (l : List TreeEntry). item_byte other ranges l n) (extents_found s key at.0 at.1 named kind)
+    ∙ (ap (λ (l : List TreeEntry). item_byte other ranges l n) (extents_found s at.0 at.1 key named kind)
     ∙ byte_kept volume image o plan pieces ranges has maps (held volume image o plan pieces has) key named other hold kind n low)))
 
 pub extents_kept : FilesAreHeld → ExtentsKeepRules
-extents_kept held volume image o plan pieces ranges items key has maps read named kind =
+extents_kept held volume image o plan pieces ranges items ino has maps read =
     let s : Source = made_from volume image o pieces in
     let at = numbered image (keys volume.named) (record { accepted = has.accepted; are_keys = has.opened.are_keys; ascend = has.opened.ascends }) in
-    let bare : map bare_item (extents_of items (number_of s key)) ≡ extent_items s key =
-    bare_extents items (number_of s key) ∙ (ap (filter (is_extent (number_of s key))) read ∙ extents_found s key at.0 at.1 named kind) in
-    no_refusals ranges 0 0 (extents_of items (number_of s key))
-    (subst (AreSound ranges 0 0) (sym bare) (sound volume image o plan pieces ranges has maps (held volume image o plan pieces has) key named kind))
+    let bare : map bare_item (extents_of items ino) ≡ filter (is_extent ino) (tree_items s) = bare_extents items ino ∙ ap (filter (is_extent ino)) read in
+    no_refusals ranges 0 0 (extents_of items ino)
+    (⊎_elim
+    (λ of. subst (AreSound ranges 0 0) (sym (bare ∙ of.3)) (sound volume image o plan pieces ranges has maps (held volume image o plan pieces has) of.0 of.1 of.2))
+    (λ none. subst (AreSound ranges 0 0) (sym (bare ∙ none)) tt)
+    (any_extents s at.0 at.1 ino))

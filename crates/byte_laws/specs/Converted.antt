@@ -1,8 +1,10 @@
 -- The bytes of files on a converted volume.
-use Rattle.std.specs.Prelude.{◌≡◌, true, List, [], map, Contains}
+use Rattle.std.specs.Prelude.{◌≡◌, ℕ, true, List, [], map, Contains}
 use Rattle.indexmap.specs.IndexMap.{keys}
 use Rattle.outside.specs.History.{Image}
+use Rattle.outside.specs.declared.refusal.BtrRefusal.{BtrRefusal}
 use Rattle.btr_files.specs.Extents.{extents_of, extents_refusals}
+use Rattle.btr_reader.specs.Rows.{BreaksExtents}
 use Rattle.btr_walk.specs.Events.{TreeItem}
 use Rattle.btr_walk.specs.Tree.{bare_item}
 use Rattle.btr_walk.specs.declared.map.MapRange.{MapRange}
@@ -11,7 +13,7 @@ use Rattle.conversion.specs.Source.{made_from}
 use Rattle.conversion.specs.Standing.{file_tree_items}
 use Rattle.conversion.specs.declared.trees.VolumeTrees.{VolumeTrees}
 use Rattle.convert_core.specs.Converted.{StandsOn}
-use Rattle.file_items.specs.Tree.{Source, kind_in, number_of}
+use Rattle.file_items.specs.Tree.{Source, kind_in}
 use Rattle.fs_rows.specs.Kinds.{has_bytes}
 use Rattle.reiser_objects.specs.declared.key.ObjectKey.{ObjectKey}
 use Rattle.space_items.specs.declared.node.TreeNode.{TreeNode}
@@ -22,15 +24,16 @@ use Rattle.byte_laws.specs.Read.{HasBytesOf}
 abbrev pub source : Image → Making → Source
 source image m = made_from m.volume image m.options m.pieces
 
--- what a reader finds of a file or a symlink: its bytes, and no rule of extents that is broken
-pub record IsReadAsBefore (image other : Image) (m : Making) (ranges : List MapRange) (items : List TreeItem) (key : ObjectKey) : Type 0 where
-  pub bytes : HasBytesOf (source image m) image other ranges items key
-  pub rules : extents_refusals ranges 0 0 (extents_of items (number_of (source image m) key)) ≡ []
+-- What a reader finds of files and symlinks: the bytes of each that has a name, and no rule of extents that is broken.
+pub record ReadsFiles (image other : Image) (m : Making) (ranges : List MapRange) (items : List TreeItem) : Type 0 where
+  pub bytes : (key : ObjectKey) → Contains (keys m.volume.named) key → has_bytes (kind_in (source image m) key) ≡ true → HasBytesOf (source image m) image other ranges items key
+  pub extents : (ino : ℕ) → extents_refusals ranges 0 0 (extents_of items ino) ≡ []
+  pub unbroken : (refusal : BtrRefusal) → ¬ BreaksExtents ranges items refusal
 
 -- Where a conversion stands on a disk, a tree of its file tree's items, in any leaves, read by the ranges of its chunks, has each
 -- named file and symlink as it was.
 abbrev pub ConvertedFilesAreRead : Type 0
 ConvertedFilesAreRead =
-    (image other : Image) (m : Making) (r : VolumeTrees) (nodes : List TreeNode) (ranges : List MapRange) (items : List TreeItem) (key : ObjectKey)
+    (image other : Image) (m : Making) (r : VolumeTrees) (nodes : List TreeNode) (ranges : List MapRange) (items : List TreeItem)
     → IsMaking image m → StandsOn image other m r nodes → AreRangesOf m.chunks ranges → map bare_item items ≡ file_tree_items image m
-    → Contains (keys m.volume.named) key → has_bytes (kind_in (source image m) key) ≡ true → IsReadAsBefore image other m ranges items key
+    → ReadsFiles image other m ranges items

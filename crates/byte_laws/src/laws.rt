@@ -25,7 +25,7 @@ pub fn chunks_map_pieces()
     ensures { ChunksMapPieces }
 {}
 
-/// The extents of each named file and symlink keep the rules that a reader of Btrfs asks of extents.
+/// In a tree of the file tree's items the extents of each inode keep the rules that a reader of Btrfs asks of extents.
 pub fn extents_keep_rules()
     ensures { ExtentsKeepRules }
 {
@@ -41,7 +41,8 @@ pub fn bytes_are_read()
     inodes_are_there();
 }
 
-/// Where a conversion stands on a disk, a reader finds each named file and symlink as it was, and no rule of extents broken.
+/// Where a conversion stands on a disk, a reader finds each named file and symlink as it was, and no rule of extents broken,
+/// by the map of its chunks.
 pub fn converted_files_are_read()
     ensures { ConvertedFilesAreRead }
 {
