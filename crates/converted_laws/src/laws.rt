@@ -1,0 +1,23 @@
+// Laws of the definitions, each the contract of a function that does nothing.
+ghost use Rattle.converted_laws.specs.Laws.{ChunksMap, ConvertedIsReadable, SuperblockReads, TreesRead};
+
+/// The superblock of a converted volume is read, with the fields that were written, and names no log tree.
+pub fn superblock_reads()
+    ensures { SuperblockReads }
+{}
+
+/// The map of its addresses is that of the plan's chunks, so that each address of a node and of a piece of data means itself.
+pub fn chunks_map()
+    ensures { ChunksMap }
+{}
+
+/// It is opened without a refusal. Each of its trees is found by its root item and is read with its items.
+pub fn trees_read()
+    ensures { TreesRead }
+{}
+
+/// The same of its own superblock and map: its superblock, its chunks and its root tree are readable, and nothing but its names
+/// and the extents of its files may be wrong with its file tree.
+pub fn converted_is_readable()
+    ensures { ConvertedIsReadable }
+{}
