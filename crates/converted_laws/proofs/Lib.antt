@@ -1,5 +1,9 @@
+pub mod Chunks
 pub mod Mapped
 pub mod Numbers
+pub mod Opening
 pub mod Places
+pub mod Reading
+pub mod Rooted
 pub mod Stood
 pub mod Superblock
