@@ -5,5 +5,8 @@ pub mod Opening
 pub mod Places
 pub mod Reading
 pub mod Rooted
+pub mod Saved
+pub mod SavedExtents
+pub mod SavedPieces
 pub mod Stood
 pub mod Superblock

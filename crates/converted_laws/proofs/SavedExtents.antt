@@ -2,6 +2,7 @@
 use Rattle.std.proofs.Common.{◌≡◌, ◌≢◌, ◌⊎◌, ◌≤◌, ◌<◌, ℕ, zero, suc, ◌+◌, ◌-◌, ◌*◌, ◌/◌, ◌%◌, ◌^◌, inl, inr, ◌&&◌, ◌||◌, eqb, leb, ltb, Bool, true, false, List, [], ◌∷◌, ◌++◌, length, map, Option, Some, None, refl, sym, ap, subst, ◌∙◌, ⊎_elim, arith}
 use Rattle.std.specs.Prelude.{Contains, if◌then◌else◌}
 use Rattle.std.specs.Option.{option_map}
+use Rattle.std.proofs.lemmas.List.Sums.{sum_by-cons}
 use Rattle.std.proofs.lemmas.Bool.{and_from, and_parts, both_ways, cases_Bool, eq-eqb, le-leb, leb-true, lt-ltb, ltb-true, ne_eqb}
 use Rattle.outside.specs.declared.refusal.BtrRefusal.{BtrRefusal}
 use Rattle.outside.specs.declared.refusal.BtrRefusal.TheVariants.{BadBtrfs, Unsupported}
@@ -19,7 +20,7 @@ use Rattle.btr_walk.specs.Events.{TreeItem}
 use Rattle.btr_walk.specs.Map.{place}
 use Rattle.btr_walk.specs.Tree.{bare_item}
 use Rattle.btr_walk.specs.declared.map.MapRange.{MapRange}
-use Rattle.file_items.specs.Extents.{extents_at, source_block}
+use Rattle.file_items.specs.Extents.{extents_at, piece_bytes, source_block}
 use Rattle.item_list.specs.Extents.{regular_extent}
 use Rattle.reiser_bitmap.proofs.Ranges.{contains_cases, contains_head, contains_tail}
 use Rattle.unit_plan.specs.declared.piece.Piece.{Piece}
@@ -49,7 +50,7 @@ range_fits place count small = ((((tt, omega (arith, small)), omega (arith, smal
 abbrev range_by : Piece → DiskRange
 range_by p = record { disk_bytenr = 4096 * p.place; disk_num_bytes = 4096 * p.count; offset = 0; num_bytes = 4096 * p.count }
 
-reads_extent : (p : Piece) (body : List ℕ) → p.place + p.count ≤ 2 ^ 29 → body ≡ file_extent_bytes (regular_extent p.place p.count) → file_extent_of body ≡ Some (regular_extent p.place p.count)
+pub reads_extent : (p : Piece) (body : List ℕ) → p.place + p.count ≤ 2 ^ 29 → body ≡ file_extent_bytes (regular_extent p.place p.count) → file_extent_of body ≡ Some (regular_extent p.place p.count)
 reads_extent p body small is = ap file_extent_of is ∙ file_extents_read_back (regular_extent p.place p.count) (extent_fits p.place p.count small) (range_fits p.place p.count small)
 
 module _ (ranges : List MapRange) where
@@ -99,6 +100,24 @@ module _ (ranges : List MapRange) where
   pub AreSources : ℕ → List Piece → Type 0
   AreSources low [] = Unit {0}
   AreSources low (p ∷ ps) = IsSource ranges p × (low ≤ source_block p) × AreSources (source_block p + p.count) ps
+
+  -- each of them
+  pub source_in : (low : ℕ) (ps : List Piece) → AreSources low ps → (p : Piece) → Contains ps p → IsSource ranges p
+  source_in low [] sources p h = absurd (omega (arith, h.1))
+  source_in low (q ∷ ps) sources p h = ⊎_elim (λ (same : q ≡ p). subst (IsSource ranges) same sources.0) (λ (later : Contains ps p). source_in (source_block q + q.count) ps sources.2 p later) (contains_cases p q ps h)
+
+  -- together they hold no more blocks than there are
+  sources_blocks : (low : ℕ) (ps : List Piece) → AreSources low ps → low ≤ 2 ^ 29 → 4096 * low + piece_bytes ps ≤ 2 ^ 41
+  sources_blocks low [] sources few = omega (arith, few)
+  sources_blocks low (p ∷ ps) sources few =
+      let inside = sources.0.inside in
+      let up = sources.1 in
+      let rest = sources_blocks (source_block p + p.count) ps sources.2 inside in
+      let all = sum_by-cons (λ (q : Piece). 4096 * q.count) p ps in
+      omega (arith, inside, up, rest, all)
+
+  pub sources_bytes : (low : ℕ) (ps : List Piece) → AreSources low ps → low ≤ 2 ^ 29 → piece_bytes ps ≤ 2 ^ 41
+  sources_bytes low ps sources few = let all = sources_blocks low ps sources few in omega (arith, all)
 
   pub extents_sound : (ps : List Piece) (items : List TreeItem) (low covered : ℕ) → map bare_item items ≡ extents_at 257 source_block ps → AreSources low ps → covered ≤ 4096 * low → extents_refusals ranges (4096 * low) covered items ≡ []
   extents_sound [] [] low covered are sources few = refl

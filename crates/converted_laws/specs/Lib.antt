@@ -1,2 +1,3 @@
-pub mod Opened
 pub mod Laws
+pub mod Opened
+pub mod Saved

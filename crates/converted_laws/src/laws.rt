@@ -1,5 +1,6 @@
 // Laws of the definitions, each the contract of a function that does nothing.
 ghost use Rattle.converted_laws.specs.Laws.{ChunksMap, ConvertedIsReadable, SuperblockReads, TreesRead};
+ghost use Rattle.converted_laws.specs.Saved.{SavedImageReads};
 
 /// The superblock of a converted volume is read, with the fields that were written, and names no log tree.
 pub fn superblock_reads()
@@ -20,4 +21,10 @@ pub fn trees_read()
 /// and the extents of its files may be wrong with its file tree.
 pub fn converted_is_readable()
     ensures { ConvertedIsReadable }
+{}
+
+/// The tree of its saved image has the image of the old volume, and nothing is wrong on the way to it from the tree's root on: each
+/// used block has a place that holds its bytes, and any other block is a hole.
+pub fn saved_image_reads()
+    ensures { SavedImageReads }
 {}
