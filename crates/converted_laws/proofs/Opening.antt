@@ -96,15 +96,15 @@ module _ (m : Making) (r : VolumeTrees) (nodes : List TreeNode) where
   chunk_tree_is : chunk_tree (super_for m r nodes) ≡ tree_by (form m) 3 (root_pointer r.chunk)
   chunk_tree_is = root_is ∙ tree_is 3 (root_pointer r.chunk)
     where
-      unfolding new_super
       root_is : chunk_tree (super_for m r nodes) ≡ tree_of (super_for m r nodes) 3 (root_pointer r.chunk)
+      unfolding new_super
       root_is = refl
 
   root_tree_is : root_tree (super_for m r nodes) ≡ tree_by (form m) 1 (root_pointer r.root)
   root_tree_is = root_is ∙ tree_is 1 (root_pointer r.root)
     where
-      unfolding new_super
       root_is : root_tree (super_for m r nodes) ≡ tree_of (super_for m r nodes) 1 (root_pointer r.root)
+      unfolding new_super
       root_is = refl
 
   -- a tree that is read, by the superblock

@@ -1,5 +1,5 @@
 -- Each block of a node and of a piece lies in a chunk.
-use Rattle.std.proofs.Common.{◌≡◌, ◌≢◌, ◌⊎◌, ◌≤◌, ◌<◌, ℕ, ◌+◌, ◌-◌, ◌*◌, ◌/◌, ◌^◌, inl, inr, ◌||◌, Bool, true, false, List, [], ◌∷◌, length, suc, Some, None, refl, sym, ap, subst, ◌∙◌, ⊎_elim, arith}
+use Rattle.std.proofs.Common.{◌≡◌, ◌≢◌, ◌⊎◌, ◌≤◌, ◌<◌, ℕ, ◌+◌, ◌-◌, ◌*◌, ◌/◌, ◌^◌, inl, inr, ◌||◌, Bool, true, false, List, [], ◌∷◌, length, zero, suc, Some, None, refl, sym, ap, subst, ◌∙◌, ⊎_elim, arith}
 use Rattle.std.specs.Prelude.{All, AllPairs, Contains, if◌then◌else◌, not, ◌&&◌}
 use Rattle.std.specs.List.{list_any, range_with_len}
 use Rattle.std.proofs.lemmas.Bool.{and_from, cases_Bool, cases_lt, not_from_false, or_left, or_right}
@@ -95,7 +95,7 @@ module _ (image : Image) (m : Making) (made : IsMaking image m) where
   free_unit b free = not_first (b / 256) free
     where
       not_first : (u : ℕ) → IsFreeUnit used u → 1 ≤ u
-      not_first 0 is = absurd (is.unreserved 16 (omega arith) (inl (omega arith)))
+      not_first zero is = absurd (is.unreserved 16 (omega arith) (inl (omega arith)))
       not_first (suc u) is = omega arith
 
   free_usable : (b : ℕ) → IsFree image b → b < usable_end n
@@ -136,8 +136,8 @@ module _ (image : Image) (m : Making) (made : IsMaking image m) where
       let usable : b < usable_end n = ⊎_elim (λ (low : b < usable_end n). low) (λ (past : usable_end n ≤ b). absurd (apart (inr (inr (inr (past, inside)))))) (cases_lt b (usable_end n)) in
       data_block b (omega (arith, some)) usable (or_right (is_among m.plan.data_ (b / 256)) _ (holds b data_))
     where
-      unfolding holds_data
       holds : (b : ℕ) → is_data used b ≡ true → holds_data used (b / 256) ≡ true
+      unfolding holds_data
       holds b t =
           list_any-from_Any (is_data used) (range_with_len (256 * (b / 256)) 256)
           (any_from (λ x. is_data used x ≡ true) (range_with_len (256 * (b / 256)) 256) b (contains_range (256 * (b / 256)) 256 b (omega arith) (omega arith)) t)

@@ -44,7 +44,7 @@ use Rattle.converted_laws.proofs.Rooted.{IsFoundRoot, device_found, extents_foun
 use Rattle.converted_laws.proofs.Stood.{root_at, root_low}
 use Rattle.converted_laws.proofs.Superblock.{reads, size, super_reads}
 
-none_of : (xs : List BtrRefusal) (r : BtrRefusal) → xs ≡ [] → ¬ Contains xs r
+pub none_of : (xs : List BtrRefusal) (r : BtrRefusal) → xs ≡ [] → ¬ Contains xs r
 none_of [] r is h = omega (arith, h.1)
 none_of (x ∷ xs) r is h = cc is
 

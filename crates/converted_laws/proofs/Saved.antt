@@ -138,8 +138,8 @@ not_inode i items key is off =
 entry_read : index_entry (dir_entry_bytes entry) ≡ Some entry
 entry_read = ap only_one (ap dir_items_of (sym (append-nil (dir_entry_bytes entry))) ∙ dir_items_read_back entry [] (entry_fits, tt))
   where
-    unfolding dir_entry_head key_layout
     entry_fits : dir_entry_head.fits entry
+    unfolding dir_entry_head key_layout
     entry_fits = (((((tt, (((tt, omega arith), omega arith), omega arith)), omega arith), omega arith), omega arith), omega arith)
 
 stamp_fits : (now : ℕ) → now < 2 ^ 63 → stamp_layout.fits (stamp_of now)

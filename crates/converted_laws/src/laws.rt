@@ -1,6 +1,8 @@
 // Laws of the definitions, each the contract of a function that does nothing.
 ghost use Rattle.converted_laws.specs.Laws.{ChunksMap, ConvertedIsReadable, SuperblockReads, TreesRead};
-ghost use Rattle.converted_laws.specs.Saved.{SavedImageReads};
+ghost use Rattle.converted_laws.specs.Saved.{SavedImageIsReadable, SavedImageReads};
+
+use file_laws::entries_are_there;
 
 /// The superblock of a converted volume is read, with the fields that were written, and names no log tree.
 pub fn superblock_reads()
@@ -28,3 +30,10 @@ pub fn converted_is_readable()
 pub fn saved_image_reads()
     ensures { SavedImageReads }
 {}
+
+/// Where its file tree keeps the rules of names, the saved image is readable, and it is that of the old volume.
+pub fn saved_image_is_readable()
+    ensures { SavedImageIsReadable }
+{
+    entries_are_there();
+}
