@@ -93,19 +93,19 @@ module _ (m : Making) (r : VolumeTrees) (nodes : List TreeNode) where
   pub tree_is : (owner : ℕ) (p : Pointer) → tree_of (super_for m r nodes) owner p ≡ tree_by (form m) owner p
   tree_is owner p = ap (λ (f : Form). tree_by f owner p) form_is
 
+  chunk_root_is : chunk_tree (super_for m r nodes) ≡ tree_of (super_for m r nodes) 3 (root_pointer r.chunk)
+  unfolding new_super
+  chunk_root_is = refl
+
   chunk_tree_is : chunk_tree (super_for m r nodes) ≡ tree_by (form m) 3 (root_pointer r.chunk)
-  chunk_tree_is = root_is ∙ tree_is 3 (root_pointer r.chunk)
-    where
-      root_is : chunk_tree (super_for m r nodes) ≡ tree_of (super_for m r nodes) 3 (root_pointer r.chunk)
-      unfolding new_super
-      root_is = refl
+  chunk_tree_is = chunk_root_is ∙ tree_is 3 (root_pointer r.chunk)
+
+  root_is : root_tree (super_for m r nodes) ≡ tree_of (super_for m r nodes) 1 (root_pointer r.root)
+  unfolding new_super
+  root_is = refl
 
   root_tree_is : root_tree (super_for m r nodes) ≡ tree_by (form m) 1 (root_pointer r.root)
   root_tree_is = root_is ∙ tree_is 1 (root_pointer r.root)
-    where
-      root_is : root_tree (super_for m r nodes) ≡ tree_of (super_for m r nodes) 1 (root_pointer r.root)
-      unfolding new_super
-      root_is = refl
 
   -- a tree that is read, by the superblock
   pub by_tree : (image : Image) (ranges : List MapRange) (t : Tree) (owner : ℕ) (p : Pointer) (items : List Item) → t ≡ tree_by (form m) owner p → IsRead image ranges (form m) p owner items

@@ -57,6 +57,13 @@ by_uses false false false t = absurd (cc)
 some_role : (a b : Role) → Some a ≡ Some b → a ≡ b
 some_role a b is = cc
 
+-- the unit of a block of data holds data
+unit_holds : (used : List Bool) (b : ℕ) → is_data used b ≡ true → holds_data used (b / 256) ≡ true
+unfolding holds_data
+unit_holds used b t =
+    list_any-from_Any (is_data used) (range_with_len (256 * (b / 256)) 256)
+    (any_from (λ x. is_data used x ≡ true) (range_with_len (256 * (b / 256)) 256) b (contains_range (256 * (b / 256)) 256 b (omega arith) (omega arith)) t)
+
 module _ (image : Image) (m : Making) (made : IsMaking image m) where
   abbrev used : List Bool
   used = used_of image
@@ -134,13 +141,7 @@ module _ (image : Image) (m : Making) (made : IsMaking image m) where
       let data_ : is_data used b ≡ true = and_from (has used b) (not (is_reserved b n)) is (not_from_false (is_reserved b n) off) in
       let some : 256 ≤ b = ⊎_elim (λ (low : b < 256). absurd (apart (inl low))) (λ (high : 256 ≤ b). high) (cases_lt b 256) in
       let usable : b < usable_end n = ⊎_elim (λ (low : b < usable_end n). low) (λ (past : usable_end n ≤ b). absurd (apart (inr (inr (inr (past, inside)))))) (cases_lt b (usable_end n)) in
-      data_block b (omega (arith, some)) usable (or_right (is_among m.plan.data_ (b / 256)) _ (holds b data_))
-    where
-      holds : (b : ℕ) → is_data used b ≡ true → holds_data used (b / 256) ≡ true
-      unfolding holds_data
-      holds b t =
-          list_any-from_Any (is_data used) (range_with_len (256 * (b / 256)) 256)
-          (any_from (λ x. is_data used x ≡ true) (range_with_len (256 * (b / 256)) 256) b (contains_range (256 * (b / 256)) 256 b (omega arith) (omega arith)) t)
+      data_block b (omega (arith, some)) usable (or_right (is_among m.plan.data_ (b / 256)) _ (unit_holds used b data_))
 
   -- a block of a piece
   pub piece_block : (q : Piece) → Contains m.pieces q → (b : ℕ) → q.place ≤ b → b < q.place + q.count → HasBlock m.chunks b

@@ -54,6 +54,12 @@ some_pointer p q e = cc
 some_item : (i j : TreeItem) → Some i ≡ Some j → i ≡ j
 some_item i j e = cc
 
+no_item : (o : Option TreeItem) (i : TreeItem) → o ≡ None → o ≡ Some i → ⊥
+no_item o i none some = absurd (cc)
+
+no_pointer : (o : Option Pointer) (p : Pointer) → o ≡ None → o ≡ Some p → ⊥
+no_pointer o p none some = absurd (cc)
+
 -- a superblock that is read is what the block is
 is_super : (rs : List BtrRefusal) (x y : Super) → unless_refused rs x ≡ Ok y → x ≡ y
 is_super [] x y e = cc e
@@ -72,14 +78,8 @@ module _ (image : Image) (s : Super) (ranges : List MapRange) (root : Root) (ite
 
   pub rest : (r : BtrRefusal) → IsTreeRefusal image s ranges r
       → BreaksNames (has_root (roots_on image s ranges)) (found image ranges (tree_of s 5 (root_pointer root))) root.address r ⊎ BreaksExtents ranges (found image ranges (tree_of s 5 (root_pointer root))) r
-  rest r (no_root_item none is) = absurd (no_item tree.item (sym none ∙ tree.has_item))
-    where
-      no_item : (i : TreeItem) → None ≡ Some i → ⊥
-      no_item i e = cc
-  rest r (bad_root_item i has none is) = absurd (no_pointer (sym none ∙ (ap (λ (j : TreeItem). pointer_of j.body) (some_item i tree.item (sym has ∙ tree.has_item)) ∙ tree.leads)))
-    where
-      no_pointer : None ≡ Some (root_pointer root) → ⊥
-      no_pointer e = cc
+  rest r (no_root_item none is) = absurd (no_item (root_item 5 (roots_on image s ranges)) tree.item none tree.has_item)
+  rest r (bad_root_item i has none is) = absurd (no_pointer (pointer_of i.body) (root_pointer root) none (ap (λ (j : TreeItem). pointer_of j.body) (some_item i tree.item (sym has ∙ tree.has_item)) ∙ tree.leads))
   rest r (bad_tree i p has leads_to among) = absurd (none_of (wrong image ranges (tree_of s 5 p)) r (ap (λ (q : Pointer). wrong image ranges (tree_of s 5 q)) (pointer_is i p has leads_to) ∙ tree.sound) among)
   rest r (bad_names i p has leads_to breaks) =
       inl (subst (λ (q : Pointer). BreaksNames (has_root (roots_on image s ranges)) (found image ranges (tree_of s 5 q)) q.address r) (pointer_is i p has leads_to) breaks)

@@ -4,7 +4,7 @@ use Rattle.std.specs.Prelude.{Contains, codes, if◌then◌else◌, nat_eq}
 use Rattle.std.specs.Cmp.Lexicographic.{pointwise}
 use Rattle.std.specs.Option.{option_and_then}
 use Rattle.std.proofs.lemmas.Bool.{and_from, and_parts, both_ways, cases_Bool, cases_lt, eq-eqb, eqb-true, not_from_false, or_cases}
-use Rattle.std.proofs.lemmas.List.{get_or_default, split_at}
+use Rattle.std.proofs.lemmas.List.{get_or_default}
 use Rattle.std.proofs.lemmas.List.Elements.{Contains-append_left, Contains-append_right, Contains-get_or}
 use Rattle.path_list.proofs.Lists.{in_filter}
 use Rattle.path_list.proofs.Nodes.{same_name-true}
@@ -44,18 +44,19 @@ index_all [] each = refl
 index_all (i ∷ items) each =
     ap (λ (rs : List BtrRefusal). rs ++ index_refusals items) (each i (contains_head i items)) ∙ index_all items (λ j h. each j (contains_tail j i items h))
 
+-- a list around one of its elements
+parted : (xs : List Naming) (j : ℕ) (d : Naming) → j < length xs → (before : List Naming) × (after : List Naming) × (xs ≡ before ++ (get_or xs j d ∷ after))
+parted [] j d h = absurd (omega (arith, h))
+parted (y ∷ ys) zero d h = ([], ys, refl)
+parted (y ∷ ys) (suc j) d h = let r = parted ys j d (omega (arith, h)) in (y ∷ r.0, r.1, ap (λ (l : List Naming). y ∷ l) r.2)
+
 -- two elements, the earlier first
 are_in : (xs : List Naming) (i j : ℕ) (d : Naming) → i < j → j < length xs → AreIn xs (get_or xs i d) (get_or xs j d)
 are_in [] i j d less h = absurd (omega (arith, h))
 are_in (x ∷ xs) i zero d less h = absurd (omega (arith, less))
 are_in (x ∷ xs) zero (suc j) d less h =
-    let at = split xs j d (omega (arith, h)) in
+    let at = parted xs j d (omega (arith, h)) in
     record { before = x ∷ at.0; after = at.1; split = ap (λ (l : List Naming). x ∷ l) at.2; earlier = contains_head x at.0 }
-  where
-    split : (xs : List Naming) (j : ℕ) (d : Naming) → j < length xs → (before : List Naming) × (after : List Naming) × (xs ≡ before ++ (get_or xs j d ∷ after))
-    split [] j d h = absurd (omega (arith, h))
-    split (y ∷ ys) zero d h = ([], ys, refl)
-    split (y ∷ ys) (suc j) d h = let r = split ys j d (omega (arith, h)) in (y ∷ r.0, r.1, ap (λ (l : List Naming). y ∷ l) r.2)
 are_in (x ∷ xs) (suc i) (suc j) d less h =
     let rest = are_in xs i j d (omega (arith, less)) (omega (arith, h)) in
     record { before = x ∷ rest.before; after = rest.after; split = ap (λ (l : List Naming). x ∷ l) rest.split; earlier = contains_tail (get_or xs i d) x rest.before rest.earlier }

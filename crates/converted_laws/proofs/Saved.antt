@@ -135,12 +135,12 @@ not_inode i items key is off =
 
 -- ---- the inode and the entry that are read back
 
+entry_fits : dir_entry_head.fits entry
+unfolding dir_entry_head key_layout
+entry_fits = (((((tt, (((tt, omega arith), omega arith), omega arith)), omega arith), omega arith), omega arith), omega arith)
+
 entry_read : index_entry (dir_entry_bytes entry) ≡ Some entry
 entry_read = ap only_one (ap dir_items_of (sym (append-nil (dir_entry_bytes entry))) ∙ dir_items_read_back entry [] (entry_fits, tt))
-  where
-    entry_fits : dir_entry_head.fits entry
-    unfolding dir_entry_head key_layout
-    entry_fits = (((((tt, (((tt, omega arith), omega arith), omega arith)), omega arith), omega arith), omega arith), omega arith)
 
 stamp_fits : (now : ℕ) → now < 2 ^ 63 → stamp_layout.fits (stamp_of now)
 unfolding stamp_layout

@@ -48,26 +48,25 @@ one_level top generation level skip n slots low =
 levels_low : (d e generation level skip fan n : ℕ) (slots : List ℕ) → 121 ≤ fan → 1 ≤ n → n ≤ 121 ^ d → All (λ p. p.level ≤ level + d) (level_pointers generation level skip slots (level_sizes e fan n))
 levels_low d zero generation level skip fan n slots wide some few =
     subst (λ (sizes : List ℕ). All (λ (p : Pointer). p.level ≤ level + d) (level_pointers generation level skip slots sizes)) (sym (sizes-none fan n)) (All-nil (λ (p : Pointer). p.level ≤ level + d))
-levels_low d (suc e) generation level skip fan n slots wide some few =
+levels_low zero (suc e) generation level skip fan n slots wide some few =
+    subst (λ (sizes : List ℕ). All (λ (p : Pointer). p.level ≤ level + 0) (level_pointers generation level skip slots sizes)) (sym (sizes-one e fan n (omega (arith, few))))
+    (All-append (λ (p : Pointer). p.level ≤ level + 0) (pointers_to generation level skip n slots) [] (one_level (level + 0) generation level skip n slots (omega arith)) (All-nil (λ (p : Pointer). p.level ≤ level + 0)))
+levels_low (suc d) (suc e) generation level skip fan n slots wide some few =
     ⊎_elim
-    (λ (more : 1 < n). higher d few more)
+    (λ (more : 1 < n).
+    let less : IsSmaller n (div_ceil n fan) = smaller n fan wide some in
+    let fewer : div_ceil n fan ≤ 121 ^ d = omega (arith, less.few, few, pow-suc 121 d) in
+    let rest : All (λ p. p.level ≤ suc level + d) (level_pointers generation (suc level) (skip + n) slots (level_sizes e fan (div_ceil n fan))) =
+    levels_low d e generation (suc level) (skip + n) fan (div_ceil n fan) slots wide less.some fewer in
+    let same : suc level + d ≡ level + suc d = omega arith in
+    subst (λ (sizes : List ℕ). All (λ (p : Pointer). p.level ≤ level + suc d) (level_pointers generation level skip slots sizes)) (sym (sizes-more e fan n more))
+    (All-append (λ (p : Pointer). p.level ≤ level + suc d) (pointers_to generation level skip n slots) (level_pointers generation (suc level) (skip + n) slots (level_sizes e fan (div_ceil n fan)))
+    (one_level (level + suc d) generation level skip n slots (omega arith))
+    (subst (λ (top : ℕ). All (λ (p : Pointer). p.level ≤ top) (level_pointers generation (suc level) (skip + n) slots (level_sizes e fan (div_ceil n fan)))) same rest)))
     (λ (one : n ≤ 1).
-    subst (λ (sizes : List ℕ). All (λ (p : Pointer). p.level ≤ level + d) (level_pointers generation level skip slots sizes)) (sym (sizes-one e fan n one))
-    (All-append (λ (p : Pointer). p.level ≤ level + d) (pointers_to generation level skip n slots) [] (one_level (level + d) generation level skip n slots (omega arith)) (All-nil (λ (p : Pointer). p.level ≤ level + d))))
+    subst (λ (sizes : List ℕ). All (λ (p : Pointer). p.level ≤ level + suc d) (level_pointers generation level skip slots sizes)) (sym (sizes-one e fan n one))
+    (All-append (λ (p : Pointer). p.level ≤ level + suc d) (pointers_to generation level skip n slots) [] (one_level (level + suc d) generation level skip n slots (omega arith)) (All-nil (λ (p : Pointer). p.level ≤ level + suc d))))
     (cases_lt 1 n)
-  where
-    higher : (d : ℕ) → n ≤ 121 ^ d → 1 < n → All (λ p. p.level ≤ level + d) (level_pointers generation level skip slots (level_sizes (suc e) fan n))
-    higher zero few more = absurd (omega (arith, few, more))
-    higher (suc d) few more =
-        let less : IsSmaller n (div_ceil n fan) = smaller n fan wide some in
-        let fewer : div_ceil n fan ≤ 121 ^ d = omega (arith, less.few, few, pow-suc 121 d) in
-        let rest : All (λ p. p.level ≤ suc level + d) (level_pointers generation (suc level) (skip + n) slots (level_sizes e fan (div_ceil n fan))) =
-        levels_low d e generation (suc level) (skip + n) fan (div_ceil n fan) slots wide less.some fewer in
-        let same : suc level + d ≡ level + suc d = omega arith in
-        subst (λ (sizes : List ℕ). All (λ (p : Pointer). p.level ≤ level + suc d) (level_pointers generation level skip slots sizes)) (sym (sizes-more e fan n more))
-        (All-append (λ (p : Pointer). p.level ≤ level + suc d) (pointers_to generation level skip n slots) (level_pointers generation (suc level) (skip + n) slots (level_sizes e fan (div_ceil n fan)))
-        (one_level (level + suc d) generation level skip n slots (omega arith))
-        (subst (λ (top : ℕ). All (λ (p : Pointer). p.level ≤ top) (level_pointers generation (suc level) (skip + n) slots (level_sizes e fan (div_ceil n fan)))) same rest))
 
 -- a tree has a leaf, and no more leaves than nodes
 some_groups : (room : ℕ) (begun es : List ℕ) → 1 ≤ length (packed_from weight room begun es)
@@ -93,11 +92,11 @@ pub record IsRead (image : Image) (ranges : List MapRange) (form : Form) (root :
   pub sound : tree_damages image ranges form root owner ≡ []
   pub items_are : map bare_item (leaf_items image ranges form root owner) ≡ items
 
+some_items : (xs ys : List Item) → Some xs ≡ Some ys → xs ≡ ys
+some_items xs ys is = cc
+
 sound_is : (damages : List BtrRefusal) (xs ys : List Item) → when_sound damages xs ≡ Some ys → (damages ≡ []) × (xs ≡ ys)
 sound_is [] xs ys is = (refl, some_items xs ys is)
-  where
-    some_items : (xs ys : List Item) → Some xs ≡ Some ys → xs ≡ ys
-    some_items xs ys is = cc
 sound_is (r ∷ rs) xs ys is = absurd (cc is)
 
 module _ (image : Image) (form : Form) (owner : ℕ) (slots : List ℕ) (items : List Item) (root : Root) (stands : TreeStands image form owner slots items root) where

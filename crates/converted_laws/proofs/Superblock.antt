@@ -7,6 +7,8 @@ use Rattle.std.proofs.lemmas.List.{length-replicate, length-take}
 use Rattle.std.proofs.lemmas.List.Elements.{All-drop, All-take}
 use Rattle.outside.specs.History.{Image, block_at}
 use Rattle.outside.specs.declared.refusal.BtrRefusal.{BtrRefusal}
+use Rattle.outside.specs.declared.refusal.BtrRefusal.TheVariants.{Unsupported}
+use Rattle.outside.specs.declared.rule.Feature.TheVariants.{DeviceCount, Incompat, NodeSize, SectorSize}
 use Rattle.vol_block.specs.declared.ids.Ids.{Ids}
 use Rattle.btr_node.specs.NodeSize.{IsNodeSize}
 use Rattle.btr_space_items.specs.Device.{device_layout}
@@ -106,7 +108,7 @@ module _ (ids : Ids) (blocks nodesize : ℕ) (label : List ℕ) (chunks : List C
   rules_hold : (device : ℕ) → blocks ≤ device → failing (field_rules (new_super ids blocks nodesize label chunks roots) 16 device) ≡ []
   unfolding new_super
   rules_hold device inside =
-      five_hold _ _ _ _ _ _ _ _ _ _ (fields_hold device inside) (eq-eqb (unread_bits (features nodesize)) 0 (features_read nodesize).0) refl (sized nodesize room.size) refl
+      five_hold _ _ _ _ _ bad_field (Unsupported Incompat (unread_bits (features nodesize))) (Unsupported SectorSize 4096) (Unsupported NodeSize nodesize) (Unsupported DeviceCount 1) (fields_hold device inside) (eq-eqb (unread_bits (features nodesize)) 0 (features_read nodesize).0) refl (sized nodesize room.size) refl
 
   kind_is : (new_super ids blocks nodesize label chunks roots).csum_type ≡ 0
   unfolding new_super

@@ -1,5 +1,5 @@
 -- What a converted volume is to whoever opens it.
-use Rattle.std.specs.Prelude.{◌≡◌, ◌≤◌, ◌<◌, ℕ, ◌+◌, ◌*◌, ◌^◌, true, not, List, [], ◌++◌, length, map, filter, Contains, Option, Some, None, Ok}
+use Rattle.std.specs.Prelude.{◌≡◌, ◌≤◌, ◌<◌, ℕ, ◌+◌, ◌-◌, ◌*◌, ◌^◌, true, not, List, [], ◌++◌, length, map, filter, Contains, Option, Some, None, Ok}
 use Rattle.outside.specs.History.{Image}
 use Rattle.outside.specs.declared.refusal.BtrRefusal.{BtrRefusal}
 use Rattle.vol_block.specs.declared.ids.Ids.{Ids}
