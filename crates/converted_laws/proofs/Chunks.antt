@@ -195,7 +195,7 @@ item_of_chunk ids boot c key body long small key_is body_is =
     ∙ ap (λ (o : Option ChunkBody). option_map (λ (x : ChunkBody). new_chunk boot (record { logical = 4096 * c.start; chunk = x })) o) (chunks_read_back (chunk_body ids c) (body_fits ids c long small) refl))
 
 -- the key and the body of an item
-item_parts : (i : TreeItem) (items : List TreeItem) (x : Item) (xs : List Item) → map bare_item (i ∷ items) ≡ x ∷ xs → (i.key ≡ x.0) × (i.body ≡ x.1) × (map bare_item items ≡ xs)
+pub item_parts : (i : TreeItem) (items : List TreeItem) (x : Item) (xs : List Item) → map bare_item (i ∷ items) ≡ x ∷ xs → (i.key ≡ x.0) × (i.body ≡ x.1) × (map bare_item items ≡ xs)
 item_parts i items x xs is = (ap (λ (z : Item). z.0) (first is), ap (λ (z : Item). z.1) (first is), rest is)
   where
     first : bare_item i ∷ map bare_item items ≡ x ∷ xs → bare_item i ≡ x

@@ -90,14 +90,14 @@ pub order_is : (r : VolumeTrees) (index : ℕ) (ids : Ids) (now nodesize : ℕ) 
 order_is r index ids now nodesize = refl
 
 -- the root item of a tree among items without their leaves
-is_root : ℕ → Item → Bool
+abbrev is_root : ℕ → Item → Bool
 is_root number i = eqb i.0.objectid number && eqb i.0.kind 132
 
-last_of : Option Item → Option Item → Option Item
+abbrev last_of : Option Item → Option Item → Option Item
 last_of None first = first
 last_of (Some i) first = Some i
 
-bare_root : ℕ → List Item → Option Item
+abbrev bare_root : ℕ → List Item → Option Item
 bare_root number [] = None
 bare_root number (i ∷ items) = last_of (bare_root number items) (if is_root number i then Some i else None)
 
@@ -126,12 +126,13 @@ find number items x e = let at = found_by (root_item number items) x (bare_is nu
 -- a tree that has a root item is one of those that are named
 pub named : (number : ℕ) (items : List TreeItem) (i : TreeItem) → root_item number items ≡ Some i → has_root items number ≡ true
 named number [] i e = absurd (cc e)
-named number (j ∷ items) i e = by (root_item number items) refl (is_root_of number j) refl e
+named number (j ∷ items) i e = by (root_item number items) (named number items) refl (is_root_of number j) refl e
   where
-    by : (o : Option TreeItem) → root_item number items ≡ o → (b : Bool) → is_root_of number j ≡ b → last_or o (if b then Some j else None) ≡ Some i → (is_root_of number j || list_any (is_root_of number) items) ≡ true
-    by o is true t e = or_left (is_root_of number j) _ t
-    by None is false t e = absurd (cc e)
-    by (Some k) is false t e = or_right (is_root_of number j) _ (named number items k is)
+    by : (o : Option TreeItem) → ((k : TreeItem) → root_item number items ≡ Some k → has_root items number ≡ true) → root_item number items ≡ o → (b : Bool) → is_root_of number j ≡ b → last_or o (if b then Some j else None) ≡ Some i
+        → (is_root_of number j || list_any (is_root_of number) items) ≡ true
+    by o later is true t e = or_left (is_root_of number j) _ t
+    by None later is false t e = absurd (cc e)
+    by (Some k) later is false t e = or_right (is_root_of number j) _ (later k is)
 
 module _ (r : VolumeTrees) (index : ℕ) (ids : Ids) (now nodesize : ℕ) (items : List TreeItem) (are : map bare_item items ≡ root_items (listed r) index ids now nodesize) where
   found_in : (number : ℕ) (x : Item) → bare_root number (in_order r index ids now nodesize) ≡ Some x → IsFoundRoot number items x

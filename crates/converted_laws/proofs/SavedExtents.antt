@@ -175,6 +175,10 @@ module _ (ranges : List MapRange) where
     pub holds : Holds piece b
     pub is : found ≡ Some (piece.place + (b - source_block piece))
 
+  -- where an extent from a byte on has the block, and else another place
+  abbrev from_here : Piece → ℕ → ℕ → Option ℕ → Option ℕ
+  from_here p b offset rest = if covers offset (Regular (range_by p)) (4096 * b) then content_block ranges (Regular (range_by p)) (b - offset / 4096) else rest
+
   pub place_of : (ps : List Piece) (items : List TreeItem) (low b : ℕ) → map bare_item items ≡ extents_at 257 source_block ps → AreSources low ps
       → FoundIn ps b (file_block ranges items b) ⊎ ((file_block ranges items b ≡ None) × ((p : Piece) → Contains ps p → ¬ Holds p b))
   place_of [] [] low b are sources = inr (refl, λ p h. absurd (omega (arith, h.1)))
@@ -186,8 +190,8 @@ module _ (ranges : List MapRange) where
       let small = is.small in
       let offset : i.key.offset ≡ 4096 * source_block p = ap (λ (k : Key). k.offset) parts.0 in
       let read : file_extent_of i.body ≡ Some (regular_extent p.place p.count) = reads_extent p i.body small parts.1 in
-      let step : file_block ranges (i ∷ items) b ≡ from_here (4096 * source_block p) (file_block ranges items b) =
-      ap (λ (o : Option FileExtentValue). block_from ranges i o b (file_block ranges items b)) read ∙ ap (λ (n : ℕ). from_here n (file_block ranges items b)) offset in
+      let step : file_block ranges (i ∷ items) b ≡ from_here p b (4096 * source_block p) (file_block ranges items b) =
+      ap (λ (o : Option FileExtentValue). block_from ranges i o b (file_block ranges items b)) read ∙ ap (λ (n : ℕ). from_here p b n (file_block ranges items b)) offset in
       ⊎_elim
       (λ (t : covers (4096 * source_block p) (Regular (range_by p)) (4096 * b) ≡ true).
       let h : Holds p b = of_piece p b t in
@@ -205,6 +209,3 @@ module _ (ranges : List MapRange) where
       (λ none. inr (past ∙ none.0, λ q k h. ⊎_elim (λ (same : p ≡ q). absurd (both_ways (covers (4096 * source_block p) (Regular (range_by p)) (4096 * b)) f (in_piece p b (subst (λ (x : Piece). Holds x b) (sym same) h)))) (λ later. none.1 q later h) (contains_cases q p ps k)))
       (place_of ps items (source_block p + p.count) b parts.2 sources.2))
       (cases_Bool (covers (4096 * source_block p) (Regular (range_by p)) (4096 * b)))
-    where
-      abbrev from_here : ℕ → Option ℕ → Option ℕ
-      from_here offset rest = if covers offset (Regular (range_by p)) (4096 * b) then content_block ranges (Regular (range_by p)) (b - offset / 4096) else rest

@@ -168,13 +168,13 @@ module _ (image : Image) (m : Making) (made : IsMaking image m) (size : IsNodeSi
   lie : LieWell used m.plan.data_ m.pieces
   lie = well m.volume image m.options m.plan m.pieces of
 
+  abbrev old_pieces : List Piece
+  old_pieces = kept image of.found m.options m.plan plan ++ rest image of.found m.options m.plan plan
+
   distinct : IsDistinct crosses m.pieces
   distinct =
       placed_distinct image of.found m.options m.plan plan crosses crosses_flips (λ p q b. refl) (λ p q b. refl)
-      (λ i j d order inside. no_cross (get_or all i d) (get_or all j d) ((cover image of.found m.options m.plan plan).once i j d order inside)) m.pieces of.placed
-    where
-      abbrev all : List Piece
-      all = kept image of.found m.options m.plan plan ++ rest image of.found m.options m.plan plan
+      (λ i j d order inside. no_cross (get_or old_pieces i d) (get_or old_pieces j d) ((cover image of.found m.options m.plan plan).once i j d order inside)) m.pieces of.placed
 
   source : (p : Piece) → Contains m.pieces p → is_some p.from ≡ true → IsSource (map_for m.chunks) p
   source p h t =
@@ -206,6 +206,9 @@ module _ (image : Image) (m : Making) (made : IsMaking image m) (size : IsNodeSi
       (ascending_all source_block (λ q. Contains m.pieces q × (is_some q.from ≡ true)) (filter (λ q. is_some q.from) m.pieces)
       (all_contain (λ q. Contains m.pieces q × (is_some q.from ≡ true)) (filter (λ q. is_some q.from) m.pieces) (λ q k. from_filter (λ (z : Piece). is_some z.from) m.pieces q k))) h
 
+  abbrev Apart : Piece → Piece → Type 0
+  Apart p q = source_block p < source_block q → source_block p + p.count ≤ source_block q
+
   pub are_sources : AreSources (map_for m.chunks) 0 (pieces_of_volume m.pieces)
   are_sources =
       sources_are (map_for m.chunks) Apart (λ p q apart less. apart less) 0 (pieces_of_volume m.pieces)
@@ -214,9 +217,6 @@ module _ (image : Image) (m : Making) (made : IsMaking image m) (size : IsNodeSi
       (all_contain (λ q. 0 ≤ source_block q) (pieces_of_volume m.pieces) (λ q h. omega arith))
       (λ p q h k less. two p q (member p h) (member q k))
     where
-      abbrev Apart : Piece → Piece → Type 0
-      Apart p q = source_block p < source_block q → source_block p + p.count ≤ source_block q
-
       two : (p q : Piece) → Contains m.pieces p × (is_some p.from ≡ true) → Contains m.pieces q × (is_some q.from ≡ true) → Apart p q
       two p q h k = λ less.
           let is_p : IsSource (map_for m.chunks) p = source p h.0 h.1 in
