@@ -168,18 +168,19 @@ module _ (has : ℕ → Bool) (items : List TreeItem) (address : ℕ) (keeps : K
     -- the entry that is found is this one
     first_saved : (ns : List Naming) → ((n : Naming) → Contains ns n → Contains (namings items) n) → Contains ns saved → entry_named (is_called (codes "reiserfs_saved")) ns ≡ Some saved.location
     first_saved [] all h = absurd (omega (arith, h.1))
-    first_saved (n ∷ ns) all h = by (n.dir == 256) (is_saved_name n.name) refl refl
+    first_saved (n ∷ ns) all h = by (first_saved ns (λ x k. all x (contains_tail x n ns k))) (n.dir == 256) (is_saved_name n.name) refl refl
       where
-        later : (n ≡ saved → ⊥) → entry_named (is_called (codes "reiserfs_saved")) ns ≡ Some saved.location
-        later other = ⊎_elim (λ (same : n ≡ saved). absurd (other same)) (λ (rest : Contains ns saved). first_saved ns (λ x k. all x (contains_tail x n ns k)) rest) (contains_cases saved n ns h)
+        later : (Contains ns saved → entry_named (is_called (codes "reiserfs_saved")) ns ≡ Some saved.location) → (n ≡ saved → ⊥) → entry_named (is_called (codes "reiserfs_saved")) ns ≡ Some saved.location
+        later next other = ⊎_elim (λ (same : n ≡ saved). absurd (other same)) next (contains_cases saved n ns h)
 
         called_saved : is_saved_name saved.name ≡ true
         called_saved = ap is_saved_name name
 
-        by : (a b : Bool) → (n.dir == 256) ≡ a → is_saved_name n.name ≡ b → (if a && b then Some n.location else entry_named (is_called (codes "reiserfs_saved")) ns) ≡ Some saved.location
-        by true true at called = ap (λ (x : Naming). let o : Option Key = Some x.location in o) (saved_is n (all n (contains_head n ns)) (eqb-true n.dir 256 at) called)
-        by true false at called = later (λ same. both_ways (is_saved_name n.name) called (subst (λ (x : Naming). is_saved_name x.name ≡ true) (sym same) called_saved))
-        by false b at called = later (λ same. both_ways (n.dir == 256) at (eq-eqb n.dir 256 (ap (λ (x : Naming). x.dir) same ∙ dir)))
+        by : (Contains ns saved → entry_named (is_called (codes "reiserfs_saved")) ns ≡ Some saved.location) → (a b : Bool) → (n.dir == 256) ≡ a → is_saved_name n.name ≡ b
+            → (if a && b then Some n.location else entry_named (is_called (codes "reiserfs_saved")) ns) ≡ Some saved.location
+        by next true true at called = ap (λ (x : Naming). let o : Option Key = Some x.location in o) (saved_is n (all n (contains_head n ns)) (eqb-true n.dir 256 at) called)
+        by next true false at called = later next (λ same. both_ways (is_saved_name n.name) called (subst (λ (x : Naming). is_saved_name x.name ≡ true) (sym same) called_saved))
+        by next false b at called = later next (λ same. both_ways (n.dir == 256) at (eq-eqb n.dir 256 (ap (λ (x : Naming). x.dir) same ∙ dir)))
 
     pub saved_found : saved_entry items ≡ Some saved.location
     saved_found = first_saved (namings items) (λ n h. h) there

@@ -25,8 +25,9 @@ use Rattle.btr_keys.proofs.Records.{dir_items_read_back, inodes_read_back}
 use Rattle.btr_names.specs.Inodes.{inode_item, is_inode_of}
 use Rattle.btr_names.specs.Links.{index_entry, is_index, naming_at, naming_of, namings, only_one, own_naming}
 use Rattle.btr_names.specs.declared.naming.Naming.{Naming}
-use Rattle.btr_node.specs.Leaf.{Item}
+use Rattle.btr_node.specs.Leaf.{Item, keys_of}
 use Rattle.btr_node.specs.NodeSize.{IsNodeSize}
+use Rattle.btr_node.specs.Order.{ascends}
 use Rattle.btr_reader.specs.Image.{ImageFile, entry_named, file_block, file_if_image, file_refusals, if_there, image_at, image_entry, image_in, image_place, image_refusals_in, index_refusals, index_refusals_at, inode_number, is_called, is_inline, own_index_refusals, own_refusals, root_refusals, twice_refusals}
 use Rattle.btr_walk.specs.Events.{TreeItem}
 use Rattle.btr_walk.specs.Tree.{bare_item}
@@ -40,6 +41,7 @@ use Rattle.extent_pieces.proofs.Covering.{used_inside}
 use Rattle.file_items.specs.Extents.{extents_at, piece_bytes, pieces_of_volume, source_block}
 use Rattle.file_items.specs.Names.{Indexed, entry_to, letters, root_ref}
 use Rattle.file_items.specs.Small.{image_entries, image_flags, image_head, image_items, image_name, root_items}
+use Rattle.file_laws.specs.Keys.{ImageKeysAscend}
 use Rattle.item_list.specs.Extents.{regular_extent}
 use Rattle.item_list.specs.Inodes.{inode_item as new_item, inode_made, ref_item, stamp_of}
 use Rattle.reiser_bitmap.specs.Bits.{has}
@@ -53,7 +55,7 @@ use Rattle.converted_laws.specs.Opened.{IsNewVolume, map_for}
 use Rattle.converted_laws.specs.Saved.{HasImage, IsImageOf, SavedImageReads}
 use Rattle.converted_laws.proofs.Chunks.{item_parts}
 use Rattle.converted_laws.proofs.SavedExtents.{AreSources, FoundIn, IsSource, extents_sound, place_of, reads_extent, source_in, sources_bytes}
-use Rattle.converted_laws.proofs.SavedPieces.{are_sources, held, member}
+use Rattle.converted_laws.proofs.SavedPieces.{are_sources, held, member, six_behind}
 use Rattle.converted_laws.proofs.Superblock.{size}
 
 -- ---- the items of the image's tree
@@ -80,19 +82,6 @@ in_order blocks pieces datasum now =
 order_is : (blocks : ℕ) (pieces : List Piece) (datasum : Bool) (now : ℕ) → image_items blocks pieces datasum now ≡ in_order blocks pieces datasum now
 unfolding image_items image_head
 order_is blocks pieces datasum now = refl
-
--- an item and those behind it
-record Begins (items : List TreeItem) (x : Item) (xs : List Item) : Type 0 where
-  first : TreeItem
-  behind : List TreeItem
-  is : items ≡ first ∷ behind
-  key : first.key ≡ x.0
-  body : first.body ≡ x.1
-  rest : map bare_item behind ≡ xs
-
-begins : (items : List TreeItem) (x : Item) (xs : List Item) → map bare_item items ≡ x ∷ xs → Begins items x xs
-begins [] x xs e = absurd (cc e)
-begins (i ∷ items) x xs e = let parts = item_parts i items x xs e in record { first = i; behind = items; is = refl; key = parts.0; body = parts.1; rest = parts.2 }
 
 -- ---- what other items are
 
@@ -174,45 +163,71 @@ record IsTold (blocks : ℕ) (pieces : List Piece) (datasum : Bool) (now : ℕ) 
   inode_is : inode_item items 257 ≡ Some inode
   extents_are : extents_of items 257 ≡ extents
 
+one_left : {A : Type 0} (a b c d e f g : List A) → a ≡ [] → b ≡ [] → c ≡ [] → e ≡ [] → f ≡ [] → g ≡ [] → a ++ (b ++ (c ++ (d ++ (e ++ (f ++ g))))) ≡ d
+one_left a b c d e f g is_a is_b is_c is_e is_f is_g = rw (is_a, is_b, is_c, is_e, is_f, is_g) (append-nil d)
+
+-- the same of the items by themselves
+module _ (blocks : ℕ) (pieces : List Piece) (datasum : Bool) (now : ℕ) (a b c d f g : TreeItem) (extents : List TreeItem) where
+  abbrev list : List TreeItem
+  list = a ∷ (b ∷ (c ∷ (d ∷ (f ∷ (g ∷ extents)))))
+
+  told_by : a.key ≡ make_key 256 1 0 → b.key ≡ make_key 256 12 256 → c.key ≡ make_key 256 84 (name_hash image_name) → d.key ≡ make_key 256 96 2 → d.body ≡ dir_entry_bytes entry → f.key ≡ make_key 257 1 0
+      → f.body ≡ inode_bytes (file_inode blocks (piece_bytes (pieces_of_volume pieces)) datasum now) → g.key ≡ make_key 257 12 256 → map bare_item extents ≡ extents_at 257 source_block (pieces_of_volume pieces)
+      → IsTold blocks pieces datasum now (a ∷ (b ∷ (c ∷ (d ∷ (f ∷ (g ∷ extents))))))
+  told_by ka kb kc kd bd kf bf kg are =
+      let names = extents_names (pieces_of_volume pieces) extents are in
+      record {
+        index = d;
+        inode = f;
+        extents = extents;
+        are = are;
+        index_key = kd;
+        index_body = bd;
+        inode_body = bf;
+        namings_are =
+            one_left (own_naming a) (own_naming b) (own_naming c) (own_naming d) (own_naming f) (own_naming g) (namings extents)
+            (no_naming a (make_key 256 1 0) ka refl) (no_naming b (make_key 256 12 256) kb refl) (no_naming c (make_key 256 84 (name_hash image_name)) kc refl)
+            (no_naming f (make_key 257 1 0) kf refl) (no_naming g (make_key 257 12 256) kg refl) names.0;
+        refusals_are =
+            one_left (own_index_refusals a) (own_index_refusals b) (own_index_refusals c) (own_index_refusals d) (own_index_refusals f) (own_index_refusals g) (index_refusals extents)
+            (no_index a (make_key 256 1 0) ka refl) (no_index b (make_key 256 12 256) kb refl) (no_index c (make_key 256 84 (name_hash image_name)) kc refl)
+            (no_index f (make_key 257 1 0) kf refl) (no_index g (make_key 257 12 256) kg refl) names.1;
+        inode_is =
+            not_inode a (b ∷ (c ∷ (d ∷ (f ∷ (g ∷ extents))))) (make_key 256 1 0) ka refl
+            ∙ (not_inode b (c ∷ (d ∷ (f ∷ (g ∷ extents)))) (make_key 256 12 256) kb refl
+            ∙ (not_inode c (d ∷ (f ∷ (g ∷ extents))) (make_key 256 84 (name_hash image_name)) kc refl
+            ∙ (not_inode d (f ∷ (g ∷ extents)) (make_key 256 96 2) kd refl
+            ∙ ap (λ (k : Key). if eqb k.objectid 257 && (eqb k.kind 1 && eqb k.offset 0) then Some f else inode_item (g ∷ extents) 257) kf)));
+        extents_are =
+            not_extent a (b ∷ (c ∷ (d ∷ (f ∷ (g ∷ extents))))) (make_key 256 1 0) ka refl
+            ∙ (not_extent b (c ∷ (d ∷ (f ∷ (g ∷ extents)))) (make_key 256 12 256) kb refl
+            ∙ (not_extent c (d ∷ (f ∷ (g ∷ extents))) (make_key 256 84 (name_hash image_name)) kc refl
+            ∙ (not_extent d (f ∷ (g ∷ extents)) (make_key 256 96 2) kd refl
+            ∙ (not_extent f (g ∷ extents) (make_key 257 1 0) kf refl
+            ∙ (not_extent g extents (make_key 257 12 256) kg refl ∙ extents_own (pieces_of_volume pieces) extents are)))));
+      }
+
 told : (blocks : ℕ) (pieces : List Piece) (datasum : Bool) (now : ℕ) (items : List TreeItem) → map bare_item items ≡ in_order blocks pieces datasum now → IsTold blocks pieces datasum now items
-told blocks pieces datasum now items e =
-    let a = begins items _ _ e in
-    let b = begins a.behind _ _ a.rest in
-    let c = begins b.behind _ _ b.rest in
-    let d = begins c.behind _ _ c.rest in
-    let f = begins d.behind _ _ d.rest in
-    let g = begins f.behind _ _ f.rest in
-    let names = extents_names (pieces_of_volume pieces) g.behind g.rest in
-    let whole : items ≡ a.first ∷ (b.first ∷ (c.first ∷ (d.first ∷ (f.first ∷ (g.first ∷ g.behind))))) =
-    a.is ∙ ap (λ (l : List TreeItem). a.first ∷ l) (b.is ∙ ap (λ (l : List TreeItem). b.first ∷ l) (c.is ∙ ap (λ (l : List TreeItem). c.first ∷ l) (d.is ∙ ap (λ (l : List TreeItem). d.first ∷ l) (f.is ∙ ap (λ (l : List TreeItem). f.first ∷ l) g.is)))) in
-    record {
-      index = d.first;
-      inode = f.first;
-      extents = g.behind;
-      are = g.rest;
-      index_key = d.key;
-      index_body = d.body;
-      inode_body = f.body;
-      namings_are =
-          ap namings whole
-          ∙ one_left (own_naming a.first) (own_naming b.first) (own_naming c.first) (own_naming d.first) (own_naming f.first) (own_naming g.first) (namings g.behind)
-          (no_naming a.first _ a.key refl) (no_naming b.first _ b.key refl) (no_naming c.first _ c.key refl) (no_naming f.first _ f.key refl) (no_naming g.first _ g.key refl) names.0;
-      refusals_are =
-          ap index_refusals whole
-          ∙ one_left (own_index_refusals a.first) (own_index_refusals b.first) (own_index_refusals c.first) (own_index_refusals d.first) (own_index_refusals f.first) (own_index_refusals g.first) (index_refusals g.behind)
-          (no_index a.first _ a.key refl) (no_index b.first _ b.key refl) (no_index c.first _ c.key refl) (no_index f.first _ f.key refl) (no_index g.first _ g.key refl) names.1;
-      inode_is =
-          ap (λ (l : List TreeItem). inode_item l 257) whole
-          ∙ (not_inode a.first _ _ a.key refl ∙ (not_inode b.first _ _ b.key refl ∙ (not_inode c.first _ _ c.key refl ∙ (not_inode d.first _ _ d.key refl
-          ∙ ap (λ (k : Key). if eqb k.objectid 257 && (eqb k.kind 1 && eqb k.offset 0) then Some f.first else inode_item (g.first ∷ g.behind) 257) f.key))));
-      extents_are =
-          ap (λ (l : List TreeItem). extents_of l 257) whole
-          ∙ (not_extent a.first _ _ a.key refl ∙ (not_extent b.first _ _ b.key refl ∙ (not_extent c.first _ _ c.key refl ∙ (not_extent d.first _ _ d.key refl
-          ∙ (not_extent f.first _ _ f.key refl ∙ (not_extent g.first _ _ g.key refl ∙ extents_own (pieces_of_volume pieces) g.behind g.rest))))));
-    }
-  where
-    one_left : {A : Type 0} (a b c d e f g : List A) → a ≡ [] → b ≡ [] → c ≡ [] → e ≡ [] → f ≡ [] → g ≡ [] → a ++ (b ++ (c ++ (d ++ (e ++ (f ++ g))))) ≡ d
-    one_left a b c d e f g is_a is_b is_c is_e is_f is_g = rw (is_a, is_b, is_c, is_e, is_f, is_g) (append-nil d)
+told blocks pieces datasum now [] e = absurd (cc e)
+told blocks pieces datasum now (a ∷ []) e = absurd (cc e)
+told blocks pieces datasum now (a ∷ (b ∷ [])) e = absurd (cc e)
+told blocks pieces datasum now (a ∷ (b ∷ (c ∷ []))) e = absurd (cc e)
+told blocks pieces datasum now (a ∷ (b ∷ (c ∷ (d ∷ [])))) e = absurd (cc e)
+told blocks pieces datasum now (a ∷ (b ∷ (c ∷ (d ∷ (f ∷ []))))) e = absurd (cc e)
+told blocks pieces datasum now (a ∷ (b ∷ (c ∷ (d ∷ (f ∷ (g ∷ extents)))))) e =
+    let root : Item = new_item 256 (inode_made now 0x41ED (2 * letters image_entries) 0 0) in
+    let hashed : Item = (make_key 256 84 (name_hash image_name), dir_entry_bytes entry ++ []) in
+    let indexed : Item = (make_key 256 96 2, dir_entry_bytes entry) in
+    let inode : Item = new_item 257 (file_inode blocks (piece_bytes (pieces_of_volume pieces)) datasum now) in
+    let named : Item = ref_item 257 256 2 image_name in
+    let last : List Item = extents_at 257 source_block (pieces_of_volume pieces) in
+    let pa = item_parts a (b ∷ (c ∷ (d ∷ (f ∷ (g ∷ extents))))) root (root_ref ∷ (hashed ∷ (indexed ∷ (inode ∷ (named ∷ last))))) e in
+    let pb = item_parts b (c ∷ (d ∷ (f ∷ (g ∷ extents)))) root_ref (hashed ∷ (indexed ∷ (inode ∷ (named ∷ last)))) pa.2 in
+    let pc = item_parts c (d ∷ (f ∷ (g ∷ extents))) hashed (indexed ∷ (inode ∷ (named ∷ last))) pb.2 in
+    let pd = item_parts d (f ∷ (g ∷ extents)) indexed (inode ∷ (named ∷ last)) pc.2 in
+    let pf = item_parts f (g ∷ extents) inode (named ∷ last) pd.2 in
+    let pg = item_parts g extents named last pf.2 in
+    told_by blocks pieces datasum now a b c d f g extents pa.0 pb.0 pc.0 pd.0 pd.1 pf.0 pf.1 pg.0 pg.2
 
 -- none of the extents is inline
 no_inline : (ps : List Piece) (items : List TreeItem) → ((p : Piece) → Contains ps p → p.place + p.count ≤ 2 ^ 29) → map bare_item items ≡ extents_at 257 source_block ps → list_any (λ e. is_inline (file_extent_of e.body)) items ≡ false
@@ -279,7 +294,7 @@ module _ (blocks : ℕ) (pieces : List Piece) (datasum : Bool) (now : ℕ) (item
         whole : (a b : Bool) → a ≡ true → b ≡ false → (if true && (a && not b) then Some file else None) ≡ Some file
         whole a b s r = rw (s, r) refl
 
-module _ (o : Options) (ids : Ids) (now : ℕ) (image other : Image) (m : Making) (r : VolumeTrees) (nodes : List TreeNode) (items : List TreeItem) (v : IsNewVolume o ids now image other m r nodes) (low : now < 2 ^ 63) (are : map bare_item items ≡ image_tree_items m) where
+module _ (rising : ImageKeysAscend) (o : Options) (ids : Ids) (now : ℕ) (image other : Image) (m : Making) (r : VolumeTrees) (nodes : List TreeNode) (items : List TreeItem) (v : IsNewVolume o ids now image other m r nodes) (low : now < 2 ^ 63) (are : map bare_item items ≡ image_tree_items m) where
   abbrev making : IsMaking image m
   making = v.new.conversion.making
 
@@ -302,7 +317,11 @@ module _ (o : Options) (ids : Ids) (now : ℕ) (image other : Image) (m : Making
   made_low = subst (λ (n : ℕ). n < 2 ^ 63) (sym v.new.conversion.now_is) low
 
   sources : AreSources (map_for m.chunks) 0 (pieces_of_volume m.pieces)
-  sources = are_sources image m making fit
+  sources =
+      are_sources image m making fit
+      (six_behind (new_item 256 (inode_made m.now 0x41ED (2 * letters image_entries) 0 0)) root_ref (make_key 256 84 (name_hash image_name), dir_entry_bytes entry ++ []) (make_key 256 96 2, dir_entry_bytes entry)
+      (new_item 257 (file_inode m.volume.sup.blocks (piece_bytes (pieces_of_volume m.pieces)) m.options.datasum m.now)) (ref_item 257 256 2 image_name) (extents_at 257 source_block (pieces_of_volume m.pieces))
+      (ap (λ (items : List Item). ascends (keys_of items)) (sym (order_is m.volume.sup.blocks m.pieces m.options.datasum m.now)) ∙ (rising m.volume image m.options m.plan m.pieces m.now making.has_pieces).saved))
 
   small : piece_bytes (pieces_of_volume m.pieces) ≤ 2 ^ 41
   small = sources_bytes (map_for m.chunks) 0 (pieces_of_volume m.pieces) sources (omega arith)
@@ -325,7 +344,7 @@ module _ (o : Options) (ids : Ids) (now : ℕ) (image other : Image) (m : Making
         let inside = used_inside (used_of image) no_owner b t in
         let same = blocks_are image m making in
         ⊎_elim
-        (λ (found : FoundIn ps b (file_block (map_for m.chunks) tell.extents b)).
+        (λ (found : FoundIn (map_for m.chunks) ps b (file_block (map_for m.chunks) tell.extents b)).
         let of : IsSource (map_for m.chunks) found.piece = source_in (map_for m.chunks) 0 ps sources found.piece found.among in
         let one = member image m making fit found.piece found.among in
         let low = found.holds.0 in
@@ -337,7 +356,7 @@ module _ (o : Options) (ids : Ids) (now : ℕ) (image other : Image) (m : Making
         (place_of (map_for m.chunks) ps tell.extents 0 b tell.are sources);
     holes = λ b t.
         ⊎_elim
-        (λ (found : FoundIn ps b (file_block (map_for m.chunks) tell.extents b)).
+        (λ (found : FoundIn (map_for m.chunks) ps b (file_block (map_for m.chunks) tell.extents b)).
         let of : IsSource (map_for m.chunks) found.piece = source_in (map_for m.chunks) 0 ps sources found.piece found.among in
         let one = member image m making fit found.piece found.among in
         let low = found.holds.0 in
@@ -367,5 +386,5 @@ module _ (o : Options) (ids : Ids) (now : ℕ) (image other : Image) (m : Making
     is = is_image_of;
   }
 
-pub saved_image_reads : SavedImageReads
-saved_image_reads = λ o ids now image other m r nodes items v low are. has_image o ids now image other m r nodes items v low are
+pub saved_image_reads : ImageKeysAscend → SavedImageReads
+saved_image_reads rising = λ o ids now image other m r nodes items v low are. has_image rising o ids now image other m r nodes items v low are

@@ -97,7 +97,7 @@ module _ (ranges : List MapRange) where
   -- ---- all extents
 
   -- the pieces ascend by the blocks that they hold
-  pub AreSources : ℕ → List Piece → Type 0
+  abbrev pub AreSources : ℕ → List Piece → Type 0
   AreSources low [] = Unit {0}
   AreSources low (p ∷ ps) = IsSource ranges p × (low ≤ source_block p) × AreSources (source_block p + p.count) ps
 

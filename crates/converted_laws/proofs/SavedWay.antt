@@ -34,6 +34,7 @@ use Rattle.conversion.specs.declared.trees.VolumeTrees.{VolumeTrees}
 use Rattle.file_items.specs.Names.{Indexed, entry_to, indexed_in, names_in, next_index, saved_entry}
 use Rattle.file_items.specs.Tree.{Source, kind_in, number_of, stat_in}
 use Rattle.file_laws.specs.Entries.{EntriesAreThere, naming_by, namings_by, unplaced}
+use Rattle.file_laws.specs.Keys.{ImageKeysAscend}
 use Rattle.file_laws.proofs.Keys.{root_first}
 use Rattle.fs_rows.specs.declared.row.Kind.{Kind}
 use Rattle.fs_rows.specs.declared.row.Kind.TheVariants.{Directory, File}
@@ -102,17 +103,17 @@ module _ (image : Image) (m : Making) (made : IsMaking image m) (entries : Entri
 
 module _ (image : Image) (s : Super) (ranges : List MapRange) where
   -- a tree whose root item is found
-  below_by : (number : ℕ) (next : Pointer → List BtrRefusal) (root : Root) (items : List Item) → ReadsTree image s ranges number root items → after_root next (root_item number (roots_on image s ranges)) ≡ next (root_pointer root)
-  below_by number next root items tree =
+  below_by : (number : ℕ) (next : Pointer → List BtrRefusal) (at : Root) (items : List Item) → ReadsTree image s ranges number at items → after_root next (root_item number (roots_on image s ranges)) ≡ next (root_pointer at)
+  below_by number next at items tree =
       ap (after_root next) tree.has_item ∙ ap (after_pointer next tree.item.leaf) tree.leads
 
-  pointer_by : (number : ℕ) (root : Root) (items : List Item) → ReadsTree image s ranges number root items → pointer_in (root_item number (roots_on image s ranges)) ≡ Some (root_pointer root)
-  pointer_by number root items tree = ap pointer_in tree.has_item ∙ tree.leads
+  pointer_by : (number : ℕ) (at : Root) (items : List Item) → ReadsTree image s ranges number at items → pointer_in (root_item number (roots_on image s ranges)) ≡ Some (root_pointer at)
+  pointer_by number at items tree = ap pointer_in tree.has_item ∙ tree.leads
 
-  entries_none : (number : ℕ) (root : Root) (items : List Item) → ReadsTree image s ranges number root items → root_refusals (found image ranges (tree_of s number (root_pointer root))) ≡ [] → entry_refusals image ranges (tree_of s number (root_pointer root)) ≡ []
-  entries_none number root items tree names = ap (λ (rs : List BtrRefusal). rs ++ root_refusals (found image ranges (tree_of s number (root_pointer root)))) tree.sound ∙ names
+  entries_none : (number : ℕ) (at : Root) (items : List Item) → ReadsTree image s ranges number at items → root_refusals (found image ranges (tree_of s number (root_pointer at))) ≡ [] → entry_refusals image ranges (tree_of s number (root_pointer at)) ≡ []
+  entries_none number at items tree names = ap (λ (rs : List BtrRefusal). rs ++ root_refusals (found image ranges (tree_of s number (root_pointer at)))) tree.sound ∙ names
 
-module _ (entries : EntriesAreThere) (o : Options) (ids : Ids) (now : ℕ) (image other : Image) (m : Making) (r : VolumeTrees) (nodes : List TreeNode) (v : IsNewVolume o ids now image other m r nodes) (low : now < 2 ^ 63) (keeps : KeepsFileNames other r) where
+module _ (entries : EntriesAreThere) (rising : ImageKeysAscend) (o : Options) (ids : Ids) (now : ℕ) (image other : Image) (m : Making) (r : VolumeTrees) (nodes : List TreeNode) (v : IsNewVolume o ids now image other m r nodes) (low : now < 2 ^ 63) (keeps : KeepsFileNames other r) where
   abbrev is : IsReadableWithTrees image other m r nodes
   is = readable o ids now image other m r nodes v
 
@@ -151,7 +152,7 @@ module _ (entries : EntriesAreThere) (o : Options) (ids : Ids) (now : ℕ) (imag
   has : HasImage image other (own_map other) m.volume.sup.blocks saved_items
   has =
       subst (λ (rs : List MapRange). HasImage image other rs m.volume.sup.blocks saved_items) (sym is.map_is)
-      (has_image o ids now image other m r nodes saved_items v low tree256.items_are)
+      (has_image rising o ids now image other m r nodes saved_items v low tree256.items_are)
 
   below_none : refusals_below other (own_super other) (own_map other) 256 (root_item 256 (roots_on other (own_super other) (own_map other))) ≡ []
   below_none =
@@ -183,5 +184,5 @@ module _ (entries : EntriesAreThere) (o : Options) (ids : Ids) (now : ℕ) (imag
     is = has.is;
   }
 
-pub saved_image_is_readable : EntriesAreThere → SavedImageIsReadable
-saved_image_is_readable entries = λ o ids now image other m r nodes v low keeps. reads_saved entries o ids now image other m r nodes v low keeps
+pub saved_image_is_readable : EntriesAreThere → ImageKeysAscend → SavedImageIsReadable
+saved_image_is_readable entries rising = λ o ids now image other m r nodes v low keeps. reads_saved entries rising o ids now image other m r nodes v low keeps

@@ -2,7 +2,7 @@
 ghost use Rattle.converted_laws.specs.Laws.{ChunksMap, ConvertedIsReadable, SuperblockReads, TreesRead};
 ghost use Rattle.converted_laws.specs.Saved.{SavedImageIsReadable, SavedImageReads};
 
-use file_laws::entries_are_there;
+use file_laws::{entries_are_there, image_keys_ascend};
 
 /// The superblock of a converted volume is read, with the fields that were written, and names no log tree.
 pub fn superblock_reads()
@@ -29,11 +29,14 @@ pub fn converted_is_readable()
 /// used block has a place that holds its bytes, and any other block is a hole.
 pub fn saved_image_reads()
     ensures { SavedImageReads }
-{}
+{
+    image_keys_ascend();
+}
 
 /// Where its file tree keeps the rules of names, the saved image is readable, and it is that of the old volume.
 pub fn saved_image_is_readable()
     ensures { SavedImageIsReadable }
 {
     entries_are_there();
+    image_keys_ascend();
 }
