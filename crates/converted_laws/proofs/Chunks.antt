@@ -1,15 +1,13 @@
 -- The chunks of a converted volume are read as they were written.
-use Rattle.std.proofs.Common.{◌≡◌, ◌≢◌, ◌⊎◌, ◌≤◌, ◌<◌, ℕ, zero, suc, ◌+◌, ◌-◌, ◌*◌, ◌/◌, ◌%◌, ◌^◌, inl, inr, ◌&&◌, ◌||◌, eqb, leb, ltb, Bool, true, false, not, cond, List, [], ◌∷◌, ◌++◌, length, map, filter, get_or, replicate, max, min, Option, Some, None, refl, sym, ap, subst, ◌∙◌, ⊎_elim, arith, append_assoc}
-use Rattle.std.specs.Prelude.{All, AllPairs, Contains, if◌then◌else◌, nat_eq, nat_le, nat_lt}
+use Rattle.std.proofs.Common.{◌≡◌, ◌≢◌, ◌⊎◌, ◌≤◌, ◌<◌, ℕ, suc, ◌+◌, ◌*◌, ◌%◌, ◌^◌, inl, inr, ◌&&◌, eqb, Bool, true, false, not, cond, List, [], ◌∷◌, ◌++◌, length, map, filter, max, min, Option, Some, None, refl, sym, ap, subst, ◌∙◌, ⊎_elim, arith, append_assoc}
+use Rattle.std.specs.Prelude.{AllPairs, Contains, if◌then◌else◌, nat_eq, nat_lt}
 use Rattle.std.specs.List.{AllByRecursion, flat_map, list_any}
 use Rattle.std.specs.Cmp.Lexicographic.{pointwise}
 use Rattle.std.specs.Option.{option_map}
 use Rattle.std.proofs.lemmas.Bool.{and_from, cases_Bool, eq-eqb, le-leb, le-ltb, ne_eqb, or_left, or_right}
-use Rattle.std.proofs.lemmas.Bool.Decides.{nat_tests}
 use Rattle.std.proofs.lemmas.List.{append-nil, map-append}
-use Rattle.std.proofs.lemmas.List.Elements.{Contains-append_cases, Contains-append_left, Contains-append_right}
-use Rattle.std.proofs.lemmas.List.Folds.{flat_map-map, list_any-from_Any, list_any_none}
-use Rattle.path_list.proofs.Lists.{from_filter, from_map, in_filter, in_map}
+use Rattle.std.proofs.lemmas.List.Elements.{Contains-append_cases}
+use Rattle.std.proofs.lemmas.List.Folds.{flat_map-map}
 use Rattle.outside.specs.declared.refusal.BtrRefusal.{BtrRefusal}
 use Rattle.outside.specs.declared.refusal.BtrRefusal.TheVariants.{BadBtrfs, Unsupported}
 use Rattle.outside.specs.declared.rule.BtrRule.TheVariants.{ChunkForm}
@@ -19,7 +17,7 @@ use Rattle.btr_files.specs.Extents.{unless}
 use Rattle.btr_keys.specs.Key.{make_key}
 use Rattle.btr_keys.specs.declared.key.Key.{Key}
 use Rattle.btr_node.specs.Leaf.{Item}
-use Rattle.btr_space_items.specs.Chunk.{chunk_bytes, chunk_layout, chunk_of}
+use Rattle.btr_space_items.specs.Chunk.{chunk_bytes, chunk_layout}
 use Rattle.btr_space_items.specs.Device.{device_bytes}
 use Rattle.btr_space_items.specs.Stripe.{stripe_layout}
 use Rattle.btr_space_items.specs.declared.chunk.Chunk.{Chunk as ChunkBody}
@@ -27,16 +25,16 @@ use Rattle.btr_space_items.proofs.Records.{chunks_read_back}
 use Rattle.btr_walk.specs.Events.{TreeItem}
 use Rattle.btr_walk.specs.Tree.{bare_item}
 use Rattle.btr_walk.specs.declared.map.MapRange.{MapRange}
-use Rattle.btr_reader.specs.Chunks.{beside_refusals, chunk_in, chunk_item_refusals, chunk_refusals, chunks_refusals, is_chunk_key, is_read_kind, items_refusals, lies_on, new_chunk, overlap, range_of, same_body, same_chunk, same_stripe, with_chunk, with_items}
+use Rattle.btr_reader.specs.Chunks.{beside_refusals, chunk_in, chunk_item_refusals, chunk_refusals, chunks_refusals, is_read_kind, items_refusals, lies_on, new_chunk, overlap, same_body, same_chunk, with_chunk, with_items}
 use Rattle.btr_reader.specs.Laws.{FitsArray, array_entry}
 use Rattle.btr_reader.specs.declared.chunk.ChunkAt.{ChunkAt}
-use Rattle.convert_steps.specs.Superblock.{boot_bytes, is_system_role, record_bytes}
+use Rattle.convert_steps.specs.Superblock.{is_system_role, record_bytes}
 use Rattle.reiser_bitmap.proofs.Ranges.{contains_cases, contains_head, contains_tail}
 use Rattle.space_items.specs.Chunks.{chunk_body, chunk_item, chunk_items, chunk_kind, device_body}
 use Rattle.unit_plan.specs.declared.chunk.Chunk.{Chunk}
 use Rattle.unit_plan.specs.declared.chunk.Role.{Role}
 use Rattle.unit_plan.specs.declared.chunk.Role.TheVariants.{System, Metadata, Data}
-use Rattle.converted_laws.specs.Opened.{boot_part, chunk_at, other_part, range_for}
+use Rattle.converted_laws.specs.Opened.{chunk_at, range_for}
 
 -- ---- the bootstrap array
 

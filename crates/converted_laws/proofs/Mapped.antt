@@ -1,26 +1,24 @@
 -- Each address in a chunk means itself.
-use Rattle.std.proofs.Common.{◌≡◌, ◌≢◌, ◌⊎◌, ◌≤◌, ◌<◌, ℕ, ◌+◌, ◌-◌, ◌*◌, ◌/◌, ◌%◌, ◌^◌, leb, ltb, Bool, true, false, List, [], ◌∷◌, ◌++◌, length, map, Option, Some, None, refl, sym, ap, subst, ◌∙◌, ⊎_elim, arith}
-use Rattle.std.specs.Prelude.{All, Contains, if◌then◌else◌, not, ◌&&◌}
+use Rattle.std.proofs.Common.{◌≡◌, ◌≤◌, ◌<◌, ℕ, ◌+◌, ◌-◌, ◌*◌, ◌/◌, ◌^◌, leb, ltb, Bool, true, false, List, [], ◌∷◌, ◌++◌, length, map, Some, sym, ap, subst, ⊎_elim, arith}
+use Rattle.std.specs.Prelude.{Contains, if◌then◌else◌, not, ◌&&◌}
 use Rattle.std.proofs.lemmas.Bool.{and_from, both_ways, cases_Bool, le-leb, lt-ltb, not_from_false}
 use Rattle.std.proofs.lemmas.Bool.Decides.{nat_tests}
-use Rattle.std.proofs.lemmas.List.Elements.{Contains-append_left, Contains-append_right, Contains-get_or}
+use Rattle.std.proofs.lemmas.List.Elements.{Contains-append_left, Contains-append_right}
 use Rattle.path_list.proofs.Lists.{in_filter}
 use Rattle.outside.specs.History.{Image}
 use Rattle.btr_node.specs.NodeSize.{IsNodeSize}
 use Rattle.btr_tree.specs.Laws.{GivesItself}
 use Rattle.btr_tree.specs.Writing.{IsInNode, IsInSlots}
 use Rattle.btr_walk.specs.Map.{holds, place}
-use Rattle.btr_walk.specs.declared.map.MapRange.{MapRange}
 use Rattle.conversion.specs.Making.{IsMaking, Making, chunk_slots, slots}
 use Rattle.convert_steps.specs.Superblock.{is_system_role}
 use Rattle.extent_pieces.proofs.Lists.{all_at, any_from}
 use Rattle.reiser_bitmap.proofs.Ranges.{contains_cases}
 use Rattle.space_items.proofs.ChunkLists.{chunk_ends}
-use Rattle.space_laws.proofs.Booting.{blocks_are, chunks_of, used_few}
+use Rattle.space_laws.proofs.Booting.{chunks_of, used_few}
 use Rattle.reiser_volume.specs.Volume.{used_of}
 use Rattle.unit_plan.specs.declared.chunk.Chunk.{Chunk}
 use Rattle.unit_plan.specs.declared.chunk.Role.TheVariants.{System}
-use Rattle.unit_plan.specs.declared.piece.Piece.{Piece}
 use Rattle.converted_laws.specs.Opened.{GivesItsOwn, boot_part, map_for, other_part, range_for}
 use Rattle.converted_laws.proofs.Places.{HasBlock, HasBlockOf, chunk_slot_block, piece_block, slot_block}
 

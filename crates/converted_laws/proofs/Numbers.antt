@@ -1,6 +1,6 @@
 -- The numbers of a converted volume fit their fields.
-use Rattle.std.proofs.Common.{◌≡◌, ◌≤◌, ◌<◌, ℕ, zero, suc, ◌+◌, ◌-◌, ◌*◌, ◌/◌, ◌^◌, Bool, List, [], ◌∷◌, ◌++◌, length, map, take, drop, sum_by, refl, sym, ap, subst, ◌∙◌, ⊎_elim, arith, length-append, length-drop}
-use Rattle.std.specs.Prelude.{All, AllPairs}
+use Rattle.std.proofs.Common.{◌≡◌, ◌≤◌, ◌<◌, ℕ, suc, ◌+◌, ◌-◌, ◌*◌, ◌^◌, Bool, List, [], ◌∷◌, ◌++◌, length, take, drop, sum_by, refl, sym, ap, subst, ◌∙◌, ⊎_elim, arith, length-append, length-drop}
+use Rattle.std.specs.Prelude.{AllPairs}
 use Rattle.std.specs.List.{flat_map, range_with_len, sum}
 use Rattle.std.proofs.lemmas.List.{length-map, length-take}
 use Rattle.std.proofs.lemmas.List.FromFn.{length-range_with_len}
@@ -15,7 +15,6 @@ use Rattle.btr_tree.specs.Packing.{leaves, tree_levels}
 use Rattle.btr_tree.specs.Roots.{level_pointers, lengths_of, pointers_to}
 use Rattle.btr_tree.specs.Building.{pointer_to}
 use Rattle.btr_tree.specs.declared.climb.Root.{Root}
-use Rattle.btr_walk.specs.declared.tree.Form.{Form}
 use Rattle.conversion.specs.Making.{IsMaking, Making, chunk_slots, new_ids, slots}
 use Rattle.conversion.specs.Source.{HasPieces}
 use Rattle.conversion.specs.Standing.{HasTrees, device_from, extents_from, file_tree_items, form, image_from, image_tree_items, nodes_from, other_nodes, relocation_from, root_from, root_tree_items, sum_tree_items, sums_from, used_bytes}
@@ -27,7 +26,7 @@ use Rattle.file_items.specs.Small.{relocation_items}
 use Rattle.reiser_bitmap.specs.Units.{free_units, is_free_unit, unit_count}
 use Rattle.reiser_volume.specs.Volume.{used_of}
 use Rattle.space_items.specs.Chunks.{chunk_items, device_items}
-use Rattle.space_items.specs.Extents.{bytes_of_nodes, bytes_of_pieces, extent_items, used_in}
+use Rattle.space_items.specs.Extents.{bytes_of_nodes, bytes_of_pieces, extent_items}
 use Rattle.space_items.specs.Nodes.{merged_nodes, nodes_of_tree}
 use Rattle.space_items.specs.declared.node.TreeNode.{TreeNode}
 use Rattle.space_items.proofs.Counting.{apart_counted, node_place, piece_bytes, piece_place, pieces_fit}
@@ -38,7 +37,6 @@ use Rattle.unit_plan.specs.Laws.{IsSoundPlan}
 use Rattle.unit_plan.specs.Needed.{need, nodes_in_unit}
 use Rattle.unit_plan.specs.Places.{node_places, places_in}
 use Rattle.unit_plan.specs.declared.chunk.Chunk.{Chunk}
-use Rattle.unit_plan.specs.declared.piece.Piece.{Piece}
 
 -- ---- the slots of units
 

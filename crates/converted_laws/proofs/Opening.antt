@@ -1,6 +1,6 @@
 -- A converted volume is opened.
-use Rattle.std.proofs.Common.{◌≡◌, ◌≢◌, ◌⊎◌, ◌≤◌, ◌<◌, ℕ, zero, suc, ◌+◌, ◌-◌, ◌*◌, ◌/◌, ◌^◌, inl, inr, Bool, true, false, not, List, [], ◌∷◌, ◌++◌, length, map, filter, take, drop, get_or, replicate, Option, Some, None, Ok, refl, sym, ap, subst, ◌∙◌, ⊎_elim, arith, length-drop}
-use Rattle.std.specs.Prelude.{All, AllPairs, Contains, unwrap_or}
+use Rattle.std.proofs.Common.{◌≡◌, ◌⊎◌, ◌≤◌, ◌<◌, ℕ, ◌+◌, ◌-◌, ◌^◌, inl, inr, true, false, List, [], ◌++◌, length, map, take, drop, get_or, replicate, Option, Some, Ok, refl, sym, ap, subst, ◌∙◌, ⊎_elim, arith}
+use Rattle.std.specs.Prelude.{All, AllPairs, Contains}
 use Rattle.std.specs.List.{flat_map}
 use Rattle.std.proofs.lemmas.Bool.{both_ways, cases_lt}
 use Rattle.std.proofs.lemmas.List.{get_or_default}
@@ -17,30 +17,27 @@ use Rattle.csum_kinds.specs.declared.kind.SumKind.{SumKind}
 use Rattle.csum_kinds.specs.declared.kind.SumKind.TheVariants.{Crc32c}
 use Rattle.btr_reader.specs.Chunks.{chunks_refusals, items_refusals, range_of, with_items}
 use Rattle.btr_reader.specs.Laws.{array_entry}
-use Rattle.btr_reader.specs.Opening.{IsOpened, boot_chunks, boot_list, boot_refusals, chunk_map, chunk_tree, form_of, map_from, opening_refusals, or_later, refusals_after, root_tree, super_on, tree_of, trees_refusals}
+use Rattle.btr_reader.specs.Opening.{IsOpened, boot_chunks, boot_list, boot_refusals, chunk_tree, form_of, map_from, opening_refusals, or_later, refusals_after, root_tree, super_on, tree_of, trees_refusals}
 use Rattle.btr_reader.specs.declared.chunk.ChunkAt.{ChunkAt}
 use Rattle.btr_reader.proofs.ArrayBack.{arrays_read_back}
-use Rattle.btr_super.specs.Sums.{known_kind}
 use Rattle.btr_super.specs.declared.superblock.Super.{Super}
 use Rattle.btr_tree.specs.Laws.{GivesItself}
 use Rattle.btr_tree.specs.declared.climb.Root.{Root}
-use Rattle.btr_walk.specs.Events.{TreeItem}
-use Rattle.btr_walk.specs.Tree.{bare_item, leaf_items, tree_damages}
+use Rattle.btr_walk.specs.Tree.{bare_item}
 use Rattle.btr_walk.specs.Walks.{found, wrong}
 use Rattle.btr_walk.specs.declared.map.MapRange.{MapRange}
 use Rattle.btr_walk.specs.declared.tree.Form.{Form}
 use Rattle.btr_walk.specs.declared.tree.Pointer.{Pointer}
 use Rattle.btr_walk.specs.declared.tree.Tree.{Tree}
-use Rattle.conversion.specs.Making.{IsMaking, Making, chunk_slots, label_by, label_field, new_ids, slots}
-use Rattle.conversion.specs.Standing.{HasTrees, form, root_from, root_tree_items, used_bytes}
+use Rattle.conversion.specs.Making.{IsMaking, Making, chunk_slots, new_ids, slots}
+use Rattle.conversion.specs.Standing.{HasTrees, form, root_from, root_tree_items}
 use Rattle.conversion.specs.declared.trees.VolumeTrees.{VolumeTrees}
 use Rattle.convert_core.proofs.Wholeness.{blocks_inside}
-use Rattle.convert_steps.specs.Superblock.{boot_bytes, is_system_role, new_super, record_bytes}
-use Rattle.convert_steps.specs.declared.fields.NewRoots.{NewRoots}
+use Rattle.convert_steps.specs.Superblock.{boot_bytes, is_system_role, new_super}
 use Rattle.extent_pieces.proofs.Lists.{all_at}
 use Rattle.reiser_bitmap.proofs.Ranges.{all_from_contains}
 use Rattle.reiser_volume.specs.Volume.{used_of}
-use Rattle.space_items.specs.Chunks.{chunk_item, chunk_items}
+use Rattle.space_items.specs.Chunks.{chunk_items}
 use Rattle.space_items.specs.declared.node.TreeNode.{TreeNode}
 use Rattle.space_items.proofs.ChunkLists.{chunk_ends}
 use Rattle.space_laws.proofs.Booting.{blocks_are, chunks_of, used_few}
@@ -49,7 +46,7 @@ use Rattle.unit_plan.specs.Chunks.{AreChunks, IsChunk, role_of, usable_end}
 use Rattle.unit_plan.specs.declared.chunk.Chunk.{Chunk}
 use Rattle.unit_plan.specs.declared.options.Options.{Options}
 use Rattle.converted_laws.specs.Laws.{ChunksMap, MapsChunks}
-use Rattle.converted_laws.specs.Opened.{GivesItsOwn, IsNewVolume, boot_part, chunk_at, map_for, other_part, range_for, super_for}
+use Rattle.converted_laws.specs.Opened.{IsNewVolume, boot_part, chunk_at, map_for, range_for, super_for}
 use Rattle.converted_laws.proofs.Chunks.{AreApart, AreRead, Come, LiesOn, all_fit, array_sound, entries_are, tree_read}
 use Rattle.converted_laws.proofs.Mapped.{all_itself, boot_nodes}
 use Rattle.converted_laws.proofs.Stood.{IsRead, read_by}
@@ -121,9 +118,11 @@ trees_none image s boot ranges all is chunk items with root =
     let map_is : map_from image s boot ≡ all = ap (λ (rs : List MapRange). with_items boot rs (found image rs (chunk_tree s))) is ∙ with in
     let first : wrong image (map range_of boot) (chunk_tree s) ≡ [] = ap (λ (rs : List MapRange). wrong image rs (chunk_tree s)) is ∙ chunk in
     let second : items_refusals (length image) boot (map range_of boot) (found image (map range_of boot) (chunk_tree s)) ≡ [] = ap (λ (rs : List MapRange). items_refusals (length image) boot rs (found image rs (chunk_tree s))) is ∙ items in
-    let third : wrong image (map_from image s boot) (root_tree s) ≡ [] = ap (λ (rs : List MapRange). wrong image rs (root_tree s)) map_is ∙ root in
-    (ap (λ (rs : List BtrRefusal). or_later (rs ++ items_refusals (length image) boot (map range_of boot) (found image (map range_of boot) (chunk_tree s))) (wrong image (map_from image s boot) (root_tree s))) first
-    ∙ (ap (λ (rs : List BtrRefusal). or_later rs (wrong image (map_from image s boot) (root_tree s))) second ∙ third), map_is)
+    let third : wrong image (map_from image s boot) (root_tree s) ≡ [] = ap (λ (rs : List MapRange). wrong image rs (root_tree s)) map_is ∙ root in (
+      ap (λ (rs : List BtrRefusal). or_later (rs ++ items_refusals (length image) boot (map range_of boot) (found image (map range_of boot) (chunk_tree s))) (wrong image (map_from image s boot) (root_tree s))) first
+          ∙ (ap (λ (rs : List BtrRefusal). or_later rs (wrong image (map_from image s boot) (root_tree s))) second ∙ third),
+      map_is,
+    )
 
 opened_by : (image : Image) (s : Super) (boot : List ChunkAt) (all : List MapRange) → super_on image ≡ Ok s → boot_chunks s ≡ Some boot → chunks_refusals (length image) [] boot ≡ [] → trees_refusals image s boot ≡ [] → map_from image s boot ≡ all
     → IsOpened image s all
@@ -187,9 +186,10 @@ module _ (o : Options) (ids : Ids) (now : ℕ) (image other : Image) (m : Making
   -- a chunk of the array and another lie apart
   parts_apart : (c d : Chunk) → Contains m.chunks c → is_system_role c.role ≡ false → Contains (boot_part m.chunks) d → (1 ≤ d.length) × AreApart c d
   parts_apart c d h f k =
-      let of = from_filter (λ (e : Chunk). is_system_role e.role) m.chunks d k in
-      ((lies d of.0).some,
-      ⊎_elim (λ (same : c ≡ d). absurd (both_ways (is_system_role c.role) f (subst (λ (e : Chunk). is_system_role e.role ≡ true) (sym same) of.1))) (λ apart. apart) (two_of m.chunks c d are_chunks.ascending h of.0))
+      let of = from_filter (λ (e : Chunk). is_system_role e.role) m.chunks d k in (
+        (lies d of.0).some,
+        ⊎_elim (λ (same : c ≡ d). absurd (both_ways (is_system_role c.role) f (subst (λ (e : Chunk). is_system_role e.role ≡ true) (sym same) of.1))) (λ apart. apart) (two_of m.chunks c d are_chunks.ascending h of.0),
+      )
 
   come : Come (new_ids m) (length other) (boot_part m.chunks) v.ids_.device (boot_part m.chunks) m.chunks
   come = record {

@@ -1,5 +1,5 @@
 -- The trees of a converted volume are read, and it is readable.
-use Rattle.std.proofs.Common.{◌≡◌, ◌⊎◌, ◌≤◌, ◌<◌, ℕ, ◌+◌, ◌*◌, ◌^◌, ◌-◌, inl, inr, List, [], ◌∷◌, map, drop, length, Option, Some, None, Ok, Err, Result, refl, sym, ap, subst, ◌∙◌, ⊎_elim, arith, length-drop}
+use Rattle.std.proofs.Common.{◌≡◌, ◌⊎◌, ◌≤◌, ◌<◌, ℕ, ◌^◌, ◌-◌, inl, inr, List, [], ◌∷◌, map, drop, length, Option, Some, None, Ok, Err, sym, ap, subst, ◌∙◌, ⊎_elim, arith, length-drop}
 use Rattle.std.specs.Prelude.{Contains}
 use Rattle.std.proofs.lemmas.List.Elements.{All-drop}
 use Rattle.outside.specs.History.{Image}
@@ -8,14 +8,13 @@ use Rattle.vol_block.specs.declared.ids.Ids.{Ids}
 use Rattle.btr_names.specs.Roots.{has_root}
 use Rattle.btr_names.specs.Rules.{BreaksNames}
 use Rattle.btr_node.specs.Leaf.{Item}
-use Rattle.btr_reader.specs.Opening.{chunk_map, opening_refusals, root_tree, super_on, tree_of}
-use Rattle.btr_reader.specs.Parts.{AfterOpening, IsBtrfsRefusal, IsReadable, Opening, Superblock, Tree, own_map, own_super}
+use Rattle.btr_reader.specs.Opening.{chunk_map, opening_refusals, tree_of}
+use Rattle.btr_reader.specs.Parts.{own_map, own_super}
 use Rattle.btr_reader.specs.Roots.{pointer_of, root_item}
 use Rattle.btr_reader.specs.Rows.{BreaksExtents, IsTreeRefusal, roots_on, no_root_item, bad_root_item, bad_tree, bad_names, bad_extents}
 use Rattle.btr_super.specs.declared.superblock.Super.{Super}
 use Rattle.btr_super.specs.Rules.{super_refusals, unless_refused, super_of}
 use Rattle.btr_super.specs.Super.{super_in}
-use Rattle.btr_space_items.specs.RootItem.{root_item_bytes}
 use Rattle.btr_tree.specs.declared.climb.Root.{Root}
 use Rattle.btr_walk.specs.Events.{TreeItem}
 use Rattle.btr_walk.specs.Tree.{bare_item}
@@ -30,14 +29,14 @@ use Rattle.outside.specs.History.{block_at}
 use Rattle.reiser_bitmap.proofs.Ranges.{all_from_contains}
 use Rattle.space_items.specs.Chunks.{device_items}
 use Rattle.space_items.specs.Extents.{extent_items}
-use Rattle.space_items.specs.Roots.{root_body, root_item as item_of_root}
+use Rattle.space_items.specs.Roots.{root_item as item_of_root}
 use Rattle.space_items.specs.declared.node.TreeNode.{TreeNode}
 use Rattle.space_items.specs.declared.node.TreeRoot.{TreeRoot}
 use Rattle.tree_writer.specs.Trees.{TreeStands, root_pointer}
 use Rattle.unit_plan.specs.declared.options.Options.{Options}
-use Rattle.converted_laws.specs.Laws.{BreaksTree, ConvertedIsReadable, IsReadableWithTrees, OpensWithTrees, TreesRead}
+use Rattle.converted_laws.specs.Laws.{ConvertedIsReadable, IsReadableWithTrees, OpensWithTrees, TreesRead}
 use Rattle.converted_laws.specs.Opened.{GivesItsOwn, IsNewVolume, ReadsTree, ReadsTrees, map_for, super_for}
-use Rattle.converted_laws.proofs.Mapped.{all_itself, slot_small}
+use Rattle.converted_laws.proofs.Mapped.{slot_small}
 use Rattle.converted_laws.proofs.Numbers.{size_small, slots_few}
 use Rattle.converted_laws.proofs.Opening.{later_read, maps_chunks, opened, root_read}
 use Rattle.converted_laws.proofs.Rooted.{IsFoundRoot, device_found, extents_found, files_found, leads, named, relocation_found, saved_found, sums_found}

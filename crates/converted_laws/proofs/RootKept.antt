@@ -1,11 +1,10 @@
 -- Where the rules of names are kept, those of the root directory alone are.
-use Rattle.std.proofs.Common.{◌≡◌, ◌≢◌, ◌⊎◌, ◌≤◌, ◌<◌, ℕ, zero, suc, ◌+◌, ◌-◌, ◌&&◌, ◌||◌, ◌==◌, eqb, inl, inr, Bool, true, false, not, cond, List, [], ◌∷◌, ◌++◌, length, take, drop, get_or, filter, AllPairs, Option, Some, None, refl, sym, ap, subst, ◌∙◌, ⊎_elim, arith}
-use Rattle.std.specs.Prelude.{Contains, codes, if◌then◌else◌, nat_eq}
-use Rattle.std.specs.Cmp.Lexicographic.{pointwise}
+use Rattle.std.proofs.Common.{◌≡◌, ◌≤◌, ◌<◌, ℕ, zero, suc, ◌&&◌, ◌||◌, ◌==◌, Bool, true, false, not, List, [], ◌∷◌, ◌++◌, length, get_or, AllPairs, Option, Some, None, refl, sym, ap, subst, ◌∙◌, ⊎_elim, arith}
+use Rattle.std.specs.Prelude.{Contains, codes, if◌then◌else◌}
 use Rattle.std.specs.Option.{option_and_then}
-use Rattle.std.proofs.lemmas.Bool.{and_from, and_parts, both_ways, cases_Bool, cases_lt, eq-eqb, eqb-true, not_from_false, or_cases}
+use Rattle.std.proofs.lemmas.Bool.{both_ways, cases_Bool, cases_lt, eq-eqb, eqb-true}
 use Rattle.std.proofs.lemmas.List.{get_or_default}
-use Rattle.std.proofs.lemmas.List.Elements.{Contains-append_left, Contains-append_right, Contains-get_or}
+use Rattle.std.proofs.lemmas.List.Elements.{Contains-append_left, Contains-append_right}
 use Rattle.path_list.proofs.Lists.{in_filter}
 use Rattle.path_list.proofs.Nodes.{same_name-true}
 use Rattle.outside.specs.declared.refusal.BtrRefusal.{BtrRefusal}
@@ -16,11 +15,11 @@ use Rattle.btr_keys.specs.Inode.{inode_of}
 use Rattle.btr_keys.specs.declared.inode.Inode.{Inode}
 use Rattle.btr_keys.specs.declared.key.Key.{Key}
 use Rattle.btr_names.specs.Inodes.{HasKind, inode_item, inode_on, kind_of_mode}
-use Rattle.btr_names.specs.Links.{IsNamed, followed, index_entry, is_followed, is_index, is_name, is_saved_name, names_inode, names_tree, naming_at, naming_of, namings, own_naming, root}
+use Rattle.btr_names.specs.Links.{index_entry, is_followed, is_index, is_name, is_saved_name, names_inode, names_tree, naming_at, naming_of, namings, own_naming, root}
 use Rattle.btr_names.specs.Passes.{DifferInName}
-use Rattle.btr_names.specs.Rules.{AreIn, BreaksNames, IsOpen, KeepsNames, bad_index, bad_inode, bad_location, bad_mode, bad_name, no_root_directory, root_is_none, twice}
+use Rattle.btr_names.specs.Rules.{AreIn, IsOpen, KeepsNames, bad_index, bad_inode, bad_location, bad_mode, bad_name, no_root_directory, root_is_none, twice}
 use Rattle.btr_names.specs.declared.naming.Naming.{Naming}
-use Rattle.btr_reader.specs.Image.{entry_named, index_refusals, index_refusals_at, is_called, is_root_directory, location_refusals, name_refusals, naming_refusals, own_index_refusals, root_refusals, saved_entry, twice_refusals}
+use Rattle.btr_reader.specs.Image.{entry_named, index_refusals, index_refusals_at, is_called, is_root_directory, location_refusals, name_refusals, own_index_refusals, root_refusals, saved_entry, twice_refusals}
 use Rattle.btr_reader.proofs.RootNames.{none_twice}
 use Rattle.btr_walk.specs.Events.{TreeItem}
 use Rattle.fs_rows.specs.declared.row.Kind.{Kind}

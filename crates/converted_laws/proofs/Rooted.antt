@@ -1,5 +1,5 @@
 -- Each tree is found by its root item.
-use Rattle.std.proofs.Common.{◌≡◌, ◌≤◌, ◌<◌, ℕ, zero, suc, ◌+◌, ◌*◌, ◌^◌, ◌-◌, eqb, Bool, true, false, ◌&&◌, ◌||◌, List, [], ◌∷◌, ◌++◌, length, map, replicate, Option, Some, None, refl, sym, ap, subst, ◌∙◌, ⊎_elim, arith}
+use Rattle.std.proofs.Common.{◌≡◌, ◌≤◌, ◌<◌, ℕ, ◌*◌, ◌^◌, ◌-◌, eqb, Bool, true, false, ◌&&◌, ◌||◌, List, [], ◌∷◌, length, map, replicate, Option, Some, None, refl, ap, ◌∙◌, arith}
 use Rattle.std.specs.Prelude.{if◌then◌else◌, codes, pos}
 use Rattle.std.specs.List.{list_any}
 use Rattle.std.specs.Option.{option_and_then, option_map}
@@ -12,22 +12,19 @@ use Rattle.vol_block.specs.declared.ids.Ids.{Ids}
 use Rattle.btr_keys.specs.Inode.{inode_layout}
 use Rattle.btr_keys.specs.Key.{key_layout, make_key}
 use Rattle.btr_keys.specs.Stamp.{stamp_layout}
-use Rattle.btr_keys.specs.declared.key.Key.{Key}
 use Rattle.btr_names.specs.Roots.{has_root, is_root_of}
 use Rattle.btr_node.specs.Leaf.{Item}
 use Rattle.btr_reader.specs.Roots.{last_or, pointer_of, root_item, root_pointer as read_pointer}
-use Rattle.btr_space_items.specs.RootItem.{root_item_bytes, root_item_layout, root_item_of}
+use Rattle.btr_space_items.specs.RootItem.{root_item_bytes, root_item_layout}
 use Rattle.btr_space_items.specs.declared.root_item.RootItem.{RootItem}
 use Rattle.btr_space_items.proofs.Records.{root_items_read_back}
 use Rattle.btr_walk.specs.Events.{TreeItem}
 use Rattle.btr_walk.specs.Tree.{bare_item}
-use Rattle.btr_walk.specs.declared.tree.Pointer.{Pointer}
 use Rattle.conversion.specs.Standing.{listed}
 use Rattle.conversion.specs.declared.trees.VolumeTrees.{VolumeTrees}
 use Rattle.space_items.specs.Laws.{AreIds}
 use Rattle.space_items.specs.Roots.{default_item, is_file_tree, root_body, root_dirid, root_items, root_item as item_of_root, saved_ref, tree_uuid}
 use Rattle.space_items.specs.declared.node.TreeRoot.{TreeRoot}
-use Rattle.btr_tree.specs.declared.climb.Root.{Root}
 use Rattle.tree_writer.specs.Trees.{root_pointer}
 use Rattle.item_list.specs.Inodes.{inode_item, inode_made, ref_item}
 

@@ -1,10 +1,10 @@
 -- The saved image of a converted volume is read.
-use Rattle.std.proofs.Common.{◌≡◌, ◌⊎◌, ◌≤◌, ◌<◌, ℕ, ◌+◌, ◌-◌, ◌*◌, ◌/◌, ◌%◌, ◌^◌, ◌&&◌, eqb, nat_lt, Bool, true, false, not, cond, List, [], ◌∷◌, ◌++◌, length, map, filter, Option, Some, None, refl, sym, ap, subst, ◌∙◌, ⊎_elim, arith}
+use Rattle.std.proofs.Common.{◌≡◌, ◌≤◌, ◌<◌, ℕ, ◌+◌, ◌-◌, ◌*◌, ◌/◌, ◌%◌, ◌^◌, ◌&&◌, eqb, nat_lt, Bool, true, false, not, cond, List, [], ◌∷◌, ◌++◌, map, Option, Some, None, refl, sym, ap, subst, ◌∙◌, ⊎_elim, arith}
 use Rattle.std.specs.Prelude.{Contains, codes, if◌then◌else◌, pos, ◌||◌}
 use Rattle.std.specs.Int.{w64}
 use Rattle.std.specs.List.{list_any}
 use Rattle.std.specs.Option.{option_and_then}
-use Rattle.std.proofs.lemmas.Bool.{both_ways, cases_Bool, eq-eqb, le-ltb, lt-ltb}
+use Rattle.std.proofs.lemmas.Bool.{both_ways, eq-eqb, lt-ltb}
 use Rattle.std.proofs.lemmas.Int.{fits_signed_from_abs}
 use Rattle.std.proofs.lemmas.List.{append-nil}
 use Rattle.castagnoli.specs.Castagnoli.{name_hash}
@@ -12,7 +12,7 @@ use Rattle.outside.specs.History.{Image, block_at}
 use Rattle.outside.specs.declared.refusal.BtrRefusal.{BtrRefusal}
 use Rattle.vol_block.specs.declared.ids.Ids.{Ids}
 use Rattle.fs_rows.specs.declared.row.Kind.TheVariants.{File}
-use Rattle.btr_files.specs.Extents.{extents_of, extents_refusals, is_extent_of}
+use Rattle.btr_files.specs.Extents.{extents_of, extents_refusals}
 use Rattle.btr_keys.specs.DirEntry.{DirEntryValue, dir_entry_bytes, dir_entry_head, dir_items_of}
 use Rattle.btr_keys.specs.FileExtent.{FileExtentValue, file_extent_bytes, file_extent_of}
 use Rattle.btr_keys.specs.Inode.{inode_bytes, inode_layout, inode_of}
@@ -20,10 +20,9 @@ use Rattle.btr_keys.specs.Key.{key_layout, make_key}
 use Rattle.btr_keys.specs.Stamp.{stamp_layout}
 use Rattle.btr_keys.specs.declared.inode.Inode.{Inode}
 use Rattle.btr_keys.specs.declared.key.Key.{Key}
-use Rattle.btr_keys.specs.declared.stamp.Stamp.{Stamp}
 use Rattle.btr_keys.proofs.Records.{dir_items_read_back, inodes_read_back}
-use Rattle.btr_names.specs.Inodes.{inode_item, is_inode_of}
-use Rattle.btr_names.specs.Links.{index_entry, is_index, naming_at, naming_of, namings, only_one, own_naming}
+use Rattle.btr_names.specs.Inodes.{inode_item}
+use Rattle.btr_names.specs.Links.{index_entry, naming_at, namings, only_one, own_naming}
 use Rattle.btr_names.specs.declared.naming.Naming.{Naming}
 use Rattle.btr_node.specs.Leaf.{Item, keys_of}
 use Rattle.btr_node.specs.NodeSize.{IsNodeSize}
@@ -39,8 +38,8 @@ use Rattle.convert_core.proofs.Moving.{can_move}
 use Rattle.convert_core.proofs.Wholeness.{blocks_few}
 use Rattle.extent_pieces.proofs.Covering.{used_inside}
 use Rattle.file_items.specs.Extents.{extents_at, piece_bytes, pieces_of_volume, source_block}
-use Rattle.file_items.specs.Names.{Indexed, entry_to, letters, root_ref}
-use Rattle.file_items.specs.Small.{image_entries, image_flags, image_head, image_items, image_name, root_items}
+use Rattle.file_items.specs.Names.{entry_to, letters, root_ref}
+use Rattle.file_items.specs.Small.{image_entries, image_flags, image_head, image_items, image_name}
 use Rattle.file_laws.specs.Keys.{ImageKeysAscend}
 use Rattle.item_list.specs.Extents.{regular_extent}
 use Rattle.item_list.specs.Inodes.{inode_item as new_item, inode_made, ref_item, stamp_of}
@@ -100,9 +99,10 @@ extents_names [] (i ∷ items) are = absurd (cc are)
 extents_names (p ∷ ps) [] are = absurd (cc are)
 extents_names (p ∷ ps) (i ∷ items) are =
     let parts = item_parts i items (make_key 257 108 (4096 * source_block p), file_extent_bytes (regular_extent p.place p.count)) (extents_at 257 source_block ps) are in
-    let rest = extents_names ps items parts.2 in
-    (ap (λ (l : List Naming). l ++ namings items) (no_naming i (make_key 257 108 (4096 * source_block p)) parts.0 refl) ∙ rest.0,
-    ap (λ (l : List BtrRefusal). l ++ index_refusals items) (no_index i (make_key 257 108 (4096 * source_block p)) parts.0 refl) ∙ rest.1)
+    let rest = extents_names ps items parts.2 in (
+      ap (λ (l : List Naming). l ++ namings items) (no_naming i (make_key 257 108 (4096 * source_block p)) parts.0 refl) ∙ rest.0,
+      ap (λ (l : List BtrRefusal). l ++ index_refusals items) (no_index i (make_key 257 108 (4096 * source_block p)) parts.0 refl) ∙ rest.1,
+    )
 
 extents_own : (ps : List Piece) (items : List TreeItem) → map bare_item items ≡ extents_at 257 source_block ps → extents_of items 257 ≡ items
 extents_own [] [] are = refl
@@ -349,9 +349,11 @@ module _ (rising : ImageKeysAscend) (o : Options) (ids : Ids) (now : ℕ) (image
         let one = member image m making fit found.piece found.among in
         let low = found.holds.0 in
         let high = found.holds.1 in
-        let at : source_block found.piece + (b - source_block found.piece) ≡ b = omega (arith, low) in
-        (found.piece.place + (b - source_block found.piece), place_is b (omega (arith, inside, same)) ∙ found.is,
-        (v.new.stands.pieces found.piece one.0).blocks (source_block found.piece) (b - source_block found.piece) of.from (omega (arith, low, high)) ∙ ap (block_at image) at))
+        let at : source_block found.piece + (b - source_block found.piece) ≡ b = omega (arith, low) in (
+          found.piece.place + (b - source_block found.piece),
+          place_is b (omega (arith, inside, same)) ∙ found.is,
+          (v.new.stands.pieces found.piece one.0).blocks (source_block found.piece) (b - source_block found.piece) of.from (omega (arith, low, high)) ∙ ap (block_at image) at,
+        ))
         (λ none. absurd (none.1 holder.0 holder.1 holder.2))
         (place_of (map_for m.chunks) ps tell.extents 0 b tell.are sources);
     holes = λ b t.

@@ -1,20 +1,18 @@
 -- The extents of the saved image.
-use Rattle.std.proofs.Common.{◌≡◌, ◌≢◌, ◌⊎◌, ◌≤◌, ◌<◌, ℕ, zero, suc, ◌+◌, ◌-◌, ◌*◌, ◌/◌, ◌%◌, ◌^◌, inl, inr, ◌&&◌, ◌||◌, eqb, leb, ltb, Bool, true, false, List, [], ◌∷◌, ◌++◌, length, map, Option, Some, None, refl, sym, ap, subst, ◌∙◌, ⊎_elim, arith}
+use Rattle.std.proofs.Common.{◌≡◌, ◌⊎◌, ◌≤◌, ◌<◌, ℕ, zero, suc, ◌+◌, ◌-◌, ◌*◌, ◌/◌, ◌%◌, ◌^◌, inl, inr, ◌&&◌, ◌||◌, eqb, ltb, Bool, true, false, List, [], ◌∷◌, ◌++◌, map, Option, Some, None, refl, sym, ap, subst, ◌∙◌, ⊎_elim, arith}
 use Rattle.std.specs.Prelude.{Contains, if◌then◌else◌}
 use Rattle.std.specs.Option.{option_map}
 use Rattle.std.proofs.lemmas.List.Sums.{sum_by-cons}
 use Rattle.std.proofs.lemmas.Bool.{and_from, and_parts, both_ways, cases_Bool, eq-eqb, le-leb, leb-true, lt-ltb, ltb-true, ne_eqb}
 use Rattle.outside.specs.declared.refusal.BtrRefusal.{BtrRefusal}
-use Rattle.outside.specs.declared.refusal.BtrRefusal.TheVariants.{BadBtrfs, Unsupported}
+use Rattle.outside.specs.declared.refusal.BtrRefusal.TheVariants.{BadBtrfs}
 use Rattle.outside.specs.declared.rule.BtrRule.TheVariants.{ExtentForm}
-use Rattle.outside.specs.declared.rule.Feature.TheVariants.{Compression, Encryption}
 use Rattle.btr_files.specs.Extents.{at_unmapped, covered_after, covers, end_after, extent_refusals, extents_refusals, has_form, place_refusals, refusals_at, unless, unmapped_in}
 use Rattle.btr_keys.specs.FileExtent.{FileExtentValue, Regular, disk_range_layout, file_extent_bytes, file_extent_head, file_extent_of}
 use Rattle.btr_keys.specs.Key.{make_key}
 use Rattle.btr_keys.specs.declared.key.Key.{Key}
 use Rattle.btr_keys.specs.declared.file_extent.DiskRange.{DiskRange}
 use Rattle.btr_keys.proofs.Records.{file_extents_read_back}
-use Rattle.btr_node.specs.Leaf.{Item}
 use Rattle.btr_reader.specs.Image.{block_from, content_block, file_block}
 use Rattle.btr_walk.specs.Events.{TreeItem}
 use Rattle.btr_walk.specs.Map.{place}

@@ -1,6 +1,6 @@
 -- The pieces that hold blocks of the old volume, by these blocks.
-use Rattle.std.proofs.Common.{◌≡◌, ◌≢◌, ◌⊎◌, ◌≤◌, ◌<◌, ℕ, zero, suc, ◌+◌, ◌-◌, ◌*◌, ◌/◌, ◌^◌, ◌==◌, inl, inr, is_some, eqb, Bool, true, false, List, [], ◌∷◌, ◌++◌, length, take, drop, filter, get_or, if◌then◌else◌, Option, Some, None, refl, sym, ap, subst, ◌∙◌, ⊎_elim, arith, length-drop}
-use Rattle.std.specs.Prelude.{All, AllPairs, Contains, MatchOption}
+use Rattle.std.proofs.Common.{◌≡◌, ◌≤◌, ◌<◌, ℕ, zero, suc, ◌+◌, ◌*◌, ◌==◌, inl, is_some, eqb, Bool, true, false, List, [], ◌∷◌, ◌++◌, length, take, drop, filter, get_or, if◌then◌else◌, Option, Some, None, refl, sym, ap, subst, ◌∙◌, ⊎_elim, arith, length-drop}
+use Rattle.std.specs.Prelude.{Contains, MatchOption}
 use Rattle.std.specs.List.{AllByRecursion}
 use Rattle.std.specs.Option.{option_map_or}
 use Rattle.std.proofs.lemmas.Bool.{and_parts, both_ways, cases_lt, eq-eqb, le-ltb}
@@ -88,10 +88,12 @@ module _ (ranges : List MapRange) where
   sources_are low p [] all up above apart = (all.0, above, tt)
   sources_are low p (q ∷ ps) all up above apart =
       let less : source_block p < source_block q = source_less (source_block p) (source_block q) (ascends_first (make_key 257 108 (4096 * source_block p)) (make_key 257 108 (4096 * source_block q)) (keys_of (extents_at 257 source_block ps)) up) in
-      let next : source_block p + p.count ≤ source_block q = apart p q (contains_head p (q ∷ ps)) (contains_tail q p (q ∷ ps) (contains_head q ps)) less in
-      (all.0, above,
-      sources_are (source_block p + p.count) q ps all.1 (ascends_tail (make_key 257 108 (4096 * source_block p)) (keys_of (extents_at 257 source_block (q ∷ ps))) up) next
-      (λ x y h k. apart x y (contains_tail x p (q ∷ ps) h) (contains_tail y p (q ∷ ps) k)))
+      let next : source_block p + p.count ≤ source_block q = apart p q (contains_head p (q ∷ ps)) (contains_tail q p (q ∷ ps) (contains_head q ps)) less in (
+        all.0,
+        above,
+        sources_are (source_block p + p.count) q ps all.1 (ascends_tail (make_key 257 108 (4096 * source_block p)) (keys_of (extents_at 257 source_block (q ∷ ps))) up) next
+            (λ x y h k. apart x y (contains_tail x p (q ∷ ps) h) (contains_tail y p (q ∷ ps) k)),
+      )
 
   all_sources : (ps : List Piece) → AllByRecursion (IsSource ranges) ps → ascends (keys_of (extents_at 257 source_block ps)) ≡ true
       → ((x y : Piece) → Contains ps x → Contains ps y → source_block x < source_block y → source_block x + x.count ≤ source_block y) → AreSources ranges 0 ps

@@ -1,11 +1,10 @@
 -- The way to the saved image of a converted volume.
-use Rattle.std.proofs.Common.{◌≡◌, ◌≤◌, ◌<◌, ℕ, ◌+◌, ◌-◌, ◌^◌, eqb, Bool, true, List, [], ◌∷◌, ◌++◌, map, Option, Some, None, refl, sym, ap, subst, ◌∙◌, ⊎_elim, arith}
+use Rattle.std.proofs.Common.{◌≡◌, ◌<◌, ℕ, ◌-◌, ◌^◌, eqb, true, List, [], ◌∷◌, ◌++◌, map, Option, Some, refl, sym, ap, subst, ◌∙◌, ⊎_elim, arith}
 use Rattle.std.specs.Prelude.{Contains, codes, if◌then◌else◌, unwrap_or}
 use Rattle.std.specs.List.{flat_map}
 use Rattle.std.specs.Option.{option_and_then}
 use Rattle.std.proofs.lemmas.List.Elements.{Contains-append_left, Contains-append_right}
 use Rattle.path_list.proofs.Lists.{from_map, in_map}
-use Rattle.indexmap.specs.IndexMap.{keys}
 use Rattle.outside.specs.History.{Image}
 use Rattle.outside.specs.declared.refusal.BtrRefusal.{BtrRefusal}
 use Rattle.vol_block.specs.declared.ids.Ids.{Ids}
@@ -14,17 +13,17 @@ use Rattle.btr_keys.specs.declared.key.Key.{Key}
 use Rattle.btr_names.specs.Links.{names_tree, namings}
 use Rattle.btr_names.specs.Roots.{has_root}
 use Rattle.btr_names.specs.declared.naming.Naming.{Naming}
-use Rattle.btr_reader.specs.Image.{ImageFile, after_pointer, after_root, entry_refusals, if_there, image_below, image_from, image_in, image_refusals_in, items_at, pointer_in, refusals_below, refusals_from, root_refusals, saved_entry as entry_of_saved, tree_number}
-use Rattle.btr_reader.specs.Opening.{opening_refusals, or_later, tree_of}
-use Rattle.btr_reader.specs.Parts.{IsReadable, SavedImage, own_map, own_super, way_refusals}
-use Rattle.btr_reader.specs.Roots.{pointer_of, root_item}
+use Rattle.btr_reader.specs.Image.{after_pointer, after_root, entry_refusals, if_there, image_below, image_from, image_in, image_refusals_in, items_at, pointer_in, refusals_below, root_refusals, saved_entry as entry_of_saved, tree_number}
+use Rattle.btr_reader.specs.Opening.{or_later, tree_of}
+use Rattle.btr_reader.specs.Parts.{own_map, own_super, way_refusals}
+use Rattle.btr_reader.specs.Roots.{root_item}
 use Rattle.btr_reader.specs.Rows.{roots_on}
 use Rattle.btr_super.specs.declared.superblock.Super.{Super}
 use Rattle.btr_tree.specs.declared.climb.Root.{Root}
 use Rattle.btr_node.specs.Leaf.{Item}
 use Rattle.btr_walk.specs.Events.{TreeItem}
 use Rattle.btr_walk.specs.Tree.{bare_item}
-use Rattle.btr_walk.specs.Walks.{found, wrong}
+use Rattle.btr_walk.specs.Walks.{found}
 use Rattle.btr_walk.specs.declared.map.MapRange.{MapRange}
 use Rattle.btr_walk.specs.declared.tree.Pointer.{Pointer}
 use Rattle.conversion.specs.Making.{IsMaking, Making}
@@ -41,7 +40,6 @@ use Rattle.fs_rows.specs.declared.row.Kind.TheVariants.{Directory, File}
 use Rattle.reiser_names.specs.Names.{inode_of}
 use Rattle.reiser_objects.specs.Keys.{root, same_key}
 use Rattle.reiser_objects.specs.Rules.{IsDirectory}
-use Rattle.reiser_objects.specs.declared.key.ObjectKey.{ObjectKey}
 use Rattle.reiser_objects.specs.declared.stat.ObjectStat.{ObjectStat}
 use Rattle.reiser_volume.specs.Made.{kind_by, no_stat}
 use Rattle.reiser_volume.specs.Numbers.{by_inode}
@@ -51,7 +49,7 @@ use Rattle.tree_writer.specs.Trees.{root_pointer}
 use Rattle.unit_plan.specs.declared.options.Options.{Options}
 use Rattle.converted_laws.specs.Laws.{IsReadableWithTrees}
 use Rattle.converted_laws.specs.Opened.{IsNewVolume, ReadsTree}
-use Rattle.converted_laws.specs.Saved.{HasImage, IsImageOf, KeepsFileNames, ReadsSavedImage, SavedImageIsReadable}
+use Rattle.converted_laws.specs.Saved.{HasImage, KeepsFileNames, ReadsSavedImage, SavedImageIsReadable}
 use Rattle.converted_laws.proofs.Reading.{none_of, readable}
 use Rattle.converted_laws.proofs.RootKept.{root_sound, saved_found}
 use Rattle.converted_laws.proofs.Saved.{has_image}

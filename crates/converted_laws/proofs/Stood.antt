@@ -1,14 +1,12 @@
 -- A tree that stands is read by each map that gives the addresses of its slots themselves. Its root lies at a slot.
-use Rattle.std.proofs.Common.{◌≡◌, ◌≤◌, ◌<◌, ℕ, zero, suc, ◌+◌, ◌-◌, ◌*◌, ◌/◌, ◌^◌, Bool, List, [], ◌∷◌, ◌++◌, length, map, take, drop, get_or, Option, Some, None, refl, sym, ap, subst, ◌∙◌, ⊎_elim, arith}
-use Rattle.std.specs.Prelude.{All, Contains}
+use Rattle.std.proofs.Common.{◌≡◌, ◌≤◌, ◌<◌, ℕ, zero, suc, ◌+◌, ◌^◌, Bool, List, [], ◌∷◌, length, map, take, drop, Some, refl, sym, ap, subst, ◌∙◌, ⊎_elim, arith}
+use Rattle.std.specs.Prelude.{All}
 use Rattle.std.specs.Int.{div_ceil}
 use Rattle.std.specs.List.{sum}
-use Rattle.std.specs.List.Sorted.{IsPermutation}
 use Rattle.std.proofs.lemmas.Bool.{cases_lt}
 use Rattle.std.proofs.lemmas.List.{length_push}
 use Rattle.std.proofs.lemmas.List.Elements.{All-append, All-drop, All-head, All-map, All-nil, All-take}
 use Rattle.std.proofs.lemmas.List.Sorted.{All-permutation, IsPermutation-sym}
-use Rattle.std.proofs.lemmas.List.Sums.{sum_by-cons}
 use Rattle.std.proofs.Math.Nat.{pow-suc}
 use Rattle.outside.specs.History.{Image}
 use Rattle.outside.specs.declared.refusal.BtrRefusal.{BtrRefusal}
@@ -23,9 +21,9 @@ use Rattle.btr_tree.specs.declared.climb.Root.{Root}
 use Rattle.btr_tree.proofs.Groups.{ends_in}
 use Rattle.btr_tree.proofs.Maps.{agree}
 use Rattle.btr_tree.proofs.Sizes.{IsSmaller, sizes-more, sizes-none, sizes-one, smaller, sum-more, sum-one}
-use Rattle.btr_walk.specs.Events.{TreeItem, node_events, nodes_in, tree_events, may_be_bare}
+use Rattle.btr_walk.specs.Events.{node_events, nodes_in, tree_events, may_be_bare}
 use Rattle.btr_walk.specs.Map.{identity}
-use Rattle.btr_walk.specs.Tree.{bare_item, leaf_items, tree_damages, tree_items, when_sound}
+use Rattle.btr_walk.specs.Tree.{bare_item, leaf_items, tree_damages, when_sound}
 use Rattle.btr_walk.specs.declared.tree.Form.{Form}
 use Rattle.btr_walk.specs.declared.map.MapRange.{MapRange}
 use Rattle.btr_walk.specs.declared.tree.Pointer.{Pointer}

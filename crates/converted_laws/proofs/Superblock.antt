@@ -1,30 +1,27 @@
 -- The superblock of a converted volume reads back.
-use Rattle.std.proofs.Common.{◌≡◌, ◌≤◌, ◌<◌, ℕ, ◌+◌, ◌-◌, ◌*◌, ◌/◌, ◌%◌, ◌^◌, ◌++◌, ◌&&◌, eqb, leb, Bool, true, false, List, [], ◌∷◌, length, take, drop, replicate, Some, None, Ok, refl, sym, ap, subst, ◌∙◌, ⊎_elim, arith, length-append, length-drop}
+use Rattle.std.proofs.Common.{◌≡◌, ◌≤◌, ◌<◌, ℕ, ◌-◌, ◌*◌, ◌%◌, ◌^◌, ◌++◌, ◌&&◌, eqb, Bool, true, false, List, [], ◌∷◌, length, take, drop, replicate, Some, None, Ok, refl, sym, ap, subst, ◌∙◌, ⊎_elim, arith, length-append, length-drop}
 use Rattle.std.specs.Prelude.{if◌then◌else◌}
-use Rattle.std.specs.List.{flat_map, sum_by}
-use Rattle.std.proofs.lemmas.Bool.{cases_Bool, eq-eqb, le-leb}
+use Rattle.std.specs.List.{sum_by}
+use Rattle.std.proofs.lemmas.Bool.{eq-eqb, le-leb}
 use Rattle.std.proofs.lemmas.List.{length-replicate, length-take}
 use Rattle.std.proofs.lemmas.List.Elements.{All-drop, All-take}
-use Rattle.outside.specs.History.{Image, block_at}
+use Rattle.outside.specs.History.{Image}
 use Rattle.outside.specs.declared.refusal.BtrRefusal.{BtrRefusal}
 use Rattle.outside.specs.declared.refusal.BtrRefusal.TheVariants.{Unsupported}
 use Rattle.outside.specs.declared.rule.Feature.TheVariants.{DeviceCount, Incompat, NodeSize, SectorSize}
 use Rattle.vol_block.specs.declared.ids.Ids.{Ids}
 use Rattle.btr_node.specs.NodeSize.{IsNodeSize}
 use Rattle.btr_space_items.specs.Device.{device_layout}
-use Rattle.btr_space_items.specs.declared.device.Device.{Device}
 use Rattle.csum_kinds.specs.declared.kind.SumKind.TheVariants.{Crc32c}
-use Rattle.btr_super.specs.declared.superblock.Super.{Super}
-use Rattle.btr_super.specs.Rules.{bad_field, failing, feature_rules, field_rules, has_fields, is_node_size, super_of, unread_bits}
+use Rattle.btr_super.specs.Rules.{bad_field, failing, field_rules, has_fields, is_node_size, super_of, unread_bits}
 use Rattle.btr_super.specs.Sums.{known_kind}
 use Rattle.btr_super.specs.Super.{super_bytes, super_layout}
 use Rattle.btr_super.proofs.ReadBack.{supers_read_back}
 use Rattle.btr_reader.specs.Opening.{super_on}
-use Rattle.btr_reader.specs.Parts.{log_of, log_tree}
+use Rattle.btr_reader.specs.Parts.{log_of}
 use Rattle.conversion.specs.Making.{IsMaking, Making, chunk_slots, label_by, label_field, new_ids, slots}
 use Rattle.conversion.specs.Standing.{HasTrees, form, root_from, root_tree_items, used_bytes}
 use Rattle.conversion.specs.declared.trees.VolumeTrees.{VolumeTrees}
-use Rattle.convert_core.specs.Converted.{IsNew, superblock_of}
 use Rattle.convert_core.proofs.Wholeness.{blocks_few, blocks_inside, blocks_some}
 use Rattle.convert_steps.specs.Superblock.{boot_bytes, features, is_system_role, new_super, record_bytes}
 use Rattle.convert_steps.specs.declared.fields.NewRoots.{NewRoots}
@@ -37,7 +34,7 @@ use Rattle.space_items.proofs.ChunkLists.{chunk_blocks_fit}
 use Rattle.space_laws.proofs.Booting.{boot_fits}
 use Rattle.unit_plan.specs.declared.chunk.Chunk.{Chunk}
 use Rattle.unit_plan.specs.declared.options.Options.{Options}
-use Rattle.converted_laws.specs.Laws.{OfEach, ReadsSuperblock, SuperblockReads}
+use Rattle.converted_laws.specs.Laws.{ReadsSuperblock, SuperblockReads}
 use Rattle.converted_laws.specs.Opened.{IsNewVolume, super_for}
 use Rattle.converted_laws.proofs.Mapped.{chunk_slot_small, slot_small}
 use Rattle.converted_laws.proofs.Numbers.{chunk_slots_few, size_small, slots_few, used_small}
@@ -88,10 +85,61 @@ module _ (ids : Ids) (blocks nodesize : ℕ) (label : List ℕ) (chunks : List C
 
   fits : super_layout.fits (new_super ids blocks nodesize label chunks roots)
   unfolding super_layout new_super
-  fits =
-      (((((((((((((((((((((((((((((((tt, room.ids_.fsid), omega arith), omega arith), omega arith), omega (arith, room.root)), omega (arith, room.chunk)), omega arith), omega arith), omega (arith, room.small)), omega (arith, room.used)), omega arith), omega arith), omega arith),
-      omega (arith, size_small nodesize room.size)), omega (arith, size_small nodesize room.size)), omega arith), omega (arith, room.boot)), omega arith), omega arith), omega arith), omega (arith, (features_read nodesize).1)), omega arith), omega (arith, room.root_low)), omega (arith, room.chunk_low)), omega arith),
-      device_fits ids blocks chunks room.ids_ room.small room.fit), room.labelled), omega arith), omega arith), array_long), length-replicate {A = ℕ} 672 0)
+  fits = (
+    (
+      (
+        (
+          (
+            (
+              (
+                (
+                  (
+                    (
+                      (
+                        (
+                          (
+                            (
+                              (
+                                (
+                                  (
+                                    (
+                                      (((((((((((((tt, room.ids_.fsid), omega arith), omega arith), omega arith), omega (arith, room.root)), omega (arith, room.chunk)), omega arith), omega arith), omega (arith, room.small)), omega (arith, room.used)), omega arith), omega arith), omega arith),
+                                      omega (arith, size_small nodesize room.size),
+                                    ),
+                                    omega (arith, size_small nodesize room.size),
+                                  ),
+                                  omega arith,
+                                ),
+                                omega (arith, room.boot),
+                              ),
+                              omega arith,
+                            ),
+                            omega arith,
+                          ),
+                          omega arith,
+                        ),
+                        omega (arith, (features_read nodesize).1),
+                      ),
+                      omega arith,
+                    ),
+                    omega (arith, room.root_low),
+                  ),
+                  omega (arith, room.chunk_low),
+                ),
+                omega arith,
+              ),
+              device_fits ids blocks chunks room.ids_ room.small room.fit,
+            ),
+            room.labelled,
+          ),
+          omega arith,
+        ),
+        omega arith,
+      ),
+      array_long,
+    ),
+    length-replicate {A = ℕ} 672 0,
+  )
 
   five_hold : (a b c d e : Bool) (p q u v w : BtrRefusal) → a ≡ true → b ≡ true → c ≡ true → d ≡ true → e ≡ true → failing ((a, p) ∷ (b, q) ∷ (c, u) ∷ (d, v) ∷ (e, w) ∷ []) ≡ []
   five_hold a b c d e p q u v w g h i j k = rw (g, h, i, j, k) refl

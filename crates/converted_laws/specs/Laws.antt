@@ -1,11 +1,11 @@
 -- What holds of every converted volume as it is opened.
-use Rattle.std.specs.Prelude.{◌≡◌, ◌⊎◌, ℕ, List, [], map, Some, None, Ok}
+use Rattle.std.specs.Prelude.{◌≡◌, ◌⊎◌, ℕ, List, map, Some, None, Ok}
 use Rattle.outside.specs.History.{Image}
 use Rattle.outside.specs.declared.refusal.BtrRefusal.{BtrRefusal}
 use Rattle.vol_block.specs.declared.ids.Ids.{Ids}
 use Rattle.btr_names.specs.Roots.{has_root}
 use Rattle.btr_names.specs.Rules.{BreaksNames}
-use Rattle.btr_reader.specs.Opening.{IsOpened, boot_chunks, chunk_map, opening_refusals, super_on, tree_of}
+use Rattle.btr_reader.specs.Opening.{IsOpened, boot_chunks, chunk_map, super_on, tree_of}
 use Rattle.btr_reader.specs.Parts.{IsBtrfsRefusal, IsReadable, Opening, Superblock, Tree, log_tree, own_map, own_super}
 use Rattle.btr_reader.specs.Rows.{BreaksExtents, roots_on}
 use Rattle.btr_walk.specs.Walks.{found}

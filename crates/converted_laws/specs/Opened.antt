@@ -1,7 +1,6 @@
 -- What a converted volume is to whoever opens it.
-use Rattle.std.specs.Prelude.{◌≡◌, ◌≤◌, ◌<◌, ℕ, ◌+◌, ◌-◌, ◌*◌, ◌^◌, true, not, List, [], ◌++◌, length, map, filter, Contains, Option, Some, None, Ok}
+use Rattle.std.specs.Prelude.{◌≡◌, ◌≤◌, ◌<◌, ℕ, ◌+◌, ◌-◌, ◌*◌, ◌^◌, true, not, List, [], ◌++◌, map, filter, Contains, Some}
 use Rattle.outside.specs.History.{Image}
-use Rattle.outside.specs.declared.refusal.BtrRefusal.{BtrRefusal}
 use Rattle.vol_block.specs.declared.ids.Ids.{Ids}
 use Rattle.btr_node.specs.Leaf.{Item}
 use Rattle.btr_node.specs.NodeSize.{IsNodeSize}
@@ -14,12 +13,12 @@ use Rattle.btr_walk.specs.Tree.{bare_item}
 use Rattle.btr_walk.specs.Walks.{found, wrong}
 use Rattle.btr_walk.specs.declared.map.MapRange.{MapRange}
 use Rattle.btr_names.specs.Roots.{has_root}
-use Rattle.btr_reader.specs.Opening.{IsOpened, boot_chunks, root_tree, tree_of}
+use Rattle.btr_reader.specs.Opening.{root_tree, tree_of}
 use Rattle.btr_reader.specs.Roots.{pointer_of, root_item}
 use Rattle.btr_reader.specs.Rows.{roots_on}
 use Rattle.btr_reader.specs.declared.chunk.ChunkAt.{ChunkAt}
 use Rattle.conversion.specs.Making.{Making, label_by, label_field, new_ids, chunk_slots, slots}
-use Rattle.conversion.specs.Standing.{file_tree_items, image_tree_items, listed, root_tree_items, sum_tree_items, used_bytes}
+use Rattle.conversion.specs.Standing.{file_tree_items, image_tree_items, root_tree_items, sum_tree_items, used_bytes}
 use Rattle.conversion.specs.declared.trees.VolumeTrees.{VolumeTrees}
 use Rattle.convert_core.specs.Converted.{IsNew}
 use Rattle.convert_steps.specs.Superblock.{is_system_role, new_super}
