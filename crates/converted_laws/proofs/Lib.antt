@@ -1,4 +1,5 @@
 pub mod Chunks
+pub mod Identifiers
 pub mod Mapped
 pub mod Numbers
 pub mod Opening

@@ -3,8 +3,8 @@ use Rattle.std.proofs.Common.{◌≡◌, ◌≤◌, ◌<◌, ℕ, ◌+◌, ◌-�
 use Rattle.std.specs.Prelude.{Contains, if◌then◌else◌, not, ◌&&◌}
 use Rattle.std.proofs.lemmas.Bool.{and_from, both_ways, cases_Bool, le-leb, lt-ltb, not_from_false}
 use Rattle.std.proofs.lemmas.Bool.Decides.{nat_tests}
-use Rattle.std.proofs.lemmas.List.Elements.{Contains-append_left, Contains-append_right}
-use Rattle.path_list.proofs.Lists.{in_filter}
+use Rattle.std.proofs.lemmas.List.Elements.{Contains-append_cases, Contains-append_left, Contains-append_right}
+use Rattle.path_list.proofs.Lists.{from_filter, from_map, in_filter, in_map}
 use Rattle.outside.specs.History.{Image}
 use Rattle.btr_node.specs.NodeSize.{IsNodeSize}
 use Rattle.btr_tree.specs.Laws.{GivesItself}
@@ -19,7 +19,7 @@ use Rattle.space_laws.proofs.Booting.{chunks_of, used_few}
 use Rattle.reiser_volume.specs.Volume.{used_of}
 use Rattle.unit_plan.specs.declared.chunk.Chunk.{Chunk}
 use Rattle.unit_plan.specs.declared.chunk.Role.TheVariants.{System}
-use Rattle.converted_laws.specs.Opened.{GivesItsOwn, boot_part, map_for, other_part, range_for}
+use Rattle.converted_laws.specs.Opened.{AreRangesFor, GivesItsOwn, boot_part, map_for, other_part, range_for}
 use Rattle.converted_laws.proofs.Places.{HasBlock, HasBlockOf, chunk_slot_block, piece_block, slot_block}
 
 inside : (low long a : ℕ) → low ≤ a → a < low + long → (leb low a && ltb a (low + long)) ≡ true
@@ -58,6 +58,18 @@ in_parts chunks c among =
     (λ (t : is_system_role c.role ≡ true). Contains-append_left (boot_part chunks) (other_part chunks) c (in_filter (λ (d : Chunk). is_system_role d.role) chunks c among t))
     (λ (f : is_system_role c.role ≡ false). Contains-append_right (boot_part chunks) (other_part chunks) c (in_filter (λ (d : Chunk). not (is_system_role d.role)) chunks c among (not_from_false (is_system_role c.role) f)))
     (cases_Bool (is_system_role c.role))
+
+-- and the other way
+from_parts : (chunks : List Chunk) (c : Chunk) → Contains (boot_part chunks ++ other_part chunks) c → Contains chunks c
+from_parts chunks c among =
+    ⊎_elim (λ first. (from_filter (λ (d : Chunk). is_system_role d.role) chunks c first).0) (λ second. (from_filter (λ (d : Chunk). not (is_system_role d.role)) chunks c second).0)
+    (Contains-append_cases (boot_part chunks) (other_part chunks) c among)
+
+pub ranges_are : (chunks : List Chunk) → AreRangesFor chunks (map_for chunks)
+ranges_are chunks = record {
+  each = λ r h. let at = from_map range_for (boot_part chunks ++ other_part chunks) r h in (at.0, from_parts chunks at.0 at.1, sym at.2);
+  whole = λ c h. in_map range_for (boot_part chunks ++ other_part chunks) c (in_parts chunks c h);
+}
 
 pub in_boot : (chunks : List Chunk) (c : Chunk) → Contains chunks c → c.role ≡ System → Contains (boot_part chunks) c
 in_boot chunks c among is = in_filter (λ (d : Chunk). is_system_role d.role) chunks c among (ap is_system_role is)

@@ -48,7 +48,7 @@ use Rattle.unit_plan.specs.declared.options.Options.{Options}
 use Rattle.converted_laws.specs.Laws.{ChunksMap, MapsChunks}
 use Rattle.converted_laws.specs.Opened.{IsNewVolume, boot_part, chunk_at, map_for, range_for, super_for}
 use Rattle.converted_laws.proofs.Chunks.{AreApart, AreRead, Come, LiesOn, all_fit, array_sound, entries_are, tree_read}
-use Rattle.converted_laws.proofs.Mapped.{all_itself, boot_nodes}
+use Rattle.converted_laws.proofs.Mapped.{all_itself, boot_nodes, ranges_are as are_ranges_of}
 use Rattle.converted_laws.proofs.Stood.{IsRead, read_by}
 use Rattle.converted_laws.proofs.Superblock.{size, super_reads}
 
@@ -241,7 +241,7 @@ module _ (o : Options) (ids : Ids) (now : ℕ) (image other : Image) (m : Making
       parts_ascend = AllPairs-filter (λ (c d : Chunk). c.start + c.length ≤ d.start) (λ (d : Chunk). is_system_role d.role) m.chunks are_chunks.ascending
 
   pub maps_chunks : MapsChunks other m r nodes
-  maps_chunks = record { boot = boot_is; map_is = sym opened.map_is; own = all_itself image m making fit_size }
+  maps_chunks = record { boot = boot_is; map_is = sym opened.map_is; ranges = are_ranges_of m.chunks; own = all_itself image m making fit_size }
 
 pub chunks_map : ChunksMap
 chunks_map = λ o ids now image other m r nodes v. maps_chunks o ids now image other m r nodes v

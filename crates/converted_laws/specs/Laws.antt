@@ -14,7 +14,7 @@ use Rattle.conversion.specs.declared.trees.VolumeTrees.{VolumeTrees}
 use Rattle.space_items.specs.declared.node.TreeNode.{TreeNode}
 use Rattle.tree_writer.specs.Trees.{root_pointer}
 use Rattle.unit_plan.specs.declared.options.Options.{Options}
-use Rattle.converted_laws.specs.Opened.{GivesItsOwn, IsNewVolume, ReadsTrees, boot_part, chunk_at, map_for, super_for}
+use Rattle.converted_laws.specs.Opened.{AreRangesFor, GivesItsOwn, IsNewVolume, ReadsTrees, boot_part, chunk_at, map_for, super_for}
 
 -- what holds of each converted volume
 abbrev pub OfEach : (Image → Image → Making → VolumeTrees → List TreeNode → Type 0) → Type 0
@@ -34,6 +34,7 @@ SuperblockReads = OfEach (λ image other m r nodes. ReadsSuperblock other m r no
 pub record MapsChunks (other : Image) (m : Making) (r : VolumeTrees) (nodes : List TreeNode) : Type 0 where
   pub boot : boot_chunks (super_for m r nodes) ≡ Some (map (chunk_at (new_ids m)) (boot_part m.chunks))
   pub map_is : chunk_map other (super_for m r nodes) ≡ map_for m.chunks
+  pub ranges : AreRangesFor m.chunks (map_for m.chunks)
   pub own : GivesItsOwn m (map_for m.chunks)
 
 abbrev pub ChunksMap : Type 0

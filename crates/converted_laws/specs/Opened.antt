@@ -63,6 +63,11 @@ range_for c = record { logical = 4096 * c.start; length = 4096 * c.length; physi
 abbrev pub map_for : List Chunk → List MapRange
 map_for chunks = map range_for (boot_part chunks ++ other_part chunks)
 
+-- The ranges of some chunks: each range is that of a chunk, and each chunk has one.
+pub record AreRangesFor (chunks : List Chunk) (ranges : List MapRange) : Type 0 where
+  pub each : (r : MapRange) → Contains ranges r → (c : Chunk) × Contains chunks c × (r ≡ range_for c)
+  pub whole : (c : Chunk) → Contains chunks c → Contains ranges (range_for c)
+
 -- each address of a node and of a piece means itself
 pub record GivesItsOwn (m : Making) (ranges : List MapRange) : Type 0 where
   pub chunk_nodes : (a : ℕ) → Contains (chunk_slots m) a → GivesItself ranges m.options.nodesize a

@@ -1,8 +1,14 @@
 // Laws of the definitions, each the contract of a function that does nothing.
+ghost use Rattle.converted_laws.specs.Identifiers.{NewIdsFit};
 ghost use Rattle.converted_laws.specs.Laws.{ChunksMap, ConvertedIsReadable, SuperblockReads, TreesRead};
 ghost use Rattle.converted_laws.specs.Saved.{SavedImageIsReadable, SavedImageReads};
 
 use file_laws::{entries_are_there, image_keys_ascend};
+
+/// The identifiers of a converted volume have 16 bytes each.
+pub fn new_ids_fit()
+    ensures { NewIdsFit }
+{}
 
 /// The superblock of a converted volume is read, with the fields that were written, and names no log tree.
 pub fn superblock_reads()

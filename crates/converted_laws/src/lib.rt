@@ -6,6 +6,6 @@
 mod laws;
 
 pub use laws::{
-    chunks_map, converted_is_readable, saved_image_is_readable, saved_image_reads,
+    chunks_map, converted_is_readable, new_ids_fit, saved_image_is_readable, saved_image_reads,
     superblock_reads, trees_read,
 };
