@@ -1,0 +1,13 @@
+pub mod Exact
+pub mod Fields
+pub mod Indexing
+pub mod InodeRead
+pub mod Known
+pub mod Linking
+pub mod Links
+pub mod Lists
+pub mod Paths
+pub mod Rowing
+pub mod Ruling
+pub mod Stats
+pub mod Telling
