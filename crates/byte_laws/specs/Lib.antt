@@ -1,0 +1,5 @@
+pub mod Converted
+pub mod Kept
+pub mod Mapped
+pub mod Read
+pub mod Sound
