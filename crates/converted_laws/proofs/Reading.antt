@@ -35,7 +35,7 @@ use Rattle.space_items.specs.declared.node.TreeRoot.{TreeRoot}
 use Rattle.tree_writer.specs.Trees.{TreeStands, root_pointer}
 use Rattle.unit_plan.specs.declared.options.Options.{Options}
 use Rattle.converted_laws.specs.Laws.{ConvertedIsReadable, IsReadableWithTrees, OpensWithTrees, TreesRead}
-use Rattle.converted_laws.specs.Opened.{GivesItsOwn, IsNewVolume, ReadsTree, ReadsTrees, map_for, super_for}
+use Rattle.converted_laws.specs.Opened.{AreRangesFor, GivesItsOwn, IsNewVolume, ReadsTree, ReadsTrees, map_for, super_for}
 use Rattle.converted_laws.proofs.Mapped.{slot_small}
 use Rattle.converted_laws.proofs.Numbers.{size_small, slots_few}
 use Rattle.converted_laws.proofs.Opening.{later_read, maps_chunks, opened, root_read}
@@ -161,6 +161,7 @@ module _ (o : Options) (ids : Ids) (now : ℕ) (image other : Image) (m : Making
     log = (reads o ids now image other m r nodes v).log;
     super_is = own_super_is;
     map_is = own_map_is;
+    ranges = subst (AreRangesFor m.chunks) (sym own_map_is) (maps_chunks o ids now image other m r nodes v).ranges;
     own = subst (GivesItsOwn m) (sym own_map_is) (maps_chunks o ids now image other m r nodes v).own;
     trees = own_trees;
     rest = λ refusal after.

@@ -62,6 +62,7 @@ pub record IsReadableWithTrees (image other : Image) (m : Making) (r : VolumeTre
   pub log : log_tree other ≡ None
   pub super_is : own_super other ≡ super_for m r nodes
   pub map_is : own_map other ≡ map_for m.chunks
+  pub ranges : AreRangesFor m.chunks (own_map other)
   pub own : GivesItsOwn m (own_map other)
   pub trees : ReadsTrees image other (own_super other) (own_map other) m r nodes
   pub rest : (refusal : BtrRefusal) → IsBtrfsRefusal other Tree refusal → BreaksTree other m r refusal
