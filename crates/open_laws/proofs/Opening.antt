@@ -1,5 +1,5 @@
 -- A converted volume opens as it was before.
-use Rattle.std.proofs.Common.{◌≡◌, ◌⊎◌, inl, inr, ◌≤◌, ◌<◌, ℕ, ◌^◌, ◌&&◌, nat_le, nat_lt, Bool, true, false, List, [], ◌∷◌, ◌++◌, length, codes, Option, Some, None, Result, Ok, Err, is_some, refl, sym, ap, subst, ◌∙◌, ⊎_elim, arith}
+use Rattle.std.proofs.Common.{◌≡◌, inr, ◌<◌, ℕ, ◌^◌, nat_le, nat_lt, Bool, true, false, List, [], ◌∷◌, length, codes, Ok, is_some, refl, sym, ap, subst, ◌∙◌, ⊎_elim, arith}
 use Rattle.std.specs.Prelude.{Contains, if◌then◌else◌}
 use Rattle.std.proofs.lemmas.Bool.{and_parts}
 use Rattle.std.proofs.lemmas.Bool.Decides.{nat_tests}
@@ -10,27 +10,24 @@ use Rattle.outside.specs.declared.refusal.BtrRefusal.TheVariants.{BadBtrfs, Unsu
 use Rattle.outside.specs.declared.rule.BtrRule.TheVariants.{SuperCsum}
 use Rattle.outside.specs.declared.rule.Feature.TheVariants.{ChecksumType}
 use Rattle.vol_block.specs.Format.{format, has_bytes_at, has_reiser_magic}
-use Rattle.vol_block.specs.declared.format.Format.{Format}
 use Rattle.vol_block.specs.declared.format.Format.TheVariants.{Btrfs, Neither, Reiser}
 use Rattle.vol_block.specs.declared.ids.Ids.{Ids}
 use Rattle.btr_names.specs.Roots.{has_root}
-use Rattle.btr_names.specs.Rules.{BreaksNames, KeepsNames}
-use Rattle.btr_node.specs.NodeSize.{IsNodeSize}
+use Rattle.btr_names.specs.Rules.{KeepsNames}
 use Rattle.btr_reader.specs.Laws.{BtrfsRowsAreOne}
 use Rattle.btr_reader.specs.Opening.{opening_refusals, super_on, tree_of}
-use Rattle.btr_reader.specs.Parts.{AreRowsOfBtrfs, HasBtrfsRows, IsReadable, Tree, own_map, own_super}
-use Rattle.btr_reader.specs.Rows.{BreaksExtents, IsTreeRefusal, roots_on}
-use Rattle.btr_super.specs.Rules.{bad_field, block_rules, failing, field_rules, is_super, super_of, super_refusals, unless_refused}
+use Rattle.btr_reader.specs.Parts.{AreRowsOfBtrfs, IsReadable, Tree, own_map, own_super}
+use Rattle.btr_reader.specs.Rows.{roots_on}
+use Rattle.btr_super.specs.Rules.{bad_field, failing, field_rules, is_super, super_of, super_refusals, unless_refused}
 use Rattle.btr_super.specs.Sums.{csum_type_of, has_sum, known_kind}
 use Rattle.btr_super.specs.Super.{super_in}
 use Rattle.btr_super.specs.declared.superblock.Super.{Super}
 use Rattle.btr_walk.specs.Events.{TreeItem}
 use Rattle.btr_walk.specs.Walks.{found}
-use Rattle.btr_walk.specs.declared.map.MapRange.{MapRange}
 use Rattle.byte_laws.specs.Converted.{ConvertedFilesAreRead, ReadsFiles}
 use Rattle.byte_laws.specs.Kept.{BytesAreKept}
 use Rattle.byte_laws.specs.Mapped.{AreRangesOf}
-use Rattle.conversion.specs.Making.{IsMaking, Making, new_ids}
+use Rattle.conversion.specs.Making.{IsMaking, Making}
 use Rattle.conversion.specs.Source.{made_from}
 use Rattle.conversion.specs.Standing.{file_tree_items}
 use Rattle.conversion.specs.declared.trees.VolumeTrees.{VolumeTrees}
@@ -41,7 +38,7 @@ use Rattle.converted_laws.specs.Laws.{ConvertedIsReadable, IsReadableWithTrees, 
 use Rattle.converted_laws.specs.Opened.{IsNewVolume, ReadsTree, super_for}
 use Rattle.converted_laws.specs.Saved.{ReadsSavedImage, SavedImageIsReadable}
 use Rattle.fs_rows.specs.Rows.{WholeRow}
-use Rattle.reiser_volume.specs.Volume.{AreRowsOf, superblock}
+use Rattle.reiser_volume.specs.Volume.{AreRowsOf}
 use Rattle.row_laws.specs.Names.{NamesKeepRules}
 use Rattle.row_laws.specs.Rows.{HasBytes, KeepsBytes, RowsAreKept}
 use Rattle.space_items.specs.Laws.{AreIds}

@@ -2,7 +2,9 @@ ghost use Rattle.open_laws.specs.Opens.{ConvertedVolumesOpen};
 
 use btr_reader::btrfs_rows_are_one;
 use byte_laws::{bytes_are_kept, converted_files_are_read};
-use converted_laws::{converted_is_readable, new_ids_fit, saved_image_is_readable, superblock_reads};
+use converted_laws::{
+    converted_is_readable, new_ids_fit, saved_image_is_readable, superblock_reads,
+};
 use row_laws::{names_keep_rules, rows_are_kept};
 
 /// A converted volume opens as a Btrfs volume without a log tree. Its rows are those of the volume before, and its saved image is
