@@ -118,9 +118,6 @@ range_more ds c = sym (map-append range_for ds (c ∷ []))
 one_more : (ds : List Chunk) (c d : Chunk) → Contains (ds ++ c ∷ []) d → Contains ds d ⊎ (c ≡ d)
 one_more ds c d h = ⊎_elim (λ first. inl first) (λ last. ⊎_elim (λ (same : c ≡ d). inr same) (λ (none : Contains [] d). absurd (omega (arith, none.1))) (contains_cases d c [] last)) (Contains-append_cases ds (c ∷ []) d h)
 
-turned : (c d : Chunk) → AreApart c d → AreApart d c
-turned c d apart = ⊎_elim (λ low. inr low) (λ high. inl high) apart
-
 -- nothing is wrong with chunks one after the other, after others
 pub array_sound : (ids : Ids) (device : ℕ) (ds cs : List Chunk) → ((c : Chunk) → Contains cs c → LiesOn device c) → ((c d : Chunk) → Contains cs c → Contains ds d → AreApart c d)
     → AllPairs (λ c d. c.start + c.length ≤ d.start) cs → chunks_refusals device (map range_for ds) (map (chunk_at ids) cs) ≡ []

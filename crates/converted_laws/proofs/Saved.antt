@@ -168,9 +168,6 @@ one_left a b c d e f g is_a is_b is_c is_e is_f is_g = rw (is_a, is_b, is_c, is_
 
 -- the same of the items by themselves
 module _ (blocks : ℕ) (pieces : List Piece) (datasum : Bool) (now : ℕ) (a b c d f g : TreeItem) (extents : List TreeItem) where
-  abbrev list : List TreeItem
-  list = a ∷ (b ∷ (c ∷ (d ∷ (f ∷ (g ∷ extents)))))
-
   told_by : a.key ≡ make_key 256 1 0 → b.key ≡ make_key 256 12 256 → c.key ≡ make_key 256 84 (name_hash image_name) → d.key ≡ make_key 256 96 2 → d.body ≡ dir_entry_bytes entry → f.key ≡ make_key 257 1 0
       → f.body ≡ inode_bytes (file_inode blocks (piece_bytes (pieces_of_volume pieces)) datasum now) → g.key ≡ make_key 257 12 256 → map bare_item extents ≡ extents_at 257 source_block (pieces_of_volume pieces)
       → IsTold blocks pieces datasum now (a ∷ (b ∷ (c ∷ (d ∷ (f ∷ (g ∷ extents))))))
@@ -332,9 +329,6 @@ module _ (rising : ImageKeysAscend) (o : Options) (ids : Ids) (now : ℕ) (image
   -- the place of a block of the image
   place_is : (b : ℕ) → b < m.volume.sup.blocks → image_place (map_for m.chunks) (record { extents = tell.extents; blocks = 4096 * m.volume.sup.blocks / 4096 }) b ≡ file_block (map_for m.chunks) tell.extents b
   place_is b inside = ap (λ (t : Bool). if t then file_block (map_for m.chunks) tell.extents b else None) (lt-ltb b (4096 * m.volume.sup.blocks / 4096) (omega (arith, inside)))
-
-  abbrev f : ImageFile
-  f = record { extents = tell.extents; blocks = 4096 * m.volume.sup.blocks / 4096 }
 
   is_image_of : IsImageOf image other (map_for m.chunks) m.volume.sup.blocks (record { extents = tell.extents; blocks = 4096 * m.volume.sup.blocks / 4096 })
   is_image_of = record {

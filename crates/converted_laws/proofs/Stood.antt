@@ -132,6 +132,3 @@ module _ (image : Image) (form : Form) (owner : ℕ) (slots : List ℕ) (items :
       let most : leaf ≤ tree_nodes form.nodesize (lengths_of items) = leaves_within 255 (fan_out form.nodesize) leaf in
       let low : leaf ≤ 121 ^ 6 = omega (arith, most, few, stands.count, stands.few) in
       root_has (λ (p : Pointer). p.level ≤ 6) (all_met (λ (p : Pointer). p.level ≤ 6) (levels_low 6 256 1 0 0 (fan_out form.nodesize) leaf slots (wide form.nodesize size) some low))
-
-  pub nodes_few : root.nodes ≤ length slots
-  nodes_few = stands.few
