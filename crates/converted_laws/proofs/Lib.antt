@@ -1,0 +1,15 @@
+pub mod Chunks
+pub mod Identifiers
+pub mod Mapped
+pub mod Numbers
+pub mod Opening
+pub mod Places
+pub mod Reading
+pub mod RootKept
+pub mod Rooted
+pub mod Saved
+pub mod SavedExtents
+pub mod SavedPieces
+pub mod SavedWay
+pub mod Stood
+pub mod Superblock
