@@ -469,6 +469,8 @@ samples() {
 
 # shellcheck source=tests/outside/convert.sh
 . "$top/tests/outside/convert.sh"
+# shellcheck source=tests/outside/power.sh
+. "$top/tests/outside/power.sh"
 
 # ---- all -------------------------------------------------------------------------------------------------------------
 
@@ -495,7 +497,10 @@ if need mkfs.reiserfs reiserfsprogs && need debugreiserfs reiserfsprogs; then
     maker_statuses
     samples
     rare_volumes
-    if need btrfs btrfs-progs && need zstd zstd; then convert_volumes; else
+    if need btrfs btrfs-progs && need zstd zstd; then
+        convert_volumes
+        killed_conversions
+    else
         echo 'skipped: convert, since btrfs and zstd are not to be had'
     fi
 else

@@ -1,0 +1,54 @@
+# What is left of a volume when `convert` is killed at fifty moments: `recover` opens it, `list` prints the rows from before, and the judge
+# of the format that is there finds nothing. tests/outside.sh reads this file.
+
+# milliseconds COMMAND..: how long it takes
+milliseconds() {
+    local begun=$EPOCHREALTIME
+    "$@" >"$work/.out" 2>"$work/.err"
+    awk -v a="$begun" -v b="$EPOCHREALTIME" 'BEGIN { printf "%d", (b - a) * 1000 }'
+}
+
+# judge FILE: the format that is there, and what its own tool says
+judge() {
+    if [ "$(dd if="$1" bs=1 skip=65600 count=8 status=none)" = _BHRfS_M ]; then
+        kept btrfs check --readonly "$1"
+        echo "btrfs $status $(grep -c 'no error found' "$work/.out")"
+    else
+        kept reiserfsck --check -y "$1"
+        echo "reiserfs $status $(cat "$work/.out" "$work/.err" | grep -c 'No corruptions found')"
+    fi
+}
+
+# killed NAME FILE WORDS..: the command is killed at fifty moments on copies of a file, the last ones close to its end
+killed() {
+    local name=$1 file=$2 whole moment format before pid
+    shift 2
+    cp --sparse=always "$file" copied
+    whole=$(milliseconds "$program" "$@" copied)
+    run list "$file"
+    before=$(sha256sum <"$work/.out")
+    formats=
+    for moment in $(seq 1 50); do
+        cp --sparse=always "$file" copied
+        "$program" "$@" copied >/dev/null 2>&1 &
+        pid=$!
+        sleep "$(awk -v t="$whole" -v i="$moment" 'BEGIN { printf "%.4f", t * i / 50000 }')"
+        kill -KILL "$pid" 2>/dev/null
+        wait "$pid" 2>/dev/null
+        run recover copied
+        format=$(sed -n 's/^volume is //p' "$work/.out")
+        same "recover after $name was killed at moment $moment" '0||2' "$status|$err|$(wc -l <"$work/.out")"
+        run recover copied
+        same "a second recover after moment $moment of $name" "0||volume is $format mirrors 0" "$status|$err|$(paste -sd ' ' "$work/.out")"
+        run list copied
+        same "the rows after $name was killed at moment $moment" "0|$before" "$status|$(sha256sum <"$work/.out")"
+        same "the volume after $name was killed at moment $moment" "$format 0 1" "$(judge copied)"
+        formats+="$format "
+    done
+    echo "killed $name: $(tr ' ' '\n' <<<"$formats" | sort | uniq -c | awk 'NF == 2 { printf "%s %s  ", $1, $2 }')"
+}
+
+killed_conversions() {
+    makes 65536 4000 65536
+    killed 'a conversion' made convert
+}
