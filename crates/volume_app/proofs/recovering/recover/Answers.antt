@@ -1,8 +1,11 @@
-use Rattle.std.proofs.Common.{◌≡◌, inl, subst}
+use Rattle.std.proofs.Common.{ap, inl, subst}
 use Rattle.outside.specs.History.{History, IsSettled, LeftSince, clock, reads}
 use Rattle.outside.proofs.Phases.{left_unwritten}
 use Rattle.rollback_core.specs.Recovered.{IsLeft}
 use Rattle.volume_app.proofs.recovering.recover.Goals as goal
+
+pub returns-in-Ok-clause-right : goal.returns-in-Ok-clause-right
+returns-in-Ok-clause-right g c = λ tells. c.recover.ensures.recovered tells (reads (g.D.Disk.history c.args.disk.now)) (ap reads (c.open.ensures.unchanged tells))
 
 pub returns-in-Ok-clause-crash : goal.returns-in-Ok-clause-crash
 returns-in-Ok-clause-crash g c = λ tells settled image left.

@@ -1,5 +1,4 @@
-use Rattle.std.proofs.Common.{◌≡◌, List, ap, refl}
-use Rattle.rollback_core.specs.declared.recovery.RecoverSummary.{RecoverSummary}
+use Rattle.std.proofs.Common.{ap}
 use Rattle.volume_app.specs.Recovering.{recover_meaning, recover_text}
 use Rattle.volume_app.proofs.Outcomes.{no_fault_by}
 use Rattle.volume_app.proofs.Performing.{failed, ok_kept, performed, recovered_keeps}

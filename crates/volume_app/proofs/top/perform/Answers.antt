@@ -36,7 +36,7 @@ returns-in-Some-Convert-clause-performs g c =
 pub returns-in-Some-Recover-clause-performs : goal.returns-in-Some-Recover-clause-performs
 returns-in-Some-Recover-clause-performs g c =
     let asked : command (map string_bytes c.args.words.now) ≡ Some (recover c.in-Some-Recover.path.now) =
-        sym c.in-Some-Recover.ensures.read ∙ ap (λ (k : Command). Some (seen k)) c.in-Some-Recover.field-0-is in
+    sym c.in-Some-Recover.ensures.read ∙ ap (λ (k : Command). Some (seen k)) c.in-Some-Recover.field-0-is in
     rw asked c.recover_volume.ensures
 
 pub returns-in-Some-Help-clause-performs : goal.returns-in-Some-Help-clause-performs
@@ -54,23 +54,23 @@ returns-in-Some-Version-clause-performs g c =
 pub returns-in-Some-Inspect-clause-usage : goal.returns-in-Some-Inspect-clause-usage
 returns-in-Some-Inspect-clause-usage g c =
     let asked : command (map string_bytes c.args.words.now) ≡ Some (inspect c.in-Some-Inspect.path.now) =
-        sym c.in-Some-Inspect.ensures.read ∙ ap (λ (k : Command). Some (seen k)) c.in-Some-Inspect.field-0-is in
+    sym c.in-Some-Inspect.ensures.read ∙ ap (λ (k : Command). Some (seen k)) c.in-Some-Inspect.field-0-is in
     (λ is. absurd (subst (Knows inspect_meaning) is c.inspect_volume.ensures.known), λ none. absurd (some_is_not _ _ asked none))
 
 pub returns-in-Some-List-clause-usage : goal.returns-in-Some-List-clause-usage
 returns-in-Some-List-clause-usage g c =
     let asked : command (map string_bytes c.args.words.now) ≡ Some (list c.in-Some-List.path.now) =
-        sym c.in-Some-List.ensures.read ∙ ap (λ (k : Command). Some (seen k)) c.in-Some-List.field-0-is in
+    sym c.in-Some-List.ensures.read ∙ ap (λ (k : Command). Some (seen k)) c.in-Some-List.field-0-is in
     (λ is. absurd (subst (Knows list_meaning) is c.list_volume.ensures.known), λ none. absurd (some_is_not _ _ asked none))
 
 pub returns-in-Some-Convert-clause-usage : goal.returns-in-Some-Convert-clause-usage
 returns-in-Some-Convert-clause-usage g c =
     let asked : command (map string_bytes c.args.words.now) ≡ Some (convert c.in-Some-Convert.options c.in-Some-Convert.path.now) =
-        sym c.in-Some-Convert.ensures.read ∙ ap (λ (k : Command). Some (seen k)) c.in-Some-Convert.field-0-is in
+    sym c.in-Some-Convert.ensures.read ∙ ap (λ (k : Command). Some (seen k)) c.in-Some-Convert.field-0-is in
     (λ is. absurd (subst (Knows (convert_meaning c.args.ids.now c.args.now c.in-Some-Convert.options)) is c.convert_volume.ensures.known), λ none. absurd (some_is_not _ _ asked none))
 
 pub returns-in-Some-Recover-clause-usage : goal.returns-in-Some-Recover-clause-usage
 returns-in-Some-Recover-clause-usage g c =
     let asked : command (map string_bytes c.args.words.now) ≡ Some (recover c.in-Some-Recover.path.now) =
-        sym c.in-Some-Recover.ensures.read ∙ ap (λ (k : Command). Some (seen k)) c.in-Some-Recover.field-0-is in
+    sym c.in-Some-Recover.ensures.read ∙ ap (λ (k : Command). Some (seen k)) c.in-Some-Recover.field-0-is in
     (λ is. absurd (subst (Knows recover_meaning) is c.recover_volume.ensures.known), λ none. absurd (some_is_not _ _ asked none))
