@@ -7,4 +7,3 @@ use Rattle.convert_core.proofs.volume.divide.Goals as goal
 pub chunks_of-requires-clause-units : goal.chunks_of-requires-clause-units
 chunks_of-requires-clause-units c =
     subst (λ (s : Super). FitsVolume c.args.prepared.now.plan s.blocks) (sym c.sup.ensures) (units_fit c.args.prepared.now c.requires.whole.0 c.requires.plan c.requires.whole.1)
-
