@@ -19,9 +19,8 @@ use Rattle.btr_walk.specs.Map.{place}
 use Rattle.btr_walk.specs.declared.map.MapRange.{MapRange}
 use Rattle.btr_super.specs.declared.superblock.Super.{Super}
 use Rattle.vol_block.specs.Format.{format}
-use Rattle.vol_block.specs.Volume.{is_reserved}
 use Rattle.vol_block.specs.declared.format.Format.TheVariants.{Neither}
-use Rattle.metadata_laws.specs.Apart.{AreExtentsApart, IsApart, IsContentApart, IsSameOutside, IsVolumeApart, differs, is_reserved_in, root_of}
+use Rattle.metadata_laws.specs.Apart.{AreExtentsApart, IsApart, IsContentApart, IsSameOutside, IsVolumeApart, differs, is_spare, is_spare_in, root_of}
 use Rattle.metadata_laws.specs.Laws.{IsSameBtrfs, MetadataDecides, ReservedBlocksAreSpare, SamePartsDecide}
 use Rattle.metadata_laws.proofs.Volumes.{apart_again, both, fields_same, image_same, items_same, map_same, opening_same, over, root_item_same, super_same, tree_refused, way_same}
 
@@ -101,8 +100,8 @@ metadata_decides test image other apart same = record { same = same_btrfs test i
 -- the reserved blocks are those of the superblock, which is the same
 pub reserved_blocks_are_spare : ReservedBlocksAreSpare
 reserved_blocks_are_spare image other free same =
-    let decided = metadata_decides (is_reserved_in image) image other free same in
-    (decided.same, subst (λ (s : Super). IsVolumeApart (λ b. is_reserved b (s.total_bytes / 4096)) other) (sym decided.same.fields) decided.apart)
+    let decided = metadata_decides (is_spare_in image) image other free same in
+    (decided.same, subst (λ (s : Super). IsVolumeApart (λ b. is_spare b (s.total_bytes / 4096)) other) (sym decided.same.fields) decided.apart)
 
 -- ---- by the blocks that differ
 equal_where : (t : Bool) → not t ≡ false → t ≡ true

@@ -1,5 +1,5 @@
 -- Where the parts of a Btrfs volume don't lie.
-use Rattle.std.specs.Prelude.{◌≡◌, ℕ, ◌+◌, ◌*◌, ◌/◌, ◌<◌, Bool, false, not, bytes_eq, List, length, map, Contains, Option, Some, None}
+use Rattle.std.specs.Prelude.{◌≡◌, ℕ, ◌+◌, ◌*◌, ◌/◌, ◌<◌, Bool, false, not, ◌&&◌, nat_eq, bytes_eq, List, length, map, Contains, Option, Some, None}
 use Rattle.std.specs.List.{All}
 use Rattle.std.specs.Option.{option_and_then}
 use Rattle.outside.specs.History.{Image, block_at}
@@ -75,10 +75,14 @@ pub record IsSameOutside (test : ℕ → Bool) (image other : Image) : Type 0 wh
 abbrev pub differs : Image → Image → ℕ → Bool
 differs image other b = not (bytes_eq (block_at other b) (block_at image b))
 
--- No part of the volume lies in a reserved block: in the first MiB, in the 64 KiB from the place of a copy of the superblock on, or
--- behind the last multiple of 64 KiB.
-abbrev pub is_reserved_in : Image → ℕ → Bool
-is_reserved_in image b = is_reserved b ((own_super image).total_bytes / 4096)
+-- The block is reserved, and is not that of the superblock: it lies in the first MiB, in the 64 KiB from the place of a copy of the
+-- superblock on, or behind the last multiple of 64 KiB.
+abbrev pub is_spare : ℕ → ℕ → Bool
+is_spare b blocks = not (nat_eq b 16) && is_reserved b blocks
 
+abbrev pub is_spare_in : Image → ℕ → Bool
+is_spare_in image b = is_spare b ((own_super image).total_bytes / 4096)
+
+-- no part of the volume lies in such a block
 abbrev pub IsReservedFree : Image → Type 0
-IsReservedFree image = IsVolumeApart (is_reserved_in image) image
+IsReservedFree image = IsVolumeApart (is_spare_in image) image

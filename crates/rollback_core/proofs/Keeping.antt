@@ -14,7 +14,7 @@ use Rattle.btr_super.specs.Super.{mirror_bytes}
 use Rattle.btr_super.specs.declared.superblock.Super.{Super}
 use Rattle.convert_steps.specs.Switch.{IsMirror}
 use Rattle.btr_reader.specs.Parts.{own_super}
-use Rattle.metadata_laws.specs.Apart.{IsSameOutside, is_reserved_in}
+use Rattle.metadata_laws.specs.Apart.{IsSameOutside, is_spare, is_spare_in}
 use Rattle.metadata_laws.proofs.Decided.{reserved_blocks_are_spare}
 use Rattle.object_files.specs.Laws.{SameUsed}
 use Rattle.reiser_bitmap.proofs.Ranges.{contains_filter, filter_contains}
@@ -22,7 +22,6 @@ use Rattle.reiser_volume.specs.Volume.{IsFrontAccepted, superblock, used_of}
 use Rattle.reiser_volume.proofs.Refusals.{front_not_refused}
 use Rattle.reiser_volume.proofs.Unchanged.{same_volume}
 use Rattle.vol_block.specs.Format.{format, has_bytes_at}
-use Rattle.vol_block.specs.Volume.{is_reserved}
 use Rattle.vol_block.specs.declared.format.Format.{Format}
 use Rattle.vol_block.specs.declared.format.Format.TheVariants.{Reiser, Btrfs, Neither}
 use Rattle.rollback_core.specs.Answers.{IsRefusedAs}
@@ -117,11 +116,11 @@ same_as_itself image = record {
 }
 
 -- the blocks of copies are reserved
-not_reserved : (blocks b : ℕ) → is_reserved b blocks ≡ false → IsMirror b → ⊥
+not_reserved : (blocks b : ℕ) → is_spare b blocks ≡ false → IsMirror b → ⊥
 not_reserved blocks b free mirror =
-    ⊎_elim (λ one. true≢false (subst (λ (n : ℕ). is_reserved n blocks ≡ false) one free)) (λ two. true≢false (subst (λ (n : ℕ). is_reserved n blocks ≡ false) two free)) mirror
+    ⊎_elim (λ one. true≢false (subst (λ (n : ℕ). is_spare n blocks ≡ false) one free)) (λ two. true≢false (subst (λ (n : ℕ). is_spare n blocks ≡ false) two free)) mirror
 
-left_outside : (image other : Image) → IsSameBut image other → IsSameOutside (is_reserved_in image) image other
+left_outside : (image other : Image) → IsSameBut image other → IsSameOutside (is_spare_in image) image other
 left_outside image other is = record { size = is.size; others = λ b free. is.others b (not_reserved ((own_super image).total_bytes / 4096) b free) }
 
 left_same : (image other : Image) → IsLeft image other → IsSameBut image other
