@@ -10,7 +10,7 @@ milliseconds() {
 
 # judge FILE: the format that is there, and what its own tool says
 judge() {
-    if [ "$(dd if="$1" bs=1 skip=65600 count=8 status=none)" = _BHRfS_M ]; then
+    if [ "$(dd if="$1" bs=1 skip=65600 count=8 status=none | tr -d '\0')" = _BHRfS_M ]; then
         kept btrfs check --readonly "$1"
         echo "btrfs $status $(grep -c 'no error found' "$work/.out")"
     else
@@ -19,7 +19,8 @@ judge() {
     fi
 }
 
-# killed NAME FILE WORDS..: the command is killed at fifty moments on copies of a file, the last ones close to its end
+# killed NAME FILE WORDS..: the command is killed at fifty moments on copies of a file: twenty over most of its time, and thirty about
+# its end, where it takes sometimes a little less and sometimes a little more
 killed() {
     local name=$1 file=$2 whole moment format before pid
     shift 2
@@ -32,7 +33,7 @@ killed() {
         cp --sparse=always "$file" copied
         "$program" "$@" copied >/dev/null 2>&1 &
         pid=$!
-        sleep "$(awk -v t="$whole" -v i="$moment" 'BEGIN { printf "%.4f", t * i / 50000 }')"
+        sleep "$(awk -v t="$whole" -v i="$moment" 'BEGIN { printf "%.4f", t / 1000 * (i <= 20 ? i / 22 : 0.9 + (i - 20) / 150) }')"
         kill -KILL "$pid" 2>/dev/null
         wait "$pid" 2>/dev/null
         run recover copied
