@@ -22,7 +22,7 @@ measured() {
 }
 
 # files_of DIRECTORIES NAME: a ReiserFS volume of files, with room for the trees of a conversion, and the files
-files_of() { python3 "$top/bench/files_volume.py" "$1" "$work/$2.files" "$work/$2"; }
+files_of() { python3 "$top/bench/files_volume.py" "$1" "$work/$2.files" "$work/$2" 100000; }
 
 directories=${1:-385}
 files_of $((directories / 2)) half

@@ -1,8 +1,9 @@
 #!/usr/bin/env python3
-"""Writes a ReiserFS 3.6 volume of many files, and the same files into a folder: files_volume.py DIRECTORIES FOLDER FILE.
+"""Writes a ReiserFS 3.6 volume of many files, and the same files into a folder: files_volume.py DIRECTORIES FOLDER FILE [FREE].
 
 Each directory of the root has 200 files: a quarter below 2000 bytes, the others up to 9, 30 and 64 kB, so 14 kB on average;
 350 directories make 70,000 files and about 1 GB. The last bytes of a small file are a tail, if they are at most 2000.
+FREE is how many blocks behind all of it are free, none where it is not given.
 """
 import random
 import struct
@@ -175,6 +176,7 @@ def end_volume(out, leaves, first_free, spare=0):
 
 def main():
     directories, folder, path = int(sys.argv[1]), Path(sys.argv[2]), sys.argv[3]
+    spare = int(sys.argv[4]) if len(sys.argv) > 4 else 0
     draw = random.Random(7)
     data = draw.randbytes(1 << 20)
     first_file = 3 + directories
@@ -207,7 +209,7 @@ def main():
                     leaves.add(key, INDIRECT, 1, 0, struct.pack("<%dI" % whole, *places))
                 if size > whole * BLOCK:
                     leaves.add(key, DIRECT, whole * BLOCK + 1, 0xFFFF, body[whole * BLOCK :])
-        end = end_volume(out, leaves, first_file + directories * FILES)
+        end = end_volume(out, leaves, first_file + directories * FILES, spare)
     print("blocks", end, "leaves", len(leaves.nodes), "files", directories * FILES, "bytes", total)
 
 
