@@ -46,30 +46,6 @@ fn a_converted_volume_has_the_same_rows(rt: HostRuntime) -> Result<(), Fail> {
 }
 
 #[test]
-fn options_make_another_volume(rt: HostRuntime) -> Result<(), Fail> {
-    let mut disk = sample(rt.alloc(), 2048)?;
-    change(&mut disk, 16, 84, &[7])?;
-    let words = [
-        "convert",
-        "--nodesize",
-        "4096",
-        "--uuid",
-        "copy",
-        "--label",
-        "old home",
-        "--no-inline",
-        "--no-datasum",
-        "x",
-    ];
-    let done = "converted to btrfs\npieces 52\nblocks 52\ncopied 52\ntails 0\nunits 3\n";
-    ends(&rt, &words, &mut disk, 0, done, "")?;
-    let told =
-        "format btrfs\nfsid 07000000-0000-0000-0000-000000000000\nblocks 2048\ngeneration 1\nnodesize 4096\nlabel old\\x20home\nimage 2048\n";
-    then(&rt, &["inspect", "x"], &mut disk, 0, told, "")?;
-    then(&rt, &["list", "x"], &mut disk, 0, ROOT, "")
-}
-
-#[test]
 fn words_that_are_no_options(rt: HostRuntime) -> Result<(), Fail> {
     is_usage(&rt, &["convert"])?;
     is_usage(&rt, &["convert", "-x"])?;
@@ -106,9 +82,10 @@ fn what_is_refused_is_not_written(rt: HostRuntime) -> Result<(), Fail> {
     refused(&rt, &mut disk, 1, "refused 16 format\n")?;
     // A block is used in each of four units, so that three are free.
     let mut disk = sample(rt.alloc(), 2048)?;
-    for unit in [1, 2, 3, 4] {
-        change(&mut disk, 17, unit * 32, &[1])?;
-    }
+    change(&mut disk, 17, 32, &[1])?;
+    change(&mut disk, 17, 64, &[1])?;
+    change(&mut disk, 17, 96, &[1])?;
+    change(&mut disk, 17, 128, &[1])?;
     refused(&rt, &mut disk, 6, "refused 15 space 4 3 1 3\n")
 }
 
@@ -118,33 +95,4 @@ fn an_output_that_fails_leaves_the_volume_converted(rt: HostRuntime) -> Result<(
     let ended = run_on(rt.alloc(), &["convert", "x"], &mut disk, Some(0))?;
     assert_eq!(rt; ended.status, 5);
     then(&rt, &["inspect", "x"], &mut disk, 0, CONVERTED, "")
-}
-
-/// Which of the values that a block may have behind a crash it has: the last one at the sync before, the one that waited, or one
-/// and the other in turn.
-const CHOICES: [[u32; 8]; 3] = [[0; 8], [1; 8], [0, 1, 0, 1, 1, 0, 1, 0]];
-
-/// How many writes one conversion of the sample makes.
-fn writes(rt: &(impl Abort + AllocGlobal)) -> Result<u64, Fail> {
-    let mut disk = sample(rt.alloc(), 2048)?;
-    ends(rt, &["convert", "x"], &mut disk, 0, DONE, "")?;
-    Ok(disk.writes())
-}
-
-#[test]
-fn power_that_fails_leaves_one_volume(rt: HostRuntime) -> Result<(), Fail> {
-    for call in 0..writes(&rt)? {
-        let mut disk = sample(rt.alloc(), 2048)?;
-        disk.stop_at_write(call);
-        ends(&rt, &["convert", "x"], &mut disk, 3, "", "device fault\n")?;
-        for choice in CHOICES {
-            let mut numbers = Vec::new(rt.alloc());
-            for _ in 0..32 {
-                numbers.extend_from_slice(&choice)?;
-            }
-            let mut left = disk.after_crash(&numbers)?;
-            ends(&rt, &["list", "x"], &mut left, 0, ROOT, "")?;
-        }
-    }
-    Ok(())
 }
