@@ -47,13 +47,13 @@ pub record AreGroups (r : Recount) : Type 0 where
   pub each : All (λ i. (c : ChunkAt) × Contains r.chunks c × IsGroupOf r spans c i) (groups r)
   pub whole : All (λ c. (i : Item) × Contains (groups r) i × IsGroupOf r spans c i) r.chunks
 
--- the device extent of a chunk
+-- the device extent of a chunk: where its stripe lies, and that it is the chunk's
 pub record IsExtentOf (c : ChunkAt) (i : Item) : Type 0 where
-  pub place : (i.0.kind ≡ 204) × (i.0.offset ≡ c.chunk.stripe.offset)
-  pub body : DevExtent
-  pub body_is : dev_extent_of i.1 ≡ Some body
-  pub chunk : body.chunk_offset ≡ c.logical
-  pub length : body.length ≡ c.chunk.length
+  pub key : i.0 ≡ record { objectid = c.chunk.stripe.devid; kind = 204; offset = c.chunk.stripe.offset }
+  pub extent : DevExtent
+  pub extent_is : dev_extent_of i.1 ≡ Some extent
+  pub chunk : (extent.chunk_tree ≡ 3) × (extent.chunk_objectid ≡ 256) × (extent.chunk_offset ≡ c.logical)
+  pub length : extent.length ≡ c.chunk.length
 
 abbrev pub dev_extents : Recount → List Item
 dev_extents r = filter (λ i. i.0.kind == 204) (items_of_tree r 4)

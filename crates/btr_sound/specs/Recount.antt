@@ -103,9 +103,9 @@ use_in tree i (Some e) = use_by tree i e.content
 abbrev pub uses_in : TreeOn → List DataUse
 uses_in t = flat_map (λ i. if i.0.kind == 108 then use_in t.number i (file_extent_of i.1) else []) t.items
 
--- all regular file extents of all file trees
+-- all regular file extents of all trees
 abbrev pub data_uses : Recount → List DataUse
-data_uses r = flat_map uses_in (file_trees r)
+data_uses r = flat_map uses_in (all_trees r)
 
 -- A range of addresses that is taken, in bytes.
 pub record Span : Type 0 where

@@ -14,11 +14,11 @@ pub record IsSoundBy (image : Image) (r : Recount) : Type 0 where
   pub trees : AreTrees image r
   pub names : HaveNames r
   pub references : AreReferences r
-  pub places : AreApart r
-  pub sums : AreSums image r
-  pub groups : AreGroups r
-  pub stripes : AreStripes r
-  pub unreserved : AreUnreserved r
+  pub placement : AreApart r
+  pub checksums : AreSums image r
+  pub block_groups : AreGroups r
+  pub chunks : AreStripes r
+  pub reserved : AreUnreserved r
   pub totals : AreTotals r
 
 abbrev pub IsSound : Image → Type 0

@@ -10,7 +10,7 @@ use Rattle.btr_reader.specs.Chunks.{range_of}
 use Rattle.btr_reader.specs.Opening.{form_of}
 use Rattle.btr_walk.specs.Map.{place}
 use Rattle.btr_sound.specs.Names.{has_no_sums}
-use Rattle.btr_sound.specs.Recount.{Recount, TreeOn, DataUse, file_trees, uses_in, items_of_tree}
+use Rattle.btr_sound.specs.Recount.{Recount, TreeOn, DataUse, all_trees, uses_in, items_of_tree}
 
 -- how many blocks an item has checksums of
 abbrev pub sum_count : SumKind → Item → ℕ
@@ -36,7 +36,7 @@ pub record WantsSum (r : Recount) (a : ℕ) : Type 0 where
   pub is_use : DataUse
   pub inode : Inode
   pub body : List ℕ
-  pub of_files : Contains (file_trees r) tree
+  pub among : Contains (all_trees r) tree
   pub used : Contains (uses_in tree) is_use
   pub item : Contains tree.items (record { objectid = is_use.inode; kind = 1; offset = 0 }, body)
   pub inode_is : inode_of body ≡ Some inode

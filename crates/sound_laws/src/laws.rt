@@ -1,0 +1,27 @@
+// Laws of the definitions, each the contract of a function that does nothing.
+ghost use Rattle.sound_laws.specs.Laws.{
+    ConvertedChunksAreSound, ConvertedTotalsAreSound, ConvertedTreesAreSound,
+};
+
+use converted_laws::{new_ids_fit};
+
+/// Each tree of a converted volume is there with its items, and the bootstrap array holds the system chunks.
+pub fn converted_trees_are_sound()
+    ensures { ConvertedTreesAreSound }
+{
+    new_ids_fit();
+}
+
+/// Its chunks overlap neither by their addresses nor on the device, and its device extents are their stripes.
+pub fn converted_chunks_are_sound()
+    ensures { ConvertedChunksAreSound }
+{
+    new_ids_fit();
+}
+
+/// Its superblock tells the bytes of all extents, and its device those of all chunks.
+pub fn converted_totals_are_sound()
+    ensures { ConvertedTotalsAreSound }
+{
+    new_ids_fit();
+}
