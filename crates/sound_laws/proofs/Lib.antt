@@ -1,3 +1,4 @@
 pub mod Lists
 pub mod Recounting
+pub mod Stripes
 pub mod Totals

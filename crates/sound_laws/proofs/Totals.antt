@@ -126,9 +126,11 @@ module _ (o : Options) (ids : Ids) (now : ℕ) (image other : Image) (m : Making
       filter_on (λ (i : Item). eqb i.0.kind 216) _ (map (chunk_item (new_ids m)) m.chunks) refl
       ∙ ap (λ (l : List Item). (make_key 1 216 1, device_bytes (device_body (new_ids m) m.volume.sup.blocks m.chunks)) ∷ l)
       (filter_none (λ (i : Item). eqb i.0.kind 216) (map (chunk_item (new_ids m)) m.chunks) (All-map (λ (i : Item). eqb i.0.kind 216 ≡ false) (chunk_item (new_ids m)) m.chunks (λ n d h. refl))),
-      device_body (new_ids m) m.volume.sup.blocks m.chunks,
-      device_reads (new_ids m) m.volume.sup.blocks m.chunks v.ids_ (blocks_few m.volume image m.options m.plan m.pieces making.has_pieces) (chunk_blocks_fit m.plan m.volume.sup.blocks m.chunks making.chunks_are),
-      tells,
+      (
+        device_body (new_ids m) m.volume.sup.blocks m.chunks,
+        device_reads (new_ids m) m.volume.sup.blocks m.chunks v.ids_ (blocks_few m.volume image m.options m.plan m.pieces making.has_pieces) (chunk_blocks_fit m.plan m.volume.sup.blocks m.chunks making.chunks_are),
+        tells,
+      ),
     );
   }
 
