@@ -4,3 +4,4 @@ pub mod Recounting
 pub mod Stripes
 pub mod Totals
 pub mod Trees
+pub mod Uses
