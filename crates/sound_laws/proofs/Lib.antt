@@ -1,7 +1,10 @@
+pub mod AllUses
 pub mod ChunkList
 pub mod Lists
+pub mod Nodes
 pub mod Recounting
 pub mod Stripes
 pub mod Totals
 pub mod Trees
+pub mod Unreserved
 pub mod Uses

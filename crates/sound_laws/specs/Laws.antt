@@ -4,6 +4,7 @@ use Rattle.outside.specs.History.{Image}
 use Rattle.vol_block.specs.declared.ids.Ids.{Ids}
 use Rattle.btr_node.specs.NodeSize.{IsNodeSize}
 use Rattle.btr_sound.specs.Groups.{AreStripes, AreTotals}
+use Rattle.btr_sound.specs.Places.{AreUnreserved}
 use Rattle.btr_sound.specs.Recount.{Recount}
 use Rattle.btr_sound.specs.Trees.{AreTrees}
 use Rattle.conversion.specs.Making.{Making}
@@ -31,6 +32,10 @@ ConvertedTreesAreSound = OfConverted AreTrees
 -- Chunks lie apart, and device extents are their stripes.
 abbrev pub ConvertedChunksAreSound : Type 0
 ConvertedChunksAreSound = OfConverted (λ other k. AreStripes k)
+
+-- No extent touches a reserved block.
+abbrev pub ConvertedReservedAreSound : Type 0
+ConvertedReservedAreSound = OfConverted (λ other k. AreUnreserved k)
 
 -- The totals are the sums.
 abbrev pub ConvertedTotalsAreSound : Type 0

@@ -1,6 +1,7 @@
 // Laws of the definitions, each the contract of a function that does nothing.
 ghost use Rattle.sound_laws.specs.Laws.{
-    ConvertedChunksAreSound, ConvertedTotalsAreSound, ConvertedTreesAreSound,
+    ConvertedChunksAreSound, ConvertedReservedAreSound, ConvertedTotalsAreSound,
+    ConvertedTreesAreSound,
 };
 
 use converted_laws::{new_ids_fit};
@@ -15,6 +16,13 @@ pub fn converted_trees_are_sound()
 /// Its chunks overlap neither by their addresses nor on the device, and its device extents are their stripes.
 pub fn converted_chunks_are_sound()
     ensures { ConvertedChunksAreSound }
+{
+    new_ids_fit();
+}
+
+/// None of its nodes and none of its data touches a reserved block.
+pub fn converted_reserved_are_sound()
+    ensures { ConvertedReservedAreSound }
 {
     new_ids_fit();
 }

@@ -5,4 +5,7 @@
 
 mod laws;
 
-pub use laws::{converted_chunks_are_sound, converted_totals_are_sound, converted_trees_are_sound};
+pub use laws::{
+    converted_chunks_are_sound, converted_reserved_are_sound, converted_totals_are_sound,
+    converted_trees_are_sound,
+};
