@@ -3,6 +3,7 @@ pub mod ChunkList
 pub mod Lists
 pub mod Nodes
 pub mod Recounting
+pub mod Row
 pub mod Stripes
 pub mod Totals
 pub mod Trees
