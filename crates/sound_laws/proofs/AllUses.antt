@@ -42,6 +42,10 @@ use Rattle.sound_laws.proofs.Uses.{IsUse, by_file, by_image, file_uses, piece_us
 abbrev is_file_extent : Item → Bool
 is_file_extent i = eqb i.0.kind 108
 
+-- the range of a piece
+abbrev pub span_of : Piece → Span
+span_of p = record { start = 4096 * p.place; length = 4096 * p.count }
+
 -- ---- the tree of the saved image
 
 head_kinds : (blocks nbytes now : ℕ) (datasum : Bool) → filter is_file_extent (image_head blocks nbytes datasum now) ≡ []
@@ -59,14 +63,14 @@ image_parts blocks pieces datasum now i h is =
     (Contains-append_cases head (extents_at 257 source_block (pieces_of_volume pieces)) i h)
 
 module _ (image : Image) (m : Making) (made : IsMaking image m) (size : IsNodeSize m.options.nodesize) where
-  from_is : (p : Piece) → is_some p.from ≡ true → p.from ≡ Some (source_block p)
+  pub from_is : (p : Piece) → is_some p.from ≡ true → p.from ≡ Some (source_block p)
   from_is p t = by p.from refl t
     where
       by : (o : Option ℕ) → p.from ≡ o → is_some o ≡ true → o ≡ Some (option_map_or (λ (b : ℕ). b) o 0)
       by None is t = absurd (cc t)
       by (Some b) is t = refl
 
-  source_low : (p : Piece) → Contains m.pieces p → p.from ≡ Some (source_block p) → source_block p + p.count ≤ 2 ^ 29
+  pub source_low : (p : Piece) → Contains m.pieces p → p.from ≡ Some (source_block p) → source_block p + p.count ≤ 2 ^ 29
   source_low p h is =
       let bound : MatchOption p.from (Unit {0}) (λ b. b + p.count ≤ length (used_of image)) =
       all_at (λ (q : Piece). MatchOption q.from (Unit {0}) (λ b. b + q.count ≤ length (used_of image))) m.pieces p (well m.volume image m.options m.plan m.pieces made.has_pieces).apart.sources h in
@@ -156,9 +160,6 @@ module _ (image : Image) (m : Making) (made : IsMaking image m) (size : IsNodeSi
     uses_are u h =
         let at = from_flat_map uses_in (all_trees k) u h in
         All-contains OnlyUses (all_trees k) at.0 all_uses at.1 u at.2
-
-    abbrev pub span_of : Piece → Span
-    span_of p = record { start = 4096 * p.place; length = 4096 * p.count }
 
     -- so each range of data is that of a piece
     pub data_is : (span : Span) → IsData k span → (p : Piece) × Contains m.pieces p × (span ≡ span_of p)

@@ -1,4 +1,5 @@
 pub mod AllUses
+pub mod BlockGroups
 pub mod ChunkList
 pub mod Lists
 pub mod Nodes
@@ -8,4 +9,5 @@ pub mod Stripes
 pub mod Totals
 pub mod Trees
 pub mod Unreserved
+pub mod Used
 pub mod Uses

@@ -124,7 +124,7 @@ module _ (image : Image) (m : Making) (made : IsMaking image m) where
       each_of (x ∷ xs) q all k =
           ⊎_elim (λ (same : x ≡ q). subst (λ (y : Piece). Contains m.pieces y × (is_owned_by inode y ≡ true)) same all.0) (λ (later : Contains xs q). each_of xs q all.1 later) (contains_cases q x xs k)
 
-  owner_low : (p : Piece) (inode : ℕ) → Contains m.pieces p → p.owner ≡ Some (inode, file_block p) → file_block p + p.count ≤ 2 ^ 32
+  pub owner_low : (p : Piece) (inode : ℕ) → Contains m.pieces p → p.owner ≡ Some (inode, file_block p) → file_block p + p.count ≤ 2 ^ 32
   owner_low p inode h own =
       let bound : MatchOption p.owner (Unit {0}) (λ w. w.1 + p.count ≤ 2 ^ 32) = all_at (λ (r : Piece). MatchOption r.owner (Unit {0}) (λ w. w.1 + r.count ≤ 2 ^ 32)) m.pieces p (well m.volume image m.options m.plan m.pieces of).apart.owners h in
       subst (λ (w : Option (ℕ × ℕ)). MatchOption w (Unit {0}) (λ x. x.1 + p.count ≤ 2 ^ 32)) own bound

@@ -3,7 +3,7 @@ use Rattle.std.specs.Prelude.{◌<◌, ℕ, ◌^◌, List}
 use Rattle.outside.specs.History.{Image}
 use Rattle.vol_block.specs.declared.ids.Ids.{Ids}
 use Rattle.btr_node.specs.NodeSize.{IsNodeSize}
-use Rattle.btr_sound.specs.Groups.{AreStripes, AreTotals}
+use Rattle.btr_sound.specs.Groups.{AreGroups, AreStripes, AreTotals}
 use Rattle.btr_sound.specs.Places.{AreUnreserved}
 use Rattle.btr_sound.specs.Recount.{Recount}
 use Rattle.btr_sound.specs.Trees.{AreTrees}
@@ -28,6 +28,10 @@ OfConverted P =
 -- Each tree is there, and the bootstrap array holds the system chunks.
 abbrev pub ConvertedTreesAreSound : Type 0
 ConvertedTreesAreSound = OfConverted AreTrees
+
+-- Block groups are the chunks, and tell what these hold.
+abbrev pub ConvertedBlockGroupsAreSound : Type 0
+ConvertedBlockGroupsAreSound = OfConverted (λ other k. AreGroups k)
 
 -- Chunks lie apart, and device extents are their stripes.
 abbrev pub ConvertedChunksAreSound : Type 0

@@ -1,16 +1,25 @@
 // Laws of the definitions, each the contract of a function that does nothing.
 ghost use Rattle.sound_laws.specs.Laws.{
-    ConvertedChunksAreSound, ConvertedReservedAreSound, ConvertedTotalsAreSound,
-    ConvertedTreesAreSound,
+    ConvertedBlockGroupsAreSound, ConvertedChunksAreSound, ConvertedReservedAreSound,
+    ConvertedTotalsAreSound, ConvertedTreesAreSound,
 };
 
-use converted_laws::{new_ids_fit};
+use converted_laws::new_ids_fit;
+use file_laws::files_are_held;
 
 /// Each tree of a converted volume is there with its items, and the bootstrap array holds the system chunks.
 pub fn converted_trees_are_sound()
     ensures { ConvertedTreesAreSound }
 {
     new_ids_fit();
+}
+
+/// Its block groups are its chunks, each with the bytes of the nodes and of the data in it.
+pub fn converted_block_groups_are_sound()
+    ensures { ConvertedBlockGroupsAreSound }
+{
+    new_ids_fit();
+    files_are_held();
 }
 
 /// Its chunks overlap neither by their addresses nor on the device, and its device extents are their stripes.
