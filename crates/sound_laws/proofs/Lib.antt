@@ -1,4 +1,5 @@
 pub mod AllUses
+pub mod Apart
 pub mod BlockGroups
 pub mod ChunkList
 pub mod Lists
@@ -11,3 +12,4 @@ pub mod Trees
 pub mod Unreserved
 pub mod Used
 pub mod Uses
+pub mod Within

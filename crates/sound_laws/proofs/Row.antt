@@ -171,13 +171,13 @@ module _ (o : Options) (ids : Ids) (now : ℕ) (image other : Image) (m : Making
   abbrev rooted : List TreeNode
   rooted = nodes_from m 1 (root_from r) (root_tree_items m r)
 
-  abbrev chunked : List TreeNode
+  abbrev pub chunked : List TreeNode
   chunked = nodes_of_tree 3 n (lengths_of (chunk_items (new_ids m) m.volume.sup.blocks m.chunks)) (chunk_slots m)
 
-  abbrev extended : List TreeNode
+  abbrev pub extended : List TreeNode
   extended = nodes_from m 2 (extents_from r) (extent_items m.chunks m.pieces nodes n)
 
-  abbrev row : List TreeNode
+  abbrev pub row : List TreeNode
   row = files ++ (saved ++ (relocation ++ (sums ++ (device ++ rooted))))
 
   row_at : addresses row ≡ take (r.files.nodes + (r.image.nodes + (r.relocation.nodes + (r.sums.nodes + (r.device.nodes + r.root.nodes))))) (slots m)
@@ -193,7 +193,7 @@ module _ (o : Options) (ids : Ids) (now : ℕ) (image other : Image) (m : Making
       first : r.files.nodes ≡ 0 + r.files.nodes
       first = omega arith
 
-  row_ends : addresses row ≡ take (extents_from r) (slots m)
+  pub row_ends : addresses row ≡ take (extents_from r) (slots m)
   row_ends =
       let same : r.files.nodes + (r.image.nodes + (r.relocation.nodes + (r.sums.nodes + (r.device.nodes + r.root.nodes)))) ≡ extents_from r = omega arith in
       row_at ∙ ap (λ (c : ℕ). take c (slots m)) same

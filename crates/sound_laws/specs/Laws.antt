@@ -4,7 +4,7 @@ use Rattle.outside.specs.History.{Image}
 use Rattle.vol_block.specs.declared.ids.Ids.{Ids}
 use Rattle.btr_node.specs.NodeSize.{IsNodeSize}
 use Rattle.btr_sound.specs.Groups.{AreGroups, AreStripes, AreTotals}
-use Rattle.btr_sound.specs.Places.{AreUnreserved}
+use Rattle.btr_sound.specs.Places.{AreApart, AreUnreserved}
 use Rattle.btr_sound.specs.Recount.{Recount}
 use Rattle.btr_sound.specs.Trees.{AreTrees}
 use Rattle.conversion.specs.Making.{Making}
@@ -28,6 +28,10 @@ OfConverted P =
 -- Each tree is there, and the bootstrap array holds the system chunks.
 abbrev pub ConvertedTreesAreSound : Type 0
 ConvertedTreesAreSound = OfConverted AreTrees
+
+-- Extents lie apart, each in a chunk of its kind.
+abbrev pub ConvertedPlacementIsSound : Type 0
+ConvertedPlacementIsSound = OfConverted (λ other k. AreApart k)
 
 -- Block groups are the chunks, and tell what these hold.
 abbrev pub ConvertedBlockGroupsAreSound : Type 0

@@ -1,7 +1,7 @@
 // Laws of the definitions, each the contract of a function that does nothing.
 ghost use Rattle.sound_laws.specs.Laws.{
-    ConvertedBlockGroupsAreSound, ConvertedChunksAreSound, ConvertedReservedAreSound,
-    ConvertedTotalsAreSound, ConvertedTreesAreSound,
+    ConvertedBlockGroupsAreSound, ConvertedChunksAreSound, ConvertedPlacementIsSound,
+    ConvertedReservedAreSound, ConvertedTotalsAreSound, ConvertedTreesAreSound,
 };
 
 use converted_laws::new_ids_fit;
@@ -10,6 +10,13 @@ use file_laws::files_are_held;
 /// Each tree of a converted volume is there with its items, and the bootstrap array holds the system chunks.
 pub fn converted_trees_are_sound()
     ensures { ConvertedTreesAreSound }
+{
+    new_ids_fit();
+}
+
+/// No two of its nodes and ranges of data overlap, and each lies in one chunk of its kind.
+pub fn converted_placement_is_sound()
+    ensures { ConvertedPlacementIsSound }
 {
     new_ids_fit();
 }

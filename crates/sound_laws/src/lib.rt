@@ -6,6 +6,6 @@
 mod laws;
 
 pub use laws::{
-    converted_block_groups_are_sound, converted_chunks_are_sound, converted_reserved_are_sound,
-    converted_totals_are_sound, converted_trees_are_sound,
+    converted_block_groups_are_sound, converted_chunks_are_sound, converted_placement_is_sound,
+    converted_reserved_are_sound, converted_totals_are_sound, converted_trees_are_sound,
 };
