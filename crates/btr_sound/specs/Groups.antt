@@ -1,17 +1,15 @@
 -- Parts 6, 7 and 9: block groups and device extents are the chunks, and the sums are right.
 use Rattle.std.specs.Option.{option_map_or}
-use Rattle.std.specs.Prelude.{◌≡◌, ◌≤◌, ℕ, ◌+◌, ◌*◌, ◌==◌, nat_le, nat_lt, Bool, ◌&&◌, List, [], ◌∷◌, map, filter, Some, All, AllPairs, Contains, ◌↔◌, ◌⊎◌}
+use Rattle.std.specs.Prelude.{◌≡◌, ◌≤◌, ℕ, ◌+◌, ◌==◌, List, [], ◌∷◌, filter, Some, All, AllPairs, Contains, ◌↔◌, ◌⊎◌}
 use Rattle.std.specs.List.{sum_by, flat_map}
-use Rattle.std.specs.List.Sorted.{IsPermutation}
 use Rattle.btr_node.specs.Leaf.{Item}
 use Rattle.btr_space_items.specs.BlockGroup.{block_group_of}
 use Rattle.btr_space_items.specs.DevExtent.{dev_extent_of}
 use Rattle.btr_space_items.specs.Device.{device_of}
-use Rattle.btr_space_items.specs.declared.block_group.BlockGroup.{BlockGroup}
 use Rattle.btr_space_items.specs.declared.dev_extent.DevExtent.{DevExtent}
 use Rattle.btr_space_items.specs.declared.device.Device.{Device}
 use Rattle.btr_reader.specs.declared.chunk.ChunkAt.{ChunkAt}
-use Rattle.btr_sound.specs.Recount.{Recount, TreeOn, DataUse, Span, all_trees, data_uses, items_of_tree, is_within}
+use Rattle.btr_sound.specs.Recount.{Recount, DataUse, Span, all_trees, data_uses, items_of_tree, is_within}
 
 abbrev pub chunk_span : ChunkAt → Span
 chunk_span c = record { start = c.logical; length = c.chunk.length }

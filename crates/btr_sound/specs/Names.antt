@@ -1,11 +1,10 @@
 -- Part 2: in each file tree the directory indexes, the dir items and the references of inodes tell the same names, and inodes
 -- tell their counts.
 use Rattle.fs_rows.specs.declared.row.Kind.TheVariants.{Directory, File}
-use Rattle.std.specs.Prelude.{◌≡◌, ◌⊎◌, ℕ, ◌+◌, ◌*◌, ◌/◌, ◌%◌, ◌==◌, Bool, true, false, not, ◌&&◌, if◌then◌else◌, List, [], ◌∷◌, ◌++◌, length, map, filter, codes, Option, Some, None, is_some, IsTrue, All, Contains}
+use Rattle.std.specs.Prelude.{◌≡◌, ℕ, ◌*◌, ◌%◌, ◌==◌, Bool, true, false, ◌&&◌, List, [], ◌∷◌, ◌++◌, length, map, filter, codes, Option, Some, None, is_some, IsTrue, All, Contains}
 use Rattle.std.specs.List.{flat_map, sum_by, count_by}
 use Rattle.std.specs.List.Sorted.{IsPermutation}
 use Rattle.castagnoli.specs.Castagnoli.{name_hash, extref_hash}
-use Rattle.fs_rows.specs.Kinds.{is_directory, is_file}
 use Rattle.btr_keys.specs.DirEntry.{DirEntryValue, dir_items_of}
 use Rattle.btr_keys.specs.Extref.{ExtrefValue, extrefs_of}
 use Rattle.btr_keys.specs.FileExtent.{ContentValue, Inline, Regular, Prealloc, FileExtentValue, file_extent_of}

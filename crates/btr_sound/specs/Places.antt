@@ -1,9 +1,8 @@
 -- Parts 4 and 8: extents are apart, each lies in a chunk of its kind, and none touches a reserved block.
 use Rattle.std.specs.List.{flat_map}
-use Rattle.std.specs.Prelude.{◌≡◌, ◌⊎◌, ◌≤◌, ◌<◌, ℕ, ◌+◌, ◌*◌, ◌/◌, ◌==◌, if◌then◌else◌, List, Some, All, Contains, ◌≢◌, map, AllPairs}
+use Rattle.std.specs.Prelude.{◌≡◌, ◌⊎◌, ◌≤◌, ◌<◌, ℕ, ◌+◌, ◌/◌, ◌==◌, if◌then◌else◌, Some, Contains, ◌≢◌, map, AllPairs}
 use Rattle.vol_block.specs.Volume.{IsReserved}
 use Rattle.btr_walk.specs.Map.{place}
-use Rattle.btr_walk.specs.declared.tree.Pointer.{Pointer}
 use Rattle.btr_reader.specs.Chunks.{range_of, system_kind, metadata_kind, data_kind}
 use Rattle.btr_reader.specs.declared.chunk.ChunkAt.{ChunkAt}
 use Rattle.btr_sound.specs.Recount.{Recount, TreeOn, Span, IsData, IsNodeOf, all_trees}

@@ -1,7 +1,6 @@
 -- What a recount of a Btrfs volume finds: its chunks, its trees, and the data that its files refer to.
-use Rattle.std.specs.Prelude.{◌≡◌, ℕ, ◌+◌, ◌-◌, ◌*◌, ◌%◌, ◌^◌, ◌==◌, nat_le, nat_lt, Bool, not, ◌&&◌, ◌||◌, if◌then◌else◌, List, [], ◌∷◌, ◌++◌, map, filter, Option, Some, None, All, AllPairs, Contains}
-use Rattle.std.specs.List.{flat_map, list_any}
-use Rattle.std.specs.Option.{option_and_then}
+use Rattle.std.specs.Prelude.{◌≡◌, ℕ, ◌+◌, ◌-◌, ◌%◌, ◌^◌, ◌==◌, nat_le, nat_lt, Bool, ◌&&◌, ◌||◌, if◌then◌else◌, List, [], ◌∷◌, ◌++◌, filter, Option, Some, None, Contains}
+use Rattle.std.specs.List.{flat_map}
 use Rattle.outside.specs.History.{Image}
 use Rattle.btr_keys.specs.FileExtent.{ContentValue, Inline, Regular, Prealloc, FileExtentValue, file_extent_of}
 use Rattle.btr_keys.specs.declared.file_extent.DiskRange.{DiskRange}
@@ -9,13 +8,12 @@ use Rattle.btr_node.specs.Leaf.{Item}
 use Rattle.btr_super.specs.declared.superblock.Super.{Super}
 use Rattle.btr_walk.specs.Events.{TreeItem, tree_events, nodes_in}
 use Rattle.btr_walk.specs.Tree.{IsTree}
-use Rattle.btr_walk.specs.Walks.{found, met}
+use Rattle.btr_walk.specs.Walks.{found}
 use Rattle.btr_walk.specs.declared.tree.Pointer.{Pointer}
-use Rattle.btr_names.specs.Roots.{has_root}
 use Rattle.btr_files.specs.Extents.{is_hole}
 use Rattle.btr_reader.specs.declared.chunk.ChunkAt.{ChunkAt}
-use Rattle.btr_reader.specs.Chunks.{chunk_in, is_chunk_key}
-use Rattle.btr_reader.specs.Opening.{IsOpened, form_of, chunk_tree, root_tree, chunk_map, boot_chunks, boot_list}
+use Rattle.btr_reader.specs.Chunks.{chunk_in}
+use Rattle.btr_reader.specs.Opening.{form_of, root_tree, chunk_map}
 use Rattle.btr_reader.specs.Roots.{root_item, pointer_of}
 
 -- A tree: its number, the nodes that a walk meets, and its items.

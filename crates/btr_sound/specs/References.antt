@@ -1,6 +1,6 @@
 -- Part 3: the extent tree is the recount of all nodes and of all data that files refer to.
-use Rattle.std.specs.Prelude.{◌≡◌, ◌≢◌, ℕ, ◌+◌, ◌==◌, Bool, ◌&&◌, List, [], ◌∷◌, length, filter, drop, Some, All, AllPairs, Contains, false, ◌⊎◌}
-use Rattle.std.specs.List.{sum_by, count_by}
+use Rattle.std.specs.Prelude.{◌≡◌, ◌≢◌, ℕ, ◌==◌, Bool, ◌&&◌, List, [], ◌∷◌, length, drop, Some, All, AllPairs, Contains, false, ◌⊎◌}
+use Rattle.std.specs.List.{count_by}
 use Rattle.btr_keys.specs.declared.key.Key.{Key}
 use Rattle.btr_node.specs.Leaf.{Item}
 use Rattle.btr_space_items.specs.ExtentHead.{extent_head_of}

@@ -1,12 +1,12 @@
 -- Part 1: every tree is there.
-use Rattle.std.specs.Prelude.{◌≡◌, ◌<◌, ℕ, ◌==◌, Bool, List, All, AllPairs, Contains}
+use Rattle.std.specs.Prelude.{◌≡◌, ◌<◌, ℕ, ◌==◌, All, AllPairs, Contains}
 use Rattle.std.specs.List.{list_any}
 use Rattle.outside.specs.History.{Image}
 use Rattle.btr_names.specs.Roots.{has_root}
 use Rattle.btr_reader.specs.Chunks.{system_kind}
 use Rattle.btr_reader.specs.Opening.{IsOpened, chunk_tree, root_tree, chunk_map, boot_chunks, boot_list}
 use Rattle.btr_reader.specs.declared.chunk.ChunkAt.{ChunkAt}
-use Rattle.btr_sound.specs.Recount.{Recount, TreeOn, IsTreeOn, IsRooted, roots_on, chunks_on}
+use Rattle.btr_sound.specs.Recount.{Recount, IsTreeOn, IsRooted, roots_on, chunks_on}
 
 -- The chunk tree, the root tree and each tree with a root item have their items, and the bootstrap array holds the system
 -- chunks.

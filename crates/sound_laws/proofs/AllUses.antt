@@ -1,12 +1,11 @@
 -- The uses of data by all trees.
-use Rattle.std.proofs.Common.{◌≡◌, ◌⊎◌, ◌≤◌, ◌<◌, ℕ, ◌+◌, ◌-◌, ◌*◌, ◌^◌, eqb, Bool, true, false, List, [], ◌∷◌, ◌++◌, map, filter, Option, Some, None, refl, sym, ap, subst, ◌∙◌, ⊎_elim, arith}
+use Rattle.std.proofs.Common.{◌≡◌, ◌≤◌, ℕ, ◌+◌, ◌-◌, ◌*◌, ◌^◌, eqb, Bool, true, false, List, [], ◌∷◌, map, filter, Option, Some, None, refl, sym, ap, subst, ◌∙◌, ⊎_elim, arith}
 use Rattle.std.specs.Prelude.{All, Contains, MatchOption, if◌then◌else◌, is_some}
 use Rattle.std.specs.Option.{option_map_or}
-use Rattle.std.proofs.lemmas.List.Elements.{All-contains, All-cons, All-map, Contains-append_cases, filter-append}
+use Rattle.std.proofs.lemmas.List.Elements.{All-contains, All-cons, All-map, Contains-append_cases}
 use Rattle.path_list.proofs.Lists.{from_flat_map, from_map, in_filter}
 use Rattle.outside.specs.History.{Image}
-use Rattle.vol_block.specs.declared.ids.Ids.{Ids}
-use Rattle.btr_keys.specs.FileExtent.{file_extent_bytes, file_extent_of}
+use Rattle.btr_keys.specs.FileExtent.{file_extent_of}
 use Rattle.btr_keys.specs.Key.{make_key}
 use Rattle.btr_node.specs.Leaf.{Item}
 use Rattle.btr_node.specs.NodeSize.{IsNodeSize}
@@ -34,7 +33,7 @@ use Rattle.space_laws.proofs.Booting.{used_few}
 use Rattle.unit_plan.specs.declared.chunk.Chunk.{Chunk}
 use Rattle.unit_plan.specs.declared.piece.Piece.{Piece}
 use Rattle.std.specs.Prelude.{length}
-use Rattle.sound_laws.specs.Recounted.{recount_for, tree_for, trees_for}
+use Rattle.sound_laws.specs.Recounted.{recount_for, tree_for}
 use Rattle.sound_laws.proofs.Lists.{filter_none}
 use Rattle.sound_laws.proofs.Trees.{six_all}
 use Rattle.sound_laws.proofs.Uses.{IsUse, by_file, by_image, file_uses, piece_use, use_at, uses_from}

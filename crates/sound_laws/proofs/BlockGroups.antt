@@ -1,5 +1,5 @@
 -- The block groups of a converted volume tell what its chunks hold.
-use Rattle.std.proofs.Common.{◌≡◌, ◌≢◌, ◌⊎◌, ◌≤◌, ◌<◌, ℕ, zero, suc, ◌+◌, ◌*◌, ◌^◌, ◌&&◌, Bool, true, false, cond, List, [], ◌∷◌, ◌++◌, length, map, filter, get_or, Some, refl, sym, ap, subst, ◌∙◌, ⊎_elim, arith, nat_le, nat_lt}
+use Rattle.std.proofs.Common.{◌≡◌, ◌≤◌, ℕ, ◌+◌, ◌*◌, ◌&&◌, Bool, cond, List, [], ◌∷◌, map, get_or, Some, refl, sym, ap, subst, ◌∙◌, ⊎_elim, arith, nat_le, nat_lt}
 use Rattle.std.specs.Prelude.{All, AllPairs, Contains}
 use Rattle.std.specs.List.{flat_map, sum_by}
 use Rattle.std.proofs.lemmas.List.Elements.{All-map}
@@ -10,13 +10,11 @@ use Rattle.vol_block.specs.declared.ids.Ids.{Ids}
 use Rattle.btr_node.specs.Leaf.{Item}
 use Rattle.btr_node.specs.NodeSize.{IsNodeSize}
 use Rattle.btr_sound.specs.Groups.{AreGroups, AreRanges, IsGroupOf, chunk_span, data_bytes_in, groups, node_bytes_in, used_in}
-use Rattle.btr_sound.specs.Recount.{DataUse, IsData, Recount, Span, TreeOn, all_trees, data_uses, is_within}
+use Rattle.btr_sound.specs.Recount.{IsData, Recount, Span, TreeOn, all_trees, is_within}
 use Rattle.btr_reader.specs.declared.chunk.ChunkAt.{ChunkAt}
-use Rattle.btr_space_items.specs.BlockGroup.{block_group_of}
 use Rattle.btr_space_items.specs.declared.block_group.BlockGroup.{BlockGroup}
 use Rattle.btr_walk.specs.declared.tree.Pointer.{Pointer}
 use Rattle.conversion.specs.Making.{IsMaking, Making, new_ids}
-use Rattle.conversion.specs.Standing.{used_bytes}
 use Rattle.conversion.specs.declared.trees.VolumeTrees.{VolumeTrees}
 use Rattle.convert_core.proofs.Moving.{well}
 use Rattle.converted_laws.specs.Identifiers.{NewIdsFit}
@@ -127,8 +125,7 @@ module _ (o : Options) (ids : Ids) (now : ℕ) (image other : Image) (m : Making
         (All-map (λ i. (c : ChunkAt) × Contains k.chunks c × IsGroupOf k spans c i) group_of m.chunks
         (all_from_contains (λ (c : Chunk). (d : ChunkAt) × Contains k.chunks d × IsGroupOf k spans d (group_of c)) m.chunks (λ c h. (chunk_at (new_ids m) c, chunk_there o ids now image other m r nodes v c h, is_group c h))));
     whole = all_from_contains (λ (c : ChunkAt). (i : Item) × Contains (groups k) i × IsGroupOf k spans c i) k.chunks (λ c h.
-        let at = chunk_from o ids now image other m r nodes v c h in
-        (
+        let at = chunk_from o ids now image other m r nodes v c h in (
           group_of at.0,
           subst (λ (l : List Item). Contains l (group_of at.0)) (sym (groups_are image other m r nodes)) (in_map group_of m.chunks at.0 at.1),
           subst (λ (d : ChunkAt). IsGroupOf k spans d (group_of at.0)) at.2 (is_group at.0 at.1),

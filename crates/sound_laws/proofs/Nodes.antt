@@ -1,5 +1,5 @@
 -- The nodes of a converted volume lie at their slots.
-use Rattle.std.proofs.Common.{◌≡◌, ◌≢◌, ◌⊎◌, ◌≤◌, ◌<◌, ℕ, zero, suc, ◌+◌, ◌-◌, ◌*◌, ◌/◌, ◌%◌, ◌^◌, inl, inr, Bool, List, [], ◌∷◌, ◌++◌, length, map, take, drop, refl, sym, ap, subst, ◌∙◌, ⊎_elim, arith}
+use Rattle.std.proofs.Common.{◌≡◌, ◌≢◌, ℕ, suc, ◌+◌, ◌-◌, ◌^◌, List, [], ◌∷◌, length, take, drop, refl, sym, subst, arith}
 use Rattle.std.specs.Prelude.{All, Contains}
 use Rattle.std.specs.List.Sorted.{IsPermutation}
 use Rattle.std.proofs.lemmas.List.Elements.{All-append, All-contains, All-contains_itself, All-cons, All-drop, All-map, All-nil, All-take}
@@ -7,8 +7,7 @@ use Rattle.std.proofs.lemmas.List.Sorted.{All-permutation, IsPermutation-sym}
 use Rattle.outside.specs.History.{Image}
 use Rattle.vol_block.specs.declared.ids.Ids.{Ids}
 use Rattle.btr_node.specs.Leaf.{Item}
-use Rattle.btr_node.specs.NodeSize.{IsNodeSize}
-use Rattle.btr_reader.specs.Opening.{chunk_map, form_of}
+use Rattle.btr_reader.specs.Opening.{chunk_map}
 use Rattle.btr_sound.specs.Recount.{Recount, TreeOn, all_trees}
 use Rattle.btr_super.specs.declared.superblock.Super.{Super}
 use Rattle.btr_tree.specs.Building.{pointer_to}
@@ -22,10 +21,10 @@ use Rattle.btr_walk.specs.Map.{identity}
 use Rattle.btr_walk.specs.declared.map.MapRange.{MapRange}
 use Rattle.btr_walk.specs.declared.tree.Form.{Form}
 use Rattle.btr_walk.specs.declared.tree.Pointer.{Pointer}
-use Rattle.conversion.specs.Making.{IsMaking, Making, chunk_slots, new_ids, slots}
+use Rattle.conversion.specs.Making.{Making, chunk_slots, new_ids, slots}
 use Rattle.conversion.specs.Standing.{HasTrees, device_from, extents_from, file_tree_items, form, image_from, image_tree_items, relocation_from, root_from, root_tree_items, sum_tree_items, sums_from}
 use Rattle.conversion.specs.declared.trees.VolumeTrees.{VolumeTrees}
-use Rattle.converted_laws.specs.Opened.{IsNewVolume, map_for, super_for}
+use Rattle.converted_laws.specs.Opened.{IsNewVolume, super_for}
 use Rattle.converted_laws.proofs.Opening.{maps_chunks}
 use Rattle.file_items.specs.Small.{relocation_items}
 use Rattle.reiser_bitmap.proofs.Ranges.{all_from_contains}
@@ -34,7 +33,7 @@ use Rattle.space_items.specs.Extents.{extent_items}
 use Rattle.space_items.specs.declared.node.TreeNode.{TreeNode}
 use Rattle.tree_writer.specs.Trees.{TreeStands, root_pointer}
 use Rattle.unit_plan.specs.declared.options.Options.{Options}
-use Rattle.sound_laws.specs.Recounted.{recount_for, tree_for, trees_for}
+use Rattle.sound_laws.specs.Recounted.{recount_for, tree_for}
 use Rattle.sound_laws.proofs.Recounting.{form_is}
 use Rattle.sound_laws.proofs.Trees.{map_is, six_all}
 

@@ -1,23 +1,19 @@
 -- The fields of a converted volume's superblock, and its chunks as they are read.
-use Rattle.std.proofs.Common.{◌≡◌, ◌⊎◌, ◌≤◌, ◌<◌, ℕ, ◌+◌, ◌*◌, ◌^◌, Bool, true, false, not, List, [], ◌∷◌, ◌++◌, map, filter, refl, sym, ap, subst, ◌∙◌, ⊎_elim, arith}
-use Rattle.std.specs.Prelude.{Contains}
+use Rattle.std.proofs.Common.{◌≡◌, ℕ, ◌*◌, List, ◌++◌, refl, sym, ap, subst}
 use Rattle.outside.specs.History.{Image}
 use Rattle.vol_block.specs.declared.ids.Ids.{Ids}
 use Rattle.btr_reader.specs.Opening.{form_of}
-use Rattle.btr_super.specs.declared.superblock.Super.{Super}
 use Rattle.csum_kinds.specs.declared.kind.SumKind.{SumKind}
 use Rattle.csum_kinds.specs.declared.kind.SumKind.TheVariants.{Crc32c}
 use Rattle.btr_walk.specs.declared.tree.Form.{Form}
-use Rattle.conversion.specs.Making.{IsMaking, Making, new_ids}
+use Rattle.conversion.specs.Making.{Making, new_ids}
 use Rattle.conversion.specs.Standing.{form, used_bytes}
 use Rattle.conversion.specs.declared.trees.VolumeTrees.{VolumeTrees}
 use Rattle.convert_core.specs.Converted.{IsNew}
-use Rattle.convert_steps.specs.Superblock.{is_system_role, new_super}
+use Rattle.convert_steps.specs.Superblock.{new_super}
 use Rattle.converted_laws.specs.Identifiers.{HasFsid, NewIdsFit}
-use Rattle.converted_laws.specs.Opened.{IsNewVolume, boot_part, chunk_at, other_part, super_for}
+use Rattle.converted_laws.specs.Opened.{IsNewVolume, boot_part, other_part, super_for}
 use Rattle.btr_node.specs.NodeSize.{IsNodeSize}
-use Rattle.path_list.proofs.Lists.{from_filter, in_filter}
-use Rattle.reiser_volume.specs.Volume.{used_of}
 use Rattle.space_items.specs.Chunks.{device_body}
 use Rattle.space_items.specs.Laws.{AreIds}
 use Rattle.space_items.specs.declared.node.TreeNode.{TreeNode}

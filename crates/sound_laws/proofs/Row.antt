@@ -1,5 +1,5 @@
 -- The nodes that the extent tree tells of are those of all trees, each once.
-use Rattle.std.proofs.Common.{◌≡◌, ◌≢◌, ◌⊎◌, ◌≤◌, ◌<◌, ℕ, zero, suc, ◌+◌, ◌-◌, ◌*◌, ◌/◌, ◌^◌, inl, inr, eqb, Bool, true, false, List, [], ◌∷◌, ◌++◌, length, map, take, drop, get_or, refl, sym, ap, ap₂, subst, ◌∙◌, ⊎_elim, arith}
+use Rattle.std.proofs.Common.{◌≡◌, ◌≢◌, ◌⊎◌, ◌≤◌, ◌<◌, ℕ, zero, suc, ◌+◌, ◌-◌, ◌/◌, ◌^◌, inl, inr, List, [], ◌∷◌, ◌++◌, length, take, drop, get_or, refl, sym, ap, ap₂, subst, ◌∙◌, ⊎_elim, arith}
 use Rattle.std.specs.Prelude.{All, AllPairs, Contains}
 use Rattle.std.specs.List.{flat_map, sum_by}
 use Rattle.std.specs.Ordering.{nat_cmp}
@@ -7,20 +7,18 @@ use Rattle.std.specs.declared.cmp.Ordering.{Ordering}
 use Rattle.std.specs.declared.cmp.Ordering.TheVariants.{Less, Equal, Greater}
 use Rattle.std.proofs.lemmas.Bool.{cases_lt}
 use Rattle.std.proofs.lemmas.List.{drop-drop, map-append}
-use Rattle.std.proofs.lemmas.List.Elements.{All-append, All-contains, All-contains_itself, All-drop, All-head, All-tail, All-take}
+use Rattle.std.proofs.lemmas.List.Elements.{All-contains, All-contains_itself, All-drop, All-take}
 use Rattle.std.proofs.lemmas.List.Sorted.{sum_by-IsPermutation}
 use Rattle.std.proofs.lemmas.List.Sums.{sum_by-append, sum_by-cons}
 use Rattle.std.proofs.Math.Seq.{take-add}
 use Rattle.outside.specs.History.{Image}
 use Rattle.vol_block.specs.declared.ids.Ids.{Ids}
 use Rattle.btr_node.specs.Leaf.{Item}
-use Rattle.btr_node.specs.NodeSize.{IsNodeSize}
 use Rattle.btr_sound.specs.Recount.{Recount, TreeOn, all_trees}
 use Rattle.btr_super.specs.declared.superblock.Super.{Super}
 use Rattle.btr_tree.specs.Counting.{tree_nodes}
 use Rattle.btr_tree.specs.Roots.{lengths_of}
 use Rattle.btr_tree.specs.declared.climb.Root.{Root}
-use Rattle.btr_tree.specs.Writing.{IsInSlots}
 use Rattle.btr_walk.specs.declared.tree.Pointer.{Pointer}
 use Rattle.conversion.specs.Making.{IsMaking, Making, chunk_slots, new_ids, slots}
 use Rattle.conversion.specs.Standing.{HasTrees, device_from, extents_from, file_tree_items, image_from, image_tree_items, nodes_from, other_nodes, relocation_from, root_from, root_tree_items, sum_tree_items, sums_from}
@@ -28,7 +26,6 @@ use Rattle.conversion.specs.declared.trees.VolumeTrees.{VolumeTrees}
 use Rattle.convert_core.proofs.Moving.{sound}
 use Rattle.convert_core.proofs.Slots.{slot_unit}
 use Rattle.converted_laws.specs.Opened.{IsNewVolume, super_for}
-use Rattle.converted_laws.proofs.Numbers.{nodes_few}
 use Rattle.extent_pieces.proofs.Lists.{all_at, pairs_head, pairs_tail}
 use Rattle.file_items.specs.Small.{relocation_items}
 use Rattle.file_laws.proofs.Short.{sum_mapped}
@@ -39,13 +36,12 @@ use Rattle.space_items.specs.Extents.{extent_items}
 use Rattle.space_items.specs.Nodes.{merged_nodes, nodes_of_tree}
 use Rattle.space_items.specs.declared.node.TreeNode.{TreeNode}
 use Rattle.space_items.proofs.Ascending.{addresses, tree_at}
-use Rattle.space_items.proofs.Merges.{all-merge, merge, merge-equal, merge-greater, merge-less, nat_greater, nat_less}
+use Rattle.space_items.proofs.Merges.{all-merge, merge, merge-greater, merge-less, nat_greater, nat_less}
 use Rattle.space_items.proofs.NodeMerge.{node_cmp}
 use Rattle.space_laws.proofs.Booting.{used_few}
-use Rattle.unit_plan.specs.Places.{ArePlaces, node_places}
 use Rattle.unit_plan.proofs.Placing.{places_serve}
 use Rattle.unit_plan.specs.declared.options.Options.{Options}
-use Rattle.path_list.proofs.Lists.{from_map, in_map}
+use Rattle.path_list.proofs.Lists.{in_map}
 use Rattle.sound_laws.specs.Recounted.{recount_for, tree_for}
 use Rattle.sound_laws.proofs.Nodes.{AreAt, chunk_at, device_at, extents_at, files_at, packed_at, relocation_at, root_at, saved_at, sums_at}
 use Rattle.sound_laws.proofs.Unreserved.{fit_size, slot_holds}

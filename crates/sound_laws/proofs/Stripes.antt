@@ -1,7 +1,7 @@
 -- The chunks of a converted volume lie apart, and its device extents are their stripes.
-use Rattle.std.proofs.Common.{◌≡◌, ◌⊎◌, ◌≤◌, ◌<◌, ℕ, ◌+◌, ◌*◌, ◌^◌, inl, inr, Bool, true, false, not, List, [], ◌∷◌, ◌++◌, map, filter, get_or, Option, Some, refl, sym, ap, subst, ◌∙◌, ⊎_elim, arith, eqb}
+use Rattle.std.proofs.Common.{◌≡◌, ◌≤◌, ℕ, ◌+◌, ◌*◌, ◌^◌, inl, inr, Bool, true, false, not, List, map, filter, get_or, refl, sym, ap, subst, ◌∙◌, ⊎_elim, arith, eqb}
 use Rattle.std.specs.Prelude.{All, AllPairs, Contains}
-use Rattle.std.proofs.lemmas.Bool.{both_ways, cases_Bool, not_from_false}
+use Rattle.std.proofs.lemmas.Bool.{cases_Bool, not_from_false}
 use Rattle.std.proofs.lemmas.List.{append-nil}
 use Rattle.std.proofs.lemmas.List.Elements.{All-map, Contains-append_cases, Contains-append_left, Contains-append_right}
 use Rattle.std.proofs.lemmas.List.Kept.{AllPairs-filter}
@@ -10,7 +10,7 @@ use Rattle.vol_block.specs.declared.ids.Ids.{Ids}
 use Rattle.btr_node.specs.Leaf.{Item}
 use Rattle.btr_sound.specs.Groups.{Apart, AreStripes, IsExtentOf, dev_extents}
 use Rattle.btr_sound.specs.Recount.{Recount}
-use Rattle.btr_space_items.specs.DevExtent.{dev_extent_bytes, dev_extent_layout, dev_extent_of}
+use Rattle.btr_space_items.specs.DevExtent.{dev_extent_layout}
 use Rattle.btr_space_items.proofs.Records.{dev_extents_read_back}
 use Rattle.btr_reader.specs.declared.chunk.ChunkAt.{ChunkAt}
 use Rattle.conversion.specs.Making.{IsMaking, Making, new_ids}
@@ -133,8 +133,7 @@ module _ (o : Options) (ids : Ids) (now : ℕ) (image other : Image) (m : Making
         (All-map (λ i. (c : ChunkAt) × Contains k.chunks c × IsExtentOf c i) (dev_extent_item (new_ids m)) m.chunks
         (all_from_contains (λ (c : Chunk). (d : ChunkAt) × Contains k.chunks d × IsExtentOf d (dev_extent_item (new_ids m) c)) m.chunks (λ c h. (chunk_at (new_ids m) c, chunk_there c h, is_extent c h))));
     whole = all_from_contains (λ (c : ChunkAt). (i : Item) × Contains (dev_extents k) i × IsExtentOf c i) k.chunks (λ c h.
-        let at = chunk_from c h in
-        (
+        let at = chunk_from c h in (
           dev_extent_item (new_ids m) at.0,
           subst (λ (l : List Item). Contains l (dev_extent_item (new_ids m) at.0)) (sym extents_are) (in_map (dev_extent_item (new_ids m)) m.chunks at.0 at.1),
           subst (λ (d : ChunkAt). IsExtentOf d (dev_extent_item (new_ids m) at.0)) at.2 (is_extent at.0 at.1),

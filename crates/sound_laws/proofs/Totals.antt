@@ -1,18 +1,16 @@
 -- The totals of a converted volume are the sums.
-use Rattle.std.proofs.Common.{◌≡◌, ◌≤◌, ◌<◌, ℕ, ◌+◌, ◌*◌, ◌^◌, Bool, true, false, not, List, [], ◌∷◌, ◌++◌, map, filter, Option, Some, refl, sym, ap, subst, ◌∙◌, arith, eqb}
-use Rattle.std.specs.Prelude.{All, Contains}
+use Rattle.std.proofs.Common.{◌≡◌, ◌≤◌, ◌<◌, ℕ, ◌*◌, ◌^◌, true, false, List, [], ◌∷◌, map, filter, Option, Some, refl, sym, ap, subst, ◌∙◌, arith, eqb}
 use Rattle.std.specs.List.{sum_by}
 use Rattle.std.specs.Option.{option_map_or}
 use Rattle.std.proofs.lemmas.List.{append-nil}
-use Rattle.std.proofs.lemmas.List.Elements.{All-contains_itself, All-map}
+use Rattle.std.proofs.lemmas.List.Elements.{All-map}
 use Rattle.std.proofs.lemmas.List.Sums.{sum_by-cons}
 use Rattle.outside.specs.History.{Image}
 use Rattle.vol_block.specs.declared.ids.Ids.{Ids}
 use Rattle.btr_node.specs.Leaf.{Item}
-use Rattle.btr_node.specs.NodeSize.{IsNodeSize}
 use Rattle.btr_sound.specs.Groups.{AreTotals, TellsDevice, group_used, groups}
 use Rattle.btr_sound.specs.Recount.{Recount}
-use Rattle.btr_space_items.specs.BlockGroup.{block_group_bytes, block_group_layout, block_group_of}
+use Rattle.btr_space_items.specs.BlockGroup.{block_group_layout, block_group_of}
 use Rattle.btr_space_items.specs.Device.{device_bytes, device_layout, device_of}
 use Rattle.btr_space_items.specs.declared.block_group.BlockGroup.{BlockGroup}
 use Rattle.btr_space_items.specs.declared.device.Device.{Device}
@@ -20,7 +18,6 @@ use Rattle.btr_space_items.proofs.Records.{block_groups_read_back, devices_read_
 use Rattle.btr_keys.specs.Key.{make_key}
 use Rattle.btr_reader.specs.declared.chunk.ChunkAt.{ChunkAt}
 use Rattle.conversion.specs.Making.{IsMaking, Making, new_ids}
-use Rattle.conversion.specs.Standing.{used_bytes}
 use Rattle.conversion.specs.declared.trees.VolumeTrees.{VolumeTrees}
 use Rattle.convert_core.proofs.Wholeness.{blocks_few}
 use Rattle.convert_steps.specs.Superblock.{is_system_role}
@@ -28,9 +25,8 @@ use Rattle.converted_laws.specs.Identifiers.{NewIdsFit}
 use Rattle.converted_laws.specs.Opened.{IsNewVolume, chunk_at}
 use Rattle.converted_laws.proofs.Numbers.{used_small}
 use Rattle.converted_laws.proofs.Superblock.{size}
-use Rattle.extent_pieces.proofs.Bounding.{sum_fewer}
 use Rattle.file_laws.proofs.Short.{sum_mapped}
-use Rattle.space_items.specs.Chunks.{chunk_item, chunk_items, chunk_kind, device_body}
+use Rattle.space_items.specs.Chunks.{chunk_item, chunk_kind, device_body}
 use Rattle.space_items.specs.Extents.{extent_items, group_item, node_item, piece_item, used_in}
 use Rattle.space_items.specs.Merging.{item_cmp, merged}
 use Rattle.space_items.specs.Laws.{AreIds}
@@ -41,10 +37,9 @@ use Rattle.unit_plan.specs.declared.chunk.Chunk.{Chunk}
 use Rattle.unit_plan.specs.declared.chunk.Role.{Role}
 use Rattle.unit_plan.specs.declared.chunk.Role.TheVariants.{System, Metadata, Data}
 use Rattle.unit_plan.specs.declared.options.Options.{Options}
-use Rattle.unit_plan.specs.declared.piece.Piece.{Piece}
 use Rattle.sound_laws.specs.Laws.{ConvertedTotalsAreSound}
 use Rattle.sound_laws.specs.Recounted.{recount_for}
-use Rattle.sound_laws.proofs.Lists.{filter_all, filter_first, filter_none, filter_on, sum_parts}
+use Rattle.sound_laws.proofs.Lists.{filter_first, filter_none, filter_on, sum_parts}
 use Rattle.sound_laws.proofs.Recounting.{device_is, in_parts, total_is, used_is, volume_for}
 
 -- ---- block groups
@@ -124,8 +119,8 @@ module _ (o : Options) (ids : Ids) (now : ℕ) (image other : Image) (m : Making
     one = (
       (make_key 1 216 1, device_bytes (device_body (new_ids m) m.volume.sup.blocks m.chunks)),
       filter_on (λ (i : Item). eqb i.0.kind 216) _ (map (chunk_item (new_ids m)) m.chunks) refl
-      ∙ ap (λ (l : List Item). (make_key 1 216 1, device_bytes (device_body (new_ids m) m.volume.sup.blocks m.chunks)) ∷ l)
-      (filter_none (λ (i : Item). eqb i.0.kind 216) (map (chunk_item (new_ids m)) m.chunks) (All-map (λ (i : Item). eqb i.0.kind 216 ≡ false) (chunk_item (new_ids m)) m.chunks (λ n d h. refl))),
+          ∙ ap (λ (l : List Item). (make_key 1 216 1, device_bytes (device_body (new_ids m) m.volume.sup.blocks m.chunks)) ∷ l)
+          (filter_none (λ (i : Item). eqb i.0.kind 216) (map (chunk_item (new_ids m)) m.chunks) (All-map (λ (i : Item). eqb i.0.kind 216 ≡ false) (chunk_item (new_ids m)) m.chunks (λ n d h. refl))),
       (
         device_body (new_ids m) m.volume.sup.blocks m.chunks,
         device_reads (new_ids m) m.volume.sup.blocks m.chunks v.ids_ (blocks_few m.volume image m.options m.plan m.pieces making.has_pieces) (chunk_blocks_fit m.plan m.volume.sup.blocks m.chunks making.chunks_are),

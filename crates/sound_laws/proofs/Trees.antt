@@ -1,5 +1,5 @@
 -- Each tree of a converted volume is there, and its bootstrap array holds the system chunks.
-use Rattle.std.proofs.Common.{◌≡◌, ◌≢◌, ◌⊎◌, ◌≤◌, ◌<◌, ℕ, zero, suc, ◌+◌, ◌*◌, ◌^◌, ◌-◌, ◌&&◌, ◌||◌, eqb, Bool, true, false, not, List, [], ◌∷◌, ◌++◌, length, get_or, map, Option, Some, None, refl, sym, ap, subst, ◌∙◌, ⊎_elim, arith}
+use Rattle.std.proofs.Common.{◌≡◌, ◌≤◌, ◌<◌, ℕ, zero, suc, ◌+◌, ◌^◌, ◌-◌, ◌&&◌, ◌||◌, eqb, Bool, true, false, not, List, [], ◌∷◌, ◌++◌, length, get_or, map, refl, sym, ap, subst, ◌∙◌, ⊎_elim, arith}
 use Rattle.std.specs.Prelude.{All, AllPairs, Contains}
 use Rattle.std.specs.List.{list_any}
 use Rattle.std.proofs.lemmas.List.{map-append}
@@ -22,8 +22,8 @@ use Rattle.btr_walk.specs.Tree.{IsTree, bare_item}
 use Rattle.btr_walk.specs.declared.map.MapRange.{MapRange}
 use Rattle.btr_walk.specs.declared.tree.Form.{Form}
 use Rattle.btr_walk.specs.declared.tree.Pointer.{Pointer}
-use Rattle.conversion.specs.Making.{IsMaking, Making, chunk_slots, new_ids, saved_index}
-use Rattle.conversion.specs.Standing.{HasTrees, file_tree_items, form, image_tree_items, root_tree_items, sum_tree_items}
+use Rattle.conversion.specs.Making.{IsMaking, Making, chunk_slots, new_ids}
+use Rattle.conversion.specs.Standing.{HasTrees, file_tree_items, form, image_tree_items, sum_tree_items}
 use Rattle.file_items.specs.Small.{relocation_items}
 use Rattle.space_items.specs.Extents.{extent_items}
 use Rattle.conversion.specs.declared.trees.VolumeTrees.{VolumeTrees}

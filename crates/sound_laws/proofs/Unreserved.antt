@@ -1,6 +1,6 @@
 -- No extent of a converted volume touches a reserved block.
-use Rattle.std.proofs.Common.{◌≡◌, ◌≢◌, ◌⊎◌, ◌≤◌, ◌<◌, ℕ, ◌+◌, ◌*◌, ◌/◌, ◌%◌, ◌^◌, Bool, List, ◌++◌, length, map, Option, Some, refl, sym, ap, subst, ◌∙◌, ⊎_elim, arith}
-use Rattle.std.specs.Prelude.{All, Contains}
+use Rattle.std.proofs.Common.{◌≡◌, ◌≤◌, ◌<◌, ℕ, ◌+◌, ◌*◌, ◌/◌, ◌%◌, ◌^◌, Bool, List, ◌++◌, length, map, Some, refl, sym, ap, subst, ◌∙◌, ⊎_elim, arith}
+use Rattle.std.specs.Prelude.{Contains}
 use Rattle.std.proofs.lemmas.Simd.{map-map}
 use Rattle.vol_block.specs.Volume.{IsReserved}
 use Rattle.outside.specs.History.{Image}
@@ -8,25 +8,22 @@ use Rattle.vol_block.specs.declared.ids.Ids.{Ids}
 use Rattle.btr_node.specs.NodeSize.{IsNodeSize}
 use Rattle.btr_reader.specs.Chunks.{range_of}
 use Rattle.btr_sound.specs.Places.{AreUnreserved, IsExtent, a_node, some_data}
-use Rattle.btr_sound.specs.Recount.{IsNodeOf, Recount, Span, TreeOn, all_trees}
-use Rattle.btr_tree.specs.Building.{AreSlots}
+use Rattle.btr_sound.specs.Recount.{Recount, Span}
 use Rattle.btr_tree.specs.Writing.{IsInNode, IsInSlots}
 use Rattle.btr_walk.specs.Map.{place}
 use Rattle.btr_walk.specs.declared.map.MapRange.{MapRange}
 use Rattle.btr_walk.specs.declared.tree.Pointer.{Pointer}
 use Rattle.conversion.specs.Making.{IsMaking, Making, chunk_slots, new_ids, slots}
 use Rattle.conversion.specs.declared.trees.VolumeTrees.{VolumeTrees}
-use Rattle.convert_core.specs.Converted.{IsFree}
 use Rattle.convert_core.proofs.Moving.{metadata_free, system_free}
 use Rattle.convert_core.proofs.Reserved.{piece_apart}
 use Rattle.convert_core.proofs.Slots.{slot_unit}
-use Rattle.convert_core.proofs.Wholeness.{map_long}
 use Rattle.converted_laws.specs.Identifiers.{NewIdsFit}
-use Rattle.converted_laws.specs.Opened.{IsNewVolume, boot_part, chunk_at, map_for, other_part, range_for}
+use Rattle.converted_laws.specs.Opened.{IsNewVolume, boot_part, chunk_at, other_part}
 use Rattle.converted_laws.proofs.Mapped.{in_parts, itself}
 use Rattle.converted_laws.proofs.Places.{HasBlock, chunk_slot_block, piece_block, slot_block}
 use Rattle.converted_laws.proofs.Superblock.{size}
-use Rattle.extent_pieces.proofs.Lists.{all_at, any_from}
+use Rattle.extent_pieces.proofs.Lists.{any_from}
 use Rattle.reiser_volume.specs.Volume.{used_of}
 use Rattle.space_items.specs.declared.node.TreeNode.{TreeNode}
 use Rattle.space_laws.proofs.Booting.{blocks_are}

@@ -1,41 +1,37 @@
 -- Each piece of data is used by a tree.
-use Rattle.std.proofs.Common.{◌≡◌, ◌≢◌, ◌⊎◌, ◌≤◌, ◌<◌, ℕ, ◌+◌, ◌-◌, ◌*◌, ◌^◌, inl, inr, eqb, Bool, true, false, not, List, [], ◌∷◌, ◌++◌, length, map, filter, take, drop, Option, Some, None, refl, sym, ap, subst, ◌∙◌, ⊎_elim, arith}
-use Rattle.std.specs.Prelude.{All, Contains, if◌then◌else◌, is_some}
-use Rattle.std.specs.List.{AllByRecursion, flat_map}
+use Rattle.std.proofs.Common.{◌≡◌, ◌<◌, ℕ, ◌*◌, ◌^◌, eqb, Bool, true, false, List, [], ◌∷◌, filter, Option, Some, None, refl, sym, ap, subst, ◌∙◌, arith}
+use Rattle.std.specs.Prelude.{Contains, if◌then◌else◌, is_some}
+use Rattle.std.specs.List.{AllByRecursion}
 use Rattle.std.specs.Option.{option_map_or}
 use Rattle.std.proofs.lemmas.Bool.{eq-eqb}
-use Rattle.std.proofs.lemmas.List.Elements.{All-contains, All-contains_itself, All-drop, All-take, Contains-append_cases, Contains-append_right}
-use Rattle.std.proofs.lemmas.List.Sorted.{Contains-permutation, IsPermutation-sym}
+use Rattle.std.proofs.lemmas.List.Elements.{Contains-append_right}
 use Rattle.path_list.proofs.Lists.{from_filter, in_filter, in_flat_map, in_map}
 use Rattle.indexmap.specs.IndexMap.{keys}
 use Rattle.outside.specs.History.{Image}
 use Rattle.btr_keys.specs.FileExtent.{file_extent_bytes, file_extent_of}
 use Rattle.btr_node.specs.Leaf.{Item}
 use Rattle.btr_node.specs.NodeSize.{IsNodeSize}
-use Rattle.btr_sound.specs.Recount.{DataUse, IsData, Recount, Span, TreeOn, all_trees, data_uses, use_in, uses_in}
+use Rattle.btr_sound.specs.Recount.{DataUse, IsData, Recount, TreeOn, all_trees, data_uses, use_in, uses_in}
 use Rattle.byte_laws.proofs.Owned.{extents_found}
 use Rattle.byte_laws.proofs.Pieces.{one_of_inode}
 use Rattle.byte_laws.proofs.Reading.{is_extent}
 use Rattle.conversion.specs.Making.{IsMaking, Making}
-use Rattle.conversion.specs.Source.{HasExtents, HasPieces, HoldFiles, made_from}
+use Rattle.conversion.specs.Source.{HasExtents, HasPieces, made_from}
 use Rattle.conversion.specs.Standing.{file_tree_items, image_tree_items}
 use Rattle.conversion.specs.declared.trees.VolumeTrees.{VolumeTrees}
 use Rattle.converted_laws.specs.Opened.{super_for}
-use Rattle.extent_pieces.specs.Placed.{at_place, at_places, blocks_of_units}
 use Rattle.extent_pieces.proofs.Named.{numbered}
 use Rattle.file_items.specs.Extents.{extents_at, file_block, is_owned_by, pieces_of, pieces_of_volume, piece_bytes, source_block}
 use Rattle.file_items.specs.Small.{image_head, image_items}
-use Rattle.file_items.specs.Tree.{Source, extent_items, inline_in, kind_in, number_of, size_in, tree_items}
+use Rattle.file_items.specs.Tree.{Source, extent_items, inline_in, number_of, size_in, tree_items}
 use Rattle.file_laws.specs.Held.{FilesAreHeld}
 use Rattle.convert_core.proofs.Moving.{can_move}
 use Rattle.fs_rows.specs.Kinds.{has_bytes}
-use Rattle.fs_rows.specs.declared.row.Kind.{Kind}
 use Rattle.item_list.specs.Extents.{extent_item, inline_extent, regular_extent}
 use Rattle.reiser_files.specs.Bytes.{target_bytes}
 use Rattle.reiser_objects.specs.Keys.{items_of}
-use Rattle.item_list.specs.Groups.{ascending}
 use Rattle.item_list.proofs.Sorting.{ascending_filter}
-use Rattle.reiser_bitmap.proofs.Ranges.{contains_cases, contains_head, contains_tail}
+use Rattle.reiser_bitmap.proofs.Ranges.{contains_head, contains_tail}
 use Rattle.reiser_objects.specs.declared.key.ObjectKey.{ObjectKey}
 use Rattle.space_items.specs.declared.node.TreeNode.{TreeNode}
 use Rattle.unit_plan.specs.declared.piece.Piece.{Piece}

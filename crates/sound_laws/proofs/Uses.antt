@@ -1,18 +1,14 @@
 -- The uses of data that a recount of a converted volume finds are those of the pieces.
-use Rattle.std.proofs.Common.{◌≡◌, ◌≢◌, ◌⊎◌, ◌≤◌, ◌<◌, ℕ, ◌+◌, ◌-◌, ◌*◌, ◌%◌, ◌^◌, inl, inr, ◌&&◌, eqb, Bool, true, false, not, cond, List, [], ◌∷◌, ◌++◌, length, map, filter, Option, Some, None, refl, sym, ap, subst, ◌∙◌, ⊎_elim, arith}
-use Rattle.std.specs.Prelude.{All, Contains, MatchOption, if◌then◌else◌, is_some}
-use Rattle.std.specs.List.{AllByRecursion, flat_map}
-use Rattle.std.specs.Option.{option_map_or}
-use Rattle.std.proofs.lemmas.Bool.{and_from, cases_Bool, cases_lt, eq-eqb, eqb-true, ne_eqb}
-use Rattle.std.proofs.lemmas.List.Elements.{All-append, All-contains, All-cons, All-head, All-map, All-nil, All-tail, filter-append}
-use Rattle.path_list.proofs.Lists.{from_filter, from_flat_map, from_map, in_filter, in_flat_map, in_map}
+use Rattle.std.proofs.Common.{◌≡◌, ◌≤◌, ◌<◌, ℕ, ◌+◌, ◌-◌, ◌*◌, ◌%◌, ◌^◌, inl, eqb, Bool, true, false, List, [], ◌∷◌, length, filter, Option, Some, refl, sym, ap, subst, ◌∙◌, ⊎_elim, arith}
+use Rattle.std.specs.Prelude.{Contains, MatchOption, if◌then◌else◌}
+use Rattle.std.specs.List.{AllByRecursion}
+use Rattle.std.proofs.lemmas.Bool.{and_from, cases_lt, eq-eqb, ne_eqb}
+use Rattle.path_list.proofs.Lists.{from_flat_map, from_map, in_filter, in_flat_map}
 use Rattle.indexmap.specs.IndexMap.{keys}
 use Rattle.outside.specs.History.{Image}
-use Rattle.vol_block.specs.declared.ids.Ids.{Ids}
-use Rattle.btr_files.specs.Extents.{is_hole}
-use Rattle.btr_keys.specs.FileExtent.{ContentValue, FileExtentValue, Inline, Prealloc, Regular, file_extent_bytes, file_extent_of}
+use Rattle.btr_keys.specs.FileExtent.{file_extent_bytes, file_extent_of}
 use Rattle.btr_node.specs.Leaf.{Item}
-use Rattle.btr_sound.specs.Recount.{DataUse, TreeOn, use_by, use_in, uses_in}
+use Rattle.btr_sound.specs.Recount.{DataUse, TreeOn, use_in, uses_in}
 use Rattle.byte_laws.proofs.Holding.{StaysInTree, stays}
 use Rattle.byte_laws.proofs.Owned.{any_extents}
 use Rattle.byte_laws.proofs.Pieces.{all_of_inode}
@@ -20,22 +16,17 @@ use Rattle.byte_laws.proofs.Reading.{inline_read, is_extent, regular_read}
 use Rattle.byte_laws.proofs.Sound.{owner_is}
 use Rattle.conversion.specs.Making.{IsMaking, Making}
 use Rattle.conversion.specs.Source.{HasPieces, made_from}
-use Rattle.conversion.specs.Standing.{file_tree_items, image_tree_items}
+use Rattle.conversion.specs.Standing.{file_tree_items}
 use Rattle.convert_core.proofs.Moving.{well}
 use Rattle.convert_core.proofs.Reserved.{piece_apart}
-use Rattle.convert_core.proofs.Wholeness.{blocks_are as blocks_same}
-use Rattle.converted_laws.proofs.SavedPieces.{member}
 use Rattle.extent_pieces.proofs.Lists.{all_at}
 use Rattle.extent_pieces.proofs.Named.{numbered}
-use Rattle.file_items.specs.Extents.{extents_at, file_block, is_owned_by, pieces_of, pieces_of_volume, source_block}
-use Rattle.file_items.specs.Small.{image_head, image_items}
-use Rattle.file_items.specs.Tree.{Source, extent_items, inline_in, kind_in, number_of, size_in, tree_items}
-use Rattle.fs_rows.specs.Kinds.{has_bytes}
+use Rattle.file_items.specs.Extents.{extents_at, file_block, is_owned_by, pieces_of}
+use Rattle.file_items.specs.Tree.{Source, extent_items, inline_in, number_of, size_in, tree_items}
 use Rattle.fs_rows.proofs.Functions.{length_bytes}
 use Rattle.item_list.specs.Extents.{extent_item, inline_extent, regular_extent}
 use Rattle.reiser_files.specs.Bytes.{file_byte, target_bytes}
 use Rattle.reiser_bitmap.proofs.Ranges.{contains_cases}
-use Rattle.reiser_names.specs.Names.{inode_of}
 use Rattle.reiser_objects.specs.declared.key.ObjectKey.{ObjectKey}
 use Rattle.reiser_objects.specs.Keys.{items_of}
 use Rattle.reiser_objects.specs.Names.{IsNamed}

@@ -1,6 +1,6 @@
 -- Each extent of a converted volume lies in one chunk of its kind.
-use Rattle.std.proofs.Common.{◌≡◌, ◌≢◌, ◌⊎◌, ◌≤◌, ◌<◌, ℕ, zero, suc, ◌+◌, ◌-◌, ◌*◌, ◌/◌, ◌%◌, ◌^◌, inl, inr, ◌||◌, Bool, true, false, not, List, [], ◌∷◌, ◌++◌, length, map, take, drop, min, Some, refl, sym, ap, subst, ◌∙◌, ⊎_elim, arith}
-use Rattle.std.specs.Prelude.{All, Contains, if◌then◌else◌}
+use Rattle.std.proofs.Common.{◌≡◌, ◌≢◌, ◌≤◌, ◌<◌, ℕ, zero, suc, ◌+◌, ◌-◌, ◌*◌, ◌/◌, ◌%◌, inl, inr, Bool, true, false, not, List, [], ◌∷◌, ◌++◌, length, map, take, drop, Some, refl, sym, ap, subst, ◌∙◌, ⊎_elim, arith}
+use Rattle.std.specs.Prelude.{Contains}
 use Rattle.std.specs.List.{range_with_len}
 use Rattle.std.proofs.lemmas.Bool.{and_from, and_parts, both_ways, cases_Bool, cases_lt, not_from_false, or_left, or_right}
 use Rattle.std.proofs.lemmas.List.Elements.{Contains-append_cases}
@@ -15,8 +15,7 @@ use Rattle.btr_node.specs.NodeSize.{IsNodeSize}
 use Rattle.btr_reader.specs.declared.chunk.ChunkAt.{ChunkAt}
 use Rattle.btr_sound.specs.Places.{AreApart, IsExtent, LiesIn}
 use Rattle.btr_sound.specs.Recount.{Recount, Span}
-use Rattle.btr_tree.specs.Writing.{IsInSlots}
-use Rattle.conversion.specs.Making.{IsMaking, Making, chunk_slots, new_ids, slots}
+use Rattle.conversion.specs.Making.{IsMaking, Making, new_ids}
 use Rattle.conversion.specs.Source.{HasPieces}
 use Rattle.conversion.specs.declared.trees.VolumeTrees.{VolumeTrees}
 use Rattle.convert_core.proofs.Moving.{can_move, piece_not_metadata, piece_not_system, sound, stays_or_moves, well}
@@ -28,7 +27,7 @@ use Rattle.extent_pieces.specs.Files.{owner, tails}
 use Rattle.extent_pieces.specs.Found.{files_of}
 use Rattle.extent_pieces.specs.Laws.{IsKeptPiece, LiesInUnit}
 use Rattle.extent_pieces.specs.Pieces.{Owners, copied_pieces, kept_pieces, tail_piece}
-use Rattle.extent_pieces.specs.Placed.{at_place, at_places, blocks_of_units}
+use Rattle.extent_pieces.specs.Placed.{at_places, blocks_of_units}
 use Rattle.extent_pieces.proofs.Lists.{all_at, any_from}
 use Rattle.extent_pieces.proofs.Maximal.{kept_are_maximal}
 use Rattle.reiser_bitmap.specs.Bits.{has}
@@ -50,7 +49,7 @@ use Rattle.unit_plan.specs.declared.chunk.Role.TheVariants.{System, Metadata, Da
 use Rattle.unit_plan.specs.declared.options.Options.{Options}
 use Rattle.unit_plan.specs.declared.piece.Piece.{Piece}
 use Rattle.unit_plan.proofs.Starts.{among_contains, contains_among}
-use Rattle.unit_plan.proofs.Uses.{free_of, role_is}
+use Rattle.unit_plan.proofs.Uses.{role_is}
 use Rattle.sound_laws.specs.Laws.{ConvertedPlacementIsSound}
 use Rattle.sound_laws.specs.Recounted.{recount_for}
 use Rattle.sound_laws.proofs.AllUses.{span_of}
@@ -194,8 +193,7 @@ module _ (o : Options) (ids : Ids) (now : ℕ) (image other : Image) (m : Making
       let long : span.length ≡ n = ap (λ (x : Span). x.length) e in
       let low = at.holds.low in
       let ends = at.is.ends in
-      let last = at.last in
-      (
+      let last = at.last in (
         chunk_at (new_ids m) at.chunk,
         chunk_there o ids now image other m r nodes v at.chunk at.among,
         record { low = omega (arith, low, start); high = omega (arith, one, inside, start, long, ends, last) },
@@ -278,8 +276,7 @@ module _ (o : Options) (ids : Ids) (now : ℕ) (image other : Image) (m : Making
       let start : span.start ≡ 4096 * p.place = ap (λ (x : Span). x.start) e in
       let long : span.length ≡ 4096 * p.count = ap (λ (x : Span). x.length) e in
       let reach : end / 256 < at.is.end = ⊎_elim (λ (under : end / 256 < at.is.end). under) (λ (over : at.is.end ≤ end / 256). absurd (past at some over)) (cases_lt (end / 256) at.is.end) in
-      let room : end < usable_end whole = usable p end h (omega (arith, some)) (omega (arith, some)) in
-      (
+      let room : end < usable_end whole = usable p end h (omega (arith, some)) (omega (arith, some)) in (
         chunk_at (new_ids m) at.chunk,
         chunk_there o ids now image other m r nodes v at.chunk at.among,
         record { low = omega (arith, low, start); high = omega (arith, some, start, long, ends, reach, room) },

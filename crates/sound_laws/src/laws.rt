@@ -1,7 +1,11 @@
 // Laws of the definitions, each the contract of a function that does nothing.
 ghost use Rattle.sound_laws.specs.Laws.{
-    ConvertedBlockGroupsAreSound, ConvertedChunksAreSound, ConvertedPlacementIsSound,
-    ConvertedReservedAreSound, ConvertedTotalsAreSound, ConvertedTreesAreSound,
+  ConvertedBlockGroupsAreSound,
+  ConvertedChunksAreSound,
+  ConvertedPlacementIsSound,
+  ConvertedReservedAreSound,
+  ConvertedTotalsAreSound,
+  ConvertedTreesAreSound,
 };
 
 use converted_laws::new_ids_fit;
