@@ -1,0 +1,2 @@
+//! What a sound Btrfs volume is: its trees, names, references, extents, checksums, block groups, stripes and totals agree.
+#![tactic(auto)]

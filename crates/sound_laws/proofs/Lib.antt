@@ -1,0 +1,15 @@
+pub mod AllUses
+pub mod Apart
+pub mod BlockGroups
+pub mod ChunkList
+pub mod Lists
+pub mod Nodes
+pub mod Recounting
+pub mod Row
+pub mod Stripes
+pub mod Totals
+pub mod Trees
+pub mod Unreserved
+pub mod Used
+pub mod Uses
+pub mod Within

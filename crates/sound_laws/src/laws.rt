@@ -1,0 +1,55 @@
+// Laws of the definitions, each the contract of a function that does nothing.
+ghost use Rattle.sound_laws.specs.Laws.{
+  ConvertedBlockGroupsAreSound,
+  ConvertedChunksAreSound,
+  ConvertedPlacementIsSound,
+  ConvertedReservedAreSound,
+  ConvertedTotalsAreSound,
+  ConvertedTreesAreSound,
+};
+
+use converted_laws::new_ids_fit;
+use file_laws::files_are_held;
+
+/// Each tree of a converted volume is there with its items, and the bootstrap array holds the system chunks.
+pub fn converted_trees_are_sound()
+    ensures { ConvertedTreesAreSound }
+{
+    new_ids_fit();
+}
+
+/// No two of its nodes and ranges of data overlap, and each lies in one chunk of its kind.
+pub fn converted_placement_is_sound()
+    ensures { ConvertedPlacementIsSound }
+{
+    new_ids_fit();
+}
+
+/// Its block groups are its chunks, each with the bytes of the nodes and of the data in it.
+pub fn converted_block_groups_are_sound()
+    ensures { ConvertedBlockGroupsAreSound }
+{
+    new_ids_fit();
+    files_are_held();
+}
+
+/// Its chunks overlap neither by their addresses nor on the device, and its device extents are their stripes.
+pub fn converted_chunks_are_sound()
+    ensures { ConvertedChunksAreSound }
+{
+    new_ids_fit();
+}
+
+/// None of its nodes and none of its data touches a reserved block.
+pub fn converted_reserved_are_sound()
+    ensures { ConvertedReservedAreSound }
+{
+    new_ids_fit();
+}
+
+/// Its superblock tells the bytes of all extents, and its device those of all chunks.
+pub fn converted_totals_are_sound()
+    ensures { ConvertedTotalsAreSound }
+{
+    new_ids_fit();
+}
