@@ -1,0 +1,38 @@
+-- What a rollback and its crashes keep.
+use Rattle.std.specs.Prelude.{◌≡◌, ◌≢◌, ◌↔◌, List}
+use Rattle.outside.specs.Format.{format_in}
+use Rattle.outside.specs.History.{Image, block_at}
+use Rattle.outside.specs.declared.answer.Answer.{Answer}
+use Rattle.outside.specs.declared.answer.Answer.TheVariants as answer
+use Rattle.vol_block.specs.declared.format.Format.TheVariants.{Btrfs, Reiser}
+use Rattle.image_source.specs.Laws.{IsSameBtrfs}
+use Rattle.image_source.specs.Saved.{image_blocks}
+use Rattle.image_source.specs.Untouched.{IsUntouched}
+use Rattle.reiser_volume.specs.Laws.{IsSameVolume}
+use Rattle.rollback_steps.specs.Answers.{RefusesRollback}
+use Rattle.rollback_steps.specs.RolledBack.{IsBack, IsRolledBack, IsStanding}
+
+-- The Btrfs volume that a crash leaves has its rows and its saved image, and can be rolled back.
+pub record IsStillBtrfs (disk other : Image) : Type 0 where
+  pub format : format_in other ≡ Btrfs
+  pub same : IsSameBtrfs disk other
+  pub untouched : IsUntouched other
+
+-- The old volume that a crash leaves, or that is rolled back to, is that in the saved image: it is accepted, with the same rows.
+pub record IsOldVolume (disk other : Image) : Type 0 where
+  pub format : format_in other ≡ Reiser
+  pub same : IsSameVolume (image_blocks disk) other
+
+-- What each of the two states means.
+pub record RollbackKeeps : Type 0 where
+  pub standing : (disk other : Image) → IsUntouched disk → IsStanding disk other → IsStillBtrfs disk other
+  pub back : (disk other : Image) → IsUntouched disk → IsBack disk other → IsOldVolume disk other
+
+-- After a crash that left the Btrfs volume another rollback ends as the first one would have: it makes the same blocks of the same image.
+abbrev pub RollbackGoesOn : Type 0
+RollbackGoesOn = (disk left other : Image) → IsUntouched disk → IsStanding disk left → IsRolledBack left other → IsRolledBack disk other
+
+-- A volume that can be rolled back is not refused: all that is answered is a failed call, or too little memory. One that is refused so can
+-- not be rolled back.
+abbrev pub RefusalsAreOfTouched : Type 0
+RefusalsAreOfTouched = (disk : Image) (e : Answer) → RefusesRollback disk e → e ≢ answer.Fault → e ≢ answer.Memory → ¬ IsUntouched disk

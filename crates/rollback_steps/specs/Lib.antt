@@ -1,0 +1,6 @@
+pub mod Answers
+pub mod Laws
+pub mod Opened
+pub mod Prepared
+pub mod RolledBack
+pub mod Writing

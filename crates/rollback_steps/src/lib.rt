@@ -1,0 +1,22 @@
+//! The way back from a converted volume to the ReiserFS volume in its saved image.
+//!
+//! [`prepare`] reads all that is needed and decides whether the old volume can be had back. [`write_back`] then writes it, and takes no
+//! memory. [`rollback`] is both.
+//!
+//! The old volume's blocks still lie where they did, but for the reserved ones, which Btrfs wants for itself. So these are written from
+//! the image, which the Btrfs volume doesn't notice; then block 16 turns the disk into the old volume; then copies of the Btrfs superblock
+//! are wiped. A crash at any moment leaves the Btrfs volume or the old one.
+#![tactic(auto)]
+
+mod answers;
+mod prepare;
+mod restore;
+mod rolling;
+mod saved;
+mod way;
+mod wiping;
+
+pub use prepare::prepare;
+pub use restore::write_back;
+pub use rolling::rollback;
+pub use way::{RollbackSummary, Saved, WayBack};
