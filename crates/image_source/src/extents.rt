@@ -26,11 +26,7 @@ const EXTENT_KIND: u8 = 108;
 fn unless_hole(range: DiskRange) -> Option<DiskRange>
     ensures { result ≡ range_unless_hole range }
 {
-    if is_hole(&range) {
-        None
-    } else {
-        Some(range)
-    }
+    if is_hole(&range) { None } else { Some(range) }
 }
 
 /// The range that the contents of an extent have on the device.
@@ -84,12 +80,7 @@ impl Notes for ReservedExtent<'_> {
 }
 
 /// A reserved block in which the range of an item lies.
-fn reserved_extent_of(
-    key: &Key,
-    body: &[u8],
-    ranges: &[MapRange],
-    blocks: u64,
-) -> Option<BlockNo>
+fn reserved_extent_of(key: &Key, body: &[u8], ranges: &[MapRange], blocks: u64) -> Option<BlockNo>
     ensures { (i : TreeItem) → i.key ≡ key.now → i.body ≡ body.now → IsMapApart ranges.now → TellsRange ranges.now blocks (item_range i) result }
 {
     let range = item_range(key, body)?;

@@ -7,6 +7,7 @@
 
 mod blocks;
 mod extents;
+mod laws;
 mod moved;
 mod nodes;
 mod reserved;
@@ -14,6 +15,7 @@ mod source;
 mod trees;
 mod using;
 
+pub use laws::blocks_in_use_decide;
 pub use moved::image_moved;
 pub use source::ImageSource;
 pub use using::reserved_used;

@@ -59,7 +59,12 @@ fn reserved_below<S: BlockSource>(
     ensures told { OverTold S.tells (S.blocks src.old) (λ image. IsMapApart ranges.now → MatchResult result (TellsReserved (HoldsNode (below_nodes image ranges.now tree.now node) ranges.now tree.now.form.nodesize) blocks)
         (IsAmong (below_faults image ranges.now tree.now node))) }
 {
-    let found = reserved_in(ranges, node.address as u128, tree.form.nodesize as u64, blocks);
+    let found = reserved_in(
+        ranges,
+        node.address as u128,
+        tree.form.nodesize as u64,
+        blocks,
+    );
     if found.is_some() || node.level == 0 {
         return Ok(found);
     }

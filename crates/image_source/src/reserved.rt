@@ -53,12 +53,7 @@ fn reserved_by(range: &MapRange, address: u128, count: u64, blocks: u64) -> Opti
 
 /// A reserved block of a volume of so many blocks in which one of `count` bytes from an address on lies. Bytes whose address is in no
 /// range lie nowhere.
-pub fn reserved_in(
-    ranges: &[MapRange],
-    address: u128,
-    count: u64,
-    blocks: u64,
-) -> Option<BlockNo>
+pub fn reserved_in(ranges: &[MapRange], address: u128, count: u64, blocks: u64) -> Option<BlockNo>
     requires small { address < 2 ^ 65 }
     ensures { IsMapApart ranges.now → TellsReserved (λ b. LieIn ranges.now address count b) blocks result }
 {

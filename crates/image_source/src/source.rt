@@ -2,6 +2,7 @@
 ghost use Rattle.std.specs.Prelude.{◌≡◌, ◌≤◌, min, refl};
 ghost use Rattle.std.proofs.Common.{◌∙◌};
 ghost use Rattle.image_source.specs.Saved.{blocks_by_map};
+ghost use Rattle.image_source.proofs.Sourcing.{same_blocks, same_size, size_by};
 
 use btr_reader::ImageMap;
 use outside::{BlockSource, Fault};

@@ -90,11 +90,7 @@ pub fn root_tree(volume: &Btrfs) -> Tree
 
 /// The tree of a root item that was looked for.
 #[tactic(auto, using(btr_walk::proofs::Stacks::sized))]
-fn tree_in(
-    volume: &Btrfs,
-    number: u64,
-    root: Option<RootFound>,
-) -> Result<Option<Tree>, BtrAnswer>
+fn tree_in(volume: &Btrfs, number: u64, root: Option<RootFound>) -> Result<Option<Tree>, BtrAnswer>
     ensures finds { (item : Option TreeItem) → TellsRoot root item → FindsTree volume.now.sup number item result }
     ensures walkable { IfOk result (λ o. IfSome o IsWalkable) }
     ensures known { IfErr result NamesNoLogTree }
@@ -170,7 +166,13 @@ pub fn saved_tree<S: BlockSource>(
     ensures finds { OverTold S.tells (S.blocks src.old) (λ image. (roots : List TreeItem) → HasRoots volume.now.roots roots →
         FindsSaved volume.now.sup roots (entry_refusals image volume.now.ranges.items file.now) (found image volume.now.ranges.items file.now) result) }
 {
-    let entry = find_entry(alloc, src, *file, volume.ranges.as_slice(), b"reiserfs_saved")?;
+    let entry = find_entry(
+        alloc,
+        src,
+        *file,
+        volume.ranges.as_slice(),
+        b"reiserfs_saved",
+    )?;
     match tree_number(entry) {
         Some(number) => find_tree(volume, number),
         None => Ok(None),

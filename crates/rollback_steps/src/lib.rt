@@ -9,6 +9,7 @@
 #![tactic(auto)]
 
 mod answers;
+mod laws;
 mod prepare;
 mod restore;
 mod rolling;
@@ -16,6 +17,7 @@ mod saved;
 mod way;
 mod wiping;
 
+pub use laws::{refusals_are_of_touched, rollback_goes_on, rollback_keeps};
 pub use prepare::prepare;
 pub use restore::write_back;
 pub use rolling::rollback;

@@ -107,11 +107,7 @@ fn read_rows<S: BlockSource>(alloc: Global, src: &mut S, volume: &Btrfs) -> Resu
 }
 
 /// The map of the saved image.
-fn read_map<S: BlockSource>(
-    alloc: Global,
-    src: &mut S,
-    volume: &Btrfs,
-) -> Result<ImageMap, Answer>
+fn read_map<S: BlockSource>(alloc: Global, src: &mut S, volume: &Btrfs) -> Result<ImageMap, Answer>
     ensures kept { S.kept src.old src.new }
     ensures device { IfOk result (λ map. map.device ≡ S.size src.old) }
     ensures read { OverTold S.tells (S.blocks src.old) (λ disk. IsOpenedOn disk volume.now → HasBtrfsRows disk → MatchResult result (IsMapOn disk) (RefusesRollback disk)) }

@@ -1,10 +1,9 @@
 // The old volume is written back.
-ghost use Rattle.std.specs.Prelude.{◌≡◌, ◌⊎◌, ◌<◌, true, slice_set, AllPairs, Contains, Some, IsTrue, OnOk};
+ghost use Rattle.std.specs.Prelude.{◌≡◌, ◌⊎◌, ◌<◌, true, slice_set, All, Some, IsTrue, OnOk};
 ghost use Rattle.outside.specs.Fault.{HasCause};
 ghost use Rattle.outside.specs.History.{EachCrash, IsBlock, IsSettled, WritesOnly, block_at, reads};
 ghost use Rattle.vol_block.specs.Volume.{zeros};
-ghost use Rattle.rollback_steps.specs.Writing.{AreApart, AreWiped, AreWrittenBack, HasRoom, IsPart, IsSaved, IsTurned, IsUnturned, IsWiping};
-ghost use Rattle.rollback_steps.specs.declared.way.Saved.{Saved as SavedOf};
+ghost use Rattle.rollback_steps.specs.Writing.{AreApart, AreWiped, AreWrittenBack, GoApart, HasRoom, IsPart, IsPlace, IsTurned, IsUnturned, IsWiping};
 
 use crate::saved::SUPERBLOCK;
 use crate::way::{Saved, WayBack};
@@ -39,12 +38,12 @@ pub fn write_back<D: Disk>(disk: &mut D, way: &WayBack) -> Result<(), Fault>
 /// Writes blocks to their places, and syncs.
 fn write_reserved<D: Disk>(disk: &mut D, saved: &[Saved]) -> Result<(), Fault>
     requires open { D.opened disk.old ≡ Some Access.Write }
-    requires in_range { (s : SavedOf) → Contains saved.now s → s.at < D.size disk.old }
-    requires apart { AllPairs (λ p q. p.at < q.at) saved.now }
+    requires in_range { All (λ s. s.at < D.size disk.old) saved.now }
+    requires apart { GoApart saved.now }
     ensures open { D.opened disk.new ≡ D.opened disk.old }
     ensures size { D.size disk.new ≡ D.size disk.old }
     ensures borrow { D.borrow disk.new ≡ D.borrow disk.old }
-    ensures only { IsTrue D.tells → WritesOnly (IsSaved saved.now) (D.history disk.old) (D.history disk.new) }
+    ensures only { IsTrue D.tells → WritesOnly (λ b _. IsPlace saved.now b) (D.history disk.old) (D.history disk.new) }
     ensures written { IsTrue D.tells → OnOk result (AreWrittenBack saved.now (reads (D.history disk.new))) }
     ensures settled { IsTrue D.tells → OnOk result (IsSettled (D.history disk.new)) }
     ensures cause { HasCause (D.faults disk.old) (D.faults disk.new) result }

@@ -1,11 +1,11 @@
 // The blocks of the old volume that are to be written.
-ghost use Rattle.std.specs.Prelude.{◌≡◌, ◌≢◌, ◌⊎◌, ◌≤◌, ◌<◌, ◌==◌, [], ◌∷◌, ◌++◌, not, true, AllPairs, Contains, IfErr, IfOk, OnOk, filter, length};
+ghost use Rattle.std.specs.Prelude.{◌≡◌, ◌≢◌, ◌⊎◌, ◌≤◌, ◌<◌, ◌==◌, [], ◌∷◌, ◌++◌, not, true, All, IfErr, IfOk, OnOk, filter, length};
 ghost use Rattle.outside.specs.Fault.{HasCause, HasCauseOf};
 ghost use Rattle.outside.specs.History.{OverTold, block_at};
 ghost use Rattle.vol_block.specs.Volume.{is_reserved};
 ghost use Rattle.reiser_bitmap.specs.Bits.{has, used_blocks};
 ghost use Rattle.rollback_steps.specs.Prepared.{AreSaved};
-ghost use Rattle.rollback_steps.specs.declared.way.Saved.{Saved as SavedOf};
+ghost use Rattle.rollback_steps.specs.Writing.{GoApart};
 
 use crate::way::Saved;
 use outside::{BlockSource, Fault, Memory, VolAnswer};
@@ -38,8 +38,8 @@ pub fn read_reserved<S: BlockSource>(
     ensures kept { S.kept src.old src.new }
     ensures cause { HasCauseOf VolAnswer.Fault (S.faults src.old) (S.faults src.new) result }
     ensures answers { IfErr result (λ e. (e ≡ VolAnswer.Fault) ⊎ (e ≡ VolAnswer.Memory)) }
-    ensures ascend { IfOk result (λ saved. AllPairs (λ p q. p.at < q.at) saved.items) }
-    ensures marked { IfOk result (λ saved. (s : SavedOf) → Contains saved.items s → (has used.now s.at ≡ true) × (s.at ≢ 16)) }
+    ensures apart { IfOk result (λ saved. GoApart saved.items) }
+    ensures marked { IfOk result (λ saved. All (λ s. (has used.now s.at ≡ true) × (s.at ≢ 16)) saved.items) }
     ensures saved { OverTold S.tells (S.blocks src.old) (λ image. IfOk result (λ saved.
         AreSaved image (filter (λ b. not (b == 16)) (filter (λ b. is_reserved b (length used.now)) (used_blocks used.now))) saved.items)) }
 {

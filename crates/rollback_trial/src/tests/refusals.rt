@@ -44,9 +44,7 @@ fn another_format_is_refused(rt: HostRuntime) -> Result<(), Fail> {
 /// Writes the superblock of a converted volume with another chunk root and log root.
 fn with_roots(disk: &mut MemDisk, chunk_root: Option<u64>, log_root: u64) -> Result<(), Fail> {
     let mut block = block(disk, 16);
-    let sup = Super::read(&block, 16, 2048)
-        .ok()
-        .ok_or("a superblock")?;
+    let sup = Super::read(&block, 16, 2048).ok().ok_or("a superblock")?;
     let sup = Super {
         chunk_root: chunk_root.unwrap_or(sup.chunk_root),
         log_root,

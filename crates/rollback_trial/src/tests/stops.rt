@@ -30,11 +30,7 @@ fn old_of(alloc: Global, disk: MemDisk) -> Result<Old, Fail> {
 
 /// The disk that a crash leaves has the rows of the old volume, in one of the formats. Where it is still Btrfs, a further rollback brings
 /// the old volume back; else it is back.
-fn is_either(
-    rt: &(impl Abort + AllocGlobal),
-    old: &Old,
-    left: &mut MemDisk,
-) -> Result<bool, Fail> {
+fn is_either(rt: &(impl Abort + AllocGlobal), old: &Old, left: &mut MemDisk) -> Result<bool, Fail> {
     let (format, rows) = listed(rt.alloc(), left)?;
     assert!(rt; rows.bytes() == old.rows.bytes());
     if format == Format::Btrfs {
