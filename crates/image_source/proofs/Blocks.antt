@@ -4,7 +4,7 @@ use Rattle.std.specs.List.{range_with_len}
 use Rattle.std.proofs.lemmas.List.{ext_get_or}
 use Rattle.std.proofs.lemmas.List.FromFn.{get_or-map-range_with_len, length-map-range_with_len}
 use Rattle.outside.specs.History.{Image, block_at}
-use Rattle.image_source.specs.Saved.{block_or_hole, blocks_by}
+use Rattle.image_source.specs.Saved.{block_or_hole, blocks_by, file_blocks, image_blocks, saved_file, saved_place}
 
 module _ (place : ℕ → Option ℕ) (n : ℕ) (disk : Image) where
   pub length_by : length (blocks_by place n disk) ≡ min n (length disk)
@@ -23,3 +23,9 @@ blocks_alike place other n disk same =
     each b below =
         let inside : b < min n (length disk) = omega (arith, below, length_by place n disk) in
         block_by place n disk b inside ∙ (ap (λ (p : Option ℕ). block_or_hole disk p) (same b) ∙ sym (block_by other n disk b inside))
+
+-- a block of the saved image
+pub image_block : (disk : Image) (b : ℕ) → b < length (image_blocks disk) → block_at (image_blocks disk) b ≡ block_or_hole disk (saved_place disk b)
+unfolding image_blocks
+image_block disk b below =
+    block_by (saved_place disk) (file_blocks (saved_file disk)) disk b (omega (arith, below, length_by (saved_place disk) (file_blocks (saved_file disk)) disk))
