@@ -1,0 +1,54 @@
+-- The used blocks decide superblock, journal and bitmap of a ReiserFS volume that has them in order.
+use Rattle.std.proofs.Common.{◌≡◌, ◌∙◌, ◌+◌, ℕ, true, Bool, List, [], length, sym, ap, subst, arith}
+use Rattle.std.specs.Prelude.{Contains}
+use Rattle.outside.specs.History.{Image, block_at}
+use Rattle.object_files.specs.Laws.{SameUsed}
+use Rattle.reiser_bitmap.specs.Bits.{has}
+use Rattle.reiser_bitmap.specs.Layout.{bitmap_block, bitmap_of}
+use Rattle.reiser_bitmap.specs.System.{system_blocks}
+use Rattle.reiser_bitmap.proofs.MoreLaws.{bitmap_decided}
+use Rattle.reiser_bitmap.proofs.SystemBlocks.{bitmap_in, journal_in, superblock_in}
+use Rattle.reiser_super.specs.declared.superblock.Super.{Super}
+use Rattle.reiser_super.specs.Superblock.{super_of}
+use Rattle.reiser_super.specs.Rules.{IsCleanSuper}
+use Rattle.reiser_super.specs.Journal.{IsClean, pending_transactions}
+use Rattle.reiser_super.proofs.Footprint.{same_pending}
+use Rattle.reiser_volume.specs.Volume.{IsFrontAccepted, MarksSystem, superblock, used_of}
+
+-- the bitmap marks the blocks that a volume of this superblock keeps for itself
+abbrev Marks : Super → List Bool → Type 0
+Marks s used = (b : ℕ) → Contains (system_blocks s.blocks s.journal_first s.journal_size) b → has used b ≡ true
+
+module _ (image other : Image) (a : IsFrontAccepted image) (same : SameUsed (used_of image) image other) where
+  system_same : (b : ℕ) → Contains (system_blocks (superblock image).blocks (superblock image).journal_first (superblock image).journal_size) b → block_at other b ≡ block_at image b
+  system_same b h = same b (a.system b h)
+
+  pub super_same : block_at other 16 ≡ block_at image 16
+  super_same = let s = superblock image in system_same 16 (superblock_in s.blocks s.journal_first s.journal_size)
+
+  fields_same : superblock other ≡ superblock image
+  fields_same = ap super_of super_same
+
+  pub used_same : used_of other ≡ used_of image
+  used_same =
+      let s = superblock image in
+      ap (λ (t : Super). bitmap_of t.blocks other) fields_same
+      ∙ bitmap_decided s.blocks other image a.clean.superblock.bounds.blocks (λ k h. system_same (bitmap_block k) (bitmap_in s.blocks s.journal_first s.journal_size k h))
+
+  clean_same : length other ≡ length image → IsClean other
+  clean_same size =
+      let s = superblock image in
+      let none : pending_transactions s other ≡ [] =
+      same_pending s other image (λ place low. system_same (s.journal_first + place) (journal_in s.blocks s.journal_first s.journal_size (s.journal_first + place) (omega arith) (omega (arith, low)))) ∙ a.clean.journal in
+      record {
+        superblock =
+            subst (λ (bytes : List ℕ). IsCleanSuper bytes (length other)) (sym super_same)
+            (subst (λ (n : ℕ). IsCleanSuper (block_at image 16) n) (sym size) a.clean.superblock);
+        journal = subst (λ (t : Super). pending_transactions t other ≡ []) (sym fields_same) none;
+      }
+
+  system_marked : MarksSystem other
+  system_marked = subst (λ (t : Super). Marks t (used_of other)) (sym fields_same) (subst (λ (used : List Bool). Marks (superblock image) used) (sym used_same) a.system)
+
+  pub front_same : length other ≡ length image → IsFrontAccepted other
+  front_same size = record { clean = clean_same size; system = system_marked }

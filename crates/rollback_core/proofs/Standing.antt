@@ -1,0 +1,109 @@
+-- What is written, and what a crash leaves of it.
+use Rattle.std.proofs.Common.{◌≡◌, ◌∙◌, inl, inr, ⊎_elim, ℕ, true, ◌+◌, ◌<◌, List, length, Option, Some, None, Result, OnOk, refl, sym, ap, subst, arith}
+use Rattle.std.specs.Prelude.{IsSomeAnd, filter, is_some}
+use Rattle.outside.specs.Format.{format_in}
+use Rattle.outside.specs.History.{History, Image, IsSettled, LeftSince, WritesBlock, WritesOnly, block_at, clock, reads}
+use Rattle.outside.proofs.Crash.{left_each, reads_only, write_only, writes_length, writes_then, writes_weaker}
+use Rattle.outside.proofs.Phases.{set_stands, write_reads}
+use Rattle.convert_steps.specs.Switch.{IsMirror}
+use Rattle.vol_block.specs.declared.block.Block.{Block}
+use Rattle.vol_block.specs.declared.format.Format.{Format}
+use Rattle.rollback_core.specs.Mending.{given, is_torn, mended}
+use Rattle.rollback_core.specs.Planned.{IsGiven, IsGivenAt, IsPlanned, Stands, number_of}
+use Rattle.rollback_core.specs.Recovered.{IsMend, IsPartly, IsRecovered, copy_blocks, summary}
+use Rattle.rollback_core.specs.declared.mending.Mending.{Mending}
+use Rattle.rollback_core.specs.declared.recovery.RecoverSummary.{RecoverSummary}
+use Rattle.rollback_core.proofs.Mended.{two_of}
+
+some_given : (found : Option Block) (bytes old wanted : List ℕ) → IsSomeAnd found (λ block. bytes ≡ block.bytes) → given found old ≡ wanted → bytes ≡ wanted
+some_given None bytes old wanted is gives = absurd is
+some_given (Some block) bytes old wanted is gives = is ∙ gives
+
+abbrev told_of : Format → ℕ → RecoverSummary
+told_of format n = record { format = format; mirrors = n }
+
+some_there : (found : Option Block) (bytes : List ℕ) → IsSomeAnd found (λ block. bytes ≡ block.bytes) → is_some found ≡ true
+some_there None bytes is = absurd is
+some_there (Some block) bytes is = refl
+
+module _ (image : Image) (m : Mending) (planned : IsPlanned image m) where
+  -- what is written goes to the blocks of copies, and is what is to stand there
+  given_mended : (b : ℕ) (bytes : List ℕ) → IsGiven m b bytes → IsMirror b × (bytes ≡ mended image b)
+  given_mended b bytes is =
+      ⊎_elim
+      (λ one. (inl one.0, some_given m.first bytes (block_at image 16384) (mended image 16384) one.1 planned.first.bytes_are ∙ ap (mended image) (sym one.0)))
+      (λ two. (inr two.0, some_given m.second bytes (block_at image 67108864) (mended image 67108864) two.1 planned.second.bytes_are ∙ ap (mended image) (sym two.0)))
+      is
+
+  -- and it is written only where something else stands
+  given_mend : (b : ℕ) (bytes : List ℕ) → IsGiven m b bytes → IsMend image b bytes
+  given_mend b bytes is = record {
+    mirror = (given_mended b bytes is).0;
+    torn = ⊎_elim
+        (λ one. subst (λ (n : ℕ). is_torn image n ≡ true) (sym one.0) (sym planned.first.needed ∙ some_there m.first bytes one.1))
+        (λ two. subst (λ (n : ℕ). is_torn image n ≡ true) (sym two.0) (sym planned.second.needed ∙ some_there m.second bytes two.1)) is;
+    bytes_are = (given_mended b bytes is).1;
+  }
+
+  pub mends_only : (h₀ h₁ : History) → WritesOnly (IsGiven m) h₀ h₁ → WritesOnly (IsMend image) h₀ h₁
+  mends_only = writes_weaker (IsGiven m) (IsMend image) given_mend
+
+  module _ (h₀ h₁ : History) (start : reads h₀ ≡ image) (only : WritesOnly (IsGiven m) h₀ h₁) where
+    pub crash_partly : IsSettled h₀ → (other : Image) → LeftSince (clock h₀) h₁ other → IsPartly image other
+    crash_partly settled other left =
+        let each = left_each (IsGiven m) h₀ h₁ settled only other left in
+        record {
+          size = each.0 ∙ ap (λ (i : Image). length i) start;
+          each = λ b. ⊎_elim (λ same. inl (same ∙ ap (λ (i : Image). block_at i b) start)) (λ is. inr (given_mended b (block_at other b) is)) (each.1 b);
+        }
+
+    pub recovers : Stands m (reads h₀) (reads h₁) → IsRecovered image (reads h₁)
+    recovers stands = record {
+      can = planned.can;
+      size = writes_length (IsGiven m) h₀ h₁ only ∙ ap (λ (i : Image). length i) start;
+      copies = λ b mirror. ⊎_elim
+          (λ one. subst (λ (n : ℕ). block_at (reads h₁) n ≡ mended image n) (sym one)
+          (stands.first ∙ (ap (λ (i : Image). given m.first (block_at i 16384)) start ∙ planned.first.bytes_are)))
+          (λ two. subst (λ (n : ℕ). block_at (reads h₁) n ≡ mended image n) (sym two)
+          (stands.second ∙ (ap (λ (i : Image). given m.second (block_at i 67108864)) start ∙ planned.second.bytes_are)))
+          mirror;
+      others = λ b outside. ⊎_elim (λ same. same ∙ ap (λ (i : Image). block_at i b) start) (λ is. absurd (outside (given_mended b (block_at (reads h₁) b) is).0))
+          (reads_only (IsGiven m) h₀ h₁ only b);
+    }
+
+  -- the blocks that are written are those that are to change
+  pub counts : number_of m.first + number_of m.second ≡ length (filter (is_torn image) copy_blocks)
+  counts = sym (two_of (is_torn image) (is_some m.first) (is_some m.second) (sym planned.first.needed) (sym planned.second.needed))
+
+  pub summary_is : (n : ℕ) → n ≡ number_of m.first + number_of m.second → told_of m.format n ≡ summary image
+  summary_is n is = ap (λ (f : Format). told_of f n) planned.format ∙ ap (λ (k : ℕ). told_of (format_in image) k) (is ∙ counts)
+
+-- ---- one block, if there is one to be written
+module _ (place : ℕ) (block : Block) (h₀ h₁ : History) {T E : Type 0} (result : Result T E) where
+  pub some_only : WritesBlock h₀ place block.bytes result h₁ → WritesOnly (IsGivenAt place (Some block)) h₀ h₁
+  some_only did = write_only (IsGivenAt place (Some block)) h₀ h₁ place block.bytes result (refl, refl) did
+
+  pub some_stands : place < length (reads h₀) → WritesBlock h₀ place block.bytes result h₁ → OnOk result (block_at (reads h₁) place ≡ block.bytes)
+  some_stands long did = set_stands result (reads h₀) (reads h₁) place block.bytes long (write_reads h₀ h₁ place block.bytes result did)
+
+-- ---- both
+module _ (m : Mending) where
+  pub first_part : (h₀ h₁ : History) → WritesOnly (IsGivenAt 16384 m.first) h₀ h₁ → WritesOnly (IsGiven m) h₀ h₁
+  first_part = writes_weaker (IsGivenAt 16384 m.first) (IsGiven m) (λ b bytes is. inl is)
+
+  pub second_part : (h₀ h₁ : History) → WritesOnly (IsGivenAt 67108864 m.second) h₀ h₁ → WritesOnly (IsGiven m) h₀ h₁
+  second_part = writes_weaker (IsGivenAt 67108864 m.second) (IsGiven m) (λ b bytes is. inr is)
+
+  pub both_parts : (h₀ h₁ h₂ : History) → WritesOnly (IsGivenAt 16384 m.first) h₀ h₁ → WritesOnly (IsGivenAt 67108864 m.second) h₁ h₂ → WritesOnly (IsGiven m) h₀ h₂
+  both_parts h₀ h₁ h₂ one two = writes_then (IsGiven m) h₀ h₁ h₂ (first_part h₀ h₁ one) (second_part h₁ h₂ two)
+
+  -- each stands, since the other is written elsewhere
+  pub both_stand : (h₀ h₁ h₂ : History) → WritesOnly (IsGivenAt 16384 m.first) h₀ h₁ → WritesOnly (IsGivenAt 67108864 m.second) h₁ h₂
+      → block_at (reads h₁) 16384 ≡ given m.first (block_at (reads h₀) 16384) → block_at (reads h₂) 67108864 ≡ given m.second (block_at (reads h₁) 67108864) → Stands m (reads h₀) (reads h₂)
+  both_stand h₀ h₁ h₂ one two first second = record {
+    first = elsewhere 67108864 m.second h₁ h₂ two 16384 (λ eq. omega (arith, eq)) ∙ first;
+    second = second ∙ ap (given m.second) (elsewhere 16384 m.first h₀ h₁ one 67108864 (λ eq. omega (arith, eq)));
+  }
+    where
+      elsewhere : (place : ℕ) (found : Option Block) (a b : History) → WritesOnly (IsGivenAt place found) a b → (n : ℕ) → ¬ (n ≡ place) → block_at (reads b) n ≡ block_at (reads a) n
+      elsewhere place found a b only n other = ⊎_elim (λ same. same) (λ is. absurd (other is.0)) (reads_only (IsGivenAt place found) a b only n)

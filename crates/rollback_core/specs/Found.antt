@@ -1,0 +1,11 @@
+-- What is found of a disk before its volume is looked at.
+use Rattle.std.specs.Prelude.{◌≡◌}
+use Rattle.outside.specs.Format.{format_in}
+use Rattle.outside.specs.History.{Image, block_at}
+use Rattle.vol_block.specs.declared.format.Format.TheVariants.{Btrfs}
+use Rattle.rollback_core.specs.declared.finding.Found.{Found}
+
+-- the format is that of the disk, and of a Btrfs volume the block is block 16
+pub record IsFoundOn (disk : Image) (found : Found) : Type 0 where
+  pub format : found.format ≡ format_in disk
+  pub block : found.format ≡ Btrfs → found.block.bytes ≡ block_at disk 16

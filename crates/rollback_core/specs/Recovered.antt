@@ -1,0 +1,55 @@
+-- What `recover` makes of a disk, and what a crash of it leaves.
+use Rattle.std.specs.Prelude.{◌≡◌, ◌⊎◌, ℕ, true, List, [], ◌∷◌, length, filter, Ok}
+use Rattle.outside.specs.Format.{format_in}
+use Rattle.outside.specs.History.{Image, block_at}
+use Rattle.btr_super.specs.Rules.{super_of}
+use Rattle.btr_super.specs.declared.superblock.Super.{Super}
+use Rattle.convert_steps.specs.Switch.{IsMirror}
+use Rattle.reiser_volume.specs.Volume.{IsFrontAccepted}
+use Rattle.vol_block.specs.declared.format.Format.{Format}
+use Rattle.vol_block.specs.declared.format.Format.TheVariants.{Reiser, Btrfs, Neither}
+use Rattle.rollback_core.specs.Mending.{is_torn, mended}
+use Rattle.rollback_core.specs.declared.recovery.RecoverSummary.{RecoverSummary}
+
+-- What is looked at keeps its rules: superblock, journal and bitmap of a ReiserFS volume, and of a Btrfs volume the superblock.
+abbrev pub IsInOrder : Format → Image → Type 0
+IsInOrder Reiser image = IsFrontAccepted image
+IsInOrder Btrfs image = (s : Super) × (super_of (block_at image 16) 16 (length image) ≡ Ok s)
+IsInOrder Neither image = ⊥
+
+abbrev pub IsRecoverable : Image → Type 0
+IsRecoverable image = IsInOrder (format_in image) image
+
+-- The blocks of the copies hold what is to stand there, and no other block differs.
+pub record IsRecovered (image other : Image) : Type 0 where
+  pub can : IsRecoverable image
+  pub size : length other ≡ length image
+  pub copies : (b : ℕ) → IsMirror b → block_at other b ≡ mended image b
+  pub others : (b : ℕ) → ¬ IsMirror b → block_at other b ≡ block_at image b
+
+-- Each block is as it was, or it is the block of a copy and holds what is to stand there.
+pub record IsPartly (image other : Image) : Type 0 where
+  pub size : length other ≡ length image
+  pub each : (b : ℕ) → (block_at other b ≡ block_at image b) ⊎ (IsMirror b × (block_at other b ≡ mended image b))
+
+-- what a crash at any moment may leave
+abbrev pub IsLeft : Image → Image → Type 0
+IsLeft image other = (other ≡ image) ⊎ (IsRecoverable image × IsPartly image other)
+
+-- a write that mends the block of a copy, which holds something else
+pub record IsMend (image : Image) (b : ℕ) (bytes : List ℕ) : Type 0 where
+  pub mirror : IsMirror b
+  pub torn : is_torn image b ≡ true
+  pub bytes_are : bytes ≡ mended image b
+
+-- the blocks of the copies
+abbrev pub copy_blocks : List ℕ
+copy_blocks = 16384 ∷ 67108864 ∷ []
+
+-- those that are to change
+abbrev pub torn_blocks : Image → List ℕ
+torn_blocks image = filter (is_torn image) copy_blocks
+
+-- the format, and how many blocks are to change
+abbrev pub summary : Image → RecoverSummary
+summary image = record { format = format_in image; mirrors = length (torn_blocks image) }

@@ -1,0 +1,192 @@
+// What is to be written to the places of the copies of a Btrfs superblock.
+ghost use Rattle.std.specs.Prelude.{◌≡◌, ◌≤◌, ◌<◌, ◌^◌, true, is_some, IfErr, IfOk, Ok};
+ghost use Rattle.std.specs.Result.{MatchResult};
+ghost use Rattle.outside.specs.Fault.{HasCause, HasCauseOf};
+ghost use Rattle.outside.specs.Format.{format_in};
+ghost use Rattle.outside.specs.History.{OverTold, block_at};
+ghost use Rattle.vol_block.specs.declared.format.Format.TheVariants as formats;
+ghost use Rattle.rollback_core.specs.Answers.{IsRecoverAnswer, RefusesRecover};
+ghost use Rattle.rollback_core.specs.Found.{IsFoundOn};
+ghost use Rattle.rollback_core.specs.Mending.{Gives, copied, wiped};
+ghost use Rattle.rollback_core.specs.Planned.{HasRoom, IsPlanned};
+
+use crate::finding::{Found, SUPERBLOCK, find_format};
+use btr_super::{Super, mirror};
+use convert_steps::volume_answer;
+use outside::{Answer, BlockSource, Fault, VolumeRefusal};
+use reiser_volume::Front;
+use std::alloc::Global;
+use vol_block::{Block, BlockNo, Format, has_magic};
+
+/// The block of the first copy of a Btrfs superblock, as the Btrfs on-disk format documentation has it: at 64 MiB.
+pub const FIRST_COPY: BlockNo = 16384;
+
+/// The block of the second copy: at 256 GiB.
+pub const SECOND_COPY: BlockNo = 67_108_864;
+
+/// What is to be written to the blocks of the copies: a block for each that is to change.
+#[derive(Clone, Copy, Debug)]
+pub struct Mending {
+    /// The format of the volume.
+    pub format: Format,
+    /// What is to be written to the block of the first copy.
+    pub first: Option<Block>,
+    /// What is to be written to the block of the second copy.
+    pub second: Option<Block>,
+}
+
+/// Looks at the volume of a disk, and says what is to be written. Nothing is written.
+pub fn plan<S: BlockSource>(alloc: Global, src: &mut S) -> Result<Mending, Answer>
+    ensures kept { S.kept src.old src.new }
+    ensures planned { OverTold S.tells (S.blocks src.old) (λ image. MatchResult result (IsPlanned image) (RefusesRecover image)) }
+    ensures room { IfOk result (HasRoom (S.size src.old)) }
+    ensures cause { HasCauseOf Answer.Fault (S.faults src.old) (S.faults src.new) result }
+    ensures answers { IfErr result IsRecoverAnswer }
+{
+    match find_format(src) {
+        Ok(found) => plan_as(&found, alloc, src),
+        Err(Fault) => Err(Answer::Fault),
+    }
+}
+
+/// What is to be written, by the format that was found.
+fn plan_as<S: BlockSource>(found: &Found, alloc: Global, src: &mut S) -> Result<Mending, Answer>
+    ensures kept { S.kept src.old src.new }
+    ensures planned { OverTold S.tells (S.blocks src.old) (λ image. IsFoundOn image found.now → MatchResult result (IsPlanned image) (RefusesRecover image)) }
+    ensures room { IfOk result (HasRoom (S.size src.old)) }
+    ensures cause { HasCauseOf Answer.Fault (S.faults src.old) (S.faults src.new) result }
+    ensures answers { IfErr result IsRecoverAnswer }
+{
+    match found.format {
+        Format::Reiser => plan_reiser(alloc, src),
+        Format::Btrfs => plan_btrfs(src, &found.block),
+        Format::Neither => Err(Answer::Volume(VolumeRefusal::NotVolume)),
+    }
+}
+
+/// What is to be written to a ReiserFS volume.
+fn plan_reiser<S: BlockSource>(alloc: Global, src: &mut S) -> Result<Mending, Answer>
+    ensures kept { S.kept src.old src.new }
+    ensures planned { OverTold S.tells (S.blocks src.old) (λ image. formats.Reiser ≡ format_in image → MatchResult result (IsPlanned image) (RefusesRecover image)) }
+    ensures room { IfOk result (HasRoom (S.size src.old)) }
+    ensures cause { HasCauseOf Answer.Fault (S.faults src.old) (S.faults src.new) result }
+    ensures answers { IfErr result IsRecoverAnswer }
+{
+    let front = match Front::open(alloc, src) {
+        Ok(front) => front,
+        Err(answer) => return Err(volume_answer(answer)),
+    };
+    match wipe_both(src, &front) {
+        Ok(mending) => Ok(mending),
+        Err(Fault) => Err(Answer::Fault),
+    }
+}
+
+/// What is to be written to a Btrfs volume with this superblock.
+fn plan_btrfs<S: BlockSource>(src: &mut S, superblock: &Block) -> Result<Mending, Answer>
+    ensures kept { S.kept src.old src.new }
+    ensures planned { OverTold S.tells (S.blocks src.old) (λ image. formats.Btrfs ≡ format_in image → superblock.now.bytes ≡ block_at image 16 → MatchResult result (IsPlanned image) (RefusesRecover image)) }
+    ensures room { IfOk result (HasRoom (S.size src.old)) }
+    ensures cause { HasCauseOf Answer.Fault (S.faults src.old) (S.faults src.new) result }
+    ensures answers { IfErr result IsRecoverAnswer }
+{
+    let sup = match Super::read(superblock, SUPERBLOCK, src.len()) {
+        Ok(sup) => sup,
+        Err(refusal) => return Err(Answer::Btr(refusal)),
+    };
+    match copy_both(src, superblock, sup.total_bytes / 4096) {
+        Ok(mending) => Ok(mending),
+        Err(Fault) => Err(Answer::Fault),
+    }
+}
+
+/// What is to be written to a ReiserFS volume in order.
+fn wipe_both<S: BlockSource>(src: &mut S, front: &Front) -> Result<Mending, Fault>
+    requires device { front.now.sup.blocks ≤ S.size src.old }
+    ensures kept { S.kept src.old src.new }
+    ensures format { IfOk result (λ m. m.format ≡ formats.Reiser) }
+    ensures first { OverTold S.tells (S.blocks src.old) (λ image. IfOk result (λ m.
+        Gives (block_at image 16384) (wiped front.now.sup.blocks front.now.bitmap 16384 (block_at image 16384)) m.first)) }
+    ensures second { OverTold S.tells (S.blocks src.old) (λ image. IfOk result (λ m.
+        Gives (block_at image 67108864) (wiped front.now.sup.blocks front.now.bitmap 67108864 (block_at image 67108864)) m.second)) }
+    ensures room { IfOk result (HasRoom (S.size src.old)) }
+    ensures cause { HasCause (S.faults src.old) (S.faults src.new) result }
+{
+    let first = wipe(src, front, FIRST_COPY)?;
+    let second = wipe(src, front, SECOND_COPY)?;
+    Ok(Mending {
+        format: Format::Reiser,
+        first,
+        second,
+    })
+}
+
+/// What is to be written to a Btrfs volume of so many blocks with this superblock.
+fn copy_both<S: BlockSource>(src: &mut S, superblock: &Block, blocks: u64) -> Result<Mending, Fault>
+    requires device { blocks ≤ S.size src.old }
+    ensures kept { S.kept src.old src.new }
+    ensures format { IfOk result (λ m. m.format ≡ formats.Btrfs) }
+    ensures first { OverTold S.tells (S.blocks src.old) (λ image. IfOk result (λ m.
+        Gives (block_at image 16384) (copied blocks superblock.now.bytes 16384 (block_at image 16384)) m.first)) }
+    ensures second { OverTold S.tells (S.blocks src.old) (λ image. IfOk result (λ m.
+        Gives (block_at image 67108864) (copied blocks superblock.now.bytes 67108864 (block_at image 67108864)) m.second)) }
+    ensures room { IfOk result (HasRoom (S.size src.old)) }
+    ensures cause { HasCause (S.faults src.old) (S.faults src.new) result }
+{
+    let first = copy(src, superblock, FIRST_COPY, blocks)?;
+    let second = copy(src, superblock, SECOND_COPY, blocks)?;
+    Ok(Mending {
+        format: Format::Btrfs,
+        first,
+        second,
+    })
+}
+
+/// The zeros that are to be written to a block, where the ReiserFS volume has it without use and it holds a Btrfs superblock.
+fn wipe<S: BlockSource>(src: &mut S, front: &Front, place: BlockNo) -> Result<Option<Block>, Fault>
+    requires device { front.now.sup.blocks ≤ S.size src.old }
+    ensures kept { S.kept src.old src.new }
+    ensures gives { OverTold S.tells (S.blocks src.old) (λ image. IfOk result (Gives (block_at image place) (wiped front.now.sup.blocks front.now.bitmap place (block_at image place)))) }
+    ensures room { IfOk result (λ found. is_some found ≡ true → place < S.size src.old) }
+    ensures cause { HasCause (S.faults src.old) (S.faults src.new) result }
+{
+    if place >= front.sup.blocks || front.bitmap.is_used(place) {
+        return Ok(None);
+    }
+    let mut block = Block::zero();
+    src.read(place, &mut block)?;
+    if has_magic(&block, 64, b"_BHRfS_M") {
+        Ok(Some(Block::zero()))
+    } else {
+        Ok(None)
+    }
+}
+
+/// The copy of a superblock that is to be written to its block, where a Btrfs volume of so many blocks has it and it holds anything
+/// else.
+fn copy<S: BlockSource>(
+    src: &mut S,
+    superblock: &Block,
+    place: BlockNo,
+    blocks: u64,
+) -> Result<Option<Block>, Fault>
+    requires device { blocks ≤ S.size src.old }
+    requires small { place < 2 ^ 52 }
+    ensures kept { S.kept src.old src.new }
+    ensures gives { OverTold S.tells (S.blocks src.old) (λ image. IfOk result (Gives (block_at image place) (copied blocks superblock.now.bytes place (block_at image place)))) }
+    ensures room { IfOk result (λ found. is_some found ≡ true → place < S.size src.old) }
+    ensures cause { HasCause (S.faults src.old) (S.faults src.new) result }
+{
+    if place >= blocks {
+        return Ok(None);
+    }
+    let mut copy = Block::zero();
+    mirror(superblock, place, &mut copy);
+    let mut block = Block::zero();
+    src.read(place, &mut block)?;
+    if block == copy {
+        Ok(None)
+    } else {
+        Ok(Some(copy))
+    }
+}

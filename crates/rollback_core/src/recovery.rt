@@ -1,0 +1,55 @@
+// The recovery of a disk.
+ghost use Rattle.std.specs.Prelude.{◌≡◌, ◌≢◌, Some, IfErr, IfOk, IsTrue};
+ghost use Rattle.std.specs.Result.{MatchResult};
+ghost use Rattle.outside.specs.Fault.{HasCauseOf};
+ghost use Rattle.outside.specs.History.{EachCrash, IsSettled, OverTold, WritesOnly, reads};
+ghost use Rattle.rollback_core.specs.Answers.{IsRecoverAnswer, RefusesRecover};
+ghost use Rattle.rollback_core.specs.Recovered.{IsLeft, IsMend, IsRecovered, summary};
+
+use crate::mending::plan;
+use crate::writing::write_mending;
+use outside::{Access, Answer, Disk, Fault};
+use std::alloc::Global;
+use vol_block::Format;
+
+/// What a recovery found and did.
+#[derive(Clone, Copy, Debug, PartialEq, Eq)]
+pub struct RecoverSummary {
+    /// The format of the volume, which it keeps.
+    pub format: Format,
+    /// The blocks that were written: those of copies of a Btrfs superblock.
+    pub mirrors: u64,
+}
+
+/// Completes what a crash may have cut off of a switch between the two formats. The format of the volume is that of block 16.
+///
+/// On a Btrfs volume each block of a copy that the volume has, at 64 MiB and at 256 GiB, becomes the copy of the superblock. On a
+/// ReiserFS volume each of them that the bitmap does not mark as used and that holds the magic of a Btrfs superblock becomes zeros.
+/// Only blocks that differ are written, and a disk where none does is not synced. A second recovery writes nothing.
+///
+/// A refusal names what is wrong with the superblock, and of a ReiserFS volume with its journal or its bitmap; then nothing was
+/// written. Memory is taken for the bitmap alone, so a Btrfs volume needs none.
+pub fn recover<D: Disk>(alloc: Global, disk: &mut D) -> Result<RecoverSummary, Answer>
+    requires open { D.opened disk.old ≡ Some Access.Write }
+    ensures crash { EachCrash D.tells (D.history disk.old) (D.history disk.new) (IsLeft (reads (D.history disk.old))) }
+    ensures open { D.opened disk.new ≡ D.opened disk.old }
+    ensures size { D.size disk.new ≡ D.size disk.old }
+    ensures borrow { D.borrow disk.new ≡ D.borrow disk.old }
+    ensures only { IsTrue D.tells → WritesOnly (IsMend (reads (D.history disk.old))) (D.history disk.old) (D.history disk.new) }
+    ensures recovered { OverTold D.tells (reads (D.history disk.old)) (λ image.
+        MatchResult result (λ told. IsRecovered image (reads (D.history disk.new)) × (told ≡ summary image)) (RefusesRecover image)) }
+    ensures unwritten { IsTrue D.tells → IfOk result (λ told. told.mirrors ≡ 0 → D.history disk.new ≡ D.history disk.old) }
+    ensures settled { IsTrue D.tells → IfOk result (λ told. told.mirrors ≢ 0 → IsSettled (D.history disk.new)) }
+    ensures refused { IsTrue D.tells → IfErr result (λ e. e ≢ Answer.Fault → D.history disk.new ≡ D.history disk.old) }
+    ensures cause { HasCauseOf Answer.Fault (D.faults disk.old) (D.faults disk.new) result }
+    ensures answers { IfErr result IsRecoverAnswer }
+{
+    let mending = plan(alloc, disk)?;
+    match write_mending(disk, &mending) {
+        Ok(mirrors) => Ok(RecoverSummary {
+            format: mending.format,
+            mirrors,
+        }),
+        Err(Fault) => Err(Answer::Fault),
+    }
+}
