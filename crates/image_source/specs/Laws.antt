@@ -1,28 +1,23 @@
--- Which blocks decide a Btrfs volume and its saved image.
-use Rattle.std.specs.Prelude.{◌≡◌, ◌↔◌, ℕ, List, length}
-use Rattle.outside.specs.History.{Image, block_at}
-use Rattle.fs_rows.specs.Rows.{WholeRow}
-use Rattle.btr_reader.specs.Parts.{AreRowsOfBtrfs}
-use Rattle.image_source.specs.Saved.{image_blocks, saved_file, saved_place}
-use Rattle.image_source.specs.Untouched.{IsReadWhole, IsUntouched}
-use Rattle.image_source.specs.Using.{IsInUse}
+-- What may differ of a volume from which the volume before can be had back.
+use Rattle.std.specs.Prelude.{◌≡◌, ℕ, ◌==◌, Bool, ◌&&◌, not}
+use Rattle.outside.specs.History.{Image}
+use Rattle.vol_block.specs.Volume.{is_reserved}
+use Rattle.metadata_laws.specs.Apart.{IsSameOutside}
+use Rattle.metadata_laws.specs.Laws.{IsSameBtrfs}
+use Rattle.reiser_volume.specs.Volume.{superblock}
+use Rattle.image_source.specs.Saved.{image_blocks}
+use Rattle.image_source.specs.Untouched.{IsUntouched}
 
--- Block 16 and each block in use are the same on both disks, which have as many blocks.
-pub record SameInUse (disk other : Image) : Type 0 where
-  pub size : length other ≡ length disk
-  pub superblock : block_at other 16 ≡ block_at disk 16
-  pub used : (b : ℕ) → IsInUse disk b → block_at other b ≡ block_at disk b
+-- the block is reserved on the old volume, and not that of the superblock
+abbrev pub is_spare : Image → ℕ → Bool
+is_spare disk b = is_reserved b (superblock (image_blocks disk)).blocks && not (b == 16)
 
--- All that is read of the other disk is readable too, with the same rows and the same saved image, and the same blocks are in use.
-pub record IsSameBtrfs (disk other : Image) : Type 0 where
-  pub whole : IsReadWhole other
-  pub rows : (rows : List WholeRow) → AreRowsOfBtrfs disk rows ↔ AreRowsOfBtrfs other rows
-  pub file : saved_file other ≡ saved_file disk
-  pub places : (b : ℕ) → saved_place other b ≡ saved_place disk b
-  pub blocks : image_blocks other ≡ image_blocks disk
-  pub in_use : (b : ℕ) → IsInUse disk b ↔ IsInUse other b
-  pub untouched : IsUntouched disk ↔ IsUntouched other
+-- The other disk holds the same Btrfs volume, with the same saved image, and the volume before can be had back from it too.
+pub record IsSameUntouched (disk other : Image) : Type 0 where
+  pub same : IsSameBtrfs disk other
+  pub image : image_blocks other ≡ image_blocks disk
+  pub untouched : IsUntouched other
 
--- Block 16 and the blocks in use decide a volume that is readable: its rows and its saved image.
-abbrev pub BlocksInUseDecide : Type 0
-BlocksInUseDecide = (disk other : Image) → IsReadWhole disk → SameInUse disk other → IsSameBtrfs disk other
+-- What differs in such blocks alone does.
+abbrev pub SpareBlocksDecideNothing : Type 0
+SpareBlocksDecideNothing = (disk other : Image) → IsUntouched disk → IsSameOutside (is_spare disk) disk other → IsSameUntouched disk other

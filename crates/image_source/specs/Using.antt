@@ -22,6 +22,7 @@ use Rattle.btr_walk.specs.Walks.{found, met}
 use Rattle.btr_walk.specs.declared.map.MapRange.{MapRange}
 use Rattle.btr_walk.specs.declared.tree.Pointer.{Pointer}
 use Rattle.btr_walk.specs.declared.tree.Tree.{Tree}
+use Rattle.metadata_laws.specs.Apart.{boot_map}
 
 -- ---- what lies in a block
 
@@ -101,9 +102,9 @@ pub record IsInFiles (disk : Image) (b : ℕ) : Type 0 where
   pub holds : HoldsPartOf disk (own_map disk) tree b
 
 -- Block b of the disk holds a node of the chunk tree, the root tree, the file tree or the tree of the saved image, or a file extent of
--- one of the last two.
+-- one of the last two. The chunk tree lies where the chunks in the superblock say.
 pub data IsInUse (disk : Image) (b : ℕ) : Type 0 where
-  chunk_node : HoldsNodeOf disk (own_map disk) (chunk_tree (own_super disk)) b → IsInUse disk b
+  chunk_node : HoldsNodeOf disk (boot_map (own_super disk)) (chunk_tree (own_super disk)) b → IsInUse disk b
   root_node : HoldsNodeOf disk (own_map disk) (root_tree (own_super disk)) b → IsInUse disk b
   file_part : IsInFiles disk b → IsInUse disk b
 

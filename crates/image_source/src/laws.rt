@@ -1,7 +1,8 @@
 // Laws of the definitions, each the contract of a function that does nothing.
-ghost use Rattle.image_source.specs.Laws.{BlocksInUseDecide};
+ghost use Rattle.image_source.specs.Laws.{SpareBlocksDecideNothing};
 
-/// Block 16 and the blocks in use decide a Btrfs volume that is readable: its rows, its saved image and which blocks are in use.
-pub fn blocks_in_use_decide()
-    ensures { BlocksInUseDecide }
+/// What differs in blocks that are reserved on the old volume, but for block 16, is nothing to a volume from which that can be had back: it
+/// is the same volume, with the same saved image.
+pub fn spare_blocks_decide_nothing()
+    ensures { SpareBlocksDecideNothing }
 {}

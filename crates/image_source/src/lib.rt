@@ -15,7 +15,7 @@ mod source;
 mod trees;
 mod using;
 
-pub use laws::blocks_in_use_decide;
+pub use laws::spare_blocks_decide_nothing;
 pub use moved::image_moved;
 pub use source::ImageSource;
 pub use using::reserved_used;

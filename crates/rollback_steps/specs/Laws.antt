@@ -5,7 +5,7 @@ use Rattle.outside.specs.History.{Image, block_at}
 use Rattle.outside.specs.declared.answer.Answer.{Answer}
 use Rattle.outside.specs.declared.answer.Answer.TheVariants as answer
 use Rattle.vol_block.specs.declared.format.Format.TheVariants.{Btrfs, Reiser}
-use Rattle.image_source.specs.Laws.{IsSameBtrfs}
+use Rattle.image_source.specs.Laws.{IsSameUntouched}
 use Rattle.image_source.specs.Saved.{image_blocks}
 use Rattle.image_source.specs.Untouched.{IsUntouched}
 use Rattle.reiser_volume.specs.Laws.{IsSameVolume}
@@ -15,8 +15,7 @@ use Rattle.rollback_steps.specs.RolledBack.{IsBack, IsRolledBack, IsStanding}
 -- The Btrfs volume that a crash leaves has its rows and its saved image, and can be rolled back.
 pub record IsStillBtrfs (disk other : Image) : Type 0 where
   pub format : format_in other ≡ Btrfs
-  pub same : IsSameBtrfs disk other
-  pub untouched : IsUntouched other
+  pub same : IsSameUntouched disk other
 
 -- The old volume that a crash leaves, or that is rolled back to, is that in the saved image: it is accepted, with the same rows.
 pub record IsOldVolume (disk other : Image) : Type 0 where
