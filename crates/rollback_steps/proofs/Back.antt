@@ -1,6 +1,6 @@
 -- What is prepared stands on the disk as the old volume.
-use Rattle.std.proofs.Common.{◌≡◌, ◌≢◌, ◌⊎◌, inl, inr, ⊎_elim, ℕ, zero, suc, ◌<◌, eqb, Bool, true, false, not, ◌&&◌, List, [], ◌∷◌, length, map, get_or, Contains, filter, Option, refl, sym, ◌∙◌, ap, subst, arith, true≢false}
-use Rattle.std.proofs.lemmas.Bool.{and_parts}
+use Rattle.std.proofs.Common.{◌≡◌, ◌≢◌, ◌⊎◌, inl, inr, ⊎_elim, ℕ, zero, suc, ◌<◌, ◌≤◌, eqb, Bool, true, false, not, ◌&&◌, List, [], ◌∷◌, length, map, get_or, Contains, filter, Option, refl, sym, ◌∙◌, ap, subst, arith, true≢false}
+use Rattle.std.proofs.lemmas.Bool.{and_parts, cases_lt}
 use Rattle.std.proofs.lemmas.Bool.Decides.{nat_tests}
 use Rattle.path_list.proofs.Lists.{from_filter, from_map, in_filter, in_map}
 use Rattle.reiser_bitmap.proofs.MoreLaws.{used_had}
@@ -31,7 +31,9 @@ not_other : other_than 16 ≡ true → ⊥
 not_other h = true≢false (sym h)
 
 equal_or : (b : ℕ) → (b ≡ 16) ⊎ (b ≢ 16)
-equal_or b = search
+equal_or b =
+    ⊎_elim (λ (less : b < 16). inr (λ same. omega (arith, less, same)))
+    (λ (least : 16 ≤ b). ⊎_elim (λ (more : 16 < b). inr (λ same. omega (arith, more, same))) (λ (most : b ≤ 16). inl (let e : b ≡ 16 = omega (arith, least, most) in e)) (cases_lt 16 b)) (cases_lt b 16)
 
 has_within : (set : List Bool) (b : ℕ) → has set b ≡ true → b < length set
 has_within [] b h = absurd (true≢false (sym h))

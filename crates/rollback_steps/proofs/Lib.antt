@@ -1,3 +1,4 @@
 pub mod Back
 pub mod Phases
 pub mod Places
+pub mod Rolling
