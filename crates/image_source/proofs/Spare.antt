@@ -1,5 +1,5 @@
 -- The parts of an untouched volume lie in no spare block.
-use Rattle.std.proofs.Common.{◌≡◌, ⊎_elim, inl, inr, ℕ, ◌+◌, ◌*◌, ◌/◌, ◌<◌, eqb, Bool, true, false, not, ◌&&◌, List, [], ◌∷◌, ◌++◌, length, get_or, Contains, Option, Some, None, refl, sym, ◌∙◌, ap, subst, arith, true≢false, if◌then◌else◌}
+use Rattle.std.proofs.Common.{◌≡◌, ⊎_elim, inl, inr, ℕ, ◌+◌, ◌*◌, ◌/◌, ◌<◌, eqb, nat_lt, Bool, true, false, not, ◌&&◌, List, [], ◌∷◌, ◌++◌, length, get_or, Contains, Option, Some, None, refl, sym, ◌∙◌, ap, subst, arith, true≢false, if◌then◌else◌}
 use Rattle.std.specs.Option.{option_and_then}
 use Rattle.std.proofs.lemmas.Bool.{and_parts}
 use Rattle.std.proofs.lemmas.Bool.Decides.{nat_tests}
@@ -10,7 +10,7 @@ use Rattle.vol_block.proofs.Reserved.{decides_reserved}
 use Rattle.btr_files.specs.Extents.{extents_of, is_extent_of, is_hole}
 use Rattle.btr_keys.specs.FileExtent.{ContentValue, FileExtentValue, Inline, Prealloc, Regular, file_extent_of}
 use Rattle.btr_keys.specs.declared.file_extent.DiskRange.{DiskRange}
-use Rattle.btr_reader.specs.Image.{items_at}
+use Rattle.btr_reader.specs.Image.{ImageFile, file_block, image_place, items_at, saved_image}
 use Rattle.btr_reader.specs.Opening.{chunk_tree, root_tree, tree_of}
 use Rattle.btr_reader.specs.Parts.{own_map, own_super}
 use Rattle.btr_super.specs.declared.superblock.Super.{Super}
@@ -20,20 +20,23 @@ use Rattle.btr_walk.specs.Walks.{found, met}
 use Rattle.btr_walk.specs.declared.map.MapRange.{MapRange}
 use Rattle.btr_walk.specs.declared.tree.Pointer.{Pointer}
 use Rattle.btr_walk.specs.declared.tree.Tree.{Tree}
-use Rattle.metadata_laws.specs.Apart.{AreExtentsApart, AreNodesApart, IsApart, IsContentApart, IsNodeApart, boot_map, root_of, saved_tree}
+use Rattle.metadata_laws.specs.Apart.{AreExtentsApart, AreNodesApart, IsApart, IsContentApart, IsVolumeApart, boot_map, root_of, saved_tree}
 use Rattle.path_list.proofs.Lists.{from_filter}
 use Rattle.reiser_volume.specs.Volume.{superblock}
 use Rattle.image_source.specs.Laws.{is_spare}
 use Rattle.image_source.specs.Saved.{image_blocks}
 use Rattle.image_source.specs.Untouched.{IsUntouched}
+use Rattle.image_source.proofs.Placed.{has_block, no_some}
+use Rattle.image_source.proofs.Reaching.{reached}
 use Rattle.image_source.specs.Using.{HoldsExtent, HoldsNode, HoldsNodeOf, HoldsPartOf, IsInFiles, IsInUse, LieIn, chunk_node, content_range, file_part, file_pointer, file_trees, item_range, named_by, numbered, root_node, tree_if}
 
 -- an element of a list by its place
 at_place : {X : Type 0} (xs : List X) (k : ℕ) (d : X) → k < length xs → Contains xs (get_or xs k d)
 at_place xs k d below = (k, below, get_or_default xs k (get_or xs k d) d below)
 
-in_first : {X : Type 0} (xs ys : List X) (x : X) → Contains xs x → Contains (xs ++ ys) x
-in_first xs ys x among = search
+when_below : (t : Bool) (o : Option ℕ) (at : ℕ) → (if t then o else None) ≡ Some at → o ≡ Some at
+when_below true o at is = is
+when_below false o at is = absurd (no_some at is)
 
 -- some bytes that lie nowhere in some blocks
 module _ (test : ℕ → Bool) (ranges : List MapRange) where
@@ -117,3 +120,34 @@ module _ (disk : Image) (u : IsUntouched disk) where
       subst (λ (o : Option Pointer). Contains (tree_if s 5 o ++ named_by disk s ranges o) (tree_of s number q)) (sym root)
       (subst (λ (o : Option ℕ). Contains (tree_of s 5 p ∷ numbered disk s ranges o) (tree_of s number q)) (sym saved)
       (subst (λ (o : Option Pointer). Contains (tree_of s 5 p ∷ tree_if s number o) (tree_of s number q)) (sym at) (1, omega arith, refl)))
+
+  -- a block of the saved image is in use
+  image_in_use : (f : ImageFile) (b at : ℕ) → saved_image disk s ranges ≡ Some f → image_place ranges f b ≡ Some at → IsInUse disk at
+  image_in_use f b at is placed =
+      let way = reached disk u.whole.way f is in
+      let has = has_block ranges f.extents 0 0 b at way.sound (when_below (nat_lt b f.blocks) (file_block ranges f.extents b) at placed) in
+      let items : List TreeItem = items_at disk s ranges way.number way.q in
+      let among : Contains (extents_of items way.ino) has.item = subst (λ (extents : List TreeItem). Contains extents has.item) way.extents has.among in
+      let from = from_filter (is_extent_of way.ino) items has.item among in
+      let kind : eqb has.item.key.kind 108 ≡ true = (and_parts (eqb has.item.key.objectid way.ino) (eqb has.item.key.kind 108) from.1).1 in
+      let range : item_range has.item ≡ Some has.range =
+      ap (λ (t : Bool). if t then option_and_then (λ x. content_range x.content) (file_extent_of has.item.body) else None) kind
+      ∙ (ap (λ (o : Option FileExtentValue). option_and_then (λ x. content_range x.content) o) has.read
+      ∙ (ap content_range has.content ∙ ap (λ (t : Bool). if t then None else Some has.range) has.some)) in
+      file_part (record {
+        tree = tree_of s way.number way.q;
+        among = saved_tree_among way.p way.number way.q way.root way.saved way.at;
+        holds = inr (record { item = has.item; among = from.0; range = has.range; range_is = range; lies = has.lies });
+      })
+
+  -- no part of the volume lies in a spare block
+  pub untouched_apart : IsVolumeApart (is_spare disk) disk
+  untouched_apart = record {
+    superblock = superblock_apart;
+    chunks = chunks_apart;
+    roots = roots_apart;
+    files = λ p root. file_nodes_apart (tree_of s 5 p) (file_tree_among p root);
+    extents = λ p root. file_extents_apart (tree_of s 5 p) (file_tree_among p root);
+    saved = λ p number q root saved at. file_nodes_apart (tree_of s number q) (saved_tree_among p number q root saved at);
+    blocks = λ f b at is placed. in_use_apart at (image_in_use f b at is placed);
+  }
