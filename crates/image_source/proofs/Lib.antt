@@ -1,6 +1,5 @@
-pub mod Blocks
+pub mod Images
 pub mod Placed
 pub mod Reaching
-pub mod Sourcing
 pub mod Spare
 pub mod Staying

@@ -1,5 +1,5 @@
 -- A block of the saved image is a block of an extent.
-use Rattle.std.proofs.Common.{◌≡◌, ◌⊎◌, ⊎_elim, inl, inr, ℕ, ◌+◌, ◌-◌, ◌*◌, ◌/◌, ◌%◌, ◌<◌, ◌≤◌, eqb, nat_lt, nat_le, Bool, true, false, not, ◌&&◌, List, [], ◌∷◌, ◌++◌, length, Contains, Option, Some, None, refl, sym, ◌∙◌, ap, subst, arith, true≢false, if◌then◌else◌}
+use Rattle.std.proofs.Common.{◌≡◌, ◌⊎◌, ⊎_elim, inl, inr, ℕ, suc, ◌+◌, ◌-◌, ◌*◌, ◌/◌, ◌%◌, ◌<◌, ◌≤◌, eqb, nat_lt, nat_le, Bool, true, false, not, ◌&&◌, List, [], ◌∷◌, ◌++◌, length, Contains, Option, Some, None, refl, sym, ◌∙◌, ap, subst, arith, true≢false, if◌then◌else◌}
 use Rattle.std.specs.Option.{option_and_then, option_map}
 use Rattle.std.proofs.lemmas.Bool.{and_parts}
 use Rattle.std.proofs.lemmas.Bool.Decides.{nat_tests}
@@ -39,7 +39,7 @@ pub record HasBlock (ranges : List MapRange) (extents : List TreeItem) (b at : �
 later : (ranges : List MapRange) (i : TreeItem) (extents : List TreeItem) (b at : ℕ) → HasBlock ranges extents b at → HasBlock ranges (i ∷ extents) b at
 later ranges i extents b at has = record {
   item = has.item;
-  among = (has.among.0 + 1, omega (arith, has.among.1), has.among.2);
+  among = (suc has.among.0, omega (arith, has.among.1), has.among.2);
   extent = has.extent;
   read = has.read;
   range = has.range;
@@ -106,18 +106,16 @@ by_covers ranges i extents x b at true over read aligned rest is = in_content ra
 by_covers ranges i extents x b at false over read aligned rest is = later ranges i extents b at (rest is)
 
 -- ---- all of them
+by_extent : (ranges : List MapRange) (i : TreeItem) (extents : List TreeItem) (e c b at : ℕ) (o : Option FileExtentValue) → file_extent_of i.body ≡ o → refusals_at ranges e c i o ≡ []
+    → (file_block ranges extents b ≡ Some at → HasBlock ranges extents b at) → block_from ranges i o b (file_block ranges extents b) ≡ Some at → HasBlock ranges (i ∷ extents) b at
+by_extent ranges i extents e c b at None read sound rest there = later ranges i extents b at (rest there)
+by_extent ranges i extents e c b at (Some x) read sound rest there =
+    by_covers ranges i extents x b at (covers i.key.offset x.content (4096 * b)) refl read (aligned_range ranges e c i x sound) rest there
+
 pub has_block : (ranges : List MapRange) (extents : List TreeItem) (e c b at : ℕ) → extents_refusals ranges e c extents ≡ [] → file_block ranges extents b ≡ Some at → HasBlock ranges extents b at
 has_block ranges [] e c b at sound is = absurd (no_some at is)
-has_block ranges (i ∷ extents) e c b at sound is = by (file_extent_of i.body) refl is
-  where
-    parts : (refusals_at ranges e c i (file_extent_of i.body) ≡ []) × (extents_refusals ranges (end_after e i.key.offset (file_extent_of i.body)) (covered_after c (file_extent_of i.body)) extents ≡ [])
-    parts = nothing_left (refusals_at ranges e c i (file_extent_of i.body)) (extents_refusals ranges (end_after e i.key.offset (file_extent_of i.body)) (covered_after c (file_extent_of i.body)) extents) sound
-
-    rest : file_block ranges extents b ≡ Some at → HasBlock ranges extents b at
-    rest = has_block ranges extents (end_after e i.key.offset (file_extent_of i.body)) (covered_after c (file_extent_of i.body)) b at parts.1
-
-    by : (o : Option FileExtentValue) → file_extent_of i.body ≡ o → block_from ranges i o b (file_block ranges extents b) ≡ Some at → HasBlock ranges (i ∷ extents) b at
-    by None read there = later ranges i extents b at (rest there)
-    by (Some x) read there =
-        by_covers ranges i extents x b at (covers i.key.offset x.content (4096 * b)) refl read
-        (aligned_range ranges e c i x (subst (λ (o : Option FileExtentValue). refusals_at ranges e c i o ≡ []) read parts.0)) rest there
+has_block ranges (i ∷ extents) e c b at sound is =
+    let end : ℕ = end_after e i.key.offset (file_extent_of i.body) in
+    let covered : ℕ = covered_after c (file_extent_of i.body) in
+    let parts = nothing_left (refusals_at ranges e c i (file_extent_of i.body)) (extents_refusals ranges end covered extents) sound in
+    by_extent ranges i extents e c b at (file_extent_of i.body) refl parts.0 (has_block ranges extents end covered b at parts.1) is

@@ -28,7 +28,7 @@ use Rattle.image_source.specs.Moved.{IsOld}
 use Rattle.image_source.specs.Saved.{block_or_hole, blocks_by, file_blocks, image_blocks, place_by_file, saved_file, saved_place}
 use Rattle.image_source.specs.Untouched.{IsUntouched, old_used}
 use Rattle.image_source.specs.Using.{HoldsExtent, HoldsNode, HoldsNodeOf, HoldsPartOf, IsInFiles, IsInUse, IsReservedFree, chunk_node, file_part, file_pointer, file_trees, named_by, numbered, root_node, tree_if}
-use Rattle.image_source.proofs.Blocks.{block_by, length_by}
+use Rattle.image_source.proofs.Images.{block_by, length_by}
 use Rattle.image_source.proofs.Spare.{chunks_apart, file_nodes_apart, roots_apart, untouched_apart}
 
 module _ (disk other : Image) (u : IsUntouched disk) (same : IsSameOutside (is_spare disk) disk other) where

@@ -1,8 +1,11 @@
 // The saved image as a source of blocks.
-ghost use Rattle.std.specs.Prelude.{◌≡◌, ◌≤◌, min, refl};
-ghost use Rattle.std.proofs.Common.{◌∙◌};
-ghost use Rattle.image_source.specs.Saved.{blocks_by_map};
-ghost use Rattle.image_source.proofs.Sourcing.{same_blocks, same_size, size_by};
+ghost use Rattle.std.specs.Prelude.{◌≡◌, ◌≤◌, ℕ, length, min, refl};
+ghost use Rattle.std.proofs.Common.{◌∙◌, ap, sym};
+ghost use Rattle.std.proofs.lemmas.List.FromFn.{length-map-range_with_len};
+ghost use Rattle.outside.specs.History.{Image};
+ghost use Rattle.btr_reader.specs.Pieces.{map_place};
+ghost use Rattle.btr_reader.specs.declared.image_map.ImageMap.{ImageMap as MapOf};
+ghost use Rattle.image_source.specs.Saved.{block_or_hole, blocks_by_map};
 
 use btr_reader::ImageMap;
 use outside::{BlockSource, Fault};
@@ -46,11 +49,12 @@ impl<S: BlockSource> BlockSource for ImageSource<'_, S> {
 
     ghost kept_trans = { λ a b c first second. (S.kept_trans a.src.now b.src.now c.src.now first.0 second.0, second.1 ∙ first.1, second.2 ∙ first.2) };
 
-    ghost kept_size = { λ a b kept. same_size a.map.now b.map.now (S.size a.src.now) (S.size b.src.now) kept.2 (S.kept_size a.src.now b.src.now kept.0) };
+    ghost kept_size = { λ a b kept. ap (λ (m : MapOf). min m.blocks (S.size b.src.now)) kept.2 ∙ ap (λ (n : ℕ). min a.map.now.blocks n) (S.kept_size a.src.now b.src.now kept.0) };
 
-    ghost kept_blocks = { λ a b tells kept. same_blocks a.map.now b.map.now (S.blocks a.src.now) (S.blocks b.src.now) kept.2 (S.kept_blocks a.src.now b.src.now tells kept.0) };
+    ghost kept_blocks = { λ a b tells kept. ap (λ (m : MapOf). blocks_by_map m (S.blocks b.src.now)) kept.2 ∙ ap (λ (disk : Image). blocks_by_map a.map.now disk) (S.kept_blocks a.src.now b.src.now tells kept.0) };
 
-    ghost size_is = { λ a tells. size_by a.map.now (S.size a.src.now) (S.blocks a.src.now) (S.size_is a.src.now tells) };
+    ghost size_is = { λ a tells. ap (λ (n : ℕ). min a.map.now.blocks n) (S.size_is a.src.now tells)
+        ∙ sym (length-map-range_with_len (λ b. block_or_hole (S.blocks a.src.now) (map_place a.map.now b)) 0 (min a.map.now.blocks (length (S.blocks a.src.now)))) };
 
     fn len(&self) -> u64 {
         self.map.len().min(self.src.len())

@@ -10,7 +10,7 @@ use Rattle.vol_block.specs.Volume.{is_reserved, zeros}
 use Rattle.convert_steps.specs.Switch.{IsMirror}
 use Rattle.image_source.specs.Moved.{IsOld}
 use Rattle.image_source.specs.Saved.{block_or_hole, image_blocks, saved_place}
-use Rattle.image_source.proofs.Blocks.{image_block}
+use Rattle.image_source.proofs.Images.{image_block}
 use Rattle.reiser_bitmap.proofs.SystemBlocks.{superblock_in}
 use Rattle.reiser_volume.proofs.Holding.{used_length}
 use Rattle.reiser_volume.specs.Volume.{superblock}
