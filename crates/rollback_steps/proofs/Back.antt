@@ -17,9 +17,9 @@ use Rattle.reiser_volume.specs.Volume.{superblock}
 use Rattle.image_source.specs.Untouched.{IsUntouched, old_used}
 use Rattle.rollback_steps.specs.Prepared.{IsPrepared}
 use Rattle.rollback_steps.specs.RolledBack.{IsBack, IsRestored, IsRolledBack, IsStanding, is_wiped, restored_blocks}
-use Rattle.rollback_steps.specs.Writing.{AreApart, AreWiped, IsPlace, IsTurned, IsUnturned, IsWiped, IsWiping}
-use Rattle.rollback_steps.specs.declared.way.Saved.{Saved}
-use Rattle.rollback_steps.specs.declared.way.WayBack.{WayBack}
+use Rattle.way_back.specs.Writing.{AreApart, AreWiped, IsPlace, IsTurned, IsUnturned, IsWiped, IsWiping}
+use Rattle.way_back.specs.declared.way.Saved.{Saved}
+use Rattle.way_back.specs.declared.way.WayBack.{WayBack}
 
 abbrev other_than : ℕ → Bool
 other_than b = not (eqb b 16)

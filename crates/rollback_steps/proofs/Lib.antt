@@ -1,4 +1,2 @@
 pub mod Back
-pub mod Phases
-pub mod Places
-pub mod Rolling
+pub mod Leaving

@@ -3,4 +3,3 @@ pub mod Laws
 pub mod Opened
 pub mod Prepared
 pub mod RolledBack
-pub mod Writing

@@ -12,8 +12,8 @@ use Rattle.vol_block.specs.declared.format.Format.TheVariants.{Btrfs}
 use Rattle.image_source.specs.Saved.{image_blocks}
 use Rattle.image_source.specs.Untouched.{IsUntouched}
 use Rattle.rollback_steps.specs.RolledBack.{is_wiped, restored_blocks, summary}
-use Rattle.rollback_steps.specs.declared.way.Saved.{Saved}
-use Rattle.rollback_steps.specs.declared.way.WayBack.{WayBack}
+use Rattle.way_back.specs.declared.way.Saved.{Saved}
+use Rattle.way_back.specs.declared.way.WayBack.{WayBack}
 
 -- The blocks at these numbers of an image.
 pub record AreSaved (image : Image) (numbers : List ℕ) (saved : List Saved) : Type 0 where

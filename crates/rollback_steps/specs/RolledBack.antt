@@ -8,7 +8,7 @@ use Rattle.image_source.specs.Saved.{image_blocks}
 use Rattle.image_source.specs.Untouched.{IsUntouched, old_used}
 use Rattle.object_files.specs.Laws.{SameUsed}
 use Rattle.reiser_bitmap.specs.Bits.{has, used_blocks}
-use Rattle.rollback_steps.specs.declared.way.RollbackSummary.{RollbackSummary}
+use Rattle.way_back.specs.declared.way.RollbackSummary.{RollbackSummary}
 
 -- ---- which blocks change
 

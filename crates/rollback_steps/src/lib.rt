@@ -1,7 +1,7 @@
 //! The way back from a converted volume to the ReiserFS volume in its saved image.
 //!
-//! [`prepare`] reads all that is needed and decides whether the old volume can be had back. [`write_back`] then writes it, and takes no
-//! memory. [`rollback`] is both.
+//! [`prepare`] reads all that is needed and decides whether the old volume can be had back. What is to be written is a `WayBack`, which
+//! `write_back` of the crate `way_back` writes. [`rollback`] is both.
 //!
 //! The old volume's blocks still lie where they did, but for the reserved ones, which Btrfs wants for itself. So these are written from
 //! the image, which the Btrfs volume doesn't notice; then block 16 turns the disk into the old volume; then copies of the Btrfs superblock
@@ -10,15 +10,11 @@
 
 mod answers;
 mod laws;
-mod prepare;
-mod restore;
+mod prepared;
 mod rolling;
 mod saved;
-mod way;
 mod wiping;
 
 pub use laws::{refusals_are_of_touched, rollback_goes_on, rollback_keeps};
-pub use prepare::prepare;
-pub use restore::write_back;
+pub use prepared::prepare;
 pub use rolling::rollback;
-pub use way::{RollbackSummary, Saved, WayBack};

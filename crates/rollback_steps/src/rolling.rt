@@ -6,14 +6,13 @@ ghost use Rattle.outside.specs.History.{EachCrash, IsSettled, OverTold, reads};
 ghost use Rattle.rollback_steps.specs.Answers.{IsRollbackAnswer, RefusesRollback};
 ghost use Rattle.rollback_steps.specs.Prepared.{IsPrepared};
 ghost use Rattle.rollback_steps.specs.RolledBack.{IsLeft, IsRolledBack, summary};
-ghost use Rattle.rollback_steps.specs.Writing.{AreApart, HasRoom};
+ghost use Rattle.way_back.specs.Writing.{AreApart, HasRoom};
 
 use crate::answers::fault_answer;
-use crate::prepare::prepare;
-use crate::restore::write_back;
-use crate::way::{RollbackSummary, WayBack};
+use crate::prepared::prepare;
 use outside::{Access, Answer, Cached, Disk, Room};
 use std::alloc::Global;
+use way_back::{RollbackSummary, WayBack, write_back};
 
 /// How many blocks are kept in memory while the volumes are read.
 const CACHED: usize = 1024;

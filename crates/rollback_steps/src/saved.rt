@@ -5,16 +5,13 @@ ghost use Rattle.outside.specs.History.{OverTold, block_at};
 ghost use Rattle.vol_block.specs.Volume.{is_reserved};
 ghost use Rattle.reiser_bitmap.specs.Bits.{has, used_blocks};
 ghost use Rattle.rollback_steps.specs.Prepared.{AreSaved};
-ghost use Rattle.rollback_steps.specs.Writing.{GoApart};
+ghost use Rattle.way_back.specs.Writing.{GoApart};
 
-use crate::way::Saved;
 use outside::{BlockSource, Fault, Memory, VolAnswer};
 use reiser_bitmap::Bitmap;
 use std::alloc::Global;
 use vol_block::{Block, BlockNo, is_reserved};
-
-/// The block of the superblock, of both formats.
-pub const SUPERBLOCK: BlockNo = 16;
+use way_back::{SUPERBLOCK, Saved};
 
 /// A block of an image.
 pub fn read_block<S: BlockSource>(src: &mut S, n: BlockNo) -> Result<Block, Fault>

@@ -9,12 +9,7 @@ use crate::saved::read_block;
 use outside::{BlockSource, Fault};
 use reiser_bitmap::Bitmap;
 use vol_block::{BlockNo, has_magic};
-
-/// The block of the first copy of a Btrfs superblock, as the Btrfs on-disk format documentation has it: at 64 MiB.
-pub const FIRST_COPY: BlockNo = 16384;
-
-/// The block of the second copy: at 256 GiB.
-pub const SECOND_COPY: BlockNo = 67_108_864;
+use way_back::{FIRST_COPY, SECOND_COPY};
 
 /// Whether a block of a disk is to become zeros: the volume with these used blocks has it without use, and it holds the magic of a Btrfs
 /// superblock.

@@ -7,10 +7,11 @@ ghost use Rattle.outside.specs.History.{OverTold, reads};
 
 use convert_core::convert;
 use outside::{Access, Answer, Disk};
-use rollback_steps::{RollbackSummary, rollback};
+use rollback_steps::rollback;
 use std::alloc::Global;
 use unit_plan::Options;
 use vol_block::Ids;
+use way_back::RollbackSummary;
 
 /// Converts a volume, and rolls it back: no used block of it differs then, so it is the same volume with the same rows.
 pub fn there_and_back<D: Disk>(

@@ -13,12 +13,13 @@ use outside::{Access, Disk};
 use outside_mem::{MemDisk, MemSink};
 use reiser_make::make;
 use reiser_volume::Volume;
-use rollback_steps::{RollbackSummary, rollback};
+use rollback_steps::rollback;
 use std::alloc::Global;
 use std::process::Abort;
 use std::test::Fail;
 use unit_plan::Options;
 use vol_block::{Block, BlockNo, Format, Ids, format_of};
+use way_back::RollbackSummary;
 
 const IDS: Ids = Ids {
     fsid: [0x11; 16],

@@ -4,9 +4,9 @@ use Rattle.outside.specs.History.{History, Image, reads}
 use Rattle.outside.specs.declared.answer.Answer.{Answer}
 use Rattle.outside.proofs.Phases.{left_unwritten}
 use Rattle.rollback_steps.specs.Answers.{RefusesRollback}
-use Rattle.rollback_steps.specs.Writing.{IsTurned}
+use Rattle.way_back.specs.Writing.{IsTurned}
 use Rattle.rollback_steps.proofs.Back.{rolled_back}
-use Rattle.rollback_steps.proofs.Rolling.{writing_crash}
+use Rattle.rollback_steps.proofs.Leaving.{writing_crash}
 use Rattle.rollback_steps.proofs.rolling.rollback.Goals as goal
 
 pub returns-in_err-way-clause-crash : goal.returns-in_err-way-clause-crash

@@ -1,7 +1,7 @@
 use Rattle.std.proofs.Common.{◌≡◌, take, IsTrue}
 use Rattle.outside.specs.History.{reads, WritesOnly}
-use Rattle.rollback_steps.specs.Writing.{IsPlace, AreWrittenBack}
-use Rattle.rollback_steps.proofs.restore.write_reserved.Given as goal
+use Rattle.way_back.specs.Writing.{IsPlace, AreWrittenBack}
+use Rattle.way_back.proofs.restore.write_reserved.Given as goal
 
 abbrev pub invariant-loop-block : goal.invariant-loop-block
 invariant-loop-block g l = record {

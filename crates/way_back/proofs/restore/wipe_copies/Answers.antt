@@ -1,9 +1,9 @@
 use Rattle.std.proofs.Common.{sym, subst}
 use Rattle.outside.proofs.Crash.{sync_only, writes_then}
 use Rattle.outside.proofs.Phases.{on_ok, sync_reads}
-use Rattle.rollback_steps.specs.Writing.{AreWiped, IsWiping}
-use Rattle.rollback_steps.proofs.Phases.{both_wiped, first_wiping, second_wiping}
-use Rattle.rollback_steps.proofs.restore.wipe_copies.Goals as goal
+use Rattle.way_back.specs.Writing.{AreWiped, IsWiping}
+use Rattle.way_back.proofs.Phases.{both_wiped, first_wiping, second_wiping}
+use Rattle.way_back.proofs.restore.wipe_copies.Goals as goal
 
 pub returns-in_err-wipe_if-clause-only : goal.returns-in_err-wipe_if-clause-only
 returns-in_err-wipe_if-clause-only g c = λ tells. first_wiping c.args.way.now _ _ (c.wipe_if.ensures.only tells)

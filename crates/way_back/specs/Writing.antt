@@ -2,8 +2,8 @@
 use Rattle.std.specs.Prelude.{◌≡◌, ◌≢◌, ◌⊎◌, ℕ, ◌<◌, true, All, AllPairs, Any, List, length}
 use Rattle.outside.specs.History.{Image, IsBlock, block_at}
 use Rattle.vol_block.specs.Volume.{zeros}
-use Rattle.rollback_steps.specs.declared.way.Saved.{Saved}
-use Rattle.rollback_steps.specs.declared.way.WayBack.{WayBack}
+use Rattle.way_back.specs.declared.way.Saved.{Saved}
+use Rattle.way_back.specs.declared.way.WayBack.{WayBack}
 
 -- ---- what is written
 

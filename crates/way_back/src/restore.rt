@@ -3,13 +3,20 @@ ghost use Rattle.std.specs.Prelude.{◌≡◌, ◌⊎◌, ◌<◌, true, slice_s
 ghost use Rattle.outside.specs.Fault.{HasCause};
 ghost use Rattle.outside.specs.History.{EachCrash, IsBlock, IsSettled, WritesOnly, block_at, reads};
 ghost use Rattle.vol_block.specs.Volume.{zeros};
-ghost use Rattle.rollback_steps.specs.Writing.{AreApart, AreWiped, AreWrittenBack, GoApart, HasRoom, IsPart, IsPlace, IsTurned, IsUnturned, IsWiping};
+ghost use Rattle.way_back.specs.Writing.{AreApart, AreWiped, AreWrittenBack, GoApart, HasRoom, IsPart, IsPlace, IsTurned, IsUnturned, IsWiping};
 
-use crate::saved::SUPERBLOCK;
 use crate::way::{Saved, WayBack};
-use crate::wiping::{FIRST_COPY, SECOND_COPY};
 use outside::{Access, Disk, Fault};
 use vol_block::{Block, BlockNo};
+
+/// The block of the superblock, of both formats.
+pub const SUPERBLOCK: BlockNo = 16;
+
+/// The block of the first copy of a Btrfs superblock, as the Btrfs on-disk format documentation has it: at 64 MiB.
+pub const FIRST_COPY: BlockNo = 16384;
+
+/// The block of the second copy: at 256 GiB.
+pub const SECOND_COPY: BlockNo = 67_108_864;
 
 /// Writes the old volume back, in three steps, each of which is on the disk before the next begins: its reserved blocks, then block 16,
 /// and then zeros over copies of the Btrfs superblock.

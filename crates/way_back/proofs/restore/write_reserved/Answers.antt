@@ -1,11 +1,11 @@
 use Rattle.std.proofs.Common.{All, ◌≡◌, ◌<◌, ◌+◌, length, take, sym, ◌∙◌, ap, subst, arith}
 use Rattle.std.proofs.lemmas.List.{take_all}
 use Rattle.outside.specs.History.{reads}
-use Rattle.rollback_steps.specs.Writing.{IsPlace, AreWrittenBack}
+use Rattle.way_back.specs.Writing.{IsPlace, AreWrittenBack}
 use Rattle.outside.proofs.Crash.{write_only, sync_only, writes_then}
 use Rattle.outside.proofs.Phases.{on_ok, sync_reads}
-use Rattle.rollback_steps.proofs.Places.{is_place, saved_more}
-use Rattle.rollback_steps.proofs.restore.write_reserved.Goals as goal
+use Rattle.way_back.proofs.Places.{is_place, saved_more}
+use Rattle.way_back.proofs.restore.write_reserved.Goals as goal
 
 pub returns-in_err-write-clause-only : goal.returns-in_err-write-clause-only
 returns-in_err-write-clause-only g c = λ tells.

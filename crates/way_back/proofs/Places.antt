@@ -4,8 +4,8 @@ use Rattle.std.specs.Prelude.{All}
 use Rattle.std.proofs.lemmas.List.{get_or-take, get_or_default, length-take}
 use Rattle.std.proofs.lemmas.List.Elements.{All-more}
 use Rattle.outside.specs.History.{Image, block_at}
-use Rattle.rollback_steps.specs.declared.way.Saved.{Saved}
-use Rattle.rollback_steps.specs.Writing.{AreWrittenBack, GoApart, IsPlace}
+use Rattle.way_back.specs.declared.way.Saved.{Saved}
+use Rattle.way_back.specs.Writing.{AreWrittenBack, GoApart, IsPlace}
 
 pub is_place : (saved : List Saved) (i : ℕ) (d : Saved) → i < length saved → IsPlace saved (get_or saved i d).at
 is_place saved i d in_range = (i, get_or saved i d, in_range, get_or_default saved i (get_or saved i d) d in_range, refl)

@@ -1,14 +1,14 @@
 -- What a crash leaves in each phase of writing the old volume back.
-use Rattle.std.proofs.Common.{◌≡◌, ◌≢◌, ◌⊎◌, inl, inr, ⊎_elim, ℕ, ◌<◌, Bool, true, List, [], length, set, get_or, refl, sym, ◌∙◌, ap, subst, arith, get_or-set_same, get_or-set_other}
+use Rattle.std.proofs.Common.{◌≡◌, ◌≢◌, ◌⊎◌, inl, inr, ⊎_elim, ℕ, ◌<◌, Bool, true, List, [], length, set, get_or, Result, Ok, Err, OnOk, refl, sym, ◌∙◌, ap, subst, arith, get_or-set_same, get_or-set_other}
 use Rattle.std.proofs.lemmas.List.{length-set}
 use Rattle.vol_block.specs.Volume.{zeros}
-use Rattle.outside.specs.History.{Image, History, block_at, reads, clock, IsSettled, IsBlock, LeftSince, WritesOnly}
-use Rattle.outside.proofs.Crash.{left_each, writes_length, writes_then, writes_weaker, reads_only}
-use Rattle.outside.proofs.Phases.{left_outside, left_then, only_not, reads_outside}
-use Rattle.rollback_steps.specs.declared.way.Saved.{Saved}
-use Rattle.rollback_steps.specs.declared.way.WayBack.{WayBack}
-use Rattle.rollback_steps.specs.Writing.{AreApart, AreWiped, AreWrittenBack, IsPart, IsPlace, IsTurned, IsUnturned, IsWiped, IsWiping}
-use Rattle.rollback_steps.proofs.Places.{is_place}
+use Rattle.outside.specs.History.{Image, History, block_at, reads, clock, IsSettled, IsBlock, LeftSince, WritesBlock, WritesOnly}
+use Rattle.outside.proofs.Crash.{left_each, write_only, writes_length, writes_then, writes_weaker, reads_only}
+use Rattle.outside.proofs.Phases.{left_outside, left_then, only_not, reads_outside, set_stands, write_reads}
+use Rattle.way_back.specs.declared.way.Saved.{Saved}
+use Rattle.way_back.specs.declared.way.WayBack.{WayBack}
+use Rattle.way_back.specs.Writing.{AreApart, AreWiped, AreWrittenBack, IsPart, IsPlace, IsTurned, IsUnturned, IsWiped, IsWiping}
+use Rattle.way_back.proofs.Places.{is_place}
 
 abbrev WritesSaved : List Saved → History → History → Type 0
 WritesSaved saved = WritesOnly (λ b _. IsPlace saved b)
@@ -143,3 +143,21 @@ module _ (way : WayBack) where
 
       second : (b ≡ 67108864) × (way.second ≡ true) → block_at (reads h₂) b ≡ zeros
       second is = subst (λ (n : ℕ). block_at (reads h₂) n ≡ zeros) (sym is.0) (two is.1)
+
+module _ (wiped : Bool) (place : ℕ) (bytes : List ℕ) (h₀ h₁ : History) {T E : Type 0} (result : Result T E) (set_ : wiped ≡ true) (zero_bytes : bytes ≡ zeros) where
+  pub one_only : WritesBlock h₀ place bytes result h₁ → WritesOnly (WipesOne wiped place) h₀ h₁
+  one_only did = write_only (WipesOne wiped place) h₀ h₁ place bytes result (set_, (refl, zero_bytes)) did
+
+  pub one_stands : place < length (reads h₀) → WritesBlock h₀ place bytes result h₁ → OnOk result (wiped ≡ true → block_at (reads h₁) place ≡ zeros)
+  one_stands long did = then_zeros result (set_stands result (reads h₀) (reads h₁) place bytes long (write_reads h₀ h₁ place bytes result did))
+    where
+      then_zeros : (r : Result T E) → OnOk r (block_at (reads h₁) place ≡ bytes) → OnOk r (wiped ≡ true → block_at (reads h₁) place ≡ zeros)
+      then_zeros (Ok x) stands = λ _. stands ∙ zero_bytes
+      then_zeros (Err e) stands = tt
+
+-- ---- the blocks, as a slice has them
+pub saved_here : (here other : List Saved) (h₀ h₁ : History) → other ≡ here → WritesSaved other h₀ h₁ → WritesSaved here h₀ h₁
+saved_here here other h₀ h₁ same only = subst (λ (s : List Saved). WritesSaved s h₀ h₁) same only
+
+pub written_here : (here other : List Saved) (image : Image) → other ≡ here → AreWrittenBack other image → AreWrittenBack here image
+written_here here other image same is = subst (λ (s : List Saved). AreWrittenBack s image) same is

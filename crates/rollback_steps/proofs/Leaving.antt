@@ -3,8 +3,8 @@ use Rattle.std.proofs.Common.{◌≡◌, ◌⊎◌, inl, inr, ⊎_elim, refl, sy
 use Rattle.outside.specs.History.{History, Image, IsSettled, LeftSince, clock, reads}
 use Rattle.rollback_steps.specs.Prepared.{IsPrepared}
 use Rattle.rollback_steps.specs.RolledBack.{IsLeft}
-use Rattle.rollback_steps.specs.Writing.{AreApart, IsTurned, IsUnturned}
-use Rattle.rollback_steps.specs.declared.way.WayBack.{WayBack}
+use Rattle.way_back.specs.Writing.{AreApart, IsTurned, IsUnturned}
+use Rattle.way_back.specs.declared.way.WayBack.{WayBack}
 use Rattle.rollback_steps.proofs.Back.{back, standing}
 
 -- either of the two states is one that may be left

@@ -10,11 +10,10 @@ ghost use Rattle.reiser_volume.specs.Volume.{superblock};
 ghost use Rattle.rollback_steps.specs.Answers.{HasPlaces, HasVolume, IsRollbackAnswer, RefusesRollback};
 ghost use Rattle.rollback_steps.specs.Opened.{IsFoundOn, IsMapOn, IsOldOf, IsOpenedOn, LiesWithin};
 ghost use Rattle.rollback_steps.specs.Prepared.{IsPrepared};
-ghost use Rattle.rollback_steps.specs.Writing.{AreApart, HasRoom};
+ghost use Rattle.way_back.specs.Writing.{AreApart, HasRoom};
 
 use crate::answers::{btrfs_answer, changed, fault_answer, image_answer};
-use crate::saved::{SUPERBLOCK, count_reserved, read_block, read_reserved};
-use crate::way::{RollbackSummary, WayBack};
+use crate::saved::{count_reserved, read_block, read_reserved};
 use crate::wiping::wipe_both;
 use btr_reader::{Btrfs, ImageMap};
 use btr_super::Super;
@@ -24,6 +23,7 @@ use reiser_bitmap::Bitmap;
 use reiser_volume::Volume;
 use std::alloc::Global;
 use vol_block::{Block, Format, format_of};
+use way_back::{RollbackSummary, SUPERBLOCK, WayBack};
 
 /// Reads the Btrfs volume of a disk and the volume in its saved image, and says what is to be written to have that back. Nothing is
 /// written.
