@@ -72,10 +72,13 @@ impl Notes for ReservedExtent<'_> {
 
     /// Looks at one more item. Where a block was found, it is that.
     fn note(&mut self, _: Global, key: &Key, body: &[u8], _: u64) -> Result<(), Memory> {
-        if self.found.is_none() {
-            self.found = reserved_extent_of(key, body, self.ranges, self.blocks);
+        match self.found {
+            Some(_) => Ok(()),
+            None => {
+                self.found = reserved_extent_of(key, body, self.ranges, self.blocks);
+                Ok(())
+            }
         }
-        Ok(())
     }
 }
 

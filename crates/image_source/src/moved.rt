@@ -1,4 +1,6 @@
 // Whether blocks of the old volume were moved.
+ghost use Rattle.std.specs.Prelude.{◌≡◌, ◌≢◌, Some, false, IsTrue};
+ghost use Rattle.vol_block.specs.Volume.{is_reserved};
 ghost use Rattle.image_source.specs.Moved.{TellsMoved};
 ghost use Rattle.btr_reader.specs.Pieces.{map_place};
 
@@ -14,10 +16,18 @@ pub fn image_moved(map: &ImageMap, image: &Bitmap) -> Option<BlockNo>
     let end = image.len();
     let mut block = image.next_used(0, end);
     while block < end {
-        if !is_reserved(block, end) && map.place(block) != Some(block) {
+        if is_elsewhere(map, block, end) {
             return Some(block);
         }
         block = image.next_used(block + 1, end);
     }
     None
+}
+
+/// Whether a block is not reserved on a volume of so many blocks, and the image has it at another place or nowhere.
+fn is_elsewhere(map: &ImageMap, block: BlockNo, blocks: u64) -> bool
+    ensures moved { IsTrue result → (is_reserved block blocks ≡ false) × (map_place map.now block ≢ Some block) }
+    ensures stays { result ≡ false → is_reserved block blocks ≡ false → map_place map.now block ≡ Some block }
+{
+    !is_reserved(block, blocks) && map.place(block) != Some(block)
 }

@@ -59,20 +59,17 @@ fn reserved_below<S: BlockSource>(
     ensures told { OverTold S.tells (S.blocks src.old) (λ image. IsMapApart ranges.now → MatchResult result (TellsReserved (HoldsNode (below_nodes image ranges.now tree.now node) ranges.now tree.now.form.nodesize) blocks)
         (IsAmong (below_faults image ranges.now tree.now node))) }
 {
-    let found = reserved_in(
-        ranges,
-        node.address as u128,
-        tree.form.nodesize as u64,
-        blocks,
-    );
-    if found.is_some() || node.level == 0 {
-        return Ok(found);
+    let nodesize = tree.form.nodesize as u64;
+    if let Some(block) = reserved_in(ranges, node.address as u128, nodesize, blocks) {
+        return Ok(Some(block));
+    }
+    if node.level == 0 {
+        return Ok(None);
     }
     let children = read_children(alloc, src, tree, ranges, &node)?;
     for i in 0..children.len() {
-        let found = reserved_below(alloc, src, tree, ranges, children[i], blocks)?;
-        if found.is_some() {
-            return Ok(found);
+        if let Some(block) = reserved_below(alloc, src, tree, ranges, children[i], blocks)? {
+            return Ok(Some(block));
         }
     }
     Ok(None)

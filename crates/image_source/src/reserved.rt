@@ -58,9 +58,8 @@ pub fn reserved_in(ranges: &[MapRange], address: u128, count: u64, blocks: u64) 
     ensures { IsMapApart ranges.now → TellsReserved (λ b. LieIn ranges.now address count b) blocks result }
 {
     for range in ranges {
-        let found = reserved_by(range, address, count, blocks);
-        if found.is_some() {
-            return found;
+        if let Some(block) = reserved_by(range, address, count, blocks) {
+            return Some(block);
         }
     }
     None

@@ -52,13 +52,11 @@ pub fn reserved_used<S: BlockSource>(
         return Err(refused(65536, BtrRule::SuperField));
     }
     let ranges = volume.ranges.as_slice();
-    let found = reserved_node(alloc, src, &chunk_tree(volume)?, ranges, blocks)?;
-    if found.is_some() {
-        return Ok(found);
+    if let Some(block) = reserved_node(alloc, src, &chunk_tree(volume)?, ranges, blocks)? {
+        return Ok(Some(block));
     }
-    let found = reserved_node(alloc, src, &root_tree(volume), ranges, blocks)?;
-    if found.is_some() {
-        return Ok(found);
+    if let Some(block) = reserved_node(alloc, src, &root_tree(volume), ranges, blocks)? {
+        return Ok(Some(block));
     }
     reserved_file(alloc, volume, src, blocks)
 }
@@ -82,9 +80,8 @@ fn reserved_file<S: BlockSource>(
         None => return Ok(None),
     };
     let ranges = volume.ranges.as_slice();
-    let found = reserved_part(alloc, src, &file, ranges, blocks)?;
-    if found.is_some() {
-        return Ok(found);
+    if let Some(block) = reserved_part(alloc, src, &file, ranges, blocks)? {
+        return Ok(Some(block));
     }
     match saved_tree(alloc, src, volume, &file)? {
         Some(tree) => reserved_part(alloc, src, &tree, ranges, blocks),
@@ -108,9 +105,8 @@ fn reserved_part<S: BlockSource>(
     ensures told { OverTold S.tells (S.blocks src.old) (λ image. IsMapApart ranges.now →
         MatchResult result (TellsReserved (HoldsPartOf image ranges.now tree.now) blocks) (IsAmong (wrong image ranges.now tree.now))) }
 {
-    let found = reserved_node(alloc, src, tree, ranges, blocks)?;
-    if found.is_some() {
-        return Ok(found);
+    if let Some(block) = reserved_node(alloc, src, tree, ranges, blocks)? {
+        return Ok(Some(block));
     }
     reserved_extent(alloc, src, tree, ranges, blocks)
 }
