@@ -1,3 +1,5 @@
+pub mod Extending
+pub mod Faults
 pub mod Images
 pub mod Lying
 pub mod Moving
