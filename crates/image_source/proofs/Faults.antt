@@ -1,5 +1,5 @@
 -- A node that is read by itself, and what is met below it.
-use Rattle.std.proofs.Common.{◌≡◌, ⊎_elim, inl, inr, ℕ, zero, suc, ◌+◌, ◌-◌, ◌≤◌, ◌<◌, eqb, Bool, true, false, ◌||◌, nat_lt, List, [], ◌∷◌, ◌++◌, map, length, Contains, Option, Some, None, refl, sym, ◌∙◌, ap, subst, arith, if◌then◌else◌}
+use Rattle.std.proofs.Common.{◌≡◌, ⊎_elim, inl, inr, ℕ, zero, suc, ◌+◌, ◌-◌, ◌≤◌, ◌<◌, eqb, Bool, true, false, ◌||◌, nat_lt, List, [], ◌∷◌, ◌++◌, map, length, get_or, Contains, None, refl, sym, ◌∙◌, ap, subst, arith, if◌then◌else◌}
 use Rattle.std.specs.List.{flat_map}
 use Rattle.std.proofs.lemmas.Bool.Decides.{nat_tests}
 use Rattle.std.proofs.lemmas.List.Elements.{Contains-append_cases, Contains-append_left, Contains-append_right}
@@ -26,8 +26,9 @@ use Rattle.btr_walk.specs.declared.tree.Pointer.{Pointer}
 use Rattle.btr_walk.specs.declared.tree.Tree.{Tree}
 use Rattle.btr_walk.proofs.Events.{leaf_nodes, nodes_in-append}
 use Rattle.btr_walk.proofs.Walking.{breaks, mapped_breaks, unmapped_breaks}
-use Rattle.path_list.proofs.Lists.{from_flat_map, from_map, in_flat_map, in_map}
+use Rattle.path_list.proofs.Lists.{from_flat_map, from_map, head_or_tail, in_flat_map, in_map}
 use Rattle.image_source.specs.Nodes.{below_faults, below_nodes, own_faults}
+use Rattle.image_source.specs.Using.{HoldsNode, LieIn, TellsReserved}
 
 rule_at : (address : ℕ) (rules : List BtrRule) (rule : BtrRule) → Contains rules rule → Contains (at_address address rules) (BadBtrfs address rule)
 rule_at address rules rule among = in_map (λ (r : BtrRule). BadBtrfs address r) rules rule among
@@ -116,3 +117,55 @@ module _ (image : Image) (ranges : List MapRange) (t : Tree) where
   -- what is wrong at one of some nodes is wrong among all
   pub fault_among : (nodes : List Pointer) (p : Pointer) (r : BtrRefusal) → Contains nodes p → Contains (own_faults image ranges t p) r → Contains (flat_map (own_faults image ranges t) nodes) r
   fault_among nodes p r among bad = in_flat_map (own_faults image ranges t) nodes p r among bad
+
+  among_at : (a l g : ℕ) → Contains (below_nodes image ranges t (record { address = a; level = l; generation = g })) (record { address = a; level = l; generation = g })
+  unfolding node_events
+  among_at a zero g = (0, omega arith, refl)
+  among_at a (suc l) g = (0, omega arith, refl)
+
+  -- a node is one of those that are met at it
+  pub node_among : (p : Pointer) → Contains (below_nodes image ranges t p) p
+  node_among p = among_at p.address p.level p.generation
+
+  -- what it breaks is wrong there
+  pub own_among : (p : Pointer) (e : BtrAnswer) → IsAmong (own_faults image ranges t p) e → IsAmong (below_faults image ranges t p) e
+  own_among p (Refused r) bad = fault_among (below_nodes image ranges t p) p r (node_among p) bad
+  own_among p Fault bad = tt
+  own_among p Memory bad = tt
+
+  -- ---- a node and its children
+  module _ (p : Pointer) (kids : List Pointer) (are : below_nodes image ranges t p ≡ p ∷ flat_map (below_nodes image ranges t) kids) where
+    kid_nodes : (k q : Pointer) → Contains kids k → Contains (below_nodes image ranges t k) q → Contains (below_nodes image ranges t p) q
+    kid_nodes k q among inside =
+        subst (λ (nodes : List Pointer). Contains nodes q) (sym are)
+        (Contains-append_right (p ∷ []) (flat_map (below_nodes image ranges t) kids) q (in_flat_map (below_nodes image ranges t) kids k q among inside))
+
+    pub kid_holds : (k : Pointer) (b : ℕ) → Contains kids k → HoldsNode (below_nodes image ranges t k) ranges t.form.nodesize b → HoldsNode (below_nodes image ranges t p) ranges t.form.nodesize b
+    kid_holds k b among holds = record { node = holds.node; among = kid_nodes k holds.node among holds.among; lies = holds.lies }
+
+    pub kid_among : (k : Pointer) (e : BtrAnswer) → Contains kids k → IsAmong (below_faults image ranges t k) e → IsAmong (below_faults image ranges t p) e
+    kid_among k (Refused r) among bad =
+        let from = from_flat_map (own_faults image ranges t) (below_nodes image ranges t k) r bad in
+        fault_among (below_nodes image ranges t p) from.0 r (kid_nodes k from.0 among from.1) from.2
+    kid_among k Fault among bad = tt
+    kid_among k Memory among bad = tt
+
+    pub none_below : (blocks : ℕ) → TellsReserved (λ b. LieIn ranges p.address t.form.nodesize b) blocks None
+        → ((k : ℕ) (d : Pointer) → k < length kids → TellsReserved (HoldsNode (below_nodes image ranges t (get_or kids k d)) ranges t.form.nodesize) blocks None)
+        → TellsReserved (HoldsNode (below_nodes image ranges t p) ranges t.form.nodesize) blocks None
+    none_below blocks own each b reserved holds =
+        ⊎_elim (λ here. own b reserved (subst (λ (q : Pointer). LieIn ranges q.address t.form.nodesize b) (sym here) holds.lies))
+        (λ lower.
+        let from = from_flat_map (below_nodes image ranges t) kids holds.node lower in
+        let nodes : Contains (below_nodes image ranges t (get_or kids from.1.0 from.0)) holds.node = subst (λ (q : Pointer). Contains (below_nodes image ranges t q) holds.node) (sym from.1.2) from.2 in
+        each from.1.0 from.0 from.1.1 b reserved (record { node = holds.node; among = nodes; lies = holds.lies }))
+        (head_or_tail p (flat_map (below_nodes image ranges t) kids) holds.node (subst (λ (nodes : List Pointer). Contains nodes holds.node) are holds.among))
+
+  -- a leaf
+  pub leaf_none : (p : Pointer) (blocks : ℕ) → p.level ≡ 0 → TellsReserved (λ b. LieIn ranges p.address t.form.nodesize b) blocks None
+      → TellsReserved (HoldsNode (below_nodes image ranges t p) ranges t.form.nodesize) blocks None
+  leaf_none p blocks leaf own = none_below p [] (leaf_alone p leaf) blocks own (λ k d below. absurd (omega (arith, below)))
+
+-- a child by its level
+pub child_is : (level : ℕ) (q : Pointer) → q.level + 1 ≡ level → 1 ≤ level → record { address = q.address; level = level - 1; generation = q.generation } ≡ q
+child_is level q lower inner = let same : level - 1 ≡ q.level = omega (arith, lower, inner) in ap (λ (l : ℕ). (let x : Pointer = record { address = q.address; level = l; generation = q.generation } in x)) same

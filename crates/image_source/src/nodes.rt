@@ -68,7 +68,12 @@ fn reserved_below<S: BlockSource>(
     }
     let children = read_children(alloc, src, tree, ranges, &node)?;
     for i in 0..children.len() {
-        if let Some(block) = reserved_below(alloc, src, tree, ranges, children[i], blocks)? {
+        // A child stands one level lower.
+        let child = Pointer {
+            level: node.level - 1,
+            ..children[i]
+        };
+        if let Some(block) = reserved_below(alloc, src, tree, ranges, child, blocks)? {
             return Ok(Some(block));
         }
     }
