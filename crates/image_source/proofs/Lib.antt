@@ -8,3 +8,4 @@ pub mod Reaching
 pub mod Reading
 pub mod Spare
 pub mod Staying
+pub mod Telling

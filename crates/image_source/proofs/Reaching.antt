@@ -33,11 +33,11 @@ later_none : (early later : List BtrRefusal) → or_later early later ≡ [] →
 later_none [] later is = is
 later_none (r ∷ rs) later is = absurd (cc is)
 
-at_root : (next : Pointer → List BtrRefusal) (root : Option TreeItem) (p : Pointer) → pointer_in root ≡ Some p → after_root next root ≡ next p
+pub at_root : (next : Pointer → List BtrRefusal) (root : Option TreeItem) (p : Pointer) → pointer_in root ≡ Some p → after_root next root ≡ next p
 at_root next None p is = absurd (no_some p is)
 at_root next (Some i) p is = ap (λ (o : Option Pointer). after_pointer next i.leaf o) is
 
-there : (next : ℕ → List BtrRefusal) (o : Option ℕ) (n : ℕ) → o ≡ Some n → if_there next o ≡ next n
+pub there : (next : ℕ → List BtrRefusal) (o : Option ℕ) (n : ℕ) → o ≡ Some n → if_there next o ≡ next n
 there next o n is = ap (λ (x : Option ℕ). if_there next x) is
 
 -- ---- the way to the image
