@@ -1,7 +1,7 @@
 -- What a rollback and its crashes keep.
-use Rattle.std.specs.Prelude.{◌≡◌, ◌≢◌, ◌↔◌, List}
+use Rattle.std.specs.Prelude.{◌≡◌, ◌≢◌}
 use Rattle.outside.specs.Format.{format_in}
-use Rattle.outside.specs.History.{Image, block_at}
+use Rattle.outside.specs.History.{Image}
 use Rattle.outside.specs.declared.answer.Answer.{Answer}
 use Rattle.outside.specs.declared.answer.Answer.TheVariants as answer
 use Rattle.vol_block.specs.declared.format.Format.TheVariants.{Btrfs, Reiser}
@@ -10,7 +10,10 @@ use Rattle.image_source.specs.Saved.{image_blocks}
 use Rattle.image_source.specs.Untouched.{IsUntouched}
 use Rattle.reiser_volume.specs.Laws.{IsSameVolume}
 use Rattle.rollback_steps.specs.Answers.{RefusesRollback}
+use Rattle.rollback_steps.specs.Prepared.{IsPrepared}
 use Rattle.rollback_steps.specs.RolledBack.{IsBack, IsRolledBack, IsStanding}
+use Rattle.way_back.specs.Writing.{AreApart, AreWiped, IsTurned, IsUnturned}
+use Rattle.way_back.specs.declared.way.WayBack.{WayBack}
 
 -- The Btrfs volume that a crash leaves has its rows and its saved image, and can be rolled back.
 pub record IsStillBtrfs (disk other : Image) : Type 0 where
@@ -35,3 +38,10 @@ RollbackGoesOn = (disk left other : Image) → IsUntouched disk → IsStanding d
 -- not be rolled back.
 abbrev pub RefusalsAreOfTouched : Type 0
 RefusalsAreOfTouched = (disk : Image) (e : Answer) → RefusesRollback disk e → e ≢ answer.Fault → e ≢ answer.Memory → ¬ IsUntouched disk
+
+-- What is prepared and written makes of a disk what is said of a rollback: before block 16 is written the Btrfs volume stands, from then on
+-- the old one.
+pub record WritingRollsBack : Type 0 where
+  pub standing : (disk : Image) (way : WayBack) (other : Image) → IsPrepared disk way → AreApart way → IsUnturned way disk other → IsStanding disk other
+  pub back : (disk : Image) (way : WayBack) (other : Image) → IsPrepared disk way → IsTurned way disk other → IsBack disk other
+  pub done : (disk : Image) (way : WayBack) (other : Image) → IsPrepared disk way → IsTurned way disk other → AreWiped way other → IsRolledBack disk other

@@ -22,7 +22,7 @@ pub record IsFoundOn (disk : Image) (block : Block) : Type 0 where
 -- the volume was opened on the disk, and has no log tree
 pub record IsOpenedOn (disk : Image) (volume : Opened) : Type 0 where
   pub format : format_in disk ≡ Btrfs
-  pub volume : IsVolumeOn disk volume
+  pub opened : IsVolumeOn disk volume
   pub log : log_tree disk ≡ None
 
 -- The saved image is there, and the map is that of its blocks.

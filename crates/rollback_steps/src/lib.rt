@@ -15,6 +15,6 @@ mod rolling;
 mod saved;
 mod wiping;
 
-pub use laws::{refusals_are_of_touched, rollback_goes_on, rollback_keeps};
+pub use laws::{refusals_are_of_touched, rollback_goes_on, rollback_keeps, writing_rolls_back};
 pub use prepared::prepare;
 pub use rolling::rollback;
