@@ -1,5 +1,5 @@
 -- The blocks of an image, each by itself.
-use Rattle.std.proofs.Common.{◌≡◌, ℕ, ◌<◌, ◌+◌, min, length, map, List, [], Option, sym, ◌∙◌, ap, arith}
+use Rattle.std.proofs.Common.{◌≡◌, ℕ, ◌<◌, ◌≤◌, ◌+◌, min, length, map, List, [], Option, sym, ◌∙◌, ap, arith}
 use Rattle.std.specs.List.{range_with_len}
 use Rattle.std.proofs.lemmas.List.{ext_get_or}
 use Rattle.std.proofs.lemmas.List.FromFn.{get_or-map-range_with_len, length-map-range_with_len}
@@ -29,3 +29,8 @@ pub image_block : (disk : Image) (b : ℕ) → b < length (image_blocks disk) �
 unfolding image_blocks
 image_block disk b below =
     block_by (saved_place disk) (file_blocks (saved_file disk)) disk b (omega (arith, below, length_by (saved_place disk) (file_blocks (saved_file disk)) disk))
+
+-- it is no longer than the disk
+pub image_short : (disk : Image) → length (image_blocks disk) ≤ length disk
+unfolding image_blocks
+image_short disk = omega (arith, length_by (saved_place disk) (file_blocks (saved_file disk)) disk)

@@ -30,7 +30,7 @@ other_true b other = grind (arith, nat_tests, other)
 not_other : other_than 16 ≡ true → ⊥
 not_other h = true≢false (sym h)
 
-equal_or : (b : ℕ) → (b ≡ 16) ⊎ (b ≢ 16)
+pub equal_or : (b : ℕ) → (b ≡ 16) ⊎ (b ≢ 16)
 equal_or b =
     ⊎_elim (λ (less : b < 16). inr (λ same. omega (arith, less, same)))
     (λ (least : 16 ≤ b). ⊎_elim (λ (more : 16 < b). inr (λ same. omega (arith, more, same))) (λ (most : b ≤ 16). inl (let e : b ≡ 16 = omega (arith, least, most) in e)) (cases_lt 16 b)) (cases_lt b 16)
@@ -41,7 +41,7 @@ has_within (x ∷ set) zero h = omega arith
 has_within (x ∷ set) (suc b) h = omega (arith, has_within set b h)
 
 -- a used block of the old volume is one of its image
-used_below : (disk : Image) → IsUntouched disk → (b : ℕ) → has (old_used disk) b ≡ true → b < length (image_blocks disk)
+pub used_below : (disk : Image) → IsUntouched disk → (b : ℕ) → has (old_used disk) b ≡ true → b < length (image_blocks disk)
 used_below disk untouched b marked =
     let within = has_within (old_used disk) b marked in
     let long = used_length (image_blocks disk) in

@@ -1,10 +1,8 @@
 -- What a rollback and its crashes keep.
-use Rattle.std.specs.Prelude.{◌≡◌, ◌≢◌}
-use Rattle.outside.specs.Format.{format_in}
+use Rattle.std.specs.Prelude.{◌≢◌}
 use Rattle.outside.specs.History.{Image}
 use Rattle.outside.specs.declared.answer.Answer.{Answer}
 use Rattle.outside.specs.declared.answer.Answer.TheVariants as answer
-use Rattle.vol_block.specs.declared.format.Format.TheVariants.{Btrfs, Reiser}
 use Rattle.image_source.specs.Laws.{IsSameUntouched}
 use Rattle.image_source.specs.Saved.{image_blocks}
 use Rattle.image_source.specs.Untouched.{IsUntouched}
@@ -15,20 +13,11 @@ use Rattle.rollback_steps.specs.RolledBack.{IsBack, IsRolledBack, IsStanding}
 use Rattle.way_back.specs.Writing.{AreApart, AreWiped, IsTurned, IsUnturned}
 use Rattle.way_back.specs.declared.way.WayBack.{WayBack}
 
--- The Btrfs volume that a crash leaves has its rows and its saved image, and can be rolled back.
-pub record IsStillBtrfs (disk other : Image) : Type 0 where
-  pub format : format_in other ≡ Btrfs
-  pub same : IsSameUntouched disk other
-
--- The old volume that a crash leaves, or that is rolled back to, is that in the saved image: it is accepted, with the same rows.
-pub record IsOldVolume (disk other : Image) : Type 0 where
-  pub format : format_in other ≡ Reiser
-  pub same : IsSameVolume (image_blocks disk) other
-
--- What each of the two states means.
+-- What each of the two states means. The Btrfs volume that a crash leaves is the same, with its rows and its saved image, and can be rolled
+-- back. The old volume that a crash leaves, or that is rolled back to, is that in the saved image: it is accepted, with the same rows.
 pub record RollbackKeeps : Type 0 where
-  pub standing : (disk other : Image) → IsUntouched disk → IsStanding disk other → IsStillBtrfs disk other
-  pub back : (disk other : Image) → IsUntouched disk → IsBack disk other → IsOldVolume disk other
+  pub standing : (disk other : Image) → IsUntouched disk → IsStanding disk other → IsSameUntouched disk other
+  pub back : (disk other : Image) → IsUntouched disk → IsBack disk other → IsSameVolume (image_blocks disk) other
 
 -- After a crash that left the Btrfs volume another rollback ends as the first one would have: it makes the same blocks of the same image.
 abbrev pub RollbackGoesOn : Type 0
