@@ -47,3 +47,44 @@ rollback_keeps = record {
   where
     room : (disk other : Image) → IsUntouched disk → IsBack disk other → (superblock (image_blocks disk)).blocks ≤ length other
     room disk other u is = omega (arith, u.accepted.clean.superblock.fits, is.size, image_short disk)
+
+-- ---- another rollback
+module _ (disk left other : Image) (u : IsUntouched disk) (is : IsStanding disk left) (done : IsRolledBack left other) where
+  image_same : image_blocks left ≡ image_blocks disk
+  image_same = (spare_blocks_decide_nothing disk left u (outside_spare disk left is)).image
+
+  used_same : old_used left ≡ old_used disk
+  used_same = ap used_of image_same
+
+  -- a block without use was left as it was
+  left_same : (b : ℕ) → has (old_used disk) b ≡ false → block_at left b ≡ block_at disk b
+  left_same b free = is.others b (λ restored. true≢false (sym restored.used ∙ free))
+
+  abbrev wiped_by : List Bool → List ℕ → ℕ → Bool
+  wiped_by used bytes b = nat_lt b (length used) && (not (has used b) && has_bytes_at bytes 64 (codes "_BHRfS_M"))
+
+  wiped_same : (b : ℕ) → has (old_used disk) b ≡ false → is_wiped left b ≡ is_wiped disk b
+  wiped_same b free = ap (λ (used : List Bool). wiped_by used (block_at left b) b) used_same ∙ ap (λ (bytes : List ℕ). wiped_by (old_used disk) bytes b) (left_same b free)
+
+  unused : (b : ℕ) → is_wiped disk b ≡ true → has (old_used disk) b ≡ false
+  unused b wiped = by (has (old_used disk) b) _ (and_parts (nat_lt b (length (old_used disk))) _ wiped).1
+    where
+      by : (h t : Bool) → (not h && t) ≡ true → h ≡ false
+      by false t so = refl
+      by true t so = absurd (true≢false (sym so))
+
+  again : IsRolledBack disk other
+  again = record {
+    untouched = u;
+    back = record {
+      size = done.back.size ∙ is.size;
+      used = λ b marked. done.back.used b (subst (λ (used : List Bool). has used b ≡ true) (sym used_same) marked) ∙ ap (λ (i : Image). block_at i b) image_same;
+      others = λ b free.
+          ⊎_elim (λ same. inl (same ∙ left_same b free)) (λ wiped. inr (wiped.0, sym (wiped_same b free) ∙ wiped.1, wiped.2))
+          (done.back.others b (subst (λ (used : List Bool). has used b ≡ false) (sym used_same) free));
+    };
+    wiped = λ b mirror wiped. done.wiped b mirror (wiped_same b (unused b wiped) ∙ wiped);
+  }
+
+pub rollback_goes_on : RollbackGoesOn
+rollback_goes_on disk left other u is done = again disk left other u is done
