@@ -68,27 +68,27 @@ loop-i-preserved g t c = record {
   kept = g.met.S.BlockSource.kept_trans _ _ _ c.loop-i.invariant.kept c.in_ok-block.ensures.kept;
   same = search rules;
   none = λ tells image is apart k d below.
-    let kids : List Pointer = c.in_ok-children.children.items in
-    let inner : 1 ≤ c.args.node.level = omega (arith, c.if-node-eq0.false) in
-    let are : below_nodes image c.args.ranges.now c.args.tree.now c.args.node ≡ c.args.node ∷ flat_map (below_nodes image c.args.ranges.now c.args.tree.now) kids =
-    inner_nodes image c.args.ranges.now c.args.tree.now c.args.node kids inner (c.in_ok-children.ensures.sound tells image is) (c.in_ok-children.ensures.children tells image is) in
-    let q : Pointer = c.index.result.now in
-    let within : c.loop-i.i < length kids = search rules in
-    let at : c.index.result.now ≡ get_or c.in_ok-children.children.items c.loop-i.i c.index.result.now = search rules in
-    let kid : Contains kids q = (c.loop-i.i, within, sym at) in
-    let same = child_is c.args.node.level q (c.in_ok-children.ensures.lower q kid) inner in
-    let here : g.S.BlockSource.blocks c.loop-i.src ≡ image = g.met.S.BlockSource.kept_blocks c.args.src.now c.loop-i.src tells c.loop-i.invariant.kept ∙ is in
-    let told =
-    subst (λ (x : Pointer). TellsReserved (HoldsNode (below_nodes image c.args.ranges.now c.args.tree.now x) c.args.ranges.now c.args.tree.now.form.nodesize) c.args.blocks None) same
-    (subst (TellsReserved (HoldsNode (below_nodes image c.args.ranges.now c.args.tree.now _) c.args.ranges.now c.args.tree.now.form.nodesize) c.args.blocks) c.in_default-2.is (c.in_ok-block.ensures.told tells image here apart)) in
-    ⊎_elim
-    (λ (less : k < c.loop-i.i). c.loop-i.invariant.none tells image is apart k d less)
-    (λ (least : c.loop-i.i ≤ k).
-    let now : c.loop-i.i ≡ k = omega (arith, least, below) in
-    let there : q ≡ get_or kids c.loop-i.i d = at ∙ get_or_default kids c.loop-i.i q d within in
-    subst (λ (n : ℕ). TellsReserved (HoldsNode (below_nodes image c.args.ranges.now c.args.tree.now (get_or kids n d)) c.args.ranges.now c.args.tree.now.form.nodesize) c.args.blocks None) now
-    (subst (λ (x : Pointer). TellsReserved (HoldsNode (below_nodes image c.args.ranges.now c.args.tree.now x) c.args.ranges.now c.args.tree.now.form.nodesize) c.args.blocks None) there told))
-    (cases_lt k c.loop-i.i);
+      let kids : List Pointer = c.in_ok-children.children.items in
+      let inner : 1 ≤ c.args.node.level = omega (arith, c.if-node-eq0.false) in
+      let are : below_nodes image c.args.ranges.now c.args.tree.now c.args.node ≡ c.args.node ∷ flat_map (below_nodes image c.args.ranges.now c.args.tree.now) kids =
+      inner_nodes image c.args.ranges.now c.args.tree.now c.args.node kids inner (c.in_ok-children.ensures.sound tells image is) (c.in_ok-children.ensures.children tells image is) in
+      let q : Pointer = c.index.result.now in
+      let within : c.loop-i.i < length kids = search rules in
+      let at : c.index.result.now ≡ get_or c.in_ok-children.children.items c.loop-i.i c.index.result.now = search rules in
+      let kid : Contains kids q = (c.loop-i.i, within, sym at) in
+      let same = child_is c.args.node.level q (c.in_ok-children.ensures.lower q kid) inner in
+      let here : g.S.BlockSource.blocks c.loop-i.src ≡ image = g.met.S.BlockSource.kept_blocks c.args.src.now c.loop-i.src tells c.loop-i.invariant.kept ∙ is in
+      let told =
+      subst (λ (x : Pointer). TellsReserved (HoldsNode (below_nodes image c.args.ranges.now c.args.tree.now x) c.args.ranges.now c.args.tree.now.form.nodesize) c.args.blocks None) same
+      (subst (TellsReserved (HoldsNode (below_nodes image c.args.ranges.now c.args.tree.now _) c.args.ranges.now c.args.tree.now.form.nodesize) c.args.blocks) c.in_default-2.is (c.in_ok-block.ensures.told tells image here apart)) in
+      ⊎_elim
+      (λ (less : k < c.loop-i.i). c.loop-i.invariant.none tells image is apart k d less)
+      (λ (least : c.loop-i.i ≤ k).
+      let now : c.loop-i.i ≡ k = omega (arith, least, below) in
+      let there : q ≡ get_or kids c.loop-i.i d = at ∙ get_or_default kids c.loop-i.i q d within in
+      subst (λ (n : ℕ). TellsReserved (HoldsNode (below_nodes image c.args.ranges.now c.args.tree.now (get_or kids n d)) c.args.ranges.now c.args.tree.now.form.nodesize) c.args.blocks None) now
+      (subst (λ (x : Pointer). TellsReserved (HoldsNode (below_nodes image c.args.ranges.now c.args.tree.now x) c.args.ranges.now c.args.tree.now.form.nodesize) c.args.blocks None) there told))
+      (cases_lt k c.loop-i.i);
 }
 
 pub returns-clause-told : goal.returns-clause-told
