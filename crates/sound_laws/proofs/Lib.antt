@@ -7,6 +7,7 @@ pub mod Nodes
 pub mod Recounting
 pub mod Row
 pub mod Stripes
+pub mod Told
 pub mod Totals
 pub mod Trees
 pub mod Unreserved

@@ -149,22 +149,22 @@ module _ (o : Options) (ids : Ids) (now : ℕ) (image other : Image) (m : Making
   tree_row : (number from : ℕ) (items : List Item) (root : Root) → root.nodes ≡ tree_nodes n (lengths_of items) → addresses (nodes_from m number from items) ≡ take root.nodes (drop from (slots m))
   tree_row number from items root count = tree_at number n (lengths_of items) (drop from (slots m)) ∙ ap (λ (c : ℕ). take c (drop from (slots m))) (sym count)
 
-  abbrev files : List TreeNode
+  abbrev pub files : List TreeNode
   files = nodes_from m 5 0 (file_tree_items image m)
 
-  abbrev saved : List TreeNode
+  abbrev pub saved : List TreeNode
   saved = nodes_from m 256 (image_from r) (image_tree_items m)
 
-  abbrev relocation : List TreeNode
+  abbrev pub relocation : List TreeNode
   relocation = nodes_from m (2 ^ 64 - 9) (relocation_from r) (relocation_items m.now)
 
-  abbrev sums : List TreeNode
+  abbrev pub sums : List TreeNode
   sums = nodes_from m 7 (sums_from r) (sum_tree_items other m)
 
-  abbrev device : List TreeNode
+  abbrev pub device : List TreeNode
   device = nodes_from m 4 (device_from r) (device_items (new_ids m) m.chunks)
 
-  abbrev rooted : List TreeNode
+  abbrev pub rooted : List TreeNode
   rooted = nodes_from m 1 (root_from r) (root_tree_items m r)
 
   abbrev pub chunked : List TreeNode
