@@ -4,13 +4,8 @@
 # volume with the same files. Each figure is the least processor time of three runs on copies that are in the page cache,
 # and the most memory that the program held. It needs python3, 8 GB of disk and 3 GB of memory for the page cache, and
 # btrfs-convert, mkfs.ext4 and mkfs.reiserfs.
-set -euo pipefail
-
-top=$(cd "$(dirname "$(readlink -f "${BASH_SOURCE[0]}")")/.." && pwd)
-work=$(mktemp -d)
-trap 'rm -rf "$work"' EXIT
-"$top/reiserconv" --version >/dev/null
-program=$top/crates/reiserconv/out/reiserconv
+# shellcheck source=bench/begin.sh
+. "$(dirname "$(readlink -f "${BASH_SOURCE[0]}")")/begin.sh"
 
 # measured NAME FILE WORDS..: the time and the memory of a program on copies of a file
 measured() {

@@ -4,13 +4,8 @@
 # processor time of three runs with all in the page cache, and the most memory that the program held. It needs python3, 3 GB
 # of disk and 2 GB of memory for the page cache, and for the fresh volumes mkfs.reiserfs and a file system that keeps files
 # sparse.
-set -euo pipefail
-
-top=$(cd "$(dirname "$(readlink -f "${BASH_SOURCE[0]}")")/.." && pwd)
-work=$(mktemp -d)
-trap 'rm -rf "$work"' EXIT
-"$top/reiserconv" --version >/dev/null
-program=$top/crates/reiserconv/out/reiserconv
+# shellcheck source=bench/begin.sh
+. "$(dirname "$(readlink -f "${BASH_SOURCE[0]}")")/begin.sh"
 
 # inspected NAME FILE: the time and the memory of `inspect`
 inspected() {
