@@ -1,0 +1,24 @@
+//! The saved image of the volume before, as a source of blocks of its own; and whether that volume can be had back from it.
+//!
+//! An [`ImageSource`] reads the blocks of the image where its map sends them, so whatever reads a ReiserFS volume reads the old one
+//! in a Btrfs volume. [`image_moved`] and [`reserved_used`] say what stands in the way of going back: a block of the old volume that
+//! now lies elsewhere, and a reserved block that the Btrfs volume uses.
+#![tactic(auto)]
+
+mod blocks;
+mod extents;
+mod laws;
+mod moved;
+mod nodes;
+mod reserved;
+mod source;
+mod trees;
+mod using;
+
+pub use laws::spare_blocks_decide_nothing;
+pub use moved::image_moved;
+pub use source::ImageSource;
+pub use using::reserved_used;
+
+#[cfg(test)]
+mod tests;

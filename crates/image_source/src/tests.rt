@@ -1,0 +1,138 @@
+// The saved image of a small disk.
+use crate::{ImageSource, image_moved};
+use btr_reader::{ImageMap, Piece};
+use btr_walk::MapRange;
+use outside::{Access, BlockSource, Disk};
+use outside_mem::MemDisk;
+use reiser_bitmap::Bitmap;
+use std::alloc::Global;
+use std::test::Fail;
+use vol_block::{Block, BlockNo};
+
+fn filled(byte: u8) -> Block {
+    Block {
+        bytes: [byte; 4096],
+    }
+}
+
+/// An image of 6 blocks, of which blocks 1 and 2 lie in blocks 11 and 12 of a device of 300 blocks, block 4 in block 10, and the
+/// others are holes.
+fn image(alloc: Global) -> Result<ImageMap, Fail> {
+    let mut ranges = Vec::new(alloc);
+    ranges.push(MapRange {
+        logical: 0x10_0000,
+        length: 0x1_0000,
+        physical: 4096 * 8,
+    })?;
+    let mut pieces = Vec::new(alloc);
+    pieces.push(Piece {
+        first: 1,
+        count: 2,
+        disk: 0x10_0000,
+        offset: 3 * 4096,
+    })?;
+    pieces.push(Piece {
+        first: 4,
+        count: 1,
+        disk: 0x10_0000 + 2 * 4096,
+        offset: 0,
+    })?;
+    Ok(ImageMap {
+        blocks: 6,
+        device: 300,
+        ranges,
+        pieces,
+    })
+}
+
+/// A device of 300 blocks in which block n holds the byte n.
+fn device(alloc: Global) -> Result<MemDisk, Fail> {
+    let mut disk = MemDisk::new(alloc, 300)?;
+    for n in 8..16 {
+        disk.set_block(n, &filled(n as u8))?;
+    }
+    disk.open("", Access::Read)?;
+    Ok(disk)
+}
+
+/// The first byte of a block of the image; the others are the same.
+fn byte(source: &mut ImageSource<'_, MemDisk>, n: BlockNo) -> Result<u8, Fail> {
+    let mut block = filled(7);
+    if n < source.len() {
+        source.read(n, &mut block)?;
+    }
+    if block == filled(block.bytes[0]) {
+        Ok(block.bytes[0])
+    } else {
+        Ok(255)
+    }
+}
+
+#[test]
+fn blocks_come_from_their_places(rt: HostRuntime) -> Result<(), Fail> {
+    let image = image(rt.alloc())?;
+    let mut disk = device(rt.alloc())?;
+    let mut source = ImageSource::new(&mut disk, &image);
+    assert_eq!(rt; source.len(), 6);
+    for (n, expected) in [(0, 0), (1, 11), (2, 12), (3, 0), (4, 10), (5, 0)] {
+        assert_eq!(rt; byte(&mut source, n)?, expected);
+    }
+    assert_eq!(rt; disk.reads(), 3);
+    Ok(())
+}
+
+#[test]
+fn a_fault_of_the_device_is_one_of_the_image(rt: HostRuntime) -> Result<(), Fail> {
+    let image = image(rt.alloc())?;
+    let mut disk = device(rt.alloc())?;
+    disk.fail_call(1)?;
+    let mut source = ImageSource::new(&mut disk, &image);
+    let mut block = Block::zero();
+    assert!(rt; source.read(1, &mut block).is_ok());
+    assert!(rt; source.read(0, &mut block).is_ok());
+    assert!(rt; source.read(4, &mut block).is_err());
+    assert!(rt; source.read(4, &mut block).is_ok());
+    Ok(())
+}
+
+/// An image of 512 blocks whose blocks from 256 on lie in their places, and all others in blocks 1000 and up.
+fn kept(alloc: Global) -> Result<ImageMap, Fail> {
+    let mut ranges = Vec::new(alloc);
+    ranges.push(MapRange {
+        logical: 0x10_0000,
+        length: 0x1000_0000,
+        physical: 0x10_0000,
+    })?;
+    let mut pieces = Vec::new(alloc);
+    pieces.push(Piece {
+        first: 0,
+        count: 256,
+        disk: 4096 * 1000,
+        offset: 0,
+    })?;
+    pieces.push(Piece {
+        first: 256,
+        count: 200,
+        disk: 4096 * 256,
+        offset: 0,
+    })?;
+    Ok(ImageMap {
+        blocks: 512,
+        device: 70000,
+        ranges,
+        pieces,
+    })
+}
+
+#[test]
+fn a_moved_block_is_told(rt: HostRuntime) -> Result<(), Fail> {
+    let image = kept(rt.alloc())?;
+    let mut used = Bitmap::new(rt.alloc(), 512)?;
+    for n in [0, 16, 255, 256, 300, 455] {
+        used.insert(n);
+    }
+    assert_eq!(rt; image_moved(&image, &used), None);
+    used.insert(456);
+    assert_eq!(rt; image_moved(&image, &used), Some(456));
+    Ok(())
+}

@@ -1,0 +1,78 @@
+// The blocks of the old volume that are to be written.
+ghost use Rattle.std.specs.Prelude.{◌≡◌, ◌≢◌, ◌⊎◌, ◌≤◌, ◌<◌, ◌==◌, [], ◌∷◌, ◌++◌, not, true, All, IfErr, IfOk, OnOk, filter, length};
+ghost use Rattle.outside.specs.Fault.{HasCause, HasCauseOf};
+ghost use Rattle.outside.specs.History.{OverTold, block_at};
+ghost use Rattle.vol_block.specs.Volume.{is_reserved};
+ghost use Rattle.reiser_bitmap.specs.Bits.{has, used_blocks};
+ghost use Rattle.rollback_steps.specs.Prepared.{AreSaved};
+ghost use Rattle.way_back.specs.Writing.{GoApart};
+
+use outside::{BlockSource, Fault, Memory, VolAnswer};
+use reiser_bitmap::Bitmap;
+use std::alloc::Global;
+use vol_block::{Block, BlockNo, is_reserved};
+use way_back::{SUPERBLOCK, Saved};
+
+/// A block of an image.
+pub fn read_block<S: BlockSource>(src: &mut S, n: BlockNo) -> Result<Block, Fault>
+    requires inside { n < S.size src.old }
+    ensures kept { S.kept src.old src.new }
+    ensures block { OverTold S.tells (S.blocks src.old) (λ image. IfOk result (λ block. block.bytes ≡ block_at image n)) }
+    ensures cause { HasCause (S.faults src.old) (S.faults src.new) result }
+{
+    let mut block = Block::zero();
+    src.read(n, &mut block)?;
+    Ok(block)
+}
+
+/// The blocks of an image that a bitmap marks used and that are reserved, ascending, but for block 16.
+pub fn read_reserved<S: BlockSource>(
+    alloc: Global,
+    src: &mut S,
+    used: &Bitmap,
+) -> Result<Vec<Saved>, VolAnswer>
+    requires inside { length used.now ≤ S.size src.old }
+    ensures kept { S.kept src.old src.new }
+    ensures cause { HasCauseOf VolAnswer.Fault (S.faults src.old) (S.faults src.new) result }
+    ensures answers { IfErr result (λ e. (e ≡ VolAnswer.Fault) ⊎ (e ≡ VolAnswer.Memory)) }
+    ensures apart { IfOk result (λ saved. GoApart saved.items) }
+    ensures marked { IfOk result (λ saved. All (λ s. (has used.now s.at ≡ true) × (s.at ≢ 16)) saved.items) }
+    ensures saved { OverTold S.tells (S.blocks src.old) (λ image. IfOk result (λ saved.
+        AreSaved image (filter (λ b. not (b == 16)) (filter (λ b. is_reserved b (length used.now)) (used_blocks used.now))) saved.items)) }
+{
+    let end = used.len();
+    let mut saved = Vec::new(alloc);
+    let mut at = used.next_used(0, end);
+    while at < end {
+        if at != SUPERBLOCK && is_reserved(at, end) {
+            let block = read_block(src, at)?;
+            add(&mut saved, Saved { at, block })?;
+        }
+        at = used.next_used(at + 1, end);
+    }
+    Ok(saved)
+}
+
+/// Appends a block.
+fn add(saved: &mut Vec<Saved>, block: Saved) -> Result<(), Memory>
+    ensures { OnOk result (saved.new.items ≡ saved.old.items ++ block ∷ []) }
+{
+    saved.push(block)?;
+    Ok(())
+}
+
+/// How many blocks a bitmap marks used that are reserved.
+pub fn count_reserved(used: &Bitmap) -> u64
+    ensures { result ≡ length (filter (λ b. is_reserved b (length used.now)) (used_blocks used.now)) }
+{
+    let end = used.len();
+    let mut count = 0;
+    let mut at = used.next_used(0, end);
+    while at < end {
+        if is_reserved(at, end) {
+            count += 1;
+        }
+        at = used.next_used(at + 1, end);
+    }
+    count
+}

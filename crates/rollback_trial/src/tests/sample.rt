@@ -1,0 +1,89 @@
+// A volume of 2,048 blocks in memory: a superblock, a bitmap that marks blocks 0 to 51, an empty journal of 32 blocks
+// with its header in block 50, and a tree that is one leaf, block 51, with an empty root directory.
+ghost use Rattle.std.specs.Prelude.{◌≡◌, ◌+◌, ◌<◌, ◌≤◌, None, IfOk, length};
+
+use outside::Memory;
+use outside_mem::MemDisk;
+use std::alloc::Global;
+use vol_block::{Block, BlockNo, put_u16, put_u32, put_u64};
+
+/// The superblock of the sample.
+fn superblock() -> Block {
+    let mut block = Block::zero();
+    let bytes = &mut block.bytes;
+    put_u32(bytes, 0, 2048);
+    put_u32(bytes, 4, 1996);
+    put_u32(bytes, 8, 51);
+    put_u32(bytes, 12, 18);
+    put_u32(bytes, 20, 32);
+    put_u16(bytes, 44, 4096);
+    put_u16(bytes, 50, 1);
+    bytes[52..61].copy_from_slice(b"ReIsEr3Fs");
+    put_u16(bytes, 68, 2);
+    block
+}
+
+/// The heads of the root directory's stat item and of its directory item, as mkfs.reiserfs writes them.
+const HEADS: [u8; 48] = [
+    0x01, 0x00, 0x00, 0x00, 0x02, 0x00, 0x00, 0x00, 0x00, 0x00, 0x00, 0x00, 0x00, 0x00, 0x00, 0x00,
+    0x00, 0x00, 0x2c, 0x00, 0xd4, 0x0f, 0x01, 0x00, 0x01, 0x00, 0x00, 0x00, 0x02, 0x00, 0x00, 0x00,
+    0x01, 0x00, 0x00, 0x00, 0xf4, 0x01, 0x00, 0x00, 0x02, 0x00, 0x30, 0x00, 0xa4, 0x0f, 0x00, 0x00,
+];
+
+/// The entries `.` and `..`.
+const ENTRIES: [u8; 48] = [
+    0x01, 0x00, 0x00, 0x00, 0x01, 0x00, 0x00, 0x00, 0x02, 0x00, 0x00, 0x00, 0x28, 0x00, 0x04, 0x00,
+    0x02, 0x00, 0x00, 0x00, 0x00, 0x00, 0x00, 0x00, 0x01, 0x00, 0x00, 0x00, 0x20, 0x00, 0x04, 0x00,
+    0x2e, 0x2e, 0x00, 0x00, 0x00, 0x00, 0x00, 0x00, 0x2e, 0x00, 0x00, 0x00, 0x00, 0x00, 0x00, 0x00,
+];
+
+/// The seconds of all times of the sample.
+const MOMENT: u32 = 1_000_000_000;
+
+/// The leaf that is the tree of the sample.
+fn root_leaf() -> Block {
+    let mut block = Block::zero();
+    let bytes = &mut block.bytes;
+    put_u16(bytes, 0, 1);
+    put_u16(bytes, 2, 2);
+    put_u16(bytes, 4, 3932);
+    bytes[24..72].copy_from_slice(&HEADS);
+    bytes[4004..4052].copy_from_slice(&ENTRIES);
+    put_u16(bytes, 4052, 0o40755);
+    put_u32(bytes, 4056, 2);
+    put_u64(bytes, 4060, 48);
+    put_u32(bytes, 4076, MOMENT);
+    put_u32(bytes, 4080, MOMENT);
+    put_u32(bytes, 4084, MOMENT);
+    put_u32(bytes, 4088, 1);
+    block
+}
+
+/// The sample on a disk of so many blocks.
+pub fn sample(alloc: Global, blocks: u64) -> Result<MemDisk, Memory>
+    requires { 2048 ≤ blocks }
+    ensures size { IfOk result (λ d. length d.history.start ≡ blocks) }
+    ensures closed { IfOk result (λ d. d.opened ≡ None) }
+{
+    let mut disk = MemDisk::new(alloc, blocks)?;
+    disk.set_block(16, &superblock())?;
+    let mut bitmap = Block::zero();
+    bitmap.bytes[..6].copy_from_slice(&[0xff; 6]);
+    bitmap.bytes[6] = 0x0f;
+    disk.set_block(17, &bitmap)?;
+    disk.set_block(51, &root_leaf())?;
+    Ok(disk)
+}
+
+/// Puts other bytes at a place of a block.
+pub fn change(disk: &mut MemDisk, n: BlockNo, at: usize, bytes: &[u8]) -> Result<(), Memory>
+    requires block { n < length disk.old.history.start }
+    requires inside { at + length bytes.now ≤ 4096 }
+    ensures closed { disk.new.opened ≡ disk.old.opened }
+    ensures size { length disk.new.history.start ≡ length disk.old.history.start }
+{
+    let mut block = Block::zero();
+    disk.block(n, &mut block);
+    block.bytes[at..at + bytes.len()].copy_from_slice(bytes);
+    disk.set_block(n, &block)
+}
