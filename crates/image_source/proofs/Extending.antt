@@ -7,7 +7,7 @@ use Rattle.btr_walk.specs.Events.{TreeItem}
 use Rattle.btr_walk.specs.declared.map.MapRange.{MapRange}
 use Rattle.path_list.proofs.Lists.{at_head, head_or_tail}
 use Rattle.image_source.specs.Extents.{TellsRange}
-use Rattle.image_source.specs.Using.{HoldsExtent, LieIn, TellsReserved, item_range}
+use Rattle.saved_volume.specs.Using.{HoldsExtent, LieIn, TellsReserved, item_range}
 use Rattle.image_source.proofs.Placed.{no_some, some_is}
 
 module _ (ranges : List MapRange) (blocks : ℕ) (items : List TreeItem) (i : TreeItem) where

@@ -28,7 +28,7 @@ use Rattle.btr_walk.proofs.Events.{leaf_nodes, nodes_in-append}
 use Rattle.btr_walk.proofs.Walking.{breaks, mapped_breaks, unmapped_breaks}
 use Rattle.path_list.proofs.Lists.{from_flat_map, from_map, head_or_tail, in_flat_map, in_map}
 use Rattle.image_source.specs.Nodes.{below_faults, below_nodes, own_faults}
-use Rattle.image_source.specs.Using.{HoldsNode, LieIn, TellsReserved}
+use Rattle.saved_volume.specs.Using.{HoldsNode, LieIn, TellsReserved}
 
 rule_at : (address : ℕ) (rules : List BtrRule) (rule : BtrRule) → Contains rules rule → Contains (at_address address rules) (BadBtrfs address rule)
 rule_at address rules rule among = in_map (λ (r : BtrRule). BadBtrfs address r) rules rule among

@@ -4,7 +4,7 @@ use Rattle.std.specs.List.{range_with_len}
 use Rattle.std.proofs.lemmas.List.{ext_get_or}
 use Rattle.std.proofs.lemmas.List.FromFn.{get_or-map-range_with_len, length-map-range_with_len}
 use Rattle.outside.specs.History.{Image, block_at}
-use Rattle.image_source.specs.Saved.{block_or_hole, blocks_by, file_blocks, image_blocks, saved_file, saved_place}
+use Rattle.saved_volume.specs.Saved.{block_or_hole, blocks_by, file_blocks, image_blocks, saved_file, saved_place}
 
 module _ (place : ℕ → Option ℕ) (n : ℕ) (disk : Image) where
   pub length_by : length (blocks_by place n disk) ≡ min n (length disk)

@@ -11,7 +11,7 @@ use Rattle.btr_walk.specs.Map.{holds, place}
 use Rattle.btr_walk.specs.declared.map.MapRange.{MapRange}
 use Rattle.btr_walk.proofs.Mapping.{holds_bounds}
 use Rattle.image_source.specs.Reserved.{IsBetween, IsMapApart, LieInRange, TellsBetween}
-use Rattle.image_source.specs.Using.{LieIn, TellsReserved}
+use Rattle.saved_volume.specs.Using.{LieIn, TellsReserved}
 use Rattle.image_source.proofs.Placed.{no_some, some_is}
 
 -- ---- reserved blocks between two

@@ -5,7 +5,7 @@ use Rattle.reiser_bitmap.specs.Bits.{has}
 use Rattle.reiser_bitmap.specs.Next.{next_used}
 use Rattle.reiser_bitmap.proofs.Ends.{IsEnd, end_facts}
 use Rattle.vol_block.specs.Volume.{is_reserved}
-use Rattle.image_source.specs.Moved.{IsOld}
+use Rattle.saved_volume.specs.Moved.{IsOld}
 
 is_used : (t : Bool) → not t ≡ false → t ≡ true
 is_used true is = refl

@@ -13,7 +13,7 @@ use Rattle.btr_reader.specs.Image.{block_from, content_block, file_block}
 use Rattle.btr_walk.specs.Events.{TreeItem}
 use Rattle.btr_walk.specs.Map.{place}
 use Rattle.btr_walk.specs.declared.map.MapRange.{MapRange}
-use Rattle.image_source.specs.Using.{LieIn}
+use Rattle.saved_volume.specs.Using.{LieIn}
 
 pub some_is : {X : Type 0} (x y : X) → (Some x ≡ Some y) → x ≡ y
 some_is x y h = cc h

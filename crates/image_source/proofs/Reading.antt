@@ -4,7 +4,7 @@ use Rattle.outside.specs.History.{Image, block_at}
 use Rattle.vol_block.specs.Volume.{zeros}
 use Rattle.btr_reader.specs.Pieces.{map_place}
 use Rattle.btr_reader.specs.declared.image_map.ImageMap.{ImageMap}
-use Rattle.image_source.specs.Saved.{block_or_hole, blocks_by_map}
+use Rattle.saved_volume.specs.Saved.{block_or_hole, blocks_by_map}
 use Rattle.image_source.proofs.Images.{block_by}
 
 module _ (m : ImageMap) (disk : Image) (n : ℕ) (inside : n < min m.blocks (length disk)) where

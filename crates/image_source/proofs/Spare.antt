@@ -24,11 +24,11 @@ use Rattle.metadata_laws.specs.Apart.{AreExtentsApart, AreNodesApart, IsApart, I
 use Rattle.path_list.proofs.Lists.{from_filter}
 use Rattle.reiser_volume.specs.Volume.{superblock}
 use Rattle.image_source.specs.Laws.{is_spare}
-use Rattle.image_source.specs.Saved.{image_blocks}
-use Rattle.image_source.specs.Untouched.{IsUntouched}
+use Rattle.saved_volume.specs.Saved.{image_blocks}
+use Rattle.saved_volume.specs.Untouched.{IsUntouched}
 use Rattle.image_source.proofs.Placed.{has_block, no_some}
 use Rattle.image_source.proofs.Reaching.{reached}
-use Rattle.image_source.specs.Using.{HoldsExtent, HoldsNode, HoldsNodeOf, HoldsPartOf, IsInFiles, IsInUse, LieIn, chunk_node, content_range, file_part, file_pointer, file_trees, item_range, named_by, numbered, root_node, tree_if}
+use Rattle.saved_volume.specs.Using.{HoldsExtent, HoldsNode, HoldsNodeOf, HoldsPartOf, IsInFiles, IsInUse, LieIn, chunk_node, content_range, file_part, file_pointer, file_trees, item_range, named_by, numbered, root_node, tree_if}
 
 -- an element of a list by its place
 at_place : {X : Type 0} (xs : List X) (k : ℕ) (d : X) → k < length xs → Contains xs (get_or xs k d)

@@ -24,10 +24,10 @@ use Rattle.metadata_laws.proofs.Volumes.{both, items_same, roots_same}
 use Rattle.reiser_volume.specs.Volume.{IsAccepted, superblock, used_of}
 use Rattle.vol_block.specs.Volume.{IsReserved}
 use Rattle.image_source.specs.Laws.{IsSameUntouched, SpareBlocksDecideNothing, is_spare}
-use Rattle.image_source.specs.Moved.{IsOld}
-use Rattle.image_source.specs.Saved.{block_or_hole, blocks_by, file_blocks, image_blocks, place_by_file, saved_file, saved_place}
-use Rattle.image_source.specs.Untouched.{IsUntouched, old_used}
-use Rattle.image_source.specs.Using.{HoldsExtent, HoldsNode, HoldsNodeOf, HoldsPartOf, IsInFiles, IsInUse, IsReservedFree, chunk_node, file_part, file_pointer, file_trees, named_by, numbered, root_node, tree_if}
+use Rattle.saved_volume.specs.Moved.{IsOld}
+use Rattle.saved_volume.specs.Saved.{block_or_hole, blocks_by, file_blocks, image_blocks, place_by_file, saved_file, saved_place}
+use Rattle.saved_volume.specs.Untouched.{IsUntouched, old_used}
+use Rattle.saved_volume.specs.Using.{HoldsExtent, HoldsNode, HoldsNodeOf, HoldsPartOf, IsInFiles, IsInUse, IsReservedFree, chunk_node, file_part, file_pointer, file_trees, named_by, numbered, root_node, tree_if}
 use Rattle.image_source.proofs.Images.{block_by, length_by}
 use Rattle.image_source.proofs.Spare.{chunks_apart, file_nodes_apart, roots_apart, untouched_apart}
 

@@ -27,7 +27,7 @@ use Rattle.btr_walk.specs.declared.tree.Tree.{Tree}
 use Rattle.path_list.proofs.Lists.{at_head, head_or_tail}
 use Rattle.image_source.specs.Nodes.{below_faults}
 use Rattle.image_source.specs.Trees.{FindsNumbered, FindsSaved}
-use Rattle.image_source.specs.Using.{HoldsExtent, HoldsNodeOf, HoldsPartOf, IsInFiles, TellsReserved, file_trees, named_by, numbered, tree_if}
+use Rattle.saved_volume.specs.Using.{HoldsExtent, HoldsNodeOf, HoldsPartOf, IsInFiles, TellsReserved, file_trees, named_by, numbered, tree_if}
 use Rattle.image_source.proofs.Placed.{no_some, some_is}
 use Rattle.image_source.proofs.Reaching.{at_root, there}
 

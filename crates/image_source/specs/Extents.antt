@@ -2,7 +2,7 @@
 use Rattle.std.specs.Prelude.{◌≡◌, ℕ, ◌+◌, List, Option, Some, None}
 use Rattle.btr_keys.specs.declared.file_extent.DiskRange.{DiskRange}
 use Rattle.btr_walk.specs.declared.map.MapRange.{MapRange}
-use Rattle.image_source.specs.Using.{LieIn, TellsReserved}
+use Rattle.saved_volume.specs.Using.{LieIn, TellsReserved}
 
 -- a reserved block in which the bytes of a range lie, if there is a range
 abbrev pub TellsRange : List MapRange → ℕ → Option DiskRange → Option ℕ → Type 0

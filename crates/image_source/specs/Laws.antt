@@ -5,8 +5,8 @@ use Rattle.vol_block.specs.Volume.{is_reserved}
 use Rattle.metadata_laws.specs.Apart.{IsSameOutside}
 use Rattle.metadata_laws.specs.Laws.{IsSameBtrfs}
 use Rattle.reiser_volume.specs.Volume.{superblock}
-use Rattle.image_source.specs.Saved.{image_blocks}
-use Rattle.image_source.specs.Untouched.{IsUntouched}
+use Rattle.saved_volume.specs.Saved.{image_blocks}
+use Rattle.saved_volume.specs.Untouched.{IsUntouched}
 
 -- the block is reserved on the old volume, and not that of the superblock
 abbrev pub is_spare : Image → ℕ → Bool

@@ -9,7 +9,7 @@ ghost use Rattle.btr_walk.specs.Events.{TreeItem};
 ghost use Rattle.btr_walk.specs.Walks.{IsAmong, IsBadOrFailed, LieOn, found, wrong};
 ghost use Rattle.image_source.specs.Extents.{TellsRange};
 ghost use Rattle.image_source.specs.Reserved.{IsMapApart};
-ghost use Rattle.image_source.specs.Using.{HoldsExtent, TellsReserved, content_range, item_range, range_unless_hole};
+ghost use Rattle.saved_volume.specs.Using.{HoldsExtent, TellsReserved, content_range, item_range, range_unless_hole};
 
 use crate::reserved::reserved_in;
 use btr_files::is_hole;
@@ -65,7 +65,7 @@ struct ReservedExtent<'a> {
 impl Notes for ReservedExtent<'_> {
     ghost use Rattle.std.specs.Prelude.{◌≡◌};
     ghost use Rattle.image_source.specs.Reserved.{IsMapApart};
-    ghost use Rattle.image_source.specs.Using.{HoldsExtent, TellsReserved};
+    ghost use Rattle.saved_volume.specs.Using.{HoldsExtent, TellsReserved};
 
     ghost holds = { λ begun noted items. (noted.ranges.now ≡ begun.ranges.now) × (noted.blocks ≡ begun.blocks)
         × (IsMapApart noted.ranges.now → TellsReserved (HoldsExtent items noted.ranges.now) noted.blocks noted.found) };

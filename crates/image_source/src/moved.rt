@@ -1,7 +1,7 @@
 // Whether blocks of the old volume were moved.
 ghost use Rattle.std.specs.Prelude.{◌≡◌, ◌≢◌, Some, false, IsTrue};
 ghost use Rattle.vol_block.specs.Volume.{is_reserved};
-ghost use Rattle.image_source.specs.Moved.{TellsMoved};
+ghost use Rattle.saved_volume.specs.Moved.{TellsMoved};
 ghost use Rattle.btr_reader.specs.Pieces.{map_place};
 
 use btr_reader::ImageMap;

@@ -11,7 +11,7 @@ ghost use Rattle.btr_walk.specs.declared.tree.Pointer.{Pointer as PointerOf};
 ghost use Rattle.btr_walk.specs.Walks.{IsAmong, IsBadOrFailed, LieOn, wrong};
 ghost use Rattle.image_source.specs.Nodes.{below_faults, below_nodes, own_faults};
 ghost use Rattle.image_source.specs.Reserved.{IsMapApart};
-ghost use Rattle.image_source.specs.Using.{HoldsNode, HoldsNodeOf, TellsReserved};
+ghost use Rattle.saved_volume.specs.Using.{HoldsNode, HoldsNodeOf, TellsReserved};
 
 use crate::blocks::{read_node, zeroed};
 use crate::reserved::reserved_in;

@@ -2,7 +2,7 @@
 ghost use Rattle.std.specs.Prelude.{◌≤◌, ◌<◌, ◌^◌};
 ghost use Rattle.vol_block.specs.Volume.{IsReserved};
 ghost use Rattle.image_source.specs.Reserved.{IsMapApart, LieInRange, TellsBetween};
-ghost use Rattle.image_source.specs.Using.{LieIn, TellsReserved};
+ghost use Rattle.saved_volume.specs.Using.{LieIn, TellsReserved};
 
 use btr_walk::MapRange;
 use vol_block::{BlockNo, usable_end};

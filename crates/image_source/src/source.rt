@@ -5,7 +5,7 @@ ghost use Rattle.std.proofs.lemmas.List.FromFn.{length-map-range_with_len};
 ghost use Rattle.outside.specs.History.{Image};
 ghost use Rattle.btr_reader.specs.Pieces.{map_place};
 ghost use Rattle.btr_reader.specs.declared.image_map.ImageMap.{ImageMap as MapOf};
-ghost use Rattle.image_source.specs.Saved.{block_or_hole, blocks_by_map};
+ghost use Rattle.saved_volume.specs.Saved.{block_or_hole, blocks_by_map};
 
 use btr_reader::ImageMap;
 use outside::{BlockSource, Fault};

@@ -11,7 +11,7 @@ ghost use Rattle.btr_reader.specs.Reading.{IsWalkable};
 ghost use Rattle.btr_reader.specs.Volume.{IsVolumeOn};
 ghost use Rattle.btr_walk.specs.Walks.{IsAmong, IsBadOrFailed, LieOn, wrong};
 ghost use Rattle.image_source.specs.Reserved.{IsMapApart};
-ghost use Rattle.image_source.specs.Using.{HoldsPartOf, IsInFiles, IsInUse, RefusesUse, TellsReserved};
+ghost use Rattle.saved_volume.specs.Using.{HoldsPartOf, IsInFiles, IsInUse, RefusesUse, TellsReserved};
 
 use crate::extents::reserved_extent;
 use crate::nodes::reserved_node;

@@ -8,13 +8,13 @@ use Rattle.reiser_bitmap.specs.Bits.{has, used_blocks}
 use Rattle.outside.specs.History.{Image, block_at}
 use Rattle.vol_block.specs.Volume.{is_reserved, zeros}
 use Rattle.convert_steps.specs.Switch.{IsMirror}
-use Rattle.image_source.specs.Moved.{IsOld}
-use Rattle.image_source.specs.Saved.{block_or_hole, image_blocks, saved_place}
+use Rattle.saved_volume.specs.Moved.{IsOld}
+use Rattle.saved_volume.specs.Saved.{block_or_hole, image_blocks, saved_place}
 use Rattle.image_source.proofs.Images.{image_block}
 use Rattle.reiser_bitmap.proofs.SystemBlocks.{superblock_in}
 use Rattle.reiser_volume.proofs.Holding.{used_length}
 use Rattle.reiser_volume.specs.Volume.{superblock}
-use Rattle.image_source.specs.Untouched.{IsUntouched, old_used}
+use Rattle.saved_volume.specs.Untouched.{IsUntouched, old_used}
 use Rattle.rollback_steps.specs.Prepared.{IsPrepared}
 use Rattle.rollback_steps.specs.RolledBack.{IsBack, IsRestored, IsRolledBack, IsStanding, is_wiped, restored_blocks}
 use Rattle.way_back.specs.Writing.{AreApart, AreWiped, IsPlace, IsTurned, IsUnturned, IsWiped, IsWiping}

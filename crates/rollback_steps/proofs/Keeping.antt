@@ -5,8 +5,8 @@ use Rattle.std.proofs.lemmas.Bool.Decides.{nat_tests}
 use Rattle.outside.specs.History.{Image, block_at}
 use Rattle.convert_steps.specs.Switch.{IsMirror}
 use Rattle.image_source.specs.Laws.{IsSameUntouched, is_spare}
-use Rattle.image_source.specs.Saved.{image_blocks}
-use Rattle.image_source.specs.Untouched.{IsUntouched, old_used}
+use Rattle.saved_volume.specs.Saved.{image_blocks}
+use Rattle.saved_volume.specs.Untouched.{IsUntouched, old_used}
 use Rattle.image_source.proofs.Images.{image_short}
 use Rattle.image_source.proofs.Staying.{spare_blocks_decide_nothing}
 use Rattle.metadata_laws.specs.Apart.{IsSameOutside}

@@ -11,10 +11,10 @@ use Rattle.outside.specs.declared.refusal.VolumeRefusal.TheVariants.{NotVolume}
 use Rattle.vol_block.specs.Volume.{IsReserved}
 use Rattle.vol_block.specs.declared.format.Format.TheVariants.{Btrfs, Neither, Reiser}
 use Rattle.btr_reader.specs.Parts.{IsBtrfsRefusal, SavedImage, Tree, log_tree}
-use Rattle.image_source.specs.Moved.{AreInPlace, IsMoved}
-use Rattle.image_source.specs.Saved.{IsImageMissing, image_blocks, saved_place}
-use Rattle.image_source.specs.Untouched.{IsReadWhole, old_used}
-use Rattle.image_source.specs.Using.{IsInUse}
+use Rattle.saved_volume.specs.Moved.{AreInPlace, IsMoved}
+use Rattle.saved_volume.specs.Saved.{IsImageMissing, image_blocks, saved_place}
+use Rattle.saved_volume.specs.Untouched.{IsReadWhole, old_used}
+use Rattle.saved_volume.specs.Using.{IsInUse}
 use Rattle.reiser_volume.specs.Volume.{IsAccepted, IsRefusal, superblock}
 
 -- What is wrong with what is read of the volume. A log tree comes before all that is wrong but with the superblock.

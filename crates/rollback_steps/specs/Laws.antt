@@ -4,8 +4,8 @@ use Rattle.outside.specs.History.{Image}
 use Rattle.outside.specs.declared.answer.Answer.{Answer}
 use Rattle.outside.specs.declared.answer.Answer.TheVariants as answer
 use Rattle.image_source.specs.Laws.{IsSameUntouched}
-use Rattle.image_source.specs.Saved.{image_blocks}
-use Rattle.image_source.specs.Untouched.{IsUntouched}
+use Rattle.saved_volume.specs.Saved.{image_blocks}
+use Rattle.saved_volume.specs.Untouched.{IsUntouched}
 use Rattle.reiser_volume.specs.Laws.{IsSameVolume}
 use Rattle.rollback_steps.specs.Answers.{RefusesRollback}
 use Rattle.rollback_steps.specs.Prepared.{IsPrepared}

@@ -9,8 +9,8 @@ use Rattle.btr_reader.specs.Pieces.{map_place}
 use Rattle.btr_reader.specs.Volume.{IsVolumeOn}
 use Rattle.btr_reader.specs.declared.image_map.ImageMap.{ImageMap}
 use Rattle.btr_reader.specs.declared.volume.Btrfs.{Btrfs as Opened}
-use Rattle.image_source.specs.Saved.{blocks_by_map, image_blocks, saved_place}
-use Rattle.image_source.specs.Untouched.{old_used}
+use Rattle.saved_volume.specs.Saved.{blocks_by_map, image_blocks, saved_place}
+use Rattle.saved_volume.specs.Untouched.{old_used}
 use Rattle.reiser_volume.specs.declared.volume.Volume.{Volume}
 use Rattle.rollback_steps.specs.Answers.{HasImage, HasVolume}
 

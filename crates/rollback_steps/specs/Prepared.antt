@@ -9,8 +9,8 @@ use Rattle.outside.specs.declared.answer.BtrAnswer.TheVariants as btrfs
 use Rattle.outside.specs.declared.answer.VolAnswer.{VolAnswer}
 use Rattle.outside.specs.declared.answer.VolAnswer.TheVariants as reiser
 use Rattle.vol_block.specs.declared.format.Format.TheVariants.{Btrfs}
-use Rattle.image_source.specs.Saved.{image_blocks}
-use Rattle.image_source.specs.Untouched.{IsUntouched}
+use Rattle.saved_volume.specs.Saved.{image_blocks}
+use Rattle.saved_volume.specs.Untouched.{IsUntouched}
 use Rattle.rollback_steps.specs.RolledBack.{is_wiped, restored_blocks, summary}
 use Rattle.way_back.specs.declared.way.Saved.{Saved}
 use Rattle.way_back.specs.declared.way.WayBack.{WayBack}

@@ -4,8 +4,8 @@ use Rattle.outside.specs.History.{Image, block_at}
 use Rattle.vol_block.specs.Format.{has_bytes_at}
 use Rattle.vol_block.specs.Volume.{is_reserved, zeros}
 use Rattle.convert_steps.specs.Switch.{IsMirror}
-use Rattle.image_source.specs.Saved.{image_blocks}
-use Rattle.image_source.specs.Untouched.{IsUntouched, old_used}
+use Rattle.saved_volume.specs.Saved.{image_blocks}
+use Rattle.saved_volume.specs.Untouched.{IsUntouched, old_used}
 use Rattle.object_files.specs.Laws.{SameUsed}
 use Rattle.reiser_bitmap.specs.Bits.{has, used_blocks}
 use Rattle.way_back.specs.declared.way.RollbackSummary.{RollbackSummary}

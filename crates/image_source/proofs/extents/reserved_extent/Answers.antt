@@ -2,7 +2,7 @@ use Rattle.std.proofs.Common.{◌≡◌, ℕ, List, subst}
 use Rattle.btr_walk.specs.Walks.{found}
 use Rattle.btr_walk.specs.declared.map.MapRange.{MapRange}
 use Rattle.image_source.specs.Reserved.{IsMapApart}
-use Rattle.image_source.specs.Using.{HoldsExtent, TellsReserved}
+use Rattle.saved_volume.specs.Using.{HoldsExtent, TellsReserved}
 use Rattle.image_source.proofs.extents.reserved_extent.Goals as goal
 
 pub returns-clause-told : goal.returns-clause-told

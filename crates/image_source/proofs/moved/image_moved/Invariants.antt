@@ -1,6 +1,6 @@
 use Rattle.std.proofs.Common.{◌-◌, ◌≡◌, ◌≤◌, ◌<◌, ℕ, Some, true, length}
 use Rattle.btr_reader.specs.Pieces.{map_place}
-use Rattle.image_source.specs.Moved.{IsOld}
+use Rattle.saved_volume.specs.Moved.{IsOld}
 use Rattle.reiser_bitmap.specs.Bits.{has}
 use Rattle.image_source.proofs.moved.image_moved.Given as goal
 

@@ -8,7 +8,7 @@ use Rattle.outside.specs.declared.answer.BtrAnswer.{BtrAnswer}
 use Rattle.btr_walk.specs.Walks.{IsAmong}
 use Rattle.btr_walk.specs.declared.tree.Pointer.{Pointer}
 use Rattle.image_source.specs.Nodes.{below_faults, below_nodes, own_faults}
-use Rattle.image_source.specs.Using.{HoldsNode, TellsReserved}
+use Rattle.saved_volume.specs.Using.{HoldsNode, TellsReserved}
 use Rattle.image_source.proofs.Faults.{child_is, inner_nodes, kid_among, kid_holds, leaf_none, node_among, none_below, own_among}
 use Rattle.image_source.proofs.nodes.+reserved_below.Goals as goal
 

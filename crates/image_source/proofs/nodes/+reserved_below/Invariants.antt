@@ -3,7 +3,7 @@ use Rattle.outside.specs.History.{Image}
 use Rattle.btr_walk.specs.declared.tree.Pointer.{Pointer}
 use Rattle.image_source.specs.Nodes.{below_nodes}
 use Rattle.image_source.specs.Reserved.{IsMapApart}
-use Rattle.image_source.specs.Using.{HoldsNode, TellsReserved}
+use Rattle.saved_volume.specs.Using.{HoldsNode, TellsReserved}
 use Rattle.image_source.proofs.nodes.+reserved_below.Given as goal
 
 abbrev pub decreases-reserved_below : goal.decreases-reserved_below

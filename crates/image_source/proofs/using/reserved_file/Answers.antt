@@ -11,7 +11,7 @@ use Rattle.btr_walk.specs.declared.map.MapRange.{MapRange}
 use Rattle.btr_walk.specs.declared.tree.Tree.{Tree}
 use Rattle.image_source.specs.Reserved.{IsMapApart}
 use Rattle.image_source.specs.Trees.{FindsSaved}
-use Rattle.image_source.specs.Using.{HoldsPartOf, IsInFiles, TellsReserved}
+use Rattle.saved_volume.specs.Using.{HoldsPartOf, IsInFiles, TellsReserved}
 use Rattle.image_source.proofs.Telling.{alone_told, both_told, file_among, file_of, file_refused, file_told, files_told, match_so, no_file, no_trees, other_among, other_of, saved_refused, way_among}
 use Rattle.image_source.proofs.using.reserved_file.Goals as goal
 

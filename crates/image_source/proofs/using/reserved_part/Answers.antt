@@ -1,5 +1,5 @@
 use Rattle.std.proofs.Common.{◌≡◌, None, subst, ◌∙◌}
-use Rattle.image_source.specs.Using.{HoldsNodeOf, TellsReserved}
+use Rattle.saved_volume.specs.Using.{HoldsNodeOf, TellsReserved}
 use Rattle.image_source.proofs.Telling.{match_so, part_told}
 use Rattle.image_source.proofs.using.reserved_part.Goals as goal
 

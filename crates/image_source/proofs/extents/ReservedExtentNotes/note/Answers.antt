@@ -1,5 +1,5 @@
 use Rattle.std.proofs.Common.{◌≡◌, ℕ, None, Option, refl, sym, ◌∙◌, ap, subst}
-use Rattle.image_source.specs.Using.{HoldsExtent, TellsReserved, item_range}
+use Rattle.saved_volume.specs.Using.{HoldsExtent, TellsReserved, item_range}
 use Rattle.image_source.proofs.Extending.{found_more}
 use Rattle.image_source.proofs.extents.ReservedExtentNotes.note.Goals as goal
 

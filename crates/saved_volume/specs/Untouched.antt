@@ -3,9 +3,9 @@ use Rattle.std.specs.Prelude.{◌≡◌, List, Bool}
 use Rattle.outside.specs.History.{Image}
 use Rattle.btr_reader.specs.Parts.{HasBtrfsRows, IsReadable, SavedImage}
 use Rattle.reiser_volume.specs.Volume.{IsAccepted, superblock, used_of}
-use Rattle.image_source.specs.Moved.{AreInPlace}
-use Rattle.image_source.specs.Saved.{IsImageMissing, image_blocks, saved_place}
-use Rattle.image_source.specs.Using.{IsReservedFree}
+use Rattle.saved_volume.specs.Moved.{AreInPlace}
+use Rattle.saved_volume.specs.Saved.{IsImageMissing, image_blocks, saved_place}
+use Rattle.saved_volume.specs.Using.{IsReservedFree}
 
 -- the blocks that the old volume uses, by the bitmap in its image
 abbrev pub old_used : Image → List Bool

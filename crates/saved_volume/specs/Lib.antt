@@ -1,0 +1,4 @@
+pub mod Moved
+pub mod Saved
+pub mod Untouched
+pub mod Using
