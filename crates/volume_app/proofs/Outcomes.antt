@@ -20,10 +20,13 @@ use Rattle.convert_steps.specs.Prepared.{LacksSpace}
 use Rattle.rollback_core.specs.Answers.{RefusesRecover}
 use Rattle.rollback_core.specs.Recovered.{IsRecoverable}
 use Rattle.rollback_core.proofs.Keeping.{in_order_recovers}
+use Rattle.rollback_steps.specs.Answers.{RefusesRollback}
+use Rattle.rollback_steps.proofs.Refusals.{touched_by}
+use Rattle.saved_volume.specs.Untouched.{IsUntouched}
 use Rattle.unit_plan.specs.Choice.{HasEnoughSpace}
 use Rattle.unit_plan.specs.Needed.{need}
 use Rattle.unit_plan.specs.declared.options.Options.{Options}
-use Rattle.volume_app.specs.Command.{Asked, inspect, list, convert, recover, help, version}
+use Rattle.volume_app.specs.Command.{Asked, inspect, list, convert, recover, rollback, help, version}
 use Rattle.volume_app.specs.Ending.{status}
 use Rattle.reiser_volume.specs.Volume.{IsAccepted, used_of}
 use Rattle.reiser_volume.proofs.Refusals.{not_refused}
@@ -138,6 +141,20 @@ recover_done : (disk : Image) (answer : Answer) (disk_old disk_new : ℕ) → Is
 recover_done disk answer disk_old disk_new done refuses device same low =
     by_recovery disk answer disk_old disk_new (in_order_recovers disk answer done refuses) device same low
 
+-- what is answered of a volume that can be rolled back is no refusal
+rollback_done : (disk : Image) (answer : Answer) (disk_old disk_new : ℕ) → IsUntouched disk → RefusesRollback disk answer
+    → (answer ≡ Fault → Rose disk_old disk_new) → disk_new ≡ disk_old → disk_old < 2 ^ 64 - 1 → (status (Failed answer) ≡ 0) ⊎ (status (Failed answer) ≡ 4)
+rollback_done disk Fault disk_old disk_new done refuses device same low = absurd (not_risen disk_old disk_new same low (device refl))
+rollback_done disk Memory disk_old disk_new done refuses device same low = inr refl
+rollback_done disk (Volume refusal) disk_old disk_new done refuses device same low = absurd (touched_by disk (Volume refusal) refuses (λ is. cc) (λ is. cc) done)
+rollback_done disk (Btr refusal) disk_old disk_new done refuses device same low = absurd (touched_by disk (Btr refusal) refuses (λ is. cc) (λ is. cc) done)
+rollback_done disk (NoSpace needed free run_needed longest_run) disk_old disk_new done refuses device same low = absurd refuses
+rollback_done disk WrongFormat disk_old disk_new done refuses device same low = absurd (touched_by disk WrongFormat refuses (λ is. cc) (λ is. cc) done)
+rollback_done disk ImageMissing disk_old disk_new done refuses device same low = absurd (touched_by disk ImageMissing refuses (λ is. cc) (λ is. cc) done)
+rollback_done disk (ImageMoved block) disk_old disk_new done refuses device same low = absurd (touched_by disk (ImageMoved block) refuses (λ is. cc) (λ is. cc) done)
+rollback_done disk (ImageDamaged refusal) disk_old disk_new done refuses device same low = absurd (touched_by disk (ImageDamaged refusal) refuses (λ is. cc) (λ is. cc) done)
+rollback_done disk (ReservedUsed block) disk_old disk_new done refuses device same low = absurd (touched_by disk (ReservedUsed block) refuses (λ is. cc) (λ is. cc) done)
+
 failed_done : (ids : Ids) (now : ℕ) (asked : Option Asked) (disk : Image) (answer : Answer) (disk_old disk_new : ℕ) → (meaning ids now asked).is_done disk → (meaning ids now asked).answers disk answer
     → (answer ≡ Fault → Rose disk_old disk_new) → disk_new ≡ disk_old → disk_old < 2 ^ 64 - 1 → (status (Failed answer) ≡ 0) ⊎ (status (Failed answer) ≡ 4)
 failed_done ids now None disk answer disk_old disk_new done right device same low = absurd done
@@ -145,6 +162,7 @@ failed_done ids now (Some (inspect path)) disk answer disk_old disk_new done rig
 failed_done ids now (Some (list path)) disk answer disk_old disk_new done right device same low = list_done disk answer disk_old disk_new done right device same low
 failed_done ids now (Some (convert o path)) disk answer disk_old disk_new done right device same low = convert_done o disk answer disk_old disk_new done right device same low
 failed_done ids now (Some (recover path)) disk answer disk_old disk_new done right device same low = recover_done disk answer disk_old disk_new done right device same low
+failed_done ids now (Some (rollback path)) disk answer disk_old disk_new done right device same low = rollback_done disk answer disk_old disk_new done right device same low
 failed_done ids now (Some help) disk answer disk_old disk_new done right device same low = absurd right
 failed_done ids now (Some version) disk answer disk_old disk_new done right device same low = absurd right
 
@@ -154,6 +172,7 @@ usage_not_done ids now (Some (inspect path)) disk done usage = usage
 usage_not_done ids now (Some (list path)) disk done usage = usage
 usage_not_done ids now (Some (convert o path)) disk done usage = usage
 usage_not_done ids now (Some (recover path)) disk done usage = usage
+usage_not_done ids now (Some (rollback path)) disk done usage = usage
 usage_not_done ids now (Some help) disk done usage = usage
 usage_not_done ids now (Some version) disk done usage = usage
 

@@ -7,13 +7,14 @@ use Rattle.outside.specs.declared.disk.Access.{Access}
 use Rattle.outside.specs.declared.disk.Access.TheVariants.{Read, Write}
 use Rattle.unit_plan.specs.declared.options.Options.{Options}
 use Rattle.volume_app.specs.declared.command.Command.{Command}
-use Rattle.volume_app.specs.declared.command.Command.TheVariants.{Inspect, List as ListRows, Convert, Recover, Help, Version}
+use Rattle.volume_app.specs.declared.command.Command.TheVariants.{Inspect, List as ListRows, Convert, Recover, Rollback, Help, Version}
 
 pub data Asked : Type 0 where
   inspect : List ℕ → Asked
   list : List ℕ → Asked
   convert : Options → List ℕ → Asked
   recover : List ℕ → Asked
+  rollback : List ℕ → Asked
   help : Asked
   version : Asked
 
@@ -23,6 +24,7 @@ opens (inspect path) = Some (path, Read)
 opens (list path) = Some (path, Read)
 opens (convert o path) = Some (path, Write)
 opens (recover path) = Some (path, Write)
+opens (rollback path) = Some (path, Write)
 opens help = None
 opens version = None
 
@@ -35,7 +37,8 @@ abbrev pub named : List ℕ → List ℕ → Option Asked
 named name path =
     if bytes_eq name (codes "inspect") then Some (inspect path)
     else (if bytes_eq name (codes "list") then Some (list path)
-    else (if bytes_eq name (codes "recover") then Some (recover path) else None))
+    else (if bytes_eq name (codes "recover") then Some (recover path)
+    else (if bytes_eq name (codes "rollback") then Some (rollback path) else None)))
 
 -- the options of `convert`, and behind them a path
 abbrev pub converting : List (List ℕ) → List ℕ → Option Asked
@@ -62,6 +65,7 @@ seen (Inspect path) = inspect path.now
 seen (ListRows path) = list path.now
 seen (Convert path o) = convert o path.now
 seen (Recover path) = recover path.now
+seen (Rollback path) = rollback path.now
 seen Help = help
 seen Version = version
 
@@ -71,5 +75,6 @@ HasSize (Inspect path) = Unit {0}
 HasSize (ListRows path) = Unit {0}
 HasSize (Convert path o) = IsNodeSize o.nodesize
 HasSize (Recover path) = Unit {0}
+HasSize (Rollback path) = Unit {0}
 HasSize Help = Unit {0}
 HasSize Version = Unit {0}

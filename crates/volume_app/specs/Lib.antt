@@ -10,4 +10,5 @@ pub mod Meaning
 pub mod Outcome
 pub mod Recovering
 pub mod Reiser
+pub mod RollingBack
 pub mod Texts

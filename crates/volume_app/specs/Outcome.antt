@@ -7,12 +7,13 @@ use Rattle.outside.specs.declared.answer.Answer.TheVariants.{Fault, Memory}
 use Rattle.volume_app.specs.declared.ending.Ending.{Ending}
 use Rattle.volume_app.specs.declared.ending.Ending.TheVariants.{Done, Usage, Failed, OutputFault}
 use Rattle.vol_block.specs.declared.ids.Ids.{Ids}
-use Rattle.volume_app.specs.Command.{Asked, command, inspect, list, convert, recover, help, version}
+use Rattle.volume_app.specs.Command.{Asked, command, inspect, list, convert, recover, rollback, help, version}
 use Rattle.volume_app.specs.Converting.{convert_meaning}
 use Rattle.volume_app.specs.Ending.{status, error_line}
 use Rattle.volume_app.specs.Inspect.{inspect_meaning}
 use Rattle.volume_app.specs.Listing.{list_meaning}
 use Rattle.volume_app.specs.Recovering.{recover_meaning}
+use Rattle.volume_app.specs.RollingBack.{rollback_meaning}
 use Rattle.volume_app.specs.Meaning.{Meaning, says, no_command}
 use Rattle.volume_app.specs.Texts.{help_text, version_text}
 
@@ -23,6 +24,7 @@ meaning ids now (Some (inspect path)) = inspect_meaning
 meaning ids now (Some (list path)) = list_meaning
 meaning ids now (Some (convert o path)) = convert_meaning ids now o
 meaning ids now (Some (recover path)) = recover_meaning
+meaning ids now (Some (rollback path)) = rollback_meaning
 meaning ids now (Some help) = says help_text
 meaning ids now (Some version) = says version_text
 

@@ -16,6 +16,8 @@ pub enum Command<'a> {
     Convert(&'a str, Options),
     /// To finish what was interrupted on the volume at a path.
     Recover(&'a str),
+    /// To turn the Btrfs volume at a path back into the volume that it was made from.
+    Rollback(&'a str),
     /// To print how the program is called.
     Help,
     /// To print the program's version.
@@ -94,6 +96,7 @@ fn named<'a>(name: &str, path: &'a str) -> Option<Command<'a>>
         "inspect" => Some(Command::Inspect(path)),
         "list" => Some(Command::List(path)),
         "recover" => Some(Command::Recover(path)),
+        "rollback" => Some(Command::Rollback(path)),
         _ => None,
     }
 }

@@ -14,6 +14,7 @@ mod laws;
 mod list;
 mod recovering;
 mod reiser;
+mod rolling_back;
 #[cfg(test)]
 mod tests;
 mod texts;

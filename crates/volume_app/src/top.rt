@@ -10,6 +10,7 @@ use crate::ending::{Ending, printed};
 use crate::inspect::inspect_volume;
 use crate::list::list_volume;
 use crate::recovering::recover_volume;
+use crate::rolling_back::roll_back_volume;
 use crate::texts::{HELP, VERSION};
 use outside::{Disk, Sink};
 use std::alloc::Global;
@@ -87,6 +88,7 @@ fn perform<D: Disk, O: Sink>(
             convert_volume(alloc, path, ids, now, &options, disk, out)
         }
         Some(Command::Recover(path)) => recover_volume(alloc, path, disk, out),
+        Some(Command::Rollback(path)) => roll_back_volume(alloc, path, disk, out),
         Some(Command::Help) => printed(out.write(HELP)),
         Some(Command::Version) => printed(out.write(VERSION)),
     }

@@ -1,0 +1,30 @@
+use Rattle.std.proofs.Common.{ap}
+use Rattle.volume_app.specs.RollingBack.{rollback_meaning, rollback_text}
+use Rattle.volume_app.proofs.Outcomes.{no_fault_by}
+use Rattle.volume_app.proofs.Performing.{failed, ok_kept, performed, recovered_keeps}
+use Rattle.volume_app.proofs.rolling_back.roll_back_volume.Goals as goal
+
+pub returns-in-Ok : goal.returns-in-Ok
+returns-in-Ok g c =
+    rw c.printed.ensures
+    (performed rollback_meaning _ _ _ _ _ _ _ _ _ _ (rollback_text c.in-Ok.told) c.print_rolled_back.result
+    (λ told. (c.in-Ok.ensures.right (told tt)).0.untouched)
+    (λ told. ap rollback_text (c.in-Ok.ensures.right (told tt)).1)
+    (record {
+      unchanged = λ told keeps. absurd (recovered_keeps c.print_rolled_back.result keeps);
+      changed = λ told is. (c.in-Ok.ensures.right told).0;
+      settled = λ told settled is. c.in-Ok.ensures.settled told;
+      crash = c.roll_back.ensures.crash;
+    })
+    (ok_kept c.in-Ok.told _ _ c.in-Ok.ensures.cause) c.print_rolled_back.ensures.taken c.print_rolled_back.ensures.cause)
+
+pub returns-in-Err : goal.returns-in-Err
+returns-in-Err g c =
+    failed rollback_meaning _ _ _ _ _ _ _ _ _ c.in-Err.answer (λ told. c.in-Err.ensures.right (told tt)) c.in-Err.ensures.known (λ is. tt)
+    (record {
+      unchanged = λ told keeps. c.in-Err.ensures.refused told (no_fault_by c.in-Err.answer keeps);
+      changed = λ told is. absurd is;
+      settled = λ told settled is. absurd is;
+      crash = c.roll_back.ensures.crash;
+    })
+    c.in-Err.ensures.cause

@@ -1,0 +1,38 @@
+-- What `rollback` answers, prints and writes.
+use Rattle.std.specs.Prelude.{◌≡◌, ◌⊎◌, ℕ, List, [], ◌∷◌, codes, decimal}
+use Rattle.outside.specs.History.{Image}
+use Rattle.rollback_steps.specs.Answers.{IsRollbackAnswer, RefusesRollback}
+use Rattle.rollback_steps.specs.RolledBack.{IsLeft, IsRolledBack, summary}
+use Rattle.saved_volume.specs.Untouched.{IsUntouched}
+use Rattle.volume_app.specs.Meaning.{Meaning}
+use Rattle.volume_app.specs.Texts.{text_of_lines}
+use Rattle.way_back.specs.declared.way.RollbackSummary.{RollbackSummary}
+
+abbrev pub rollback_lines : RollbackSummary → List (List ℕ × List (List ℕ))
+rollback_lines told =
+    (codes "rolled", codes "back" ∷ codes "to" ∷ codes "reiserfs" ∷ [])
+    ∷ (codes "blocks", decimal told.blocks ∷ [])
+    ∷ (codes "restored", decimal told.restored ∷ [])
+    ∷ []
+
+abbrev pub rollback_text : RollbackSummary → List ℕ
+rollback_text told = text_of_lines (rollback_lines told)
+
+-- the text for a disk: how many blocks the old volume uses, and how many of them are restored
+abbrev pub IsRollbackText : Image → List ℕ → Type 0
+IsRollbackText disk text = text ≡ rollback_text (summary disk)
+
+-- What `rollback` means. Nothing is written where it is refused, memory is short, or the words are no command.
+abbrev pub rollback_meaning : Meaning
+rollback_meaning = record {
+  is_usage = ⊥;
+  asks_disk = Unit {0};
+  takes_memory = Unit {0};
+  is_done = IsUntouched;
+  is_text = IsRollbackText;
+  answers = RefusesRollback;
+  knows = IsRollbackAnswer;
+  keeps = λ status. (status ≡ 1) ⊎ ((status ≡ 2) ⊎ (status ≡ 4));
+  becomes = IsRolledBack;
+  leaves = IsLeft;
+}
