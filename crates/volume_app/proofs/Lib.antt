@@ -5,3 +5,5 @@ pub mod Listing
 pub mod OneText
 pub mod Outcomes
 pub mod Performing
+pub mod Promise
+pub mod Trees

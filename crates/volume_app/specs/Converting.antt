@@ -9,6 +9,7 @@ use Rattle.unit_plan.specs.declared.options.Options.{Options}
 use Rattle.vol_block.specs.declared.ids.Ids.{Ids}
 use Rattle.volume_app.specs.Meaning.{Meaning}
 use Rattle.volume_app.specs.Texts.{text_of_lines}
+use Rattle.volume_app.specs.Trees.{AreBlocks, IsConvertedTree, LeavesConvertedTree}
 
 abbrev pub convert_lines : ConvertSummary → List (List ℕ × List (List ℕ))
 convert_lines told =
@@ -27,6 +28,16 @@ convert_text told = text_of_lines (convert_lines told)
 abbrev pub IsConvertText : Options → Image → List ℕ → Type 0
 IsConvertText o disk text = (told : ConvertSummary) × IsSummary o disk told × (text ≡ convert_text told)
 
+-- the volume is converted, and its tree is as before
+pub record IsConvertedWhole (o : Options) (ids : Ids) (now : ℕ) (disk other : Image) : Type 0 where
+  pub converted : IsConverted o ids now disk other
+  pub tree : AreBlocks disk → IsConvertedTree disk other
+
+-- the old volume or the new one stands, with its tree
+pub record IsEitherWhole (o : Options) (ids : Ids) (now : ℕ) (disk other : Image) : Type 0 where
+  pub either : IsEither o ids now disk other
+  pub tree : AreBlocks disk → LeavesConvertedTree disk other
+
 -- What `convert` with these options means, for these identifiers and at this time. Nothing is written where the volume is refused,
 -- has too little space, or the words are no command.
 abbrev pub convert_meaning : Ids → ℕ → Options → Meaning
@@ -39,6 +50,6 @@ convert_meaning ids now o = record {
   answers = RefusesConvert o;
   knows = IsConvertAnswer;
   keeps = λ status. (status ≡ 1) ⊎ ((status ≡ 2) ⊎ (status ≡ 6));
-  becomes = IsConverted o ids now;
-  leaves = IsEither o ids now;
+  becomes = IsConvertedWhole o ids now;
+  leaves = IsEitherWhole o ids now;
 }

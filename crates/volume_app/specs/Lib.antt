@@ -3,6 +3,7 @@ pub mod Command
 pub mod Converting
 pub mod Ending
 pub mod Found
+pub mod Headline
 pub mod Inspect
 pub mod Laws
 pub mod Listing
@@ -12,3 +13,4 @@ pub mod Recovering
 pub mod Reiser
 pub mod RollingBack
 pub mod Texts
+pub mod Trees

@@ -8,6 +8,7 @@ use Rattle.vol_block.specs.declared.format.Format.{Format}
 use Rattle.vol_block.specs.declared.format.Format.TheVariants.{Reiser, Btrfs, Neither}
 use Rattle.volume_app.specs.Meaning.{Meaning}
 use Rattle.volume_app.specs.Texts.{text_of_lines}
+use Rattle.volume_app.specs.Trees.{KeepsTree}
 
 -- the word for a format; a disk that has neither is never recovered
 abbrev pub format_word : Format → List ℕ
@@ -28,6 +29,16 @@ recover_text told = text_of_lines (recover_lines told)
 abbrev pub IsRecoverText : Image → List ℕ → Type 0
 IsRecoverText disk text = text ≡ recover_text (summary disk)
 
+-- the volume is recovered, and its tree is as before
+pub record IsRecoveredWhole (disk other : Image) : Type 0 where
+  pub recovered : IsRecovered disk other
+  pub tree : KeepsTree disk other
+
+-- the volume stands, with its tree
+pub record IsLeftWhole (disk other : Image) : Type 0 where
+  pub left : IsLeft disk other
+  pub tree : KeepsTree disk other
+
 -- What `recover` means. Nothing is written where the volume is refused, memory is short, or the words are no command.
 abbrev pub recover_meaning : Meaning
 recover_meaning = record {
@@ -39,6 +50,6 @@ recover_meaning = record {
   answers = RefusesRecover;
   knows = IsRecoverAnswer;
   keeps = λ status. (status ≡ 1) ⊎ ((status ≡ 2) ⊎ (status ≡ 4));
-  becomes = IsRecovered;
-  leaves = IsLeft;
+  becomes = IsRecoveredWhole;
+  leaves = IsLeftWhole;
 }

@@ -6,6 +6,7 @@ use Rattle.rollback_steps.specs.RolledBack.{IsLeft, IsRolledBack, summary}
 use Rattle.saved_volume.specs.Untouched.{IsUntouched}
 use Rattle.volume_app.specs.Meaning.{Meaning}
 use Rattle.volume_app.specs.Texts.{text_of_lines}
+use Rattle.volume_app.specs.Trees.{IsRestoredTree, LeavesRestoredTree}
 use Rattle.way_back.specs.declared.way.RollbackSummary.{RollbackSummary}
 
 abbrev pub rollback_lines : RollbackSummary → List (List ℕ × List (List ℕ))
@@ -22,6 +23,16 @@ rollback_text told = text_of_lines (rollback_lines told)
 abbrev pub IsRollbackText : Image → List ℕ → Type 0
 IsRollbackText disk text = text ≡ rollback_text (summary disk)
 
+-- the volume is rolled back, and its tree is that of the saved image
+pub record IsRolledBackWhole (disk other : Image) : Type 0 where
+  pub rolled_back : IsRolledBack disk other
+  pub tree : IsRestoredTree disk other
+
+-- the Btrfs volume or the old one stands, with its tree
+pub record IsLeftWhole (disk other : Image) : Type 0 where
+  pub left : IsLeft disk other
+  pub tree : LeavesRestoredTree disk other
+
 -- What `rollback` means. Nothing is written where it is refused, memory is short, or the words are no command.
 abbrev pub rollback_meaning : Meaning
 rollback_meaning = record {
@@ -33,6 +44,6 @@ rollback_meaning = record {
   answers = RefusesRollback;
   knows = IsRollbackAnswer;
   keeps = λ status. (status ≡ 1) ⊎ ((status ≡ 2) ⊎ (status ≡ 4));
-  becomes = IsRolledBack;
-  leaves = IsLeft;
+  becomes = IsRolledBackWhole;
+  leaves = IsLeftWhole;
 }

@@ -8,14 +8,18 @@ ghost use Rattle.outside.specs.Fault.{HasCause, HasCauseOf, Takes};
 ghost use Rattle.outside.specs.History.{EachCrash, IsSettled, reads};
 ghost use Rattle.volume_app.specs.Converting.{convert_meaning, convert_text};
 ghost use Rattle.volume_app.specs.Outcome.{Performs};
+ghost use Rattle.volume_app.specs.Trees.{HasId};
+ghost use Rattle.space_items.specs.Laws.{AreIds};
 
 use crate::ending::{Ending, printed};
+use back_laws::{converted_volumes_go_back, crashes_go_back};
 use convert_core::ConvertSummary;
+use open_laws::converted_volumes_open;
 use outside::{Access, Answer, Disk, Fault, Sink};
 use sink_text::Piece::{Decimal, Plain};
 use sink_text::write_pieces;
 use std::alloc::Global;
-use unit_plan::Options;
+use unit_plan::{Options, UuidChoice};
 use vol_block::Ids;
 
 /// Converts the ReiserFS volume at a path, and prints what was done.
@@ -35,10 +39,29 @@ pub fn convert_volume<D: Disk, O: Sink>(
     ensures { Performs (convert_meaning ids.now now options.now) D.tells (D.history disk.old) (D.history disk.new) (D.faults disk.old) (D.faults disk.new)
         O.tells (O.taken out.old) (O.taken out.new) (O.faults out.old) (O.faults out.new) result }
 {
+    converted_volumes_open();
+    converted_volumes_go_back();
+    crashes_go_back();
+    know_ids(*ids);
+    know_id(options.uuid);
     match convert(alloc, path, ids, now, options, disk) {
         Ok(summary) => printed(print_summary(&summary, out)),
         Err(answer) => Ending::Failed(answer),
     }
+}
+
+/// Identifiers have 16 bytes each. It does nothing: its caller learns it by the contract.
+fn know_ids(ids: Ids)
+    ensures { AreIds ids }
+{
+    let _value = ids;
+}
+
+/// An identifier that is given has 16 bytes. It does nothing: its caller learns it by the contract.
+fn know_id(choice: UuidChoice)
+    ensures { HasId choice }
+{
+    let _value = choice;
 }
 
 /// Opens the disk at a path for writing, and converts its volume.

@@ -8,8 +8,9 @@ ghost use Rattle.volume_app.specs.Outcome.{Performs};
 ghost use Rattle.volume_app.specs.Recovering.{format_word, recover_meaning, recover_text};
 
 use crate::ending::{Ending, printed};
+use image_source::spare_blocks_decide_nothing;
 use outside::{Access, Answer, Disk, Fault, Sink};
-use rollback_core::RecoverSummary;
+use rollback_core::{RecoverSummary, recovery_keeps, recovery_opens};
 use sink_text::Piece::{Decimal, Plain};
 use sink_text::write_pieces;
 use std::alloc::Global;
@@ -27,6 +28,9 @@ pub fn recover_volume<D: Disk, O: Sink>(
     ensures { Performs recover_meaning D.tells (D.history disk.old) (D.history disk.new) (D.faults disk.old) (D.faults disk.new)
         O.tells (O.taken out.old) (O.taken out.new) (O.faults out.old) (O.faults out.new) result }
 {
+    recovery_keeps();
+    recovery_opens();
+    spare_blocks_decide_nothing();
     match recover(alloc, path, disk) {
         Ok(told) => printed(print_recovered(&told, out)),
         Err(answer) => Ending::Failed(answer),

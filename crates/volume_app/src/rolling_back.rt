@@ -9,6 +9,7 @@ ghost use Rattle.volume_app.specs.RollingBack.{rollback_meaning, rollback_text};
 
 use crate::ending::{Ending, printed};
 use outside::{Access, Answer, Disk, Fault, Sink};
+use rollback_steps::rollback_keeps;
 use sink_text::Piece::{Decimal, Plain};
 use sink_text::write_pieces;
 use std::alloc::Global;
@@ -26,6 +27,7 @@ pub fn roll_back_volume<D: Disk, O: Sink>(
     ensures { Performs rollback_meaning D.tells (D.history disk.old) (D.history disk.new) (D.faults disk.old) (D.faults disk.new)
         O.tells (O.taken out.old) (O.taken out.new) (O.faults out.old) (O.faults out.new) result }
 {
+    rollback_keeps();
     match roll_back(alloc, path, disk) {
         Ok(told) => printed(print_rolled_back(&told, out)),
         Err(answer) => Ending::Failed(answer),

@@ -1,8 +1,10 @@
 ghost use Rattle.std.specs.Prelude.{◌≡◌, ◌≢◌, ◌↔◌, ◌<◌, ◌-◌, ◌^◌, ◌⊎◌, map, None, IfSome, IsTrue, string_bytes, option_and_then};
 ghost use Rattle.outside.specs.Fault.{Rose};
-ghost use Rattle.outside.specs.History.{EachCrash, IsSettled, reads};
+ghost use Rattle.outside.specs.History.{EachCrash, IsSettled, LeftSince, clock, reads};
 ghost use Rattle.volume_app.specs.Command.{command, opens};
+ghost use Rattle.volume_app.specs.Headline.{KeepsPromise};
 ghost use Rattle.volume_app.specs.Outcome.{Performs, Runs, meant};
+ghost use Rattle.volume_app.specs.Trees.{AreBlocks};
 
 use crate::command::{Command, read_words};
 use crate::converting::convert_volume;
@@ -58,6 +60,13 @@ pub fn run<D: Disk, O: Sink, E: Sink>(
     ensures complete { IsTrue D.tells → (meant ids now (map string_bytes words.now)).is_done (reads (D.history disk.old))
         → D.faults disk.new ≡ D.faults disk.old → D.faults disk.old < 2 ^ 64 - 1
         → O.faults out.new ≡ O.faults out.old → O.faults out.old < 2 ^ 64 - 1 → (result ≡ 0) ⊎ (result ≡ 4) }
+    // The promise of the program: on every accepted volume with the stated free space convert succeeds, unless the device failed or memory
+    // ran out, and the Btrfs tree then equals the ReiserFS tree; while the saved image is untouched, rollback restores every block that
+    // the old bitmap marks used; and a crash at any moment of convert, rollback or recover leaves exactly one of the two formats, with its tree.
+    ensures headline { IsTrue D.tells → AreBlocks (reads (D.history disk.old))
+        → KeepsPromise (command (map string_bytes words.now)) (reads (D.history disk.old)) (reads (D.history disk.new)) result
+            ((D.faults disk.new ≡ D.faults disk.old) × (D.faults disk.old < 2 ^ 64 - 1) × (O.faults out.new ≡ O.faults out.old) × (O.faults out.old < 2 ^ 64 - 1))
+            (λ left. IsSettled (D.history disk.old) × LeftSince (clock (D.history disk.old)) (D.history disk.new) left) }
 {
     let ending = perform(alloc, words, &ids, now, disk, out);
     let _ = ending.write_line(err);

@@ -3,6 +3,7 @@ use Rattle.volume_app.specs.Converting.{convert_meaning, convert_text}
 use Rattle.volume_app.proofs.Convertible.{converted_was}
 use Rattle.volume_app.proofs.Outcomes.{refusal_by}
 use Rattle.volume_app.proofs.Performing.{failed, ok_kept, performed, printed_keeps}
+use Rattle.volume_app.proofs.Trees.{converted_whole, either_whole}
 use Rattle.volume_app.proofs.converting.convert_volume.Goals as goal
 
 pub returns-in-Ok : goal.returns-in-Ok
@@ -13,9 +14,9 @@ returns-in-Ok g c =
     (λ told. (c.in-Ok.summary, (c.in-Ok.ensures.right (told tt)).1, refl))
     (record {
       unchanged = λ told keeps. absurd (printed_keeps c.print_summary.result keeps);
-      changed = λ told is. (c.in-Ok.ensures.right told).0;
+      changed = λ told is. converted_whole _ _ _ _ c.requires.size c.requires.moment c.know_ids.ensures c.know_id.ensures c.converted_volumes_open.ensures c.converted_volumes_go_back.ensures _ (c.in-Ok.ensures.right told).0;
       settled = λ told settled is. c.in-Ok.ensures.settled told;
-      crash = c.convert.ensures.crash;
+      crash = λ told settled image left. either_whole _ _ _ _ c.requires.size c.requires.moment c.know_ids.ensures c.know_id.ensures c.crashes_go_back.ensures image (c.convert.ensures.crash told settled image left);
     })
     (ok_kept c.in-Ok.summary _ _ c.in-Ok.ensures.cause) c.print_summary.ensures.taken c.print_summary.ensures.cause)
 
@@ -26,6 +27,6 @@ returns-in-Err g c =
       unchanged = λ told keeps. (let no = refusal_by c.in-Err.answer keeps in c.in-Err.ensures.refused told no.0 no.1);
       changed = λ told is. absurd is;
       settled = λ told settled is. absurd is;
-      crash = c.convert.ensures.crash;
+      crash = λ told settled image left. either_whole _ _ _ _ c.requires.size c.requires.moment c.know_ids.ensures c.know_id.ensures c.crashes_go_back.ensures image (c.convert.ensures.crash told settled image left);
     })
     c.in-Err.ensures.cause

@@ -2,6 +2,7 @@ use Rattle.std.proofs.Common.{ap}
 use Rattle.volume_app.specs.Recovering.{recover_meaning, recover_text}
 use Rattle.volume_app.proofs.Outcomes.{no_fault_by}
 use Rattle.volume_app.proofs.Performing.{failed, ok_kept, performed, recovered_keeps}
+use Rattle.volume_app.proofs.Trees.{recovered_whole, recovery_left_whole}
 use Rattle.volume_app.proofs.recovering.recover_volume.Goals as goal
 
 pub returns-in-Ok : goal.returns-in-Ok
@@ -12,9 +13,9 @@ returns-in-Ok g c =
     (λ told. ap recover_text (c.in-Ok.ensures.right (told tt)).1)
     (record {
       unchanged = λ told keeps. absurd (recovered_keeps c.print_recovered.result keeps);
-      changed = λ told is. (c.in-Ok.ensures.right told).0;
+      changed = λ told is. recovered_whole c.recovery_keeps.ensures c.recovery_opens.ensures c.spare_blocks_decide_nothing.ensures _ _ (c.in-Ok.ensures.right told).0;
       settled = λ told settled is. c.in-Ok.ensures.settled told settled;
-      crash = c.recover.ensures.crash;
+      crash = λ told settled image left. recovery_left_whole c.recovery_keeps.ensures c.recovery_opens.ensures c.spare_blocks_decide_nothing.ensures _ image (c.recover.ensures.crash told settled image left);
     })
     (ok_kept c.in-Ok.told _ _ c.in-Ok.ensures.cause) c.print_recovered.ensures.taken c.print_recovered.ensures.cause)
 
@@ -25,6 +26,6 @@ returns-in-Err g c =
       unchanged = λ told keeps. c.in-Err.ensures.refused told (no_fault_by c.in-Err.answer keeps);
       changed = λ told is. absurd is;
       settled = λ told settled is. absurd is;
-      crash = c.recover.ensures.crash;
+      crash = λ told settled image left. recovery_left_whole c.recovery_keeps.ensures c.recovery_opens.ensures c.spare_blocks_decide_nothing.ensures _ image (c.recover.ensures.crash told settled image left);
     })
     c.in-Err.ensures.cause

@@ -2,6 +2,7 @@ use Rattle.std.proofs.Common.{ap}
 use Rattle.volume_app.specs.RollingBack.{rollback_meaning, rollback_text}
 use Rattle.volume_app.proofs.Outcomes.{no_fault_by}
 use Rattle.volume_app.proofs.Performing.{failed, ok_kept, performed, recovered_keeps}
+use Rattle.volume_app.proofs.Trees.{rollback_left_whole, rolled_back_whole}
 use Rattle.volume_app.proofs.rolling_back.roll_back_volume.Goals as goal
 
 pub returns-in-Ok : goal.returns-in-Ok
@@ -12,9 +13,9 @@ returns-in-Ok g c =
     (λ told. ap rollback_text (c.in-Ok.ensures.right (told tt)).1)
     (record {
       unchanged = λ told keeps. absurd (recovered_keeps c.print_rolled_back.result keeps);
-      changed = λ told is. (c.in-Ok.ensures.right told).0;
+      changed = λ told is. rolled_back_whole c.rollback_keeps.ensures _ _ (c.in-Ok.ensures.right told).0;
       settled = λ told settled is. c.in-Ok.ensures.settled told;
-      crash = c.roll_back.ensures.crash;
+      crash = λ told settled image left. rollback_left_whole c.rollback_keeps.ensures _ image (c.roll_back.ensures.crash told settled image left);
     })
     (ok_kept c.in-Ok.told _ _ c.in-Ok.ensures.cause) c.print_rolled_back.ensures.taken c.print_rolled_back.ensures.cause)
 
@@ -25,6 +26,6 @@ returns-in-Err g c =
       unchanged = λ told keeps. c.in-Err.ensures.refused told (no_fault_by c.in-Err.answer keeps);
       changed = λ told is. absurd is;
       settled = λ told settled is. absurd is;
-      crash = c.roll_back.ensures.crash;
+      crash = λ told settled image left. rollback_left_whole c.rollback_keeps.ensures _ image (c.roll_back.ensures.crash told settled image left);
     })
     c.in-Err.ensures.cause

@@ -3,6 +3,7 @@ use Rattle.outside.specs.History.{reads}
 use Rattle.volume_app.specs.Command.{command}
 use Rattle.volume_app.specs.Outcome.{meaning}
 use Rattle.volume_app.proofs.Outcomes.{done_by, done_or_memory, reported_by}
+use Rattle.volume_app.proofs.Promise.{keeps_promise}
 use Rattle.volume_app.proofs.top.run.Goals as goal
 
 pub returns-clause-unchanged : goal.returns-clause-unchanged
@@ -34,3 +35,8 @@ pub returns-clause-complete : goal.returns-clause-complete
 returns-clause-complete g c = λ tells done same low out_same out_low.
     rw c.status.ensures
     (done_or_memory c.args.ids c.args.now _ (reads (g.D.Disk.history c.args.disk.now)) c.perform-ending.result _ _ _ _ done (c.perform-ending.ensures.performs.right (λ asks. tells)) c.perform-ending.ensures.performs.faults same low out_same out_low)
+
+pub returns-clause-headline : goal.returns-clause-headline
+returns-clause-headline g c = λ tells blocks.
+    rw c.status.ensures
+    (keeps_promise c.args.ids c.args.now (command (map string_bytes c.args.words.now)) _ _ _ _ _ _ _ _ _ _ c.perform-ending.result tells blocks c.perform-ending.ensures.performs)

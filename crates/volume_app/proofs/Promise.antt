@@ -1,0 +1,52 @@
+-- The promise of the program, from what is said of each command.
+use Rattle.std.proofs.Common.{◌≡◌, ◌⊎◌, ◌<◌, ◌^◌, ◌-◌, ℕ, Bool, List, Some, None}
+use Rattle.std.specs.Prelude.{IsTrue, Option}
+use Rattle.outside.specs.History.{History, Image, IsSettled, LeftSince, clock, reads}
+use Rattle.vol_block.specs.declared.ids.Ids.{Ids}
+use Rattle.volume_app.specs.Command.{Asked, inspect, list, convert, recover, rollback, help, version}
+use Rattle.volume_app.specs.Ending.{status}
+use Rattle.volume_app.specs.Headline.{IsToBeDone, KeepsPromise, LeavesTree, MakesTree}
+use Rattle.volume_app.specs.Outcome.{Performs, meaning}
+use Rattle.volume_app.specs.Trees.{AreBlocks}
+use Rattle.volume_app.specs.declared.ending.Ending.{Ending}
+use Rattle.volume_app.proofs.Outcomes.{done_by, done_or_memory}
+
+to_be_done : (ids : Ids) (now : ℕ) (asked : Option Asked) (disk : Image) → IsToBeDone asked disk → (meaning ids now asked).is_done disk
+to_be_done ids now None disk is = absurd is
+to_be_done ids now (Some (inspect path)) disk is = absurd is
+to_be_done ids now (Some (list path)) disk is = absurd is
+to_be_done ids now (Some (convert o path)) disk is = is
+to_be_done ids now (Some (recover path)) disk is = is
+to_be_done ids now (Some (rollback path)) disk is = is
+to_be_done ids now (Some help) disk is = absurd is
+to_be_done ids now (Some version) disk is = absurd is
+
+makes : (ids : Ids) (now : ℕ) (asked : Option Asked) (disk other : Image) → AreBlocks disk → (meaning ids now asked).becomes disk other → MakesTree asked disk other
+makes ids now None disk other blocks becomes = becomes
+makes ids now (Some (inspect path)) disk other blocks becomes = becomes
+makes ids now (Some (list path)) disk other blocks becomes = becomes
+makes ids now (Some (convert o path)) disk other blocks becomes = becomes.tree blocks
+makes ids now (Some (recover path)) disk other blocks becomes = becomes.tree
+makes ids now (Some (rollback path)) disk other blocks becomes = becomes.tree
+makes ids now (Some help) disk other blocks becomes = becomes
+makes ids now (Some version) disk other blocks becomes = becomes
+
+leaves : (ids : Ids) (now : ℕ) (asked : Option Asked) (disk other : Image) → AreBlocks disk → (meaning ids now asked).leaves disk other → LeavesTree asked disk other
+leaves ids now None disk other blocks is = is
+leaves ids now (Some (inspect path)) disk other blocks is = is
+leaves ids now (Some (list path)) disk other blocks is = is
+leaves ids now (Some (convert o path)) disk other blocks is = is.tree blocks
+leaves ids now (Some (recover path)) disk other blocks is = is.tree
+leaves ids now (Some (rollback path)) disk other blocks is = is.tree
+leaves ids now (Some help) disk other blocks is = is
+leaves ids now (Some version) disk other blocks is = is
+
+pub keeps_promise : (ids : Ids) (now : ℕ) (asked : Option Asked) (tells : Bool) (old new : History) (disk_old disk_new : ℕ) (out_tells : Bool) (taken_old taken_new : List ℕ) (out_old out_new : ℕ) (ending : Ending)
+    → IsTrue tells → AreBlocks (reads old) → Performs (meaning ids now asked) tells old new disk_old disk_new out_tells taken_old taken_new out_old out_new ending
+    → KeepsPromise asked (reads old) (reads new) (status ending) ((disk_new ≡ disk_old) × (disk_old < 2 ^ 64 - 1) × (out_new ≡ out_old) × (out_old < 2 ^ 64 - 1))
+    (λ left. IsSettled old × LeftSince (clock old) new left)
+keeps_promise ids now asked tells old new disk_old disk_new out_tells taken_old taken_new out_old out_new ending told blocks performs = record {
+  succeeds = λ done none. done_or_memory ids now asked (reads old) ending disk_old disk_new out_old out_new (to_be_done ids now asked (reads old) done) (performs.right (λ asks. told)) performs.faults none.0 none.1 none.2.0 none.2.1;
+  makes = λ is. makes ids now asked (reads old) (reads new) blocks (performs.changed told (done_by ending is));
+  crash = λ left is. leaves ids now asked (reads old) left blocks (performs.crash told is.0 left is.1);
+}

@@ -1,0 +1,100 @@
+-- What commands do to the tree of files, from the laws on what they do to the blocks.
+use Rattle.std.proofs.Common.{◌≡◌, ◌⊎◌, inl, inr, ⊎_elim, ◌<◌, ◌≤◌, ◌^◌, ℕ, Bool, false, true, sym, subst, ap, refl, ◌∙◌, arith}
+use Rattle.std.specs.Prelude.{length}
+use Rattle.outside.specs.History.{Image, block_at}
+use Rattle.vol_block.specs.Volume.{is_reserved}
+use Rattle.vol_block.specs.declared.ids.Ids.{Ids}
+use Rattle.back_laws.specs.Back.{ConvertedVolumesGoBack, CrashesGoBack}
+use Rattle.btr_node.specs.NodeSize.{IsNodeSize}
+use Rattle.convert_core.specs.Converted.{IsConverted, IsConvertible, IsEither}
+use Rattle.convert_steps.specs.Switch.{IsMirror}
+use Rattle.converted_laws.specs.Identifiers.{HasFsid}
+use Rattle.image_source.specs.Laws.{SpareBlocksDecideNothing, is_spare}
+use Rattle.metadata_laws.specs.Apart.{IsSameOutside}
+use Rattle.open_laws.specs.Opens.{ConvertedVolumesOpen}
+use Rattle.rollback_core.specs.Laws.{RecoveryKeeps, RecoveryOpens}
+use Rattle.rollback_core.specs.Recovered.{IsRecovered}
+use Rattle.rollback_core.specs.Recovered as recovery
+use Rattle.rollback_steps.specs.Laws.{RollbackKeeps}
+use Rattle.rollback_steps.specs.RolledBack.{IsLeft, IsRolledBack}
+use Rattle.saved_volume.specs.Saved.{image_blocks}
+use Rattle.saved_volume.specs.Untouched.{IsUntouched}
+use Rattle.space_items.specs.Laws.{AreIds}
+use Rattle.unit_plan.specs.declared.options.Options.{Options}
+use Rattle.unit_plan.specs.declared.options.UuidChoice.{UuidChoice}
+use Rattle.unit_plan.specs.declared.options.UuidChoice.TheVariants.{New, Copy, Given}
+use Rattle.volume_app.specs.Converting.{IsConvertedWhole, IsEitherWhole}
+use Rattle.volume_app.specs.Recovering as recovering
+use Rattle.volume_app.specs.RollingBack as rolling
+use Rattle.volume_app.specs.Trees.{AreBlocks, HasId, IsConvertedTree, IsRestoredTree, KeepsTree, LeavesConvertedTree, LeavesRestoredTree}
+use Rattle.volume_app.proofs.Convertible.{converted_was}
+
+-- ---- convert
+
+-- the identifier is there, where block 16 is
+fsid : (disk : Image) (choice : UuidChoice) → HasId choice → AreBlocks disk → 16 < length disk → HasFsid disk choice
+fsid disk New has blocks there = tt
+fsid disk Copy has blocks there = (let long = blocks.lengths 16 there in omega (arith, long))
+fsid disk (Given id) has blocks there = has
+
+module _ (o : Options) (ids : Ids) (now : ℕ) (disk : Image) (size : IsNodeSize o.nodesize) (low : now < 2 ^ 63) (are : AreIds ids) (has : HasId o.uuid) where
+  fsid_of : IsConvertible o disk → AreBlocks disk → HasFsid disk o.uuid
+  fsid_of can blocks = fsid disk o.uuid has blocks can.sorted.accepted.clean.superblock.there
+
+  pub converted_whole : ConvertedVolumesOpen → ConvertedVolumesGoBack → (other : Image) → IsConverted o ids now disk other → IsConvertedWhole o ids now disk other
+  converted_whole opens back other c = record {
+    converted = c;
+    tree = λ blocks. (let id = fsid_of (converted_was o ids now disk other c) blocks in record {
+      opens = opens o ids now disk other (c.m, c.r, c.nodes, c.new) size low are id blocks.bytes;
+      back = back o ids now disk other (c.m, c.r, c.nodes, c.new) size low are id blocks.bytes;
+    });
+  }
+
+  left_tree : CrashesGoBack → (other : Image) → AreBlocks disk → IsEither o ids now disk other → LeavesConvertedTree disk other
+  left_tree crashes other blocks (inl same) = inl same
+  left_tree crashes other blocks (inr rest) =
+      ⊎_elim (λ same. inl same)
+      (λ one. inr (⊎_elim (λ stands. inl stands) (λ new. inr (record { opens = new.0; back = new.1 })) one))
+      (crashes o ids now disk other (inr rest) size low are (fsid_of rest.1 blocks) blocks.bytes)
+
+  pub either_whole : CrashesGoBack → (other : Image) → IsEither o ids now disk other → IsEitherWhole o ids now disk other
+  either_whole crashes other either = record { either = either; tree = λ blocks. left_tree crashes other blocks either }
+
+-- ---- rollback
+
+module _ (keeps : RollbackKeeps) (disk other : Image) where
+  pub rolled_back_whole : IsRolledBack disk other → rolling.IsRolledBackWhole disk other
+  rolled_back_whole r = record {
+    rolled_back = r;
+    tree = record { restored = r.back.used; volume = keeps.back disk other r.untouched r.back };
+  }
+
+  restored_left : IsLeft disk other → LeavesRestoredTree disk other
+  restored_left (inl same) = inl same
+  restored_left (inr rest) =
+      inr (rest.0, ⊎_elim (λ standing. inl (keeps.standing disk other rest.0 standing)) (λ back. inr (record { restored = back.used; volume = keeps.back disk other rest.0 back })) rest.1)
+
+  pub rollback_left_whole : IsLeft disk other → rolling.IsLeftWhole disk other
+  rollback_left_whole left = record { left = left; tree = restored_left left }
+
+-- ---- recover
+
+-- the blocks of copies are reserved on every volume, and none is that of the superblock
+mirror_spare : (disk : Image) (b : ℕ) → is_spare disk b ≡ false → ¬ IsMirror b
+mirror_spare disk b spare = λ is. ⊎_elim (λ (e : b ≡ 16384). absurd (subst (λ (n : ℕ). is_spare disk n ≡ false → ⊥) (sym e) (λ is. cc) spare)) (λ (e : b ≡ 67108864). absurd (subst (λ (n : ℕ). is_spare disk n ≡ false → ⊥) (sym e) (λ is. cc) spare)) is
+
+module _ (keeps : RecoveryKeeps) (opens : RecoveryOpens) (spare : SpareBlocksDecideNothing) (disk other : Image) where
+  kept : recovery.IsLeft disk other → KeepsTree disk other
+  kept left = record {
+    opens = λ f rows is. opens.left f disk other rows is left;
+    untouched = λ is. spare disk other is (record {
+      size = (keeps.left disk other left).size;
+      others = λ b outside. (keeps.left disk other left).others b (mirror_spare disk b outside);
+    });
+  }
+
+  pub recovered_whole : IsRecovered disk other → recovering.IsRecoveredWhole disk other
+  recovered_whole r = record { recovered = r; tree = kept (keeps.recovered disk other r) }
+
+  pub recovery_left_whole : recovery.IsLeft disk other → recovering.IsLeftWhole disk other
+  recovery_left_whole left = record { left = left; tree = kept left }

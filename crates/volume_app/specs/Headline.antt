@@ -1,0 +1,51 @@
+-- The promise of the program, in one place.
+use Rattle.std.specs.Prelude.{◌≡◌, ◌⊎◌, ℕ, Option, Some, None}
+use Rattle.convert_core.specs.Converted.{IsConvertible}
+use Rattle.outside.specs.History.{Image}
+use Rattle.rollback_core.specs.Recovered.{IsRecoverable}
+use Rattle.saved_volume.specs.Untouched.{IsUntouched}
+use Rattle.volume_app.specs.Command.{Asked, inspect, list, convert, recover, rollback, help, version}
+use Rattle.volume_app.specs.Trees.{IsConvertedTree, IsRestoredTree, KeepsTree, LeavesConvertedTree, LeavesRestoredTree}
+
+-- A command that writes is to be done on this disk: `convert` where an accepted ReiserFS volume has the stated free space, `rollback` where
+-- the saved image is untouched, `recover` where superblock, journal and bitmap, or the superblock of Btrfs, keep their rules.
+abbrev pub IsToBeDone : Option Asked → Image → Type 0
+IsToBeDone None disk = ⊥
+IsToBeDone (Some (inspect path)) disk = ⊥
+IsToBeDone (Some (list path)) disk = ⊥
+IsToBeDone (Some (convert o path)) disk = IsConvertible o disk
+IsToBeDone (Some (recover path)) disk = IsRecoverable disk
+IsToBeDone (Some (rollback path)) disk = IsUntouched disk
+IsToBeDone (Some help) disk = ⊥
+IsToBeDone (Some version) disk = ⊥
+
+-- what a command that was done makes of the tree of a disk
+abbrev pub MakesTree : Option Asked → Image → Image → Type 0
+MakesTree None disk other = other ≡ disk
+MakesTree (Some (inspect path)) disk other = other ≡ disk
+MakesTree (Some (list path)) disk other = other ≡ disk
+MakesTree (Some (convert o path)) disk other = IsConvertedTree disk other
+MakesTree (Some (recover path)) disk other = KeepsTree disk other
+MakesTree (Some (rollback path)) disk other = IsRestoredTree disk other
+MakesTree (Some help) disk other = other ≡ disk
+MakesTree (Some version) disk other = other ≡ disk
+
+-- what a crash at any moment of a command leaves of it: one of the two formats, with its tree
+abbrev pub LeavesTree : Option Asked → Image → Image → Type 0
+LeavesTree None disk other = other ≡ disk
+LeavesTree (Some (inspect path)) disk other = other ≡ disk
+LeavesTree (Some (list path)) disk other = other ≡ disk
+LeavesTree (Some (convert o path)) disk other = LeavesConvertedTree disk other
+LeavesTree (Some (recover path)) disk other = KeepsTree disk other
+LeavesTree (Some (rollback path)) disk other = LeavesRestoredTree disk other
+LeavesTree (Some help) disk other = other ≡ disk
+LeavesTree (Some version) disk other = other ≡ disk
+
+-- What is promised of a run on a disk: with its status, the disk behind it, whether no call failed, and what a crash may have left.
+pub record KeepsPromise (asked : Option Asked) (disk other : Image) (status : ℕ) (NoneFailed : Type 0) (IsLeft : Image → Type 0) : Type 0 where
+  -- it succeeds, unless a call failed or memory ran out
+  pub succeeds : IsToBeDone asked disk → NoneFailed → (status ≡ 0) ⊎ (status ≡ 4)
+  -- then the tree is what it is to be
+  pub makes : (status ≡ 0) ⊎ (status ≡ 5) → MakesTree asked disk other
+  -- and a crash at any moment leaves exactly one of the two formats, with its tree
+  pub crash : (left : Image) → IsLeft left → LeavesTree asked disk left

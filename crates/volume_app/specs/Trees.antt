@@ -1,0 +1,58 @@
+-- What commands do to the tree of files of a disk.
+use Rattle.std.specs.Prelude.{◌≡◌, ◌⊎◌, ◌<◌, ℕ, List, length}
+use Rattle.outside.specs.History.{Image, block_at}
+use Rattle.fs_rows.specs.Rows.{WholeRow}
+use Rattle.back_laws.specs.Back.{GoesBack}
+use Rattle.image_source.specs.Laws.{IsSameUntouched}
+use Rattle.object_files.specs.Laws.{SameUsed}
+use Rattle.open_laws.specs.Opens.{OpensAsBefore, StandsAsBefore}
+use Rattle.reiser_volume.specs.Laws.{IsSameVolume}
+use Rattle.rollback_core.specs.Opens.{OpensAs}
+use Rattle.row_laws.specs.Rows.{HasBytes}
+use Rattle.saved_volume.specs.Saved.{image_blocks}
+use Rattle.saved_volume.specs.Untouched.{IsUntouched, old_used}
+use Rattle.unit_plan.specs.declared.options.UuidChoice.{UuidChoice}
+use Rattle.unit_plan.specs.declared.options.UuidChoice.TheVariants.{New, Copy, Given}
+use Rattle.vol_block.specs.declared.format.Format.{Format}
+
+-- Each block has 4096 bytes. A disk that tells its blocks tells lists of lists of numbers; those of every device are such.
+pub record AreBlocks (disk : Image) : Type 0 where
+  pub lengths : (b : ℕ) → b < length disk → length (block_at disk b) ≡ 4096
+  pub bytes : HasBytes disk
+
+-- an identifier that is given has 16 bytes
+abbrev pub HasId : UuidChoice → Type 0
+HasId New = Unit {0}
+HasId Copy = Unit {0}
+HasId (Given id) = length id ≡ 16
+
+-- ---- convert
+
+-- The Btrfs volume has exactly the tree of the ReiserFS volume, and that volume can be had back from it.
+pub record IsConvertedTree (disk other : Image) : Type 0 where
+  pub opens : OpensAsBefore disk other
+  pub back : GoesBack disk other
+
+-- The disk is as it was, or the ReiserFS volume stands with its tree, or the Btrfs volume does with the same.
+abbrev pub LeavesConvertedTree : Image → Image → Type 0
+LeavesConvertedTree disk other = (other ≡ disk) ⊎ (StandsAsBefore disk other ⊎ IsConvertedTree disk other)
+
+-- ---- rollback
+
+-- Each block that the old bitmap marks used is that of the saved image, so the old volume stands with its tree.
+pub record IsRestoredTree (disk other : Image) : Type 0 where
+  pub restored : SameUsed (old_used disk) (image_blocks disk) other
+  pub volume : IsSameVolume (image_blocks disk) other
+
+-- The disk is as it was; or, of one that can be rolled back, the Btrfs volume stands with its tree and the same saved image, so that it can
+-- be rolled back again, or the old volume does with its tree.
+abbrev pub LeavesRestoredTree : Image → Image → Type 0
+LeavesRestoredTree disk other = (other ≡ disk) ⊎ (IsUntouched disk × (IsSameUntouched disk other ⊎ IsRestoredTree disk other))
+
+-- ---- recover
+
+-- A volume that opens with some rows opens as the same format with the same rows. One that can be rolled back is the same Btrfs volume, with
+-- the same saved image, and can be rolled back.
+pub record KeepsTree (disk other : Image) : Type 0 where
+  pub opens : (f : Format) (rows : List WholeRow) → OpensAs f disk rows → OpensAs f other rows
+  pub untouched : IsUntouched disk → IsSameUntouched disk other
