@@ -469,6 +469,8 @@ samples() {
 
 # shellcheck source=tests/outside/convert.sh
 . "$top/tests/outside/convert.sh"
+# shellcheck source=tests/outside/rollback.sh
+. "$top/tests/outside/rollback.sh"
 # shellcheck source=tests/outside/power.sh
 . "$top/tests/outside/power.sh"
 
@@ -499,7 +501,9 @@ if need mkfs.reiserfs reiserfsprogs && need debugreiserfs reiserfsprogs; then
     rare_volumes
     if need btrfs btrfs-progs && need zstd zstd; then
         convert_volumes
+        rolled_back_volumes
         killed_conversions
+        killed_rollbacks
     else
         echo 'skipped: convert, since btrfs and zstd are not to be had'
     fi

@@ -1,5 +1,5 @@
-# What is left of a volume when `convert` is killed at fifty moments: `recover` opens it, `list` prints the rows from before, and the judge
-# of the format that is there finds nothing. tests/outside.sh reads this file.
+# What is left of a volume when `convert` or `rollback` is killed at fifty moments: `recover` opens it, `list` prints the rows from before, and
+# the judge of the format that is there finds nothing. A rollback that was cut off can be done again. tests/outside.sh reads this file.
 
 # milliseconds COMMAND..: how long it takes
 milliseconds() {
@@ -20,10 +20,10 @@ judge() {
 }
 
 # killed NAME FILE WORDS..: the command is killed at fifty moments on copies of a file: twenty over most of its time, and thirty about
-# its end, where it takes sometimes a little less and sometimes a little more
+# its end, where it takes sometimes a little less and sometimes a little more. Behind each the function of this name looks at the copy.
 killed() {
-    local name=$1 file=$2 whole moment format before pid
-    shift 2
+    local name=$1 file=$2 behind=$3 whole moment format before pid
+    shift 3
     cp --sparse=always "$file" copied
     whole=$(milliseconds "$program" "$@" copied)
     run list "$file"
@@ -44,12 +44,32 @@ killed() {
         run list copied
         same "the rows after $name was killed at moment $moment" "0|$before" "$status|$(sha256sum <"$work/.out")"
         same "the volume after $name was killed at moment $moment" "$format 0 1" "$(judge copied)"
+        "$behind" "$name" "$format" "$moment"
         formats+="$format "
     done
     echo "killed $name: $(tr ' ' '\n' <<<"$formats" | sort | uniq -c | awk 'NF == 2 { printf "%s %s  ", $1, $2 }')"
 }
 
+nothing_more() { :; }
+
 killed_conversions() {
     makes 65536 4000 65536
-    killed 'a conversion' made convert
+    killed 'a conversion' made nothing_more convert
+}
+
+# goes_back NAME FORMAT MOMENT: what is left of a rollback is the old volume, or can be rolled back still
+goes_back() {
+    if [ "$2" = btrfs ]; then
+        run rollback copied
+        same "another rollback after $1 was killed at moment $3" '0|' "$status|$err"
+    fi
+    same "the used blocks after $1 was killed at moment $3" "$wanted" "$(used_sum copied reiserfs)"
+}
+
+killed_rollbacks() {
+    makes 65536 4000 65536
+    cp --sparse=always made reiserfs
+    wanted=$(used_sum reiserfs reiserfs)
+    run convert made
+    killed 'a rollback' made goes_back rollback
 }
