@@ -98,7 +98,7 @@ module _ (image : Image) (ranges : List MapRange) (t : Tree) where
       ∙ (ap (λ (z : List Pointer). p ∷ z) (nodes_flat (λ c. below image ranges t (child_pointer l c)) children)
       ∙ ap (λ (k : ℕ). p ∷ flat_map (λ c. below_nodes image ranges t (child_pointer k c)) children) e)
 
-  none_broken : (address : ℕ) (rules : List BtrRule) → at_address address rules ≡ [] → rules ≡ []
+  pub none_broken : (address : ℕ) (rules : List BtrRule) → at_address address rules ≡ [] → rules ≡ []
   none_broken address [] is = refl
   none_broken address (rule ∷ rules) is = absurd (cc is)
 

@@ -87,7 +87,7 @@ pub range_of_place : (ranges : List MapRange) (a p : ℕ) → place ranges a ≡
 range_of_place [] a p is = absurd (no_some p is)
 range_of_place (r ∷ ranges) a p is = by_test r ranges a p (holds r a) refl (range_of_place ranges a p) is
 
-held_so : (r : MapRange) (a : ℕ) → r.logical ≤ a → a < r.logical + r.length → holds r a ≡ true
+pub held_so : (r : MapRange) (a : ℕ) → r.logical ≤ a → a < r.logical + r.length → holds r a ≡ true
 held_so r a from below = grind (arith, nat_tests, from, below)
 
 first_holds : (r : MapRange) (ranges : List MapRange) (a : ℕ) → holds r a ≡ true → place (r ∷ ranges) a ≡ Some (r.physical + (a - r.logical))

@@ -29,7 +29,7 @@ none_there : (rs : List BtrRefusal) → ((r : BtrRefusal) → ¬ Contains rs r) 
 none_there [] never = refl
 none_there (r ∷ rs) never = absurd (never r (0, omega arith, refl))
 
-later_none : (early later : List BtrRefusal) → or_later early later ≡ [] → later ≡ []
+pub later_none : (early later : List BtrRefusal) → or_later early later ≡ [] → later ≡ []
 later_none [] later is = is
 later_none (r ∷ rs) later is = absurd (cc is)
 
