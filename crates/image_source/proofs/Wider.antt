@@ -55,15 +55,15 @@ some_or false x o some = some
 -- where a block has a place each of its bytes has one
 some_byte : (ranges : List MapRange) (a j : ℕ) → AreInBlocks ranges → a % 4096 ≡ 0 → j < 4096 → is_some (place ranges a) ≡ true → is_some (place ranges (a + j)) ≡ true
 some_byte [] a j all at low some = some
-some_byte (r ∷ ranges) a j all at low some = one (holds r a) refl some
+some_byte (r ∷ ranges) a j all at low some = one (holds r a) (some_byte ranges a j (All-tail IsInBlocks r ranges all) at low) refl some
   where
-    one : (t : Bool) → holds r a ≡ t → is_some (if t then Some (r.physical + (a - r.logical)) else place ranges a) ≡ true → is_some (place (r ∷ ranges) (a + j)) ≡ true
-    one true held there =
+    one : (t : Bool) → (is_some (place ranges a) ≡ true → is_some (place ranges (a + j)) ≡ true) → holds r a ≡ t → is_some (if t then Some (r.physical + (a - r.logical)) else place ranges a) ≡ true → is_some (place (r ∷ ranges) (a + j)) ≡ true
+    one true rest held there =
         let whole : IsInBlocks r = All-head IsInBlocks r ranges all in
         let bounds = holds_bounds r a held in
         let same : holds r (a + j) ≡ true = held_so r (a + j) (omega (arith, bounds.0)) (omega (arith, bounds.1, whole.logical, whole.length, at, low)) in
         ap (λ (t : Bool). is_some (if t then Some (r.physical + (a + j - r.logical)) else place ranges (a + j))) same
-    one false held there = some_or (holds r (a + j)) (r.physical + (a + j - r.logical)) (place ranges (a + j)) (some_byte ranges a j (All-tail IsInBlocks r ranges all) at low there)
+    one false rest held there = some_or (holds r (a + j)) (r.physical + (a + j - r.logical)) (place ranges (a + j)) (rest there)
 
 -- ---- nodes
 mapped_blocks : (ranges : List MapRange) (size a : ℕ) → is_mapped ranges size a ≡ true → (a % 4096 ≡ 0) × (are_mapped ranges (size / 4096) a ≡ true)
