@@ -38,7 +38,7 @@ module _ (image : Image) (s : Super) (ranges : List MapRange) (opened : IsOpened
   abbrev boot : List ChunkAt
   boot = boot_list (boot_chunks s)
 
-  bounds : IsInBounds s
+  pub bounds : IsInBounds s
   bounds = in_bounds (block_at image 16) (length image) s opened.super
 
   -- nothing is wrong with the chunk tree and the root tree
