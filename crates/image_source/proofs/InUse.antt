@@ -1,5 +1,5 @@
 -- What is told of the blocks that a volume uses, from its trees to the whole.
-use Rattle.std.proofs.Common.{◌≡◌, ◌≢◌, inl, inr, ℕ, List, [], ◌∷◌, ◌++◌, length, Contains, Option, Some, None, Result, Ok, Err, refl, sym, ◌∙◌, ap, subst, arith}
+use Rattle.std.proofs.Common.{◌≡◌, ◌≢◌, inr, ℕ, List, [], ◌∷◌, ◌++◌, length, Contains, Option, Some, None, refl, sym, ◌∙◌, subst, arith}
 use Rattle.std.proofs.lemmas.List.Elements.{All-cons, All-head, All-nil, All-tail}
 use Rattle.outside.specs.History.{Image, block_at}
 use Rattle.outside.specs.declared.answer.BtrAnswer.{BtrAnswer}
@@ -9,22 +9,21 @@ use Rattle.outside.specs.declared.refusal.BtrRefusal.TheVariants.{LogPending}
 use Rattle.vol_block.specs.Volume.{IsReserved}
 use Rattle.btr_files.proofs.ExtentLists.{none_left}
 use Rattle.btr_files.specs.Blocks.{AreInBlocks, IsInBlocks}
-use Rattle.btr_node.specs.NodeSize.{IsNodeSize}
 use Rattle.btr_reader.proofs.MapBlocks.{opened_in_blocks}
 use Rattle.btr_reader.proofs.Opens.{opening_is}
 use Rattle.btr_reader.proofs.PartsRead.{no_log, of_disk, of_volume, one_log, opened_super}
 use Rattle.btr_reader.proofs.Supers.{in_bounds}
-use Rattle.btr_reader.specs.Chunks.{items_refusals, range_of}
+use Rattle.btr_reader.specs.Chunks.{items_refusals}
 use Rattle.btr_reader.specs.Opening.{IsInBounds, IsOpened, boot_chunks, boot_list, boot_refusals, chunk_tree, map_from, or_later, root_tree, trees_refusals}
-use Rattle.btr_reader.specs.Parts.{own_map, own_super, way_refusals}
+use Rattle.btr_reader.specs.Parts.{way_refusals}
 use Rattle.btr_reader.specs.declared.chunk.ChunkAt.{ChunkAt}
 use Rattle.btr_super.specs.declared.superblock.Super.{Super}
-use Rattle.btr_walk.specs.Walks.{IsAmong, found, wrong}
+use Rattle.btr_walk.specs.Walks.{IsAmong, found, met, wrong}
 use Rattle.btr_walk.specs.declared.map.MapRange.{MapRange}
 use Rattle.metadata_laws.specs.Apart.{boot_map}
 use Rattle.saved_volume.specs.Using.{HoldsNodeOf, IsInFiles, IsInUse, RefusesUse, TellsReserved, chunk_node, file_part, has_log, root_node, unreadable}
 use Rattle.image_source.proofs.Reaching.{later_none}
-use Rattle.image_source.proofs.Wider.{begins, holds_early, holds_wide, sound_wide}
+use Rattle.image_source.proofs.Wider.{begins, holds_early, holds_wide, met_wide, sound_wide}
 
 first_none : (early later : List BtrRefusal) → or_later early later ≡ [] → early ≡ []
 first_none [] later is = refl
@@ -67,7 +66,11 @@ module _ (image : Image) (s : Super) (ranges : List MapRange) (opened : IsOpened
   pub chunks_sound : wrong image ranges (chunk_tree s) ≡ []
   chunks_sound = subst (λ (m : List MapRange). wrong image m (chunk_tree s) ≡ []) (sym late.1) (sound_wide image (boot_map s) late.0 (chunk_tree s) array_sound)
 
-  -- the blocks that hold a node of it by either map
+  -- by either map the same is met of it
+  pub chunks_met : met image ranges (chunk_tree s) ≡ met image (boot_map s) (chunk_tree s)
+  chunks_met = subst (λ (m : List MapRange). met image m (chunk_tree s) ≡ met image (boot_map s) (chunk_tree s)) (sym late.1) (met_wide image (boot_map s) late.0 (chunk_tree s) array_sound)
+
+  -- the same blocks hold a node of it
   pub chunk_by_array : (b : ℕ) → HoldsNodeOf image ranges (chunk_tree s) b → HoldsNodeOf image (boot_map s) (chunk_tree s) b
   chunk_by_array b holding =
       holds_early image (boot_map s) late.0 (chunk_tree s) array_sound array_blocks bounds.nodesize b (subst (λ (m : List MapRange). HoldsNodeOf image m (chunk_tree s) b) late.1 holding)

@@ -1,6 +1,6 @@
 -- A tree by a map that begins with another, where its nodes lie by the beginning. The chunk tree of an opened volume is met by its whole
 -- map as by the chunks in the superblock.
-use Rattle.std.proofs.Common.{◌≡◌, ℕ, zero, suc, ◌+◌, ◌-◌, ◌*◌, ◌/◌, ◌%◌, ◌<◌, eqb, Bool, true, false, ◌&&◌, List, [], ◌∷◌, ◌++◌, map, Contains, Option, Some, None, is_some, refl, sym, ◌∙◌, ap, subst, arith, append_assoc, true≢false, if◌then◌else◌}
+use Rattle.std.proofs.Common.{◌≡◌, ℕ, zero, suc, ◌+◌, ◌-◌, ◌*◌, ◌/◌, ◌%◌, ◌<◌, eqb, Bool, true, false, ◌&&◌, List, [], ◌∷◌, ◌++◌, Contains, Option, Some, None, is_some, refl, sym, ◌∙◌, ap, subst, arith, append_assoc, true≢false, if◌then◌else◌}
 use Rattle.std.specs.List.{All, flat_map}
 use Rattle.std.proofs.lemmas.Bool.{and_parts}
 use Rattle.std.proofs.lemmas.Bool.Decides.{nat_tests}
@@ -29,7 +29,7 @@ use Rattle.btr_walk.proofs.Events.{nodes_in-append}
 use Rattle.btr_walk.proofs.Mapping.{holds_bounds, mapped_at}
 use Rattle.btr_walk.proofs.Subtrees.{to}
 use Rattle.btr_walk.proofs.Walking.{breaks, mapped_breaks, unmapped_breaks}
-use Rattle.saved_volume.specs.Using.{HoldsNode, HoldsNodeOf}
+use Rattle.saved_volume.specs.Using.{HoldsNodeOf}
 use Rattle.image_source.proofs.Faults.{none_broken}
 use Rattle.image_source.proofs.Lying.{held_so}
 use Rattle.image_source.proofs.Placed.{no_some}

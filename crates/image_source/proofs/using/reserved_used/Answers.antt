@@ -1,6 +1,5 @@
-use Rattle.std.proofs.Common.{◌≡◌, ℕ, List, None, Some, sym, ◌∙◌, subst, arith}
+use Rattle.std.proofs.Common.{◌≡◌, List, sym, ◌∙◌, subst, arith}
 use Rattle.std.proofs.lemmas.Result.{err_from_is_err_and}
-use Rattle.outside.specs.History.{Image}
 use Rattle.btr_reader.proofs.MapApart.{opened_apart}
 use Rattle.btr_reader.specs.Opening.{chunk_tree, root_tree}
 use Rattle.btr_walk.specs.Walks.{IsAmong, wrong}
