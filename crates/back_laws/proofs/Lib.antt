@@ -1,0 +1,10 @@
+pub mod Crashing
+pub mod Extents
+pub mod Going
+pub mod Images
+pub mod Options
+pub mod Places
+pub mod Reserved
+pub mod Spare
+pub mod Staying
+pub mod Way
