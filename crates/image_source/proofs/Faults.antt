@@ -1,8 +1,8 @@
 -- A node that is read by itself, and what is met below it.
-use Rattle.std.proofs.Common.{◌≡◌, ⊎_elim, inl, inr, ℕ, zero, suc, ◌+◌, ◌-◌, ◌≤◌, ◌<◌, eqb, Bool, true, false, ◌||◌, nat_lt, List, [], ◌∷◌, ◌++◌, map, length, get_or, Contains, None, refl, sym, ◌∙◌, ap, subst, arith, if◌then◌else◌}
+use Rattle.std.proofs.Common.{◌≡◌, ⊎_elim, ℕ, zero, suc, ◌+◌, ◌-◌, ◌≤◌, ◌<◌, eqb, Bool, true, false, ◌||◌, nat_lt, List, [], ◌∷◌, ◌++◌, map, length, get_or, Contains, None, refl, sym, ◌∙◌, ap, subst, arith, if◌then◌else◌}
 use Rattle.std.specs.List.{flat_map}
 use Rattle.std.proofs.lemmas.Bool.Decides.{nat_tests}
-use Rattle.std.proofs.lemmas.List.Elements.{Contains-append_cases, Contains-append_left, Contains-append_right}
+use Rattle.std.proofs.lemmas.List.Elements.{Contains-append_right}
 use Rattle.outside.specs.History.{Image}
 use Rattle.outside.specs.declared.answer.BtrAnswer.{BtrAnswer}
 use Rattle.outside.specs.declared.answer.BtrAnswer.TheVariants.{Refused, Fault, Memory}
@@ -15,11 +15,10 @@ use Rattle.btr_node.specs.Inner.{children_in}
 use Rattle.btr_node.specs.Leaf.{items_in}
 use Rattle.btr_node.specs.Rules.{broken, inner_damages, leaf_damages}
 use Rattle.btr_node.specs.declared.child.Child.{Child}
-use Rattle.btr_node.specs.declared.expect.Expect.{Expect}
 use Rattle.btr_walk.specs.Events.{Event, leaf_events, may_be_bare, node_events, nodes_in, unless_damaged}
 use Rattle.btr_walk.specs.Map.{is_mapped, node_at}
-use Rattle.btr_walk.specs.Node.{child_pointer, content_damages, want}
-use Rattle.btr_walk.specs.Tree.{at_address, pointer_damages}
+use Rattle.btr_walk.specs.Node.{child_pointer, want}
+use Rattle.btr_walk.specs.Tree.{at_address}
 use Rattle.btr_walk.specs.Walks.{IsAmong, IsReadFault, below}
 use Rattle.btr_walk.specs.declared.map.MapRange.{MapRange}
 use Rattle.btr_walk.specs.declared.tree.Pointer.{Pointer}
@@ -98,7 +97,7 @@ module _ (image : Image) (ranges : List MapRange) (t : Tree) where
       ∙ (ap (λ (z : List Pointer). p ∷ z) (nodes_flat (λ c. below image ranges t (child_pointer l c)) children)
       ∙ ap (λ (k : ℕ). p ∷ flat_map (λ c. below_nodes image ranges t (child_pointer k c)) children) e)
 
-  none_broken : (address : ℕ) (rules : List BtrRule) → at_address address rules ≡ [] → rules ≡ []
+  pub none_broken : (address : ℕ) (rules : List BtrRule) → at_address address rules ≡ [] → rules ≡ []
   none_broken address [] is = refl
   none_broken address (rule ∷ rules) is = absurd (cc is)
 

@@ -1,7 +1,9 @@
 pub mod Extending
 pub mod Faults
 pub mod Images
+pub mod InUse
 pub mod Lying
+pub mod Mapped
 pub mod Moving
 pub mod Placed
 pub mod Reaching
@@ -9,3 +11,4 @@ pub mod Reading
 pub mod Spare
 pub mod Staying
 pub mod Telling
+pub mod Wider

@@ -1,12 +1,11 @@
 -- Where bytes lie by the ranges of a map.
-use Rattle.std.proofs.Common.{◌≡◌, ⊎_elim, inl, inr, ℕ, zero, suc, ◌+◌, ◌-◌, ◌*◌, ◌/◌, ◌<◌, ◌≤◌, Bool, true, false, List, [], ◌∷◌, length, get_or, take, Option, Some, None, refl, sym, ◌∙◌, ap, subst, arith, if◌then◌else◌}
-use Rattle.std.specs.Prelude.{AllPairs, All}
+use Rattle.std.proofs.Common.{◌≡◌, ⊎_elim, inr, ℕ, zero, suc, ◌+◌, ◌-◌, ◌*◌, ◌/◌, ◌<◌, ◌≤◌, Bool, true, false, List, [], ◌∷◌, length, get_or, take, Option, Some, None, refl, sym, ◌∙◌, ap, subst, arith, if◌then◌else◌}
+use Rattle.std.specs.Prelude.{All}
 use Rattle.std.proofs.lemmas.Bool.{cases_lt}
 use Rattle.std.proofs.lemmas.List.{take_all}
 use Rattle.std.proofs.lemmas.List.Elements.{All-more}
 use Rattle.std.proofs.lemmas.Bool.Decides.{nat_tests}
 use Rattle.vol_block.specs.Volume.{IsReserved}
-use Rattle.btr_reader.specs.Laws.{AreApart, Maps}
 use Rattle.btr_walk.specs.Map.{holds, place}
 use Rattle.btr_walk.specs.declared.map.MapRange.{MapRange}
 use Rattle.btr_walk.proofs.Mapping.{holds_bounds}
@@ -87,7 +86,7 @@ pub range_of_place : (ranges : List MapRange) (a p : ℕ) → place ranges a ≡
 range_of_place [] a p is = absurd (no_some p is)
 range_of_place (r ∷ ranges) a p is = by_test r ranges a p (holds r a) refl (range_of_place ranges a p) is
 
-held_so : (r : MapRange) (a : ℕ) → r.logical ≤ a → a < r.logical + r.length → holds r a ≡ true
+pub held_so : (r : MapRange) (a : ℕ) → r.logical ≤ a → a < r.logical + r.length → holds r a ≡ true
 held_so r a from below = grind (arith, nat_tests, from, below)
 
 first_holds : (r : MapRange) (ranges : List MapRange) (a : ℕ) → holds r a ≡ true → place (r ∷ ranges) a ≡ Some (r.physical + (a - r.logical))

@@ -4,7 +4,6 @@ use Rattle.std.proofs.lemmas.Bool.{cases_lt}
 use Rattle.reiser_bitmap.specs.Bits.{has}
 use Rattle.reiser_bitmap.specs.Next.{next_used}
 use Rattle.reiser_bitmap.proofs.Ends.{IsEnd, end_facts}
-use Rattle.vol_block.specs.Volume.{is_reserved}
 use Rattle.saved_volume.specs.Moved.{IsOld}
 
 is_used : (t : Bool) → not t ≡ false → t ≡ true

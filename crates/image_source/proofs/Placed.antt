@@ -1,11 +1,9 @@
 -- A block of the saved image is a block of an extent.
-use Rattle.std.proofs.Common.{◌≡◌, ◌⊎◌, ⊎_elim, inl, inr, ℕ, suc, ◌+◌, ◌-◌, ◌*◌, ◌/◌, ◌%◌, ◌<◌, ◌≤◌, eqb, nat_lt, nat_le, Bool, true, false, not, ◌&&◌, List, [], ◌∷◌, ◌++◌, length, Contains, Option, Some, None, refl, sym, ◌∙◌, ap, subst, arith, true≢false, if◌then◌else◌}
-use Rattle.std.specs.Option.{option_and_then, option_map}
+use Rattle.std.proofs.Common.{◌≡◌, ℕ, suc, ◌+◌, ◌-◌, ◌*◌, ◌/◌, ◌%◌, ◌<◌, ◌≤◌, eqb, nat_lt, nat_le, Bool, true, false, List, [], ◌∷◌, ◌++◌, Contains, Option, Some, None, refl, subst, arith, if◌then◌else◌}
+use Rattle.std.specs.Option.{option_map}
 use Rattle.std.proofs.lemmas.Bool.{and_parts}
 use Rattle.std.proofs.lemmas.Bool.Decides.{nat_tests}
-use Rattle.outside.specs.History.{Image}
-use Rattle.outside.specs.declared.refusal.BtrRefusal.{BtrRefusal}
-use Rattle.btr_files.specs.Extents.{covered_after, covers, end_after, extent_length, extent_refusals, extents_of, extents_refusals, is_aligned, is_hole, range_is_aligned, refusals_at}
+use Rattle.btr_files.specs.Extents.{covered_after, covers, end_after, extents_refusals, is_aligned, is_hole, range_is_aligned, refusals_at}
 use Rattle.btr_files.proofs.ExtentLists.{aligned_of, form_of_sound}
 use Rattle.btr_keys.specs.FileExtent.{ContentValue, FileExtentValue, Inline, Prealloc, Regular, file_extent_of}
 use Rattle.btr_keys.specs.declared.file_extent.DiskRange.{DiskRange}

@@ -12,7 +12,7 @@ use Rattle.btr_names.specs.Inodes.{inode_item}
 use Rattle.btr_reader.specs.Image.{ImageFile, after_pointer, after_root, entry_refusals, file_if_image, file_refusals, if_there, image_at, image_below, image_entry, image_in, image_refusals_in, inode_number, is_file, is_image, items_at, own_refusals, pointer_in, refusals_below, saved_entry, saved_image, tree_number}
 use Rattle.btr_reader.specs.Opening.{opening_refusals, or_later, tree_of}
 use Rattle.btr_reader.specs.Parts.{IsReadable, SavedImage, own_map, own_super, way_refusals}
-use Rattle.btr_reader.specs.Roots.{pointer_of, root_item}
+use Rattle.btr_reader.specs.Roots.{root_item}
 use Rattle.btr_reader.specs.Rows.{roots_on}
 use Rattle.btr_super.specs.declared.superblock.Super.{Super}
 use Rattle.btr_walk.specs.Events.{TreeItem}
@@ -29,7 +29,7 @@ none_there : (rs : List BtrRefusal) → ((r : BtrRefusal) → ¬ Contains rs r) 
 none_there [] never = refl
 none_there (r ∷ rs) never = absurd (never r (0, omega arith, refl))
 
-later_none : (early later : List BtrRefusal) → or_later early later ≡ [] → later ≡ []
+pub later_none : (early later : List BtrRefusal) → or_later early later ≡ [] → later ≡ []
 later_none [] later is = is
 later_none (r ∷ rs) later is = absurd (cc is)
 

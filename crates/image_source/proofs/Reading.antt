@@ -1,7 +1,6 @@
 -- A block of the saved image, as its source reads it.
-use Rattle.std.proofs.Common.{◌≡◌, ℕ, ◌<◌, min, length, List, Option, Some, None, Result, Ok, Err, OnOk, sym, ◌∙◌, ap}
+use Rattle.std.proofs.Common.{◌≡◌, ℕ, ◌<◌, min, length, List, Option, Some, Result, Ok, Err, OnOk, sym, ◌∙◌, ap}
 use Rattle.outside.specs.History.{Image, block_at}
-use Rattle.vol_block.specs.Volume.{zeros}
 use Rattle.btr_reader.specs.Pieces.{map_place}
 use Rattle.btr_reader.specs.declared.image_map.ImageMap.{ImageMap}
 use Rattle.saved_volume.specs.Saved.{block_or_hole, blocks_by_map}

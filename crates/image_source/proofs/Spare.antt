@@ -1,15 +1,13 @@
 -- The parts of an untouched volume lie in no spare block.
-use Rattle.std.proofs.Common.{◌≡◌, ⊎_elim, inl, inr, ℕ, ◌+◌, ◌*◌, ◌/◌, ◌<◌, eqb, nat_lt, Bool, true, false, not, ◌&&◌, List, [], ◌∷◌, ◌++◌, length, get_or, Contains, Option, Some, None, refl, sym, ◌∙◌, ap, subst, arith, true≢false, if◌then◌else◌}
+use Rattle.std.proofs.Common.{◌≡◌, inl, inr, ℕ, ◌+◌, ◌*◌, ◌/◌, ◌<◌, eqb, nat_lt, Bool, true, false, not, ◌&&◌, List, ◌∷◌, ◌++◌, length, get_or, Contains, Option, Some, None, refl, sym, ◌∙◌, ap, subst, arith, if◌then◌else◌}
 use Rattle.std.specs.Option.{option_and_then}
 use Rattle.std.proofs.lemmas.Bool.{and_parts}
-use Rattle.std.proofs.lemmas.Bool.Decides.{nat_tests}
 use Rattle.std.proofs.lemmas.List.{get_or_default}
 use Rattle.outside.specs.History.{Image}
-use Rattle.vol_block.specs.Volume.{IsReserved, is_reserved}
+use Rattle.vol_block.specs.Volume.{is_reserved}
 use Rattle.vol_block.proofs.Reserved.{decides_reserved}
-use Rattle.btr_files.specs.Extents.{extents_of, is_extent_of, is_hole}
+use Rattle.btr_files.specs.Extents.{extents_of, is_extent_of}
 use Rattle.btr_keys.specs.FileExtent.{ContentValue, FileExtentValue, Inline, Prealloc, Regular, file_extent_of}
-use Rattle.btr_keys.specs.declared.file_extent.DiskRange.{DiskRange}
 use Rattle.btr_reader.specs.Image.{ImageFile, file_block, image_place, items_at, saved_image}
 use Rattle.btr_reader.specs.Opening.{chunk_tree, root_tree, tree_of}
 use Rattle.btr_reader.specs.Parts.{own_map, own_super}
@@ -28,7 +26,7 @@ use Rattle.saved_volume.specs.Saved.{image_blocks}
 use Rattle.saved_volume.specs.Untouched.{IsUntouched}
 use Rattle.image_source.proofs.Placed.{has_block, no_some}
 use Rattle.image_source.proofs.Reaching.{reached}
-use Rattle.saved_volume.specs.Using.{HoldsExtent, HoldsNode, HoldsNodeOf, HoldsPartOf, IsInFiles, IsInUse, LieIn, chunk_node, content_range, file_part, file_pointer, file_trees, item_range, named_by, numbered, root_node, tree_if}
+use Rattle.saved_volume.specs.Using.{HoldsExtent, HoldsNodeOf, HoldsPartOf, IsInUse, LieIn, chunk_node, content_range, file_part, file_trees, item_range, named_by, numbered, root_node, tree_if}
 
 -- an element of a list by its place
 at_place : {X : Type 0} (xs : List X) (k : ℕ) (d : X) → k < length xs → Contains xs (get_or xs k d)

@@ -1,18 +1,15 @@
 -- What differs in spare blocks alone stays untouched.
-use Rattle.std.proofs.Common.{◌≡◌, ⊎_elim, inl, inr, ℕ, ◌<◌, min, Bool, List, [], ◌∷◌, ◌++◌, length, Contains, Option, Some, None, refl, sym, ◌∙◌, ap, subst, arith}
+use Rattle.std.proofs.Common.{◌≡◌, ⊎_elim, inl, inr, ℕ, ◌<◌, min, List, [], ◌++◌, length, Contains, Option, Some, None, refl, sym, ◌∙◌, ap, subst, arith}
 use Rattle.std.specs.Option.{option_and_then}
 use Rattle.std.proofs.lemmas.List.{ext_get_or}
 use Rattle.outside.specs.History.{Image, block_at}
-use Rattle.outside.specs.declared.refusal.BtrRefusal.{BtrRefusal}
 use Rattle.btr_reader.specs.Image.{ImageFile, items_at, pointer_in, saved_entry, tree_number}
-use Rattle.btr_reader.specs.Opening.{chunk_tree, root_tree, tree_of}
+use Rattle.btr_reader.specs.Opening.{chunk_tree, root_tree}
 use Rattle.btr_reader.specs.Parts.{SavedImage, own_map, own_super}
 use Rattle.btr_reader.specs.Parts as part
 use Rattle.btr_reader.specs.Roots.{root_item}
-use Rattle.btr_reader.specs.Rows.{roots_on}
 use Rattle.btr_super.specs.declared.superblock.Super.{Super}
 use Rattle.btr_walk.specs.Events.{Event, TreeItem, nodes_in}
-use Rattle.btr_walk.specs.Walks.{found, met}
 use Rattle.btr_walk.specs.declared.map.MapRange.{MapRange}
 use Rattle.btr_walk.specs.declared.tree.Pointer.{Pointer}
 use Rattle.btr_walk.specs.declared.tree.Tree.{Tree}
@@ -23,11 +20,11 @@ use Rattle.metadata_laws.proofs.Nodes.{found_same, met_same}
 use Rattle.metadata_laws.proofs.Volumes.{both, items_same, roots_same}
 use Rattle.reiser_volume.specs.Volume.{IsAccepted, superblock, used_of}
 use Rattle.vol_block.specs.Volume.{IsReserved}
-use Rattle.image_source.specs.Laws.{IsSameUntouched, SpareBlocksDecideNothing, is_spare}
+use Rattle.image_source.specs.Laws.{SpareBlocksDecideNothing, is_spare}
 use Rattle.saved_volume.specs.Moved.{IsOld}
 use Rattle.saved_volume.specs.Saved.{block_or_hole, blocks_by, file_blocks, image_blocks, place_by_file, saved_file, saved_place}
-use Rattle.saved_volume.specs.Untouched.{IsUntouched, old_used}
-use Rattle.saved_volume.specs.Using.{HoldsExtent, HoldsNode, HoldsNodeOf, HoldsPartOf, IsInFiles, IsInUse, IsReservedFree, chunk_node, file_part, file_pointer, file_trees, named_by, numbered, root_node, tree_if}
+use Rattle.saved_volume.specs.Untouched.{IsUntouched}
+use Rattle.saved_volume.specs.Using.{HoldsExtent, HoldsNode, HoldsNodeOf, HoldsPartOf, IsInUse, chunk_node, file_part, file_pointer, file_trees, named_by, numbered, root_node, tree_if}
 use Rattle.image_source.proofs.Images.{block_by, length_by}
 use Rattle.image_source.proofs.Spare.{chunks_apart, file_nodes_apart, roots_apart, untouched_apart}
 

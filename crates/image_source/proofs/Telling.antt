@@ -1,16 +1,15 @@
 -- What is told of reserved blocks, from the parts of a volume to the whole.
-use Rattle.std.proofs.Common.{◌≡◌, ⊎_elim, inl, inr, ℕ, List, [], ◌∷◌, ◌++◌, Contains, Option, Some, None, Result, Ok, Err, refl, sym, ◌∙◌, ap, subst, arith}
+use Rattle.std.proofs.Common.{◌≡◌, ⊎_elim, inr, ℕ, List, [], ◌∷◌, ◌++◌, Contains, Option, Some, None, Result, Ok, Err, refl, sym, ◌∙◌, ap, subst, arith}
 use Rattle.std.specs.Option.{option_and_then}
 use Rattle.std.specs.Result.{MatchResult}
-use Rattle.std.proofs.lemmas.List.Elements.{Contains-append_cases, Contains-append_left, Contains-append_right}
+use Rattle.std.proofs.lemmas.List.Elements.{Contains-append_left, Contains-append_right}
 use Rattle.outside.specs.History.{Image}
 use Rattle.outside.specs.declared.answer.BtrAnswer.{BtrAnswer}
 use Rattle.outside.specs.declared.answer.BtrAnswer.TheVariants.{Refused, Fault, Memory}
 use Rattle.outside.specs.declared.refusal.BtrRefusal.{BtrRefusal}
 use Rattle.outside.specs.declared.refusal.BtrRefusal.TheVariants.{BadBtrfs}
 use Rattle.outside.specs.declared.rule.BtrRule.TheVariants.{Body}
-use Rattle.vol_block.specs.Volume.{IsReserved}
-use Rattle.btr_reader.specs.Image.{after_pointer, after_root, entry_refusals, if_there, image_refusals, image_refusals_in, items_at, pointer_in, refusals_below, refusals_from, root_refusals, saved_entry, tree_number}
+use Rattle.btr_reader.specs.Image.{after_pointer, after_root, entry_refusals, if_there, image_refusals, image_refusals_in, items_at, pointer_in, refusals_below, root_refusals, saved_entry, tree_number}
 use Rattle.btr_reader.specs.Opening.{IsOpened, or_later, tree_of}
 use Rattle.btr_reader.specs.Parts.{own_map, own_super, way_refusals}
 use Rattle.btr_reader.specs.Reading.{FindsTree}

@@ -1,4 +1,4 @@
-use Rattle.std.proofs.Common.{◌≡◌, ℕ, List, subst}
+use Rattle.std.proofs.Common.{ℕ, List, subst}
 use Rattle.btr_walk.specs.Walks.{found}
 use Rattle.btr_walk.specs.declared.map.MapRange.{MapRange}
 use Rattle.image_source.specs.Reserved.{IsMapApart}

@@ -1,4 +1,4 @@
-use Rattle.std.proofs.Common.{◌≡◌, ◌≤◌, ◌<◌, ◌+◌, ◌-◌, ℕ, false, length, sym, ◌∙◌, ap, subst, arith}
+use Rattle.std.proofs.Common.{◌≡◌, ◌≤◌, ◌+◌, ℕ, false, sym, subst, arith}
 use Rattle.vol_block.specs.Volume.{is_reserved}
 use Rattle.btr_reader.specs.Pieces.{map_place}
 use Rattle.image_source.proofs.Moving.{next_high, next_low, next_marked, none_between, placed_next}

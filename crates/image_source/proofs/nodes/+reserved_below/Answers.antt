@@ -1,13 +1,11 @@
-use Rattle.std.proofs.Common.{◌≡◌, ◌≤◌, ◌<◌, ⊎_elim, ℕ, ◌+◌, ◌-◌, List, [], ◌∷◌, None, Some, Option, Contains, length, get_or, sym, ◌∙◌, ap, subst, arith, rules}
+use Rattle.std.proofs.Common.{◌≡◌, ◌≤◌, ◌<◌, ⊎_elim, ℕ, List, ◌∷◌, None, Some, Contains, length, get_or, sym, ◌∙◌, subst, arith, rules}
 use Rattle.std.specs.List.{flat_map}
 use Rattle.std.proofs.lemmas.Bool.{cases_lt}
 use Rattle.std.proofs.lemmas.List.{get_or_default}
 use Rattle.std.proofs.lemmas.Result.{err_from_is_err_and}
-use Rattle.outside.specs.History.{Image}
-use Rattle.outside.specs.declared.answer.BtrAnswer.{BtrAnswer}
 use Rattle.btr_walk.specs.Walks.{IsAmong}
 use Rattle.btr_walk.specs.declared.tree.Pointer.{Pointer}
-use Rattle.image_source.specs.Nodes.{below_faults, below_nodes, own_faults}
+use Rattle.image_source.specs.Nodes.{below_faults, below_nodes}
 use Rattle.saved_volume.specs.Using.{HoldsNode, TellsReserved}
 use Rattle.image_source.proofs.Faults.{child_is, inner_nodes, kid_among, kid_holds, leaf_none, node_among, none_below, own_among}
 use Rattle.image_source.proofs.nodes.+reserved_below.Goals as goal

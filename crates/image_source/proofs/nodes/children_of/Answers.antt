@@ -1,4 +1,4 @@
-use Rattle.std.proofs.Common.{◌≡◌, ◌<◌, [], ◌∷◌, ◌++◌, map, take, length, List, sym, ◌∙◌, ap, rules}
+use Rattle.std.proofs.Common.{◌<◌, [], ◌∷◌, ◌++◌, map, take, length, List, sym, ◌∙◌, ap, rules}
 use Rattle.std.proofs.lemmas.List.{map_more}
 use Rattle.btr_node.specs.declared.child.Child.{Child}
 use Rattle.btr_walk.specs.Node.{child_pointer}

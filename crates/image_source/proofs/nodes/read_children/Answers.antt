@@ -1,8 +1,6 @@
-use Rattle.std.proofs.Common.{◌≡◌, ◌≤◌, ℕ, true, List, [], length, Contains, sym, ◌∙◌, ap, subst}
+use Rattle.std.proofs.Common.{◌≡◌, ℕ, true, List, length, Contains, sym, ◌∙◌, ap, subst}
 use Rattle.std.proofs.lemmas.Result.{err_from_is_err_and}
 use Rattle.outside.specs.History.{Image}
-use Rattle.outside.specs.declared.answer.BtrAnswer.{BtrAnswer}
-use Rattle.outside.specs.declared.refusal.BtrRefusal.TheVariants.{BadBtrfs}
 use Rattle.btr_node.specs.Rules.{inner_damages}
 use Rattle.btr_node.specs.declared.expect.Expect.{Expect}
 use Rattle.btr_walk.specs.Map.{is_mapped, node_at}

@@ -1,4 +1,4 @@
-use Rattle.std.proofs.Common.{◌≡◌, ◌≤◌, ◌<◌, ℕ, None, sym, ap, subst, rules}
+use Rattle.std.proofs.Common.{◌≤◌, ◌<◌, ℕ, subst}
 use Rattle.image_source.specs.Reserved.{TellsBetween}
 use Rattle.image_source.proofs.Lying.{in_one}
 use Rattle.image_source.proofs.reserved.reserved_between.Goals as goal

@@ -1,4 +1,4 @@
-use Rattle.std.proofs.Common.{◌≡◌, ◌<◌, ◌≤◌, ℕ, arith}
+use Rattle.std.proofs.Common.{arith}
 use Rattle.image_source.proofs.Lying.{by_range}
 use Rattle.image_source.proofs.reserved.reserved_by.Goals as goal
 

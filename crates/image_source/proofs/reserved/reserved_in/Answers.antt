@@ -1,4 +1,3 @@
-use Rattle.std.proofs.Common.{◌≡◌, ◌<◌, length, arith}
 use Rattle.image_source.proofs.Lying.{none_by_map, nowhere_all, nowhere_more, one_by_map}
 use Rattle.image_source.proofs.reserved.reserved_in.Goals as goal
 

@@ -1,7 +1,5 @@
-use Rattle.std.proofs.Common.{◌≡◌, ℕ, List, Option, None, Some, Result, Ok, Err, sym, ◌∙◌, ap, subst}
+use Rattle.std.proofs.Common.{◌≡◌, List, Option, None, Some, Ok, Err, sym, ◌∙◌, subst}
 use Rattle.std.proofs.lemmas.Result.{err_from_is_err_and}
-use Rattle.outside.specs.History.{Image}
-use Rattle.outside.specs.declared.answer.BtrAnswer.{BtrAnswer}
 use Rattle.btr_reader.specs.Image.{entry_refusals}
 use Rattle.btr_reader.specs.Opening.{tree_of}
 use Rattle.btr_reader.specs.Parts.{way_refusals}
@@ -11,7 +9,7 @@ use Rattle.btr_walk.specs.declared.map.MapRange.{MapRange}
 use Rattle.btr_walk.specs.declared.tree.Tree.{Tree}
 use Rattle.image_source.specs.Reserved.{IsMapApart}
 use Rattle.image_source.specs.Trees.{FindsSaved}
-use Rattle.saved_volume.specs.Using.{HoldsPartOf, IsInFiles, TellsReserved}
+use Rattle.saved_volume.specs.Using.{HoldsPartOf, TellsReserved}
 use Rattle.image_source.proofs.Telling.{alone_told, both_told, file_among, file_of, file_refused, file_told, files_told, match_so, no_file, no_trees, other_among, other_of, saved_refused, way_among}
 use Rattle.image_source.proofs.using.reserved_file.Goals as goal
 

@@ -1,4 +1,4 @@
-use Rattle.std.proofs.Common.{◌≡◌, None, subst, ◌∙◌}
+use Rattle.std.proofs.Common.{◌≡◌, subst, ◌∙◌}
 use Rattle.saved_volume.specs.Using.{HoldsNodeOf, TellsReserved}
 use Rattle.image_source.proofs.Telling.{match_so, part_told}
 use Rattle.image_source.proofs.using.reserved_part.Goals as goal

@@ -1,4 +1,4 @@
-use Rattle.std.proofs.Common.{◌≡◌, ℕ, None, Option, refl, sym, ◌∙◌, ap, subst}
+use Rattle.std.proofs.Common.{refl, subst}
 use Rattle.saved_volume.specs.Using.{HoldsExtent, TellsReserved, item_range}
 use Rattle.image_source.proofs.Extending.{found_more}
 use Rattle.image_source.proofs.extents.ReservedExtentNotes.note.Goals as goal

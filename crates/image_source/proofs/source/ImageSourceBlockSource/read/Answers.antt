@@ -1,4 +1,4 @@
-use Rattle.std.proofs.Common.{◌≡◌, ◌<◌, ℕ, min, length, None, sym, ◌∙◌, subst}
+use Rattle.std.proofs.Common.{◌<◌, ℕ, min, length, None, sym, ◌∙◌, subst}
 use Rattle.image_source.proofs.Reading.{block_there, read_there}
 use Rattle.image_source.proofs.source.ImageSourceBlockSource.read.Goals as goal
 
