@@ -1,3 +1,9 @@
 pub mod Back
+pub mod Formats
+pub mod Imaged
 pub mod Keeping
 pub mod Leaving
+pub mod Marked
+pub mod Planning
+pub mod Reading
+pub mod Refusing

@@ -1,5 +1,5 @@
 // The blocks of the old volume that are to be written.
-ghost use Rattle.std.specs.Prelude.{◌≡◌, ◌≢◌, ◌⊎◌, ◌≤◌, ◌<◌, ◌==◌, [], ◌∷◌, ◌++◌, not, true, All, IfErr, IfOk, OnOk, filter, length};
+ghost use Rattle.std.specs.Prelude.{◌≡◌, ◌≢◌, ◌⊎◌, ◌≤◌, ◌<◌, ◌==◌, ◌&&◌, [], ◌∷◌, ◌++◌, map, not, true, All, IfErr, IfOk, OnOk, filter, length};
 ghost use Rattle.outside.specs.Fault.{HasCause, HasCauseOf};
 ghost use Rattle.outside.specs.History.{OverTold, block_at};
 ghost use Rattle.vol_block.specs.Volume.{is_reserved};
@@ -44,13 +44,33 @@ pub fn read_reserved<S: BlockSource>(
     let mut saved = Vec::new(alloc);
     let mut at = used.next_used(0, end);
     while at < end {
-        if at != SUPERBLOCK && is_reserved(at, end) {
-            let block = read_block(src, at)?;
-            add(&mut saved, Saved { at, block })?;
+        if is_saved(at, end) {
+            save(src, &mut saved, at)?;
         }
         at = used.next_used(at + 1, end);
     }
     Ok(saved)
+}
+
+/// Whether a block of a volume of so many is reserved, and not that of the superblock.
+fn is_saved(block: BlockNo, blocks: u64) -> bool
+    ensures { result ≡ (not (block == 16) && is_reserved block blocks) }
+{
+    block != SUPERBLOCK && is_reserved(block, blocks)
+}
+
+/// Appends a block of an image.
+fn save<S: BlockSource>(src: &mut S, saved: &mut Vec<Saved>, at: BlockNo) -> Result<(), VolAnswer>
+    requires inside { at < S.size src.old }
+    ensures kept { S.kept src.old src.new }
+    ensures cause { HasCauseOf VolAnswer.Fault (S.faults src.old) (S.faults src.new) result }
+    ensures answers { IfErr result (λ e. (e ≡ VolAnswer.Fault) ⊎ (e ≡ VolAnswer.Memory)) }
+    ensures numbers { OnOk result (map (λ s. s.at) saved.new.items ≡ map (λ s. s.at) saved.old.items ++ at ∷ []) }
+    ensures blocks { OverTold S.tells (S.blocks src.old) (λ image. OnOk result (All (λ s. s.block.bytes ≡ block_at image s.at) saved.old.items → All (λ s. s.block.bytes ≡ block_at image s.at) saved.new.items)) }
+{
+    let block = read_block(src, at)?;
+    add(saved, Saved { at, block })?;
+    Ok(())
 }
 
 /// Appends a block.

@@ -1,0 +1,47 @@
+-- The format of a disk, by block 16 and the disk's length.
+use Rattle.std.proofs.Common.{◌≡◌, ◌<◌, ◌≤◌, Bool, true, false, cond, List, [], ◌∷◌, length, Option, None, Result, Ok, Err, Contains, inl, refl, sym, ◌∙◌, ap, subst, arith}
+use Rattle.std.specs.Prelude.{nat_le}
+use Rattle.std.proofs.lemmas.Bool.Decides.{nat_tests}
+use Rattle.outside.specs.Format.{format_in}
+use Rattle.outside.specs.History.{Image, block_at}
+use Rattle.outside.specs.declared.refusal.BtrRefusal.{BtrRefusal}
+use Rattle.vol_block.specs.Format.{format}
+use Rattle.vol_block.specs.declared.format.Format.{Format}
+use Rattle.vol_block.specs.declared.format.Format.TheVariants as formats
+use Rattle.btr_reader.specs.Opening.{opening_refusals, refusals_after, super_on}
+use Rattle.btr_reader.specs.Parts.{IsReadable, SavedImage, Superblock}
+use Rattle.btr_super.specs.declared.superblock.Super.{Super}
+use Rattle.rollback_core.proofs.Formats.{has_format}
+use Rattle.saved_volume.specs.Untouched.{IsReadWhole}
+
+chosen_long : (short : Bool) (f : Format) → short ≡ false → cond short formats.Neither f ≡ f
+chosen_long false f long = refl
+chosen_long true f long = absurd cc
+
+chosen_short : (short : Bool) (f : Format) → short ≡ true → cond short formats.Neither f ≡ formats.Neither
+chosen_short true f is = refl
+chosen_short false f is = absurd cc
+
+-- a disk that has block 16 has the format of that block
+pub format_long : (disk : Image) (f : Format) → 16 < length disk → format (block_at disk 16) ≡ f → format_in disk ≡ f
+format_long disk f long is =
+    let enough : nat_le (length disk) 16 ≡ false = grind (arith, nat_tests, long) in
+    chosen_long (nat_le (length disk) 16) (format (block_at disk 16)) enough ∙ is
+
+-- and a shorter one has none
+pub format_short : (disk : Image) → length disk ≤ 16 → format_in disk ≡ formats.Neither
+format_short disk short =
+    let is : nat_le (length disk) 16 ≡ true = grind (arith, nat_tests, short) in
+    chosen_short (nat_le (length disk) 16) (format (block_at disk 16)) is
+
+opening_refused : (disk : Image) (r : BtrRefusal) → super_on disk ≡ Err r → opening_refusals disk ≡ r ∷ []
+unfolding opening_refusals
+opening_refused disk r is = ap (λ (read : Result Super BtrRefusal). refusals_after disk read) is
+
+-- what lies on the way to the saved image is readable only where the superblock is
+super_readable : (disk : Image) → IsReadable disk SavedImage → IsReadable disk Superblock
+super_readable disk way r is = way r (inl (subst (λ (rs : List BtrRefusal). Contains rs r) (sym (opening_refused disk r is)) (0, omega arith, refl)))
+
+-- a volume of which all is read is one of Btrfs
+pub format_read : (disk : Image) → IsReadWhole disk → format_in disk ≡ formats.Btrfs
+format_read disk whole = (has_format.btrfs disk (super_readable disk whole.way)).0

@@ -1,0 +1,125 @@
+-- The map of the saved image, and the volume in it.
+use Rattle.std.proofs.Common.{◌≡◌, ◌≢◌, ℕ, ◌<◌, ◌≤◌, List, [], Bool, Option, Some, None, length, min, refl, sym, ◌∙◌, ap, subst, arith}
+use Rattle.outside.specs.Format.{format_in}
+use Rattle.outside.specs.History.{Image}
+use Rattle.outside.specs.declared.answer.Answer.{Answer}
+use Rattle.outside.specs.declared.answer.Answer.TheVariants as answer
+use Rattle.outside.specs.declared.answer.VolAnswer.{VolAnswer}
+use Rattle.outside.specs.declared.answer.VolAnswer.TheVariants.{Refused, Fault, Memory}
+use Rattle.btr_reader.specs.Image.{ImageFile, saved_image}
+use Rattle.btr_reader.specs.Opening.{opening_refusals}
+use Rattle.btr_reader.specs.Parts.{HasBtrfsRows, own_map, own_super, way_refusals}
+use Rattle.btr_reader.specs.Pieces.{MapsImage, map_place}
+use Rattle.btr_reader.specs.declared.image_map.ImageMap.{ImageMap}
+use Rattle.btr_walk.specs.declared.map.MapRange.{MapRange}
+use Rattle.vol_block.specs.declared.format.Format.TheVariants.{Btrfs}
+use Rattle.reiser_volume.specs.Answers.{RefusesVolume}
+use Rattle.reiser_volume.specs.Volume.{IsAccepted, superblock, used_of}
+use Rattle.reiser_volume.proofs.Holding.{used_length}
+use Rattle.image_source.proofs.Images.{blocks_alike, length_by}
+use Rattle.saved_volume.specs.Moved.{AreInPlace, IsMoved, IsOld, TellsMoved}
+use Rattle.saved_volume.specs.Saved.{IsImageMissing, blocks_by, blocks_by_map, file_blocks, image_blocks, place_by_file, saved_file, saved_place}
+use Rattle.saved_volume.specs.Untouched.{IsUntouched, old_used}
+use Rattle.saved_volume.specs.Using.{IsReservedFree}
+use Rattle.rollback_steps.specs.Answers.{HasImage, HasPlaces, HasVolume, IsReadable, IsRollbackAnswer, RefusesRollback}
+use Rattle.rollback_steps.specs.Opened.{IsMapOn, IsOldOf}
+use Rattle.rollback_steps.specs.Prepared.{by_image}
+use Rattle.rollback_steps.proofs.Reading.{way_readable}
+
+-- ---- the map
+
+-- there is no file where there is no map
+pub no_file : (disk : Image) → MapsImage (own_map disk) None (saved_file disk) → IsImageMissing disk
+no_file disk maps = by (saved_file disk) maps
+  where
+    by : (file : Option ImageFile) → MapsImage (own_map disk) None file → file ≡ None
+    by None maps = refl
+    by (Some f) maps = absurd maps
+
+-- what a map of the saved file says of it
+pub record IsMapped (disk : Image) (m : ImageMap) (file : Option ImageFile) : Type 0 where
+  pub there : file ≡ None → ⊥
+  pub places : (b : ℕ) → map_place m b ≡ place_by_file (own_map disk) file b
+  pub blocks : m.blocks ≡ file_blocks file
+
+is_mapped : (disk : Image) (m : ImageMap) (file : Option ImageFile) → MapsImage (own_map disk) (Some m) file → IsMapped disk m file
+is_mapped disk m None maps = absurd maps
+is_mapped disk m (Some f) maps = record { there = λ none. absurd (cc none); places = maps.place; blocks = maps.length }
+
+pub map_on : (disk : Image) (m : ImageMap) → IsReadable disk → MapsImage (own_map disk) (Some m) (saved_file disk) → IsMapOn disk m
+unfolding image_blocks
+map_on disk m readable maps =
+    let is = is_mapped disk m (saved_file disk) maps in
+    record {
+      image = record { readable = readable; there = is.there };
+      places = is.places;
+      blocks = blocks_alike (map_place m) (saved_place disk) m.blocks disk is.places ∙ ap (λ (n : ℕ). blocks_by (saved_place disk) n disk) is.blocks;
+    }
+
+-- ---- the volume in the image
+
+pub image_known : (e : VolAnswer) → IsRollbackAnswer (by_image e)
+image_known (Refused r) = tt
+image_known Fault = tt
+image_known Memory = tt
+
+pub image_fault : (e : VolAnswer) → by_image e ≡ answer.Fault → e ≡ Fault
+image_fault (Refused r) is = absurd (cc is)
+image_fault Fault is = refl
+image_fault Memory is = absurd (cc is)
+
+pub image_refuses : (disk : Image) (e : VolAnswer) → HasImage disk → RefusesVolume (image_blocks disk) e → RefusesRollback disk (by_image e)
+image_refuses disk (Refused r) image refused = (image, refused)
+image_refuses disk Fault image refused = tt
+image_refuses disk Memory image refused = tt
+
+-- the blocks that an image source over the disk tells are those of the image
+pub told_blocks : (disk blocks : Image) (m : ImageMap) → IsMapOn disk m → blocks ≡ disk → blocks_by_map m blocks ≡ image_blocks disk
+told_blocks disk blocks m on is = ap (blocks_by_map m) is ∙ on.blocks
+
+-- an accepted volume has its superblock, and lies within the image
+pub accepted_low : (image : Image) → IsAccepted image → 16 < length (used_of image)
+accepted_low image a =
+    let long = used_length image in
+    let least = a.clean.superblock.bounds.blocks in
+    omega (arith, long, least)
+
+pub accepted_high : (image : Image) → IsAccepted image → length (used_of image) ≤ length image
+accepted_high image a =
+    let long = used_length image in
+    let fits = a.clean.superblock.fits in
+    omega (arith, long, fits)
+
+-- ---- the places of its blocks
+module _ (disk : Image) (m : ImageMap) (used : List Bool) (on : IsMapOn disk m) (has : HasVolume disk) (is : used ≡ old_used disk) where
+  pub in_place : TellsMoved (map_place m) used None → HasPlaces disk
+  in_place tells = record { volume = has; in_place = λ b old. sym (on.places b) ∙ tells b (subst (λ (u : List Bool). IsOld u b) (sym is) old) }
+
+  pub moved : (b : ℕ) → TellsMoved (map_place m) used (Some b) → RefusesRollback disk (answer.ImageMoved b)
+  moved b tells = (has, record { old = subst (λ (u : List Bool). IsOld u b) is tells.old; elsewhere = λ same. tells.elsewhere (on.places b ∙ same) })
+
+-- ---- the reserved blocks
+pub untouched : (disk : Image) → HasPlaces disk → IsReservedFree disk (superblock (image_blocks disk)).blocks → IsUntouched disk
+untouched disk has free = record {
+  whole = has.volume.image.readable.whole;
+  there = has.volume.image.there;
+  accepted = has.volume.accepted;
+  in_place = has.in_place;
+  reserved = free;
+}
+
+-- all is read where nothing is wrong on the way to the image
+pub readable_with : (disk : Image) → format_in disk ≡ Btrfs → HasBtrfsRows disk → opening_refusals disk ≡ [] → way_refusals disk ≡ [] → IsReadable disk
+readable_with disk format rows opens way = record { format = format; whole = record { rows = rows; way = way_readable disk opens way } }
+
+-- how many blocks the image has
+image_length : (disk : Image) (m : ImageMap) → IsMapOn disk m → length (image_blocks disk) ≡ min m.blocks (length disk)
+image_length disk m on = sym (ap length on.blocks) ∙ length_by (map_place m) m.blocks disk
+
+-- a set of used blocks that has no superblock, or is longer than its image, is none of an accepted volume
+module _ (disk : Image) (m : ImageMap) (on : IsMapOn disk m) (used : List Bool) (accepted : IsAccepted (image_blocks disk)) (is : used ≡ old_used disk) where
+  pub not_low : (n : ℕ) → n ≡ length used → n ≤ 16 → ⊥
+  not_low n all low = omega (arith, all, low, ap length is, accepted_low (image_blocks disk) accepted)
+
+  pub not_high : (n blocks size : ℕ) → n ≡ length used → blocks ≡ m.blocks → size ≡ length disk → min blocks size < n → ⊥
+  not_high n blocks size all same whole high = omega (arith, all, same, whole, high, ap length is, accepted_high (image_blocks disk) accepted, image_length disk m on)

@@ -1,0 +1,45 @@
+-- A volume that can be rolled back is not refused.
+use Rattle.std.proofs.Common.{◌≡◌, ◌≢◌, ℕ, Option, Some, None, refl, sym, ◌∙◌}
+use Rattle.outside.specs.Format.{format_in}
+use Rattle.outside.specs.History.{Image}
+use Rattle.outside.specs.declared.answer.Answer.{Answer}
+use Rattle.outside.specs.declared.answer.Answer.TheVariants as answer
+use Rattle.outside.specs.declared.refusal.BtrRefusal.{BtrRefusal}
+use Rattle.vol_block.specs.declared.format.Format.{Format}
+use Rattle.vol_block.specs.declared.format.Format.TheVariants as formats
+use Rattle.btr_reader.specs.Parts.{log_tree}
+use Rattle.reiser_volume.proofs.Refusals.{not_refused}
+use Rattle.saved_volume.specs.Saved.{image_blocks}
+use Rattle.saved_volume.specs.Untouched.{IsUntouched}
+use Rattle.rollback_steps.specs.Answers.{IsReadRefusal, RefusesRollback, bad_tree, bad_way, has_log}
+use Rattle.rollback_steps.specs.Laws.{RefusalsAreOfTouched}
+use Rattle.rollback_steps.proofs.Formats.{format_read}
+
+read_not_refused : (disk : Image) (r : BtrRefusal) → IsUntouched disk → IsReadRefusal disk r → ⊥
+read_not_refused disk r u (has_log at log is) =
+    let both : None ≡ Some at = sym u.whole.rows.log ∙ log in
+    absurd (cc both)
+read_not_refused disk r u (bad_tree none bad) = u.whole.rows.tree r bad
+read_not_refused disk r u (bad_way none bad) = u.whole.way r bad
+
+not_neither : (disk : Image) → IsUntouched disk → format_in disk ≡ formats.Neither → ⊥
+not_neither disk u is =
+    let both : formats.Btrfs ≡ formats.Neither = sym (format_read disk u.whole) ∙ is in
+    absurd (cc both)
+
+not_reiser : (disk : Image) → IsUntouched disk → format_in disk ≡ formats.Reiser → ⊥
+not_reiser disk u is =
+    let both : formats.Btrfs ≡ formats.Reiser = sym (format_read disk u.whole) ∙ is in
+    absurd (cc both)
+
+pub touched : RefusalsAreOfTouched
+touched disk (answer.Volume r) refused other short u = not_neither disk u refused.0
+touched disk (answer.Btr r) refused other short u = read_not_refused disk r u refused.1
+touched disk (answer.NoSpace needed free run_needed longest) refused other short u = absurd refused
+touched disk answer.WrongFormat refused other short u = not_reiser disk u refused
+touched disk answer.ImageMissing refused other short u = u.there refused.1
+touched disk (answer.ImageDamaged r) refused other short u = not_refused (image_blocks disk) r refused.1 u.accepted
+touched disk (answer.ImageMoved b) refused other short u = refused.1.elsewhere (u.in_place b refused.1.old)
+touched disk (answer.ReservedUsed b) refused other short u = u.reserved b refused.1 refused.2
+touched disk answer.Fault refused other short u = absurd (other refl)
+touched disk answer.Memory refused other short u = absurd (short refl)
