@@ -21,7 +21,7 @@ use Rattle.rollback_core.specs.Answers.{RefusesRecover}
 use Rattle.rollback_core.specs.Recovered.{IsRecoverable}
 use Rattle.rollback_core.proofs.Keeping.{in_order_recovers}
 use Rattle.rollback_steps.specs.Answers.{RefusesRollback}
-use Rattle.rollback_steps.proofs.Refusals.{touched_by}
+use Rattle.rollback_steps.proofs.Refusing.{touched}
 use Rattle.saved_volume.specs.Untouched.{IsUntouched}
 use Rattle.unit_plan.specs.Choice.{HasEnoughSpace}
 use Rattle.unit_plan.specs.Needed.{need}
@@ -146,14 +146,14 @@ rollback_done : (disk : Image) (answer : Answer) (disk_old disk_new : ℕ) → I
     → (answer ≡ Fault → Rose disk_old disk_new) → disk_new ≡ disk_old → disk_old < 2 ^ 64 - 1 → (status (Failed answer) ≡ 0) ⊎ (status (Failed answer) ≡ 4)
 rollback_done disk Fault disk_old disk_new done refuses device same low = absurd (not_risen disk_old disk_new same low (device refl))
 rollback_done disk Memory disk_old disk_new done refuses device same low = inr refl
-rollback_done disk (Volume refusal) disk_old disk_new done refuses device same low = absurd (touched_by disk (Volume refusal) refuses (λ is. cc) (λ is. cc) done)
-rollback_done disk (Btr refusal) disk_old disk_new done refuses device same low = absurd (touched_by disk (Btr refusal) refuses (λ is. cc) (λ is. cc) done)
+rollback_done disk (Volume refusal) disk_old disk_new done refuses device same low = absurd (touched disk (Volume refusal) refuses (λ is. cc) (λ is. cc) done)
+rollback_done disk (Btr refusal) disk_old disk_new done refuses device same low = absurd (touched disk (Btr refusal) refuses (λ is. cc) (λ is. cc) done)
 rollback_done disk (NoSpace needed free run_needed longest_run) disk_old disk_new done refuses device same low = absurd refuses
-rollback_done disk WrongFormat disk_old disk_new done refuses device same low = absurd (touched_by disk WrongFormat refuses (λ is. cc) (λ is. cc) done)
-rollback_done disk ImageMissing disk_old disk_new done refuses device same low = absurd (touched_by disk ImageMissing refuses (λ is. cc) (λ is. cc) done)
-rollback_done disk (ImageMoved block) disk_old disk_new done refuses device same low = absurd (touched_by disk (ImageMoved block) refuses (λ is. cc) (λ is. cc) done)
-rollback_done disk (ImageDamaged refusal) disk_old disk_new done refuses device same low = absurd (touched_by disk (ImageDamaged refusal) refuses (λ is. cc) (λ is. cc) done)
-rollback_done disk (ReservedUsed block) disk_old disk_new done refuses device same low = absurd (touched_by disk (ReservedUsed block) refuses (λ is. cc) (λ is. cc) done)
+rollback_done disk WrongFormat disk_old disk_new done refuses device same low = absurd (touched disk WrongFormat refuses (λ is. cc) (λ is. cc) done)
+rollback_done disk ImageMissing disk_old disk_new done refuses device same low = absurd (touched disk ImageMissing refuses (λ is. cc) (λ is. cc) done)
+rollback_done disk (ImageMoved block) disk_old disk_new done refuses device same low = absurd (touched disk (ImageMoved block) refuses (λ is. cc) (λ is. cc) done)
+rollback_done disk (ImageDamaged refusal) disk_old disk_new done refuses device same low = absurd (touched disk (ImageDamaged refusal) refuses (λ is. cc) (λ is. cc) done)
+rollback_done disk (ReservedUsed block) disk_old disk_new done refuses device same low = absurd (touched disk (ReservedUsed block) refuses (λ is. cc) (λ is. cc) done)
 
 failed_done : (ids : Ids) (now : ℕ) (asked : Option Asked) (disk : Image) (answer : Answer) (disk_old disk_new : ℕ) → (meaning ids now asked).is_done disk → (meaning ids now asked).answers disk answer
     → (answer ≡ Fault → Rose disk_old disk_new) → disk_new ≡ disk_old → disk_old < 2 ^ 64 - 1 → (status (Failed answer) ≡ 0) ⊎ (status (Failed answer) ≡ 4)
