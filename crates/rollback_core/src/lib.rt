@@ -1,6 +1,5 @@
-//! The ways back: a converted volume becomes the old one again, and what a crash left of a switch between the two formats is completed.
+//! The way back: what a crash left of a switch between the two formats is completed.
 //!
-//! [`rollback`] turns a Btrfs volume into the ReiserFS volume in its saved image; the crate `rollback_steps` has it.
 //! [`recover`] looks at the format of a disk and puts right the places of the copies of a Btrfs superblock. On a Btrfs volume the
 //! copies become those of its superblock. On a ReiserFS volume a Btrfs superblock that lies in a block without use becomes zeros.
 #![tactic(auto)]
@@ -16,8 +15,6 @@ pub use laws::{
     recovery_mends, recovery_opens, recovery_stays,
 };
 pub use recovery::{RecoverSummary, recover};
-pub use rollback_steps::rollback;
-pub use way_back::RollbackSummary;
 
 #[cfg(test)]
 mod tests;
