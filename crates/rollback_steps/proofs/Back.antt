@@ -35,7 +35,7 @@ equal_or b =
     ⊎_elim (λ (less : b < 16). inr (λ same. omega (arith, less, same)))
     (λ (least : 16 ≤ b). ⊎_elim (λ (more : 16 < b). inr (λ same. omega (arith, more, same))) (λ (most : b ≤ 16). inl (let e : b ≡ 16 = omega (arith, least, most) in e)) (cases_lt 16 b)) (cases_lt b 16)
 
-pub has_within : (set : List Bool) (b : ℕ) → has set b ≡ true → b < length set
+has_within : (set : List Bool) (b : ℕ) → has set b ≡ true → b < length set
 has_within [] b h = absurd (true≢false (sym h))
 has_within (x ∷ set) zero h = omega arith
 has_within (x ∷ set) (suc b) h = omega (arith, has_within set b h)
