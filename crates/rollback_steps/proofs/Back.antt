@@ -6,10 +6,10 @@ use Rattle.path_list.proofs.Lists.{from_filter, from_map, in_filter, in_map}
 use Rattle.reiser_bitmap.proofs.MoreLaws.{used_had}
 use Rattle.reiser_bitmap.specs.Bits.{has, used_blocks}
 use Rattle.outside.specs.History.{Image, block_at}
-use Rattle.vol_block.specs.Volume.{is_reserved, zeros}
+use Rattle.vol_block.specs.Volume.{is_reserved}
 use Rattle.convert_steps.specs.Switch.{IsMirror}
 use Rattle.saved_volume.specs.Moved.{IsOld}
-use Rattle.saved_volume.specs.Saved.{block_or_hole, image_blocks, saved_place}
+use Rattle.saved_volume.specs.Saved.{block_or_hole, image_blocks}
 use Rattle.image_source.proofs.Images.{image_block}
 use Rattle.reiser_bitmap.proofs.SystemBlocks.{superblock_in}
 use Rattle.reiser_volume.proofs.Holding.{used_length}
@@ -17,7 +17,7 @@ use Rattle.reiser_volume.specs.Volume.{superblock}
 use Rattle.saved_volume.specs.Untouched.{IsUntouched, old_used}
 use Rattle.rollback_steps.specs.Prepared.{IsPrepared}
 use Rattle.rollback_steps.specs.RolledBack.{IsBack, IsRestored, IsRolledBack, IsStanding, is_wiped, restored_blocks}
-use Rattle.way_back.specs.Writing.{AreApart, AreWiped, IsPlace, IsTurned, IsUnturned, IsWiped, IsWiping}
+use Rattle.way_back.specs.Writing.{AreApart, AreWiped, IsPlace, IsTurned, IsUnturned, IsWiped}
 use Rattle.way_back.specs.declared.way.Saved.{Saved}
 use Rattle.way_back.specs.declared.way.WayBack.{WayBack}
 

@@ -1,24 +1,15 @@
 -- What is read of the old volume is what is to be written.
-use Rattle.std.proofs.Common.{◌≡◌, ◌≢◌, ◌⊎◌, inl, inr, ⊎_elim, ℕ, ◌<◌, ◌≤◌, ◌==◌, nat_lt, Bool, true, not, ◌&&◌, List, length, get_or, min, codes, filter, refl, sym, ◌∙◌, ap, subst, arith}
-use Rattle.std.specs.Prelude.{All}
+use Rattle.std.proofs.Common.{◌≡◌, ℕ, ◌==◌, nat_lt, Bool, not, ◌&&◌, List, length, codes, filter, ◌∙◌, ap, subst}
 use Rattle.outside.specs.History.{Image, block_at}
-use Rattle.outside.specs.declared.answer.Answer.{Answer}
-use Rattle.outside.specs.declared.answer.Answer.TheVariants as answer
-use Rattle.outside.specs.declared.answer.VolAnswer.{VolAnswer}
-use Rattle.outside.specs.declared.answer.VolAnswer.TheVariants.{Fault, Memory}
 use Rattle.vol_block.specs.Format.{has_bytes_at}
 use Rattle.vol_block.specs.Volume.{is_reserved}
 use Rattle.btr_reader.specs.declared.image_map.ImageMap.{ImageMap}
 use Rattle.reiser_bitmap.specs.Bits.{has, used_blocks}
 use Rattle.saved_volume.specs.Saved.{image_blocks}
 use Rattle.saved_volume.specs.Untouched.{IsUntouched, old_used}
-use Rattle.way_back.specs.Writing.{AreApart, GoApart, HasRoom, IsPlace, IsWiped}
-use Rattle.way_back.specs.declared.way.RollbackSummary.{RollbackSummary}
-use Rattle.way_back.specs.declared.way.Saved.{Saved}
 use Rattle.way_back.specs.declared.way.WayBack.{WayBack}
-use Rattle.rollback_steps.specs.Answers.{RefusesRollback}
-use Rattle.rollback_steps.specs.Opened.{IsMapOn, LiesWithin}
-use Rattle.rollback_steps.specs.Prepared.{AreSaved, IsPrepared, by_image}
+use Rattle.rollback_steps.specs.Opened.{IsMapOn}
+use Rattle.rollback_steps.specs.Prepared.{AreSaved, IsPrepared}
 use Rattle.rollback_steps.specs.RolledBack.{summary}
 
 -- whether a block is to become zeros, by the set of used blocks

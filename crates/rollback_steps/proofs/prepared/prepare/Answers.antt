@@ -1,9 +1,7 @@
-use Rattle.std.proofs.Common.{◌≡◌, ℕ, length, sym, ◌∙◌, ap, subst}
+use Rattle.std.proofs.Common.{ℕ, sym, ◌∙◌, subst}
 use Rattle.std.specs.Prelude.{IfOk}
 use Rattle.std.proofs.lemmas.Result.{err_from_is_err_and}
 use Rattle.outside.specs.declared.answer.Answer.{Answer}
-use Rattle.reiser_volume.proofs.Holding.{used_length}
-use Rattle.saved_volume.specs.Saved.{image_blocks}
 use Rattle.way_back.specs.Writing.{HasRoom}
 use Rattle.rollback_steps.specs.Answers.{RefusesRollback}
 use Rattle.rollback_steps.proofs.prepared.prepare.Goals as goal

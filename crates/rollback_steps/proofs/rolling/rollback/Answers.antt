@@ -1,6 +1,6 @@
-use Rattle.std.proofs.Common.{◌≡◌, ◌∙◌, inl, refl, sym, ap, subst}
+use Rattle.std.proofs.Common.{◌≡◌, ◌∙◌, inl, sym, ap, subst}
 use Rattle.std.proofs.lemmas.Result.{err_from_is_err_and}
-use Rattle.outside.specs.History.{History, Image, reads}
+use Rattle.outside.specs.History.{Image, reads}
 use Rattle.outside.specs.declared.answer.Answer.{Answer}
 use Rattle.outside.proofs.Phases.{left_unwritten}
 use Rattle.rollback_steps.specs.Answers.{RefusesRollback}
