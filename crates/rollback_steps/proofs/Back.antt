@@ -6,10 +6,10 @@ use Rattle.path_list.proofs.Lists.{from_filter, from_map, in_filter, in_map}
 use Rattle.reiser_bitmap.proofs.MoreLaws.{used_had}
 use Rattle.reiser_bitmap.specs.Bits.{has, used_blocks}
 use Rattle.outside.specs.History.{Image, block_at}
-use Rattle.vol_block.specs.Volume.{is_reserved, zeros}
+use Rattle.vol_block.specs.Volume.{is_reserved}
 use Rattle.convert_steps.specs.Switch.{IsMirror}
 use Rattle.saved_volume.specs.Moved.{IsOld}
-use Rattle.saved_volume.specs.Saved.{block_or_hole, image_blocks, saved_place}
+use Rattle.saved_volume.specs.Saved.{block_or_hole, image_blocks}
 use Rattle.image_source.proofs.Images.{image_block}
 use Rattle.reiser_bitmap.proofs.SystemBlocks.{superblock_in}
 use Rattle.reiser_volume.proofs.Holding.{used_length}
@@ -17,7 +17,7 @@ use Rattle.reiser_volume.specs.Volume.{superblock}
 use Rattle.saved_volume.specs.Untouched.{IsUntouched, old_used}
 use Rattle.rollback_steps.specs.Prepared.{IsPrepared}
 use Rattle.rollback_steps.specs.RolledBack.{IsBack, IsRestored, IsRolledBack, IsStanding, is_wiped, restored_blocks}
-use Rattle.way_back.specs.Writing.{AreApart, AreWiped, IsPlace, IsTurned, IsUnturned, IsWiped, IsWiping}
+use Rattle.way_back.specs.Writing.{AreApart, AreWiped, IsPlace, IsTurned, IsUnturned, IsWiped}
 use Rattle.way_back.specs.declared.way.Saved.{Saved}
 use Rattle.way_back.specs.declared.way.WayBack.{WayBack}
 
@@ -35,7 +35,7 @@ equal_or b =
     ⊎_elim (λ (less : b < 16). inr (λ same. omega (arith, less, same)))
     (λ (least : 16 ≤ b). ⊎_elim (λ (more : 16 < b). inr (λ same. omega (arith, more, same))) (λ (most : b ≤ 16). inl (let e : b ≡ 16 = omega (arith, least, most) in e)) (cases_lt 16 b)) (cases_lt b 16)
 
-pub has_within : (set : List Bool) (b : ℕ) → has set b ≡ true → b < length set
+has_within : (set : List Bool) (b : ℕ) → has set b ≡ true → b < length set
 has_within [] b h = absurd (true≢false (sym h))
 has_within (x ∷ set) zero h = omega arith
 has_within (x ∷ set) (suc b) h = omega (arith, has_within set b h)

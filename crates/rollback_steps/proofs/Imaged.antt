@@ -1,28 +1,26 @@
 -- The map of the saved image, and the volume in it.
-use Rattle.std.proofs.Common.{◌≡◌, ◌≢◌, ℕ, ◌<◌, ◌≤◌, List, [], Bool, Option, Some, None, length, min, refl, sym, ◌∙◌, ap, subst, arith}
+use Rattle.std.proofs.Common.{◌≡◌, ℕ, ◌<◌, ◌≤◌, List, [], Bool, Option, Some, None, length, min, refl, sym, ◌∙◌, ap, subst, arith}
 use Rattle.outside.specs.Format.{format_in}
 use Rattle.outside.specs.History.{Image}
-use Rattle.outside.specs.declared.answer.Answer.{Answer}
 use Rattle.outside.specs.declared.answer.Answer.TheVariants as answer
 use Rattle.outside.specs.declared.answer.VolAnswer.{VolAnswer}
 use Rattle.outside.specs.declared.answer.VolAnswer.TheVariants.{Refused, Fault, Memory}
-use Rattle.btr_reader.specs.Image.{ImageFile, saved_image}
+use Rattle.btr_reader.specs.Image.{ImageFile}
 use Rattle.btr_reader.specs.Opening.{opening_refusals}
-use Rattle.btr_reader.specs.Parts.{HasBtrfsRows, own_map, own_super, way_refusals}
+use Rattle.btr_reader.specs.Parts.{HasBtrfsRows, own_map, way_refusals}
 use Rattle.btr_reader.specs.Pieces.{MapsImage, map_place}
 use Rattle.btr_reader.specs.declared.image_map.ImageMap.{ImageMap}
-use Rattle.btr_walk.specs.declared.map.MapRange.{MapRange}
 use Rattle.vol_block.specs.declared.format.Format.TheVariants.{Btrfs}
 use Rattle.reiser_volume.specs.Answers.{RefusesVolume}
 use Rattle.reiser_volume.specs.Volume.{IsAccepted, superblock, used_of}
 use Rattle.reiser_volume.proofs.Holding.{used_length}
 use Rattle.image_source.proofs.Images.{blocks_alike, length_by}
-use Rattle.saved_volume.specs.Moved.{AreInPlace, IsMoved, IsOld, TellsMoved}
+use Rattle.saved_volume.specs.Moved.{IsOld, TellsMoved}
 use Rattle.saved_volume.specs.Saved.{IsImageMissing, blocks_by, blocks_by_map, file_blocks, image_blocks, place_by_file, saved_file, saved_place}
 use Rattle.saved_volume.specs.Untouched.{IsUntouched, old_used}
 use Rattle.saved_volume.specs.Using.{IsReservedFree}
 use Rattle.rollback_steps.specs.Answers.{HasImage, HasPlaces, HasVolume, IsReadable, IsRollbackAnswer, RefusesRollback}
-use Rattle.rollback_steps.specs.Opened.{IsMapOn, IsOldOf}
+use Rattle.rollback_steps.specs.Opened.{IsMapOn}
 use Rattle.rollback_steps.specs.Prepared.{by_image}
 use Rattle.rollback_steps.proofs.Reading.{way_readable}
 

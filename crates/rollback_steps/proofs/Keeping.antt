@@ -1,25 +1,23 @@
 -- What a rollback and its crashes keep.
-use Rattle.std.proofs.Common.{◌≡◌, ◌≢◌, ◌⊎◌, inl, inr, ⊎_elim, ℕ, ◌<◌, ◌≤◌, eqb, nat_lt, Bool, true, false, not, ◌&&◌, List, length, codes, refl, sym, ◌∙◌, ap, subst, arith, true≢false}
+use Rattle.std.proofs.Common.{◌≡◌, ◌≢◌, inl, inr, ⊎_elim, ℕ, ◌≤◌, eqb, nat_lt, Bool, true, false, not, ◌&&◌, List, length, codes, refl, sym, ◌∙◌, ap, subst, arith, true≢false}
 use Rattle.std.proofs.lemmas.Bool.{and_parts}
 use Rattle.std.proofs.lemmas.Bool.Decides.{nat_tests}
 use Rattle.outside.specs.History.{Image, block_at}
-use Rattle.convert_steps.specs.Switch.{IsMirror}
-use Rattle.image_source.specs.Laws.{IsSameUntouched, is_spare}
+use Rattle.image_source.specs.Laws.{is_spare}
 use Rattle.saved_volume.specs.Saved.{image_blocks}
 use Rattle.saved_volume.specs.Untouched.{IsUntouched, old_used}
 use Rattle.image_source.proofs.Images.{image_short}
 use Rattle.image_source.proofs.Staying.{spare_blocks_decide_nothing}
 use Rattle.metadata_laws.specs.Apart.{IsSameOutside}
-use Rattle.object_files.specs.Laws.{SameUsed}
 use Rattle.reiser_bitmap.specs.Bits.{has}
 use Rattle.reiser_volume.specs.Volume.{superblock, used_of}
 use Rattle.reiser_volume.proofs.Holding.{used_length}
 use Rattle.reiser_volume.proofs.Unchanged.{same_volume}
 use Rattle.vol_block.specs.Format.{has_bytes_at}
-use Rattle.vol_block.specs.Volume.{is_reserved, zeros}
+use Rattle.vol_block.specs.Volume.{is_reserved}
 use Rattle.rollback_steps.specs.Laws.{RollbackGoesOn, RollbackKeeps}
-use Rattle.rollback_steps.specs.RolledBack.{IsBack, IsRestored, IsRolledBack, IsStanding, is_wiped}
-use Rattle.rollback_steps.proofs.Back.{equal_or, used_below}
+use Rattle.rollback_steps.specs.RolledBack.{IsBack, IsRolledBack, IsStanding, is_wiped}
+use Rattle.rollback_steps.proofs.Back.{equal_or}
 
 -- a reserved block other than 16 is a spare one
 spare_so : (t : Bool) (b : ℕ) → t ≡ true → b ≢ 16 → (t && not (eqb b 16)) ≡ true

@@ -1,5 +1,5 @@
 -- What a rollback leaves, by what was prepared and written.
-use Rattle.std.proofs.Common.{◌≡◌, ◌⊎◌, inl, inr, ⊎_elim, refl, sym, subst}
+use Rattle.std.proofs.Common.{◌≡◌, ◌⊎◌, inl, inr, ⊎_elim, subst}
 use Rattle.outside.specs.History.{History, Image, IsSettled, LeftSince, clock, reads}
 use Rattle.rollback_steps.specs.Prepared.{IsPrepared}
 use Rattle.rollback_steps.specs.RolledBack.{IsLeft}

@@ -1,9 +1,8 @@
 -- What is answered of the Btrfs volume, as an answer of a rollback.
-use Rattle.std.proofs.Common.{◌≡◌, ◌≢◌, inl, inr, ℕ, Bool, true, false, cond, ◌==◌, List, [], Option, Some, None, Result, Ok, Err, Contains, refl, sym, ◌∙◌, ap, subst, arith}
+use Rattle.std.proofs.Common.{◌≡◌, ◌≢◌, inl, inr, Bool, true, false, cond, ◌==◌, List, [], Some, None, Ok, Contains, refl, sym, ◌∙◌, ap, subst, arith}
 use Rattle.std.proofs.lemmas.Bool.{eqb-true}
 use Rattle.outside.specs.Format.{format_in}
 use Rattle.outside.specs.History.{Image}
-use Rattle.outside.specs.declared.answer.Answer.{Answer}
 use Rattle.outside.specs.declared.answer.Answer.TheVariants as answer
 use Rattle.outside.specs.declared.answer.BtrAnswer.{BtrAnswer}
 use Rattle.outside.specs.declared.answer.BtrAnswer.TheVariants.{Refused, Fault, Memory}
@@ -11,7 +10,7 @@ use Rattle.outside.specs.declared.refusal.BtrRefusal.{BtrRefusal}
 use Rattle.outside.specs.declared.refusal.BtrRefusal.TheVariants.{LogPending}
 use Rattle.vol_block.specs.declared.format.Format.TheVariants.{Btrfs}
 use Rattle.btr_reader.specs.Opening.{IsAmong, opening_refusals, super_on}
-use Rattle.btr_reader.specs.Parts.{IsBtrfsRefusal, IsReadable, IsRowsRefusal, RefusesBtrfsRows, SavedImage, has_log as rows_have_log, log_of, log_tree, unreadable as rows_unreadable, way_refusals}
+use Rattle.btr_reader.specs.Parts.{IsReadable, IsRowsRefusal, RefusesBtrfsRows, SavedImage, has_log as rows_have_log, log_of, log_tree, unreadable as rows_unreadable, way_refusals}
 use Rattle.btr_reader.proofs.PartsRead.{one_log}
 use Rattle.btr_super.specs.declared.superblock.Super.{Super}
 use Rattle.saved_volume.specs.Using.{IsUseRefusal, RefusesUse, has_log as use_has_log, unreadable as use_unreadable}

@@ -1,17 +1,14 @@
 -- A volume that can be rolled back is not refused.
-use Rattle.std.proofs.Common.{◌≡◌, ◌≢◌, ℕ, Option, Some, None, refl, sym, ◌∙◌}
+use Rattle.std.proofs.Common.{◌≡◌, Some, None, refl, sym, ◌∙◌}
 use Rattle.outside.specs.Format.{format_in}
 use Rattle.outside.specs.History.{Image}
-use Rattle.outside.specs.declared.answer.Answer.{Answer}
 use Rattle.outside.specs.declared.answer.Answer.TheVariants as answer
 use Rattle.outside.specs.declared.refusal.BtrRefusal.{BtrRefusal}
-use Rattle.vol_block.specs.declared.format.Format.{Format}
 use Rattle.vol_block.specs.declared.format.Format.TheVariants as formats
-use Rattle.btr_reader.specs.Parts.{log_tree}
 use Rattle.reiser_volume.proofs.Refusals.{not_refused}
 use Rattle.saved_volume.specs.Saved.{image_blocks}
 use Rattle.saved_volume.specs.Untouched.{IsUntouched}
-use Rattle.rollback_steps.specs.Answers.{IsReadRefusal, RefusesRollback, bad_tree, bad_way, has_log}
+use Rattle.rollback_steps.specs.Answers.{IsReadRefusal, bad_tree, bad_way, has_log}
 use Rattle.rollback_steps.specs.Laws.{RefusalsAreOfTouched}
 use Rattle.rollback_steps.proofs.Formats.{format_read}
 

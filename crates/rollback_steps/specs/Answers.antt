@@ -6,7 +6,6 @@ use Rattle.outside.specs.declared.answer.Answer.{Answer}
 use Rattle.outside.specs.declared.answer.Answer.TheVariants as answer
 use Rattle.outside.specs.declared.refusal.BtrRefusal.{BtrRefusal}
 use Rattle.outside.specs.declared.refusal.BtrRefusal.TheVariants.{LogPending}
-use Rattle.outside.specs.declared.refusal.VolumeRefusal.{VolumeRefusal}
 use Rattle.outside.specs.declared.refusal.VolumeRefusal.TheVariants.{NotVolume}
 use Rattle.vol_block.specs.Volume.{IsReserved}
 use Rattle.vol_block.specs.declared.format.Format.TheVariants.{Btrfs, Neither, Reiser}

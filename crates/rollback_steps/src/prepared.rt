@@ -44,10 +44,28 @@ pub fn prepare<S: BlockSource>(alloc: Global, src: &mut S) -> Result<WayBack, An
     let volume = open_volume(alloc, src, &block)?;
     read_rows(alloc, src, &volume)?;
     let map = read_map(alloc, src, &volume)?;
-    let old = open_old(alloc, src, &map)?;
-    check_places(&map, old.bitmap())?;
-    check_reserved(alloc, src, &volume, old.bitmap().len())?;
-    plan(alloc, src, &map, old.bitmap())
+    prepare_old(alloc, src, &volume, &map)
+}
+
+/// The same from the saved image on, whose map was read.
+fn prepare_old<S: BlockSource>(
+    alloc: Global,
+    src: &mut S,
+    volume: &Btrfs,
+    map: &ImageMap,
+) -> Result<WayBack, Answer>
+    requires device { map.now.device ≡ S.size src.old }
+    ensures kept { S.kept src.old src.new }
+    ensures prepared { OverTold S.tells (S.blocks src.old) (λ disk. IsOpenedOn disk volume.now → IsMapOn disk map.now → MatchResult result (IsPrepared disk) (RefusesRollback disk)) }
+    ensures room { IfOk result (HasRoom (S.size src.old)) }
+    ensures apart { IfOk result AreApart }
+    ensures cause { HasCauseOf Answer.Fault (S.faults src.old) (S.faults src.new) result }
+    ensures answers { IfErr result IsRollbackAnswer }
+{
+    let old = open_old(alloc, src, map)?;
+    check_places(map, old.bitmap())?;
+    check_reserved(alloc, src, volume, old.bitmap().len())?;
+    plan(alloc, src, map, old.bitmap())
 }
 
 /// Block 16 of a disk that has a Btrfs volume.

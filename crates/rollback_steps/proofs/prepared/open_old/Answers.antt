@@ -1,4 +1,4 @@
-use Rattle.std.proofs.Common.{◌≡◌, ◌<◌, ℕ, length, sym, ◌∙◌, ap, subst}
+use Rattle.std.proofs.Common.{◌<◌, ℕ, length, sym, ◌∙◌, ap, subst}
 use Rattle.outside.specs.declared.answer.Answer.{Answer}
 use Rattle.btr_reader.specs.declared.image_map.ImageMap.{ImageMap}
 use Rattle.saved_volume.specs.Saved.{blocks_by_map, image_blocks}

@@ -1,13 +1,8 @@
-use Rattle.std.proofs.Common.{List, None, Ok, Some, sym, ◌∙◌, subst}
+use Rattle.std.proofs.Common.{None, Ok, Some, sym, subst}
 use Rattle.outside.specs.declared.answer.Answer.{Answer}
-use Rattle.outside.specs.declared.refusal.BtrRefusal.{BtrRefusal}
-use Rattle.btr_walk.specs.declared.map.MapRange.{MapRange}
-use Rattle.btr_super.specs.declared.superblock.Super.{Super}
 use Rattle.btr_reader.specs.Image.{image_refusals, saved_image}
 use Rattle.btr_reader.specs.Opening.{IsAmong}
-use Rattle.btr_reader.specs.Pieces.{MapsImage}
 use Rattle.btr_reader.specs.Reading.{ReadsImage}
-use Rattle.btr_reader.specs.declared.image_map.ImageMap.{ImageMap}
 use Rattle.btr_reader.proofs.PartsRead.{of_disk}
 use Rattle.rollback_steps.specs.Answers.{RefusesRollback}
 use Rattle.rollback_steps.proofs.Imaged.{map_on, no_file, readable_with}

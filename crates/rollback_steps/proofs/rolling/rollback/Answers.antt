@@ -1,6 +1,6 @@
-use Rattle.std.proofs.Common.{◌≡◌, ◌∙◌, inl, refl, sym, ap, subst}
+use Rattle.std.proofs.Common.{◌≡◌, ◌∙◌, inl, sym, ap, subst}
 use Rattle.std.proofs.lemmas.Result.{err_from_is_err_and}
-use Rattle.outside.specs.History.{History, Image, reads}
+use Rattle.outside.specs.History.{Image, reads}
 use Rattle.outside.specs.declared.answer.Answer.{Answer}
 use Rattle.outside.proofs.Phases.{left_unwritten}
 use Rattle.rollback_steps.specs.Answers.{RefusesRollback}
@@ -25,8 +25,8 @@ returns-in-Ok-clause-crash g c = λ tells settled.
     let prepared = c.in_ok-way.ensures.prepared tells _ (g.met.D.Disk.open_blocks c.args.disk.now _ tells c.requires.«open») in
     writing_crash _ _ _ _ same prepared c.in_ok-way.ensures.apart settled (c.write_back.ensures.crash tells)
 
-pub returns-in-Err-clause-crash : goal.returns-in-Err-clause-crash
-returns-in-Err-clause-crash g c = λ tells settled.
+pub returns-clause-crash : goal.returns-clause-crash
+returns-clause-crash g c = λ tells settled.
     let same : g.D.Disk.history c.read_way.new.disk ≡ g.D.Disk.history c.args.disk.now = g.met.D.Disk.kept_history _ _ tells c.read_way.ensures.kept in
     let prepared = c.in_ok-way.ensures.prepared tells _ (g.met.D.Disk.open_blocks c.args.disk.now _ tells c.requires.«open») in
     writing_crash _ _ _ _ same prepared c.in_ok-way.ensures.apart settled (c.write_back.ensures.crash tells)
