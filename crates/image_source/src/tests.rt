@@ -1,8 +1,9 @@
 // The saved image of a small disk.
-use crate::{ImageSource, image_moved};
-use btr_reader::{ImageMap, Piece};
+use crate::{ImageSource, image_moved, reserved_used};
+use btr_reader::{Btrfs, ImageMap, Piece};
+use btr_samples::Sample;
 use btr_walk::MapRange;
-use outside::{Access, BlockSource, Disk};
+use outside::{Access, BlockSource, BtrAnswer, BtrRefusal, BtrRule, Disk};
 use outside_mem::MemDisk;
 use reiser_bitmap::Bitmap;
 use std::alloc::Global;
@@ -141,5 +142,65 @@ fn a_moved_block_is_told(rt: HostRuntime) -> Result<(), Fail> {
     assert_eq!(rt; image_moved(&image, &used), None);
     used.insert(456);
     assert_eq!(rt; image_moved(&image, &used), Some(456));
+    Ok(())
+}
+
+/// A Btrfs volume without a saved image, whose chunk tree lies from block 8448 on, and whose root tree from block 8704 on.
+fn btrfs(alloc: Global, sample: &Sample) -> Result<MemDisk, Fail> {
+    let mut disk = sample.disk(alloc)?;
+    disk.open("", Access::Read)?;
+    Ok(disk)
+}
+
+#[test]
+fn reserved_blocks_in_use_are_told(rt: HostRuntime) -> Result<(), Fail> {
+    let mut disk = btrfs(rt.alloc(), &Sample::PLAIN)?;
+    let volume = Btrfs::open(rt.alloc(), &mut disk)?;
+    for (blocks, expected) in [
+        (8448, None),
+        (8449, Some(8448)),
+        (8704, None),
+        (8712, Some(8704)),
+        (12_288, None),
+    ] {
+        let told = reserved_used(rt.alloc(), &volume, &mut disk, blocks)?;
+        assert_eq!(rt; told, expected);
+    }
+    Ok(())
+}
+
+#[test]
+fn a_fault_is_no_reserved_block(rt: HostRuntime) -> Result<(), Fail> {
+    let mut disk = btrfs(rt.alloc(), &Sample::PLAIN)?;
+    let volume = Btrfs::open(rt.alloc(), &mut disk)?;
+    disk.fail_call(1)?;
+    let told = reserved_used(rt.alloc(), &volume, &mut disk, 8448);
+    assert_eq!(rt; told, Err(BtrAnswer::Fault));
+    let told = reserved_used(rt.alloc(), &volume, &mut disk, 8448);
+    assert_eq!(rt; told, Ok(None));
+    Ok(())
+}
+
+#[test]
+fn a_log_tree_and_another_device_are_told(rt: HostRuntime) -> Result<(), Fail> {
+    let sample = Sample {
+        log_root: 0x230_0000,
+        ..Sample::PLAIN
+    };
+    let mut logged = btrfs(rt.alloc(), &sample)?;
+    let volume = Btrfs::open(rt.alloc(), &mut logged)?;
+    let told = reserved_used(rt.alloc(), &volume, &mut logged, 8448);
+    let log = BtrRefusal::LogPending {
+        address: 0x230_0000,
+    };
+    assert_eq!(rt; told, Err(BtrAnswer::Refused(log)));
+    let mut disk = btrfs(rt.alloc(), &Sample::PLAIN)?;
+    let volume = Btrfs::open(rt.alloc(), &mut disk)?;
+    let told = reserved_used(rt.alloc(), &volume, &mut device(rt.alloc())?, 8448);
+    let size = BtrRefusal::BadBtrfs {
+        address: 65536,
+        rule: BtrRule::SuperField,
+    };
+    assert_eq!(rt; told, Err(BtrAnswer::Refused(size)));
     Ok(())
 }
