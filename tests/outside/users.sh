@@ -1,0 +1,120 @@
+# What users are given: the documents, the manual page and the package. tests/outside.sh reads this file.
+
+# ---- docs/HOWTO.md ---------------------------------------------------------------------------------------------------
+
+# how_to SECTION: the command lines of a section
+how_to() {
+    awk -v title="## $1. " '/^## / { here = index($0, title) == 1 } here && /^```/ { code = $0 == "```sh"; next } here && code' "$top/docs/HOWTO.md"
+}
+
+# run_lines BEFORE: runs the command lines in the file `lines`, in a mount namespace of its own, so that whatever they mount goes away
+# with it. It prints the status and the text of each; what a failed one said goes to standard error. BEFORE is run before.
+run_lines() {
+    # shellcheck disable=SC2016
+    PATH=$work/howto/bin:$PATH unshare --mount --propagation private bash -c '
+        (eval "$1") </dev/null >said 2>&1 || { echo "1 what comes before the section"; head -5 said >&2; }
+        while IFS= read -r line; do
+            (eval "$line") </dev/null >said 2>&1
+            status=$?
+            echo "$status $line"
+            [ $status = 0 ] || head -5 said >&2
+        done <lines' - "$1"
+}
+
+# follow NAME FILE BEFORE: each command line in the file `commands` ends with status 0, with the volume in a file as /dev/sdX1, and with BEFORE
+# run before
+follow() {
+    local device status line
+    device=$(losetup --find --show "$2")
+    same "docs/HOWTO.md, $1: there are command lines" yes "$([ -s commands ] && echo yes)"
+    sed "s|/dev/sdX1|$device|g; s|/dev/sdX|$device|g; s|/mnt/disk|$work/howto/disk|g" commands >lines
+    while read -r status line; do
+        line=${line//"$device"/"/dev/sdX1"}
+        same "docs/HOWTO.md, $1: ${line//"$work/howto/disk"/"/mnt/disk"}" 0 "$status"
+    done < <(run_lines "${3//DEVICE/"$device"}")
+    losetup --detach "$device"
+}
+
+# A system to start from, as far as the commands on boot files see one: a shell with its libraries, and stand-ins for three commands, each of
+# which notes how it was called.
+boot_system() {
+    local root=$1 file command
+    mkdir -p "$root"/{dev,proc,sys,bin,usr/sbin}
+    cp -L "$(command -v dash)" "$root/bin/sh"
+    while read -r file; do
+        mkdir -p "$root$(dirname "$file")"
+        cp -L "$file" "$root$file"
+    done < <(ldd "$(command -v dash)" | grep -o '/[^ ]*')
+    for command in update-initramfs grub-install update-grub; do
+        printf '#!/bin/sh\necho "%s $*" >>/called\n' "$command" >"$root/usr/sbin/$command"
+        chmod +x "$root/usr/sbin/$command"
+    done
+}
+
+# All sections one after the other, as a user goes through them, on a volume that Linux wrote, on a device that is longer than it
+howto() {
+    zstd -dqf "$top/tests/volumes/tiny.img.zst" -o volume
+    truncate -s 400M volume
+    how_to 1 >commands
+    follow before volume 'mkdir -p disk && mount -t tmpfs none disk'
+    how_to 2 >commands
+    follow space volume true
+    how_to 8 >commands
+    follow 'after a power cut, before the switch' volume true
+    how_to 3 >commands
+    follow convert volume true
+    follow_converted
+}
+
+# The sections on a converted volume
+follow_converted() {
+    local mounted='mkdir -p disk && mount -t btrfs DEVICE disk'
+    how_to 8 >commands
+    follow 'after a power cut, behind the switch' volume true
+    how_to 4 >commands
+    follow 'check and mount' volume true
+    how_to 5 >commands
+    export -f boot_system
+    follow 'a root file system' volume "$mounted && boot_system disk"
+    follow_back "$mounted"
+    how_to 7 >commands
+    follow 'when all is well' volume "$mounted"
+    kept btrfs check --readonly volume
+    same 'docs/HOWTO.md: btrfs check in the end' 0 "$status"
+    run list volume
+    same 'docs/HOWTO.md: the volume in the end' '0|' "$status|$err"
+}
+
+# The section on going back: with the program, where it has the command, and by hand
+follow_back() {
+    how_to 6 | sed '/^reiserconv rollback/,+1d' >commands
+    cp --sparse=always volume copied
+    follow 'going back by hand' copied "$1"
+    run list copied
+    same 'docs/HOWTO.md: the rows after going back by hand' '0|same' "$status|$(cmp -s before.txt "$work/.out" && echo same)"
+    if "$program" --help | grep -q '^  rollback '; then
+        how_to 6 >commands
+        cp --sparse=always volume copied
+        follow 'going back' copied "$1"
+        run list copied
+        same 'docs/HOWTO.md: the rows after going back' '0|same' "$status|$(cmp -s before.txt "$work/.out" && echo same)"
+    else
+        echo 'skipped: going back by the command rollback, which this program does not have'
+    fi
+}
+
+howto_lines() {
+    need zstd zstd || { lacks 'the command lines of docs/HOWTO.md' zstd; return; }
+    local device
+    truncate -s 1M looped
+    if ! device=$(losetup --find --show looped 2>/dev/null) || ! unshare --mount true 2>/dev/null || ! grep -qw btrfs /proc/filesystems; then
+        echo 'skipped: the command lines of docs/HOWTO.md, since this machine gives no loop device or mounts no Btrfs'
+        return
+    fi
+    losetup --detach "$device"
+    mkdir -p howto/bin
+    ln -sf "$program" howto/bin/reiserconv
+    cd howto || return
+    howto
+    cd "$work" || return
+}
