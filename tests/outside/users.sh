@@ -118,3 +118,95 @@ howto_lines() {
     howto
     cd "$work" || return
 }
+
+# ---- the documents ---------------------------------------------------------------------------------------------------
+
+# The numbers and words of all refusals, as the program prints them
+refusal_words() { grep -o 'b"\(refused\)\? [0-9]\+ [a-z]\+' "$top/crates/app_words/src/answer_line.rt" | sed 's/^b"\(refused\)\? //' | sort -nu; }
+
+# shown NAME TEXT: a text stands in the README, as a block of its own
+shown() { same "README.md shows $1" yes "$([[ $(sed -n 's/^    //p' "$top/README.md") == *"$2"* ]] && echo yes)"; }
+
+# links FILE: each link of a document to another one, or to a heading, leads somewhere
+links() {
+    local link target
+    while IFS= read -r link; do
+        target=${link%%#*}
+        target=${target:+$(dirname "$1")/$target}
+        same "$(basename "$1"): the file of $link" yes "$([ -e "${target:-$1}" ] && echo yes)"
+        [[ $link == *'#'* ]] || continue
+        same "$(basename "$1"): the heading of $link" yes \
+            "$(sed -n 's/^#\+ //p' "${target:-$1}" | tr '[:upper:]' '[:lower:]' | tr -cd 'a-z0-9 \n_-' | tr ' ' '-' | grep -qx -- "${link#*#}" && echo yes)"
+    done < <(grep -o '](\([^):]*\))' "$1" | sed 's/^](//; s/)$//')
+}
+
+documents() {
+    local refusal file
+    same 'README.md has at most 100 lines' yes "$([ "$(wc -l <"$top/README.md")" -le 100 ] && echo yes)"
+    run inspect "$top/samples/tiny.img"
+    shown 'what inspect prints' "$out"
+    cp "$top/samples/tiny.img" disk.img
+    run convert disk.img
+    shown 'what convert prints' "$out"
+    same 'all refusals are told' 19 "$(refusal_words | wc -l)"
+    while read -r refusal; do
+        same "docs/REFUSALS.md has $refusal" yes "$(grep -q "^### \`$refusal[ \`]" "$top/docs/REFUSALS.md" && echo yes)"
+        same "docs/reiserconv.8 has $refusal" yes "$(grep -qx "\.It $refusal" "$top/docs/reiserconv.8" && echo yes)"
+    done < <(refusal_words)
+    for file in "$top"/README.md "$top"/docs/*.md; do links "$file"; done
+    if need python3 python3; then
+        same 'docs/PROVED.md names what stands in the sources' 0 "$("$top/tests/proved.py" >proved.txt; echo $?)"
+    else
+        lacks 'the names in docs/PROVED.md' python3
+    fi
+}
+
+# ---- the manual page -------------------------------------------------------------------------------------------------
+
+manual_page() {
+    local page=$top/docs/reiserconv.8 word
+    need mandoc mandoc || { lacks 'the manual page' mandoc; return; }
+    # whether the manuals that it refers to are there is a matter of the machine
+    same 'mandoc finds nothing in the manual page' '' "$(mandoc -Tlint "$page" 2>/dev/null | grep -v 'referenced manual not found')"
+    run --help
+    for word in $(sed -n 's/^  \([a-z]*\) PATH.*/\1/p' "$work/.out"); do
+        same "the manual page has the command $word" yes "$(grep -q "^\.It Cm $word " "$page" && echo yes)"
+    done
+    for word in $(sed -n 's/^  -\(-[a-z-]*\).*/\1/p' "$work/.out"); do
+        same "the manual page has the option -$word" yes "$(grep -q "^\.It Fl $word\b" "$page" && echo yes)"
+    done
+}
+
+# ---- the package -----------------------------------------------------------------------------------------------------
+
+package() {
+    local made root=$work/installed
+    need dpkg-deb dpkg || { lacks 'the package' dpkg-deb; return; }
+    made=$("$top/packaging/deb.sh" "$work/packages" "$program") || { fail 'the package is made'; return; }
+    cp "$made" first.deb
+    same 'the package is made again to the byte' same "$("$top/packaging/deb.sh" "$work/packages" "$program" >/dev/null && cmp -s first.deb "$made" && echo same)"
+    if need lintian lintian; then
+        kept lintian --allow-root --fail-on error "$made"
+        same 'lintian finds no error in the package' '0|' "$status|$out"
+    else
+        lacks 'lintian of the package' lintian
+    fi
+    mkdir -p "$root"/var/lib/dpkg/{info,updates}
+    : >"$root/var/lib/dpkg/status"
+    # its C library is that of the machine
+    kept dpkg "--root=$root" --force-depends --force-not-root --force-script-chrootless --log=/dev/null --install "$made"
+    same 'the package is installed' 0 "$status"
+    same 'the program of the package' same "$(cmp -s "$program" "$root/usr/sbin/reiserconv" && echo same)"
+    kept "$root/usr/sbin/reiserconv" inspect "$top/samples/tiny.img"
+    same 'the installed program runs' '0|format reiserfs' "$status|${out%%$'\n'*}"
+    same 'the completion of commands' convert "$(
+        # shellcheck source=packaging/completion.bash
+        . "$root/usr/share/bash-completion/completions/reiserconv"
+        COMP_WORDS=(reiserconv con)
+        COMP_CWORD=1
+        _reiserconv
+        echo "${COMPREPLY[*]}"
+    )"
+    kept dpkg "--root=$root" --force-not-root --force-script-chrootless --log=/dev/null --purge reiserconv
+    same 'the package is removed without a rest' '0|' "$status|$(find "$root/usr" -type f 2>/dev/null)"
+}
