@@ -492,6 +492,7 @@ words_and_statuses
 documents
 manual_page
 package
+released
 if need mkfs.btrfs btrfs-progs; then btrfs_volumes; else
     lacks 'Btrfs volumes' mkfs.btrfs
 fi

@@ -210,3 +210,42 @@ package() {
     kept dpkg "--root=$root" --force-not-root --force-script-chrootless --log=/dev/null --purge reiserconv
     same 'the package is removed without a rest' '0|' "$status|$(find "$root/usr" -type f 2>/dev/null)"
 }
+
+# ---- the program in release/ -----------------------------------------------------------------------------------------
+
+# from_copy NAME WANTED WORDS..: ./reiserconv of the checkout in `copy`, on a machine without the kit, ends with this status and first line
+from_copy() {
+    local name=$1 wanted=$2
+    shift 2
+    PATH=/usr/sbin:/usr/bin:/sbin:/bin kept copy/reiserconv "$@"
+    same "./reiserconv without the kit, $name" "$wanted" "$status|$(head -qn 1 "$work/.out" "$work/.err")"
+}
+
+# A checkout with the programs in release/, and none that is built
+released() {
+    local lost='70|reiserconv: no program here is made of these sources'
+    mkdir copy
+    tar -C "$top" --exclude=out -c crates | tar -C copy -x
+    cp -pr "$top"/{crates.txt,HANDLES,release,reiserconv} copy/
+    install "$program" copy/release/reiserconv
+    (
+        cd copy || exit
+        # shellcheck source=release/programs.sh
+        . release/programs.sh
+        printf 'sources %s\nreiserconv %s\n' "$(sum)" "$(sha256sum <release/reiserconv | cut -d ' ' -f 1)" >release/MADE_OF
+    )
+    from_copy 'at first' '0|reiserconv 0.1.0' --version
+    from_copy 'once more' '0|reiserconv 0.1.0' --version
+    from_copy 'with invalid arguments' "2|$usage" inspect
+    cp -p copy/crates/vol_block/src/lib.rt lib.rt
+    echo >>copy/crates/vol_block/src/lib.rt
+    from_copy 'after a change of a source' "$lost" --version
+    cp -p lib.rt copy/crates/vol_block/src/lib.rt
+    from_copy 'after the change was taken back' '0|reiserconv 0.1.0' --version
+    touch copy/crates/vol_block/src/new.rt
+    from_copy 'with a source more' "$lost" --version
+    rm copy/crates/vol_block/src/new.rt
+    echo >>copy/release/reiserconv
+    from_copy 'with another program' "$lost" --version
+    rm -r copy
+}
