@@ -13,7 +13,8 @@ work=$(mktemp -d)
 trap 'rm -rf "$work"' EXIT
 root=$work/reiserconv
 docs=$root/usr/share/doc/reiserconv
-SOURCE_DATE_EPOCH=$(git -C "$top" log -1 --format=%ct 2>/dev/null || date +%s)
+# the time of the commit, or of the last change of a document where git can't tell
+SOURCE_DATE_EPOCH=$(git -C "$top" log -1 --format=%ct 2>/dev/null || find "$top/docs" "$top/packaging" -maxdepth 1 -type f -printf '%Ts\n' | sort -n | tail -1)
 export SOURCE_DATE_EPOCH
 umask 022
 

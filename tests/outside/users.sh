@@ -187,7 +187,7 @@ package() {
     same 'the package is made again to the byte' same "$("$top/packaging/deb.sh" "$work/packages" "$program" >/dev/null && cmp -s first.deb "$made" && echo same)"
     if need lintian lintian; then
         kept lintian --allow-root --fail-on error "$made"
-        same 'lintian finds no error in the package' '0|' "$status|$out"
+        same 'lintian finds no error in the package' '0|' "$status|$(grep '^E:' "$work/.out")"
     else
         lacks 'lintian of the package' lintian
     fi
@@ -224,6 +224,10 @@ from_copy() {
 # A checkout with the programs in release/, and none that is built
 released() {
     local lost='70|reiserconv: no program here is made of these sources'
+    if (PATH=/usr/sbin:/usr/bin:/sbin:/bin && command -v rt >/dev/null); then
+        echo 'skipped: ./reiserconv without the kit, since the kit is where all programs are'
+        return
+    fi
     mkdir copy
     tar -C "$top" --exclude=out -c crates | tar -C copy -x
     cp -pr "$top"/{crates.txt,HANDLES,release,reiserconv} copy/
