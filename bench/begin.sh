@@ -5,5 +5,4 @@ set -euo pipefail
 top=$(cd "$(dirname "$(readlink -f "${BASH_SOURCE[0]}")")/.." && pwd)
 work=$(mktemp -d)
 trap 'rm -rf "$work"' EXIT
-"$top/reiserconv" --version >/dev/null
-program=$top/crates/reiserconv/out/reiserconv
+program=$("$top/release/find.sh" reiserconv)

@@ -9,13 +9,13 @@ set -euo pipefail
 top=$(cd "$(dirname "$(readlink -f "${BASH_SOURCE[0]}")")/.." && pwd)
 work=$(mktemp -d)
 trap 'rm -rf "$work"' EXIT
-"$top/reiserconv" --version >/dev/null
+program=$("$top/release/find.sh" reiserconv)
 python3 "$top/bench/files_volume.py" "${1:-350}" "$work/files" "$work/reiserfs"
 
 # listed FORMAT: the times and the memory of `list` on the volume of a format
 listed() {
     local list held rows
-    read -r list held < <(python3 "$top/bench/measure.py" "$work/rows" "$top/crates/reiserconv/out/reiserconv" list "$work/$1")
+    read -r list held < <(python3 "$top/bench/measure.py" "$work/rows" "$program" list "$work/$1")
     rows=$(wc -l <"$work/rows")
     printf '%-9s %6s ms, %s.%02d times; %s rows, %s KiB held: %s bytes a row beside 64 MiB\n' "$1" "$list" \
         $((list / sums)) $((list * 100 / sums % 100)) "$rows" "$held" $(((held - 65536) * 1024 / rows))

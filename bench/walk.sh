@@ -7,7 +7,7 @@ set -euo pipefail
 top=$(cd "$(dirname "$(readlink -f "${BASH_SOURCE[0]}")")/.." && pwd)
 work=$(mktemp -d)
 trap 'rm -rf "$work"' EXIT
-"$top/reiserconv" --version >/dev/null
+program=$("$top/release/find.sh" reiserconv)
 
 cat >"$work/reads.c" <<'C'
 #include <fcntl.h>
@@ -42,5 +42,5 @@ least() {
     echo "$best"
 }
 reads=$(least "$work/reads" "$work/volume" 8211 "$nodes")
-inspect=$(least "$top/crates/reiserconv/out/reiserconv" inspect "$work/volume")
+inspect=$(least "$program" inspect "$work/volume")
 printf 'reads    %5s ms\ninspect  %5s ms, %s.%02d times\n' "$reads" "$inspect" $((inspect / reads)) $((inspect * 100 / reads % 100))

@@ -1,31 +1,86 @@
 #!/usr/bin/env bash
-# make.sh [FOLDER]: puts a program that runs at once, without the kit, into FOLDER (release/out), from a clean checkout:
+# make.sh: puts the programs into release/, as the kit proves and compiles them here, for machines without the kit:
 #
-#     reiserconv    the program, as `rt` proved and compiled it
-#     SHA256SUMS    its SHA-256, which `sha256sum -c` compares
-#     MADE_OF       what it was made of: the commit, the kit, one checksum over all sources, and the C library that it needs
+#     reiserconv, sample_volume    the programs
+#     SHA256SUMS                   their SHA-256, which `sha256sum -c` compares
+#     MADE_OF                      what they were made of: the commit, the kit, one checksum over all sources, and what they need
 #
-# Whoever has the kit can make it again from the commit, and compare. No program is kept in the repository.
+# make.sh --check: makes them, and says whether the ones in release/ are the same to the byte and of the same sources. The status is 1
+# where they are not.
 set -euo pipefail
 
-top=$(cd "$(dirname "$(readlink -f "${BASH_SOURCE[0]}")")/.." && pwd)
-to=${1:-$top/release/out}
-cd "$top"
-if [ -n "$(git status --porcelain -- crates crates.txt HANDLES)" ]; then
-    echo 'release/make.sh: the sources are not those of a commit' >&2
-    exit 1
-fi
-./reiserconv --version >/dev/null
-mkdir -p "$to"
-cp crates/reiserconv/out/reiserconv "$to/reiserconv"
-(cd "$to" && sha256sum reiserconv >SHA256SUMS)
-{
-    printf 'commit %s\n' "$(git rev-parse HEAD)"
-    printf 'kit %s\n' "$(rt version)"
-    # as the script reiserconv sums them: the kit's line, and the SHA-256 of each file
-    printf 'sources %s\n' "$(cut -d ' ' -f 1 <crates/reiserconv/out/sources.sha256)"
-    printf 'program %s\n' "$(cut -d ' ' -f 1 <"$to/SHA256SUMS")"
-    printf 'needs %s\n' "$(grep -ao 'GLIBC_[0-9.]*' "$to/reiserconv" | sort -uV | tail -1)"
-} >"$to/MADE_OF"
-"$to/reiserconv" --version
-cat "$to/MADE_OF"
+cd "$(dirname "$(readlink -f "${BASH_SOURCE[0]}")")/.."
+# shellcheck source=release/programs.sh
+. release/programs.sh
+names=(reiserconv sample_volume)
+
+# Makes each program anew, in its crate's folder.
+make_all() {
+    local made
+    checksum=$(sum)
+    for name in "${names[@]}"; do
+        mkdir -p "crates/$name/out"
+        (
+            flock 9
+            rm -f "crates/$name/out/$name"
+            build
+        ) 9>"crates/$name/out/.build.lock"
+    done
+    made=$(sum)
+    [ "$made" = "$checksum" ] || { echo 'release/make.sh: the sources changed meanwhile' >&2; exit 1; }
+}
+
+check_all() {
+    local status=0
+    for name in "${names[@]}"; do
+        if ! cmp "release/$name" "crates/$name/out/$name"; then
+            status=1
+        elif ! fits release; then
+            echo "release/$name is of other sources than these, by release/MADE_OF"
+            status=1
+        fi
+    done
+    if [ $status = 0 ]; then
+        echo 'the programs in release/ are those of these sources'
+    else
+        echo 'run release/make.sh in a checkout of a commit, and commit what it puts into release/'
+    fi
+    return $status
+}
+
+put_all() {
+    local needs
+    for name in "${names[@]}"; do
+        # a program that runs cannot be written over
+        cp "crates/$name/out/$name" "release/$name.new"
+        mv "release/$name.new" "release/$name"
+    done
+    needs=$(cd release && { grep -aoh 'GLIBC_[0-9.]*' "${names[@]}" || :; } | sort -uV | tail -1)
+    (cd release && sha256sum "${names[@]}" >SHA256SUMS)
+    {
+        printf 'commit %s\nkit %s\nsources %s\n' "$(git rev-parse HEAD)" "$(rt version)" "$checksum"
+        sed 's/\([^ ]*\) *\(.*\)/\2 \1/' release/SHA256SUMS
+        printf 'needs Linux %s%s\n' "$(uname -m)" "${needs:+ $needs}"
+    } >release/MADE_OF
+    cat release/MADE_OF
+}
+
+case "${1:-}" in
+    --check)
+        make_all
+        check_all
+        ;;
+    '')
+        mapfile -t places < <(sources)
+        if [ -n "$(git status --porcelain -- "${places[@]}")" ]; then
+            echo 'release/make.sh: the sources are not those of a commit' >&2
+            exit 1
+        fi
+        make_all
+        put_all
+        ;;
+    *)
+        echo 'usage: release/make.sh [--check]' >&2
+        exit 2
+        ;;
+esac

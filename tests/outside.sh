@@ -1,13 +1,11 @@
 #!/usr/bin/env bash
 # Checks the program against real tools: volumes that mkfs.reiserfs and mkfs.btrfs make and that Linux wrote, and what
-# debugreiserfs and btrfs say of them. It installs what it needs of Debian's packages; where that can't be done it says what it skips. The last
-# line is 'N passed, M failed', and the status is 0 where M is 0.
+# debugreiserfs and btrfs say of them. It installs what it needs of Debian's packages; where that can't be done it says what it skips, and
+# with CI=true this counts as a failure. The last line is 'N passed, M failed', and the status is 0 where M is 0.
 set -uo pipefail
 
 top=$(cd "$(dirname "$(readlink -f "${BASH_SOURCE[0]}")")/.." && pwd)
 work=$(mktemp -d)
-program=$top/crates/reiserconv/out/reiserconv
-maker=$top/crates/sample_volume/out/sample_volume
 trap 'rm -rf "$work"' EXIT
 passed=0
 failed=0
@@ -60,6 +58,12 @@ need() {
     fi
     apt-get install -y -qq "$package" >/dev/null 2>&1
     command -v "$tool" >/dev/null 2>&1
+}
+
+# lacks WHAT TOOL: says that checks are skipped, since a tool is not to be had
+lacks() {
+    echo "skipped: $1, since $2 is not to be had"
+    [ "${CI:-}" != true ] || fail "$1: $2 is not to be had"
 }
 
 # ---- making and changing volumes -------------------------------------------------------------------------------------
@@ -149,7 +153,7 @@ refusals() {
         mkfs.ext4 -q ext4
         ends 'an ext4 volume' 1 'refused 1 novolume' inspect ext4
     else
-        echo 'skipped: an ext4 volume, since mkfs.ext4 is not to be had'
+        lacks 'an ext4 volume' mkfs.ext4
     fi
     volume old 20000 --format 3.5
     ends 'a volume of format 3.5' 1 'refused 3 unsupported 1 35' inspect old
@@ -214,14 +218,14 @@ is_btrfs() { [ "$(dd if="$1" bs=1 skip=$((super + 64)) count=8 status=none | tr 
 
 # what Linux wrote, as it lies in tests/volumes
 linux_volumes() {
-    need zstd zstd || { echo 'skipped: the packed volumes, since zstd is not to be had'; return; }
+    need zstd zstd || { lacks 'the packed volumes' zstd; return; }
     local packed name image
     for packed in "$top"/tests/volumes/*.img.zst; do
         name=$(basename "$packed" .img.zst)
         rm -f packed
         zstd -dqf "$packed" -o packed
         if is_btrfs packed && ! need btrfs btrfs-progs; then
-            echo "skipped: the volume $name, since btrfs is not to be had"
+            lacks "the volume $name" btrfs
             continue
         fi
         run inspect packed
@@ -253,7 +257,7 @@ linux_volumes() {
 # 200 changes of one byte in the nodes of a real tree, by a fixed list: each run ends within a second, and either accepts
 # the volume or refuses it
 damaged_trees() {
-    need zstd zstd || { echo 'skipped: damaged trees, since zstd is not to be had'; return; }
+    need zstd zstd || { lacks 'damaged trees' zstd; return; }
     zstd -dqf "$top/tests/volumes/tiny.img.zst" -o packed
     local nodes seed=1 place was refused=0 others=''
     mapfile -t nodes < <(debugreiserfs -d packed 2>/dev/null | sed -n 's/.* NODE (\([0-9]*\)).*/\1/p' | sort -nu)
@@ -431,7 +435,7 @@ rare() {
 # a file with 65,536 names, a directory of 100,000, and a file of 2^44 bytes with one block, of which reiserfsck wants a
 # pointer for each hole
 rare_volumes() {
-    need python3 python3 || { echo 'skipped: rare volumes, since python3 is not to be had'; return; }
+    need python3 python3 || { lacks 'rare volumes' python3; return; }
     rare links 8739 125 28 1 65538 clean
     same 'the further names of a file with 65,536' 65535 "$(grep -c ' = /folder/name00000$' "$work/.out")"
     rare names 10718 125 77 1 100002 clean
@@ -474,21 +478,25 @@ samples() {
 # shellcheck source=tests/outside/power.sh
 . "$top/tests/outside/power.sh"
 
+# ---- documents, manual page, package ---------------------------------------------------------------------------------
+
+# shellcheck source=tests/outside/users.sh
+. "$top/tests/outside/users.sh"
+
 # ---- all -------------------------------------------------------------------------------------------------------------
 
-if ! "$top/reiserconv" --version >/dev/null; then
-    echo 'the program could not be built'
-    echo '0 passed, 1 failed'
-    exit 1
-fi
-if ! "$top/sample_volume" 0 1 /dev/null 2>/dev/null && [ ! -x "$maker" ]; then
-    echo 'the maker of sample volumes could not be built'
+if ! program=$("$top/release/find.sh" reiserconv) || ! maker=$("$top/release/find.sh" sample_volume); then
+    echo 'the programs could not be built'
     echo '0 passed, 1 failed'
     exit 1
 fi
 words_and_statuses
+documents
+manual_page
+package
+released
 if need mkfs.btrfs btrfs-progs; then btrfs_volumes; else
-    echo 'skipped: Btrfs volumes, since mkfs.btrfs is not to be had'
+    lacks 'Btrfs volumes' mkfs.btrfs
 fi
 if need mkfs.reiserfs reiserfsprogs && need debugreiserfs reiserfsprogs; then
     refusals
@@ -504,11 +512,12 @@ if need mkfs.reiserfs reiserfsprogs && need debugreiserfs reiserfsprogs; then
         rolled_back_volumes
         killed_conversions
         killed_rollbacks
+        howto_lines
     else
-        echo 'skipped: convert, since btrfs and zstd are not to be had'
+        lacks convert 'btrfs or zstd'
     fi
 else
-    echo 'skipped: all checks on volumes, since reiserfsprogs is not to be had'
+    lacks 'all checks on volumes' reiserfsprogs
 fi
 printf '%s passed, %s failed\n' "$passed" "$failed"
 [ "$failed" = 0 ]

@@ -127,7 +127,7 @@ converted_options() {
 
 converted_linux_volumes() {
     local name
-    need zstd zstd || { echo 'skipped: the packed volumes, since zstd is not to be had'; return; }
+    need zstd zstd || { lacks 'the packed volumes' zstd; return; }
     for name in tiny collide attrs xattr-removed empty-mounted empty-64m; do
         zstd -dqf "$top/tests/volumes/$name.img.zst" -o packed
         converts "the volume $name" packed "$(cat "$top/tests/volumes/$name.converted")"

@@ -1,0 +1,22 @@
+# What bash suggests for the arguments of reiserconv.
+_reiserconv() {
+    local word=${COMP_WORDS[COMP_CWORD]} before=${COMP_WORDS[COMP_CWORD - 1]} words
+    COMPREPLY=()
+    if [ "$COMP_CWORD" = 1 ]; then
+        words='inspect list convert recover rollback --help --version'
+    elif [ "$before" = --nodesize ]; then
+        words='4096 8192 16384 32768 65536'
+    elif [ "$before" = --uuid ]; then
+        words='new copy'
+    elif [ "$before" = --label ]; then
+        return
+    elif [ "${COMP_WORDS[1]}" = convert ] && [ "${word:0:1}" = - ]; then
+        words='--nodesize --no-inline --no-datasum --label --copy-label --uuid'
+    elif [ "${COMP_WORDS[1]:0:1}" != - ]; then
+        mapfile -t COMPREPLY < <(compgen -f -- "$word")
+        compopt -o filenames
+        return
+    fi
+    mapfile -t COMPREPLY < <(compgen -W "$words" -- "$word")
+}
+complete -F _reiserconv reiserconv

@@ -1,0 +1,69 @@
+#!/usr/bin/env bash
+# deb.sh [FOLDER [PROGRAM]]: makes a Debian package of the program, with the manual page, the documents for users and bash completion, puts
+# it into FOLDER (packaging/out), and prints its path. PROGRAM is the one of these sources (release/find.sh), to the byte. The same
+# commit gives the same package.
+set -euo pipefail
+
+top=$(cd "$(dirname "$(readlink -f "${BASH_SOURCE[0]}")")/.." && pwd)
+to=$(mkdir -p "${1:-$top/packaging/out}" && cd "${1:-$top/packaging/out}" && pwd)
+program=${2:-$("$top/release/find.sh" reiserconv)}
+version=$("$program" --version | sed 's/^reiserconv //')
+maintainer='Fernonyx maintainers <maintainers@users.noreply.fernonyx.example>'
+work=$(mktemp -d)
+trap 'rm -rf "$work"' EXIT
+root=$work/reiserconv
+docs=$root/usr/share/doc/reiserconv
+# the time of the commit, or of the last change of a document where git can't tell
+SOURCE_DATE_EPOCH=$(git -C "$top" log -1 --format=%ct 2>/dev/null || find "$top/docs" "$top/packaging" -maxdepth 1 -type f -printf '%Ts\n' | sort -n | tail -1)
+export SOURCE_DATE_EPOCH
+umask 022
+
+# put MODE FROM TO: a file of the package
+put() { install -D -m "$1" "$2" "$root/$3"; }
+
+put 755 "$program" usr/sbin/reiserconv
+put 644 "$top/packaging/completion.bash" usr/share/bash-completion/completions/reiserconv
+put 644 "$top/docs/reiserconv.8" usr/share/man/man8/reiserconv.8
+gzip -9n "$root/usr/share/man/man8/reiserconv.8"
+for file in HOWTO.md REFUSALS.md PROVED.md; do put 644 "$top/docs/$file" "usr/share/doc/reiserconv/$file"; done
+put 644 "$top/packaging/copyright" usr/share/doc/reiserconv/copyright
+
+{
+    printf 'reiserconv (%s) unstable; urgency=medium\n\n' "$version"
+    printf '  * See the history of the repository.\n\n'
+    printf ' -- %s  %s\n' "$maintainer" "$(date -Ru -d "@$SOURCE_DATE_EPOCH")"
+} >"$docs/changelog"
+gzip -9n "$docs/changelog"
+
+# the program stays as it was proved and compiled, with its symbols where it has some
+if grep -qa '\.symtab' "$program"; then
+    echo 'reiserconv: unstripped-binary-or-object [usr/sbin/reiserconv]' >"$work/overrides"
+    put 644 "$work/overrides" usr/share/lintian/overrides/reiserconv
+fi
+
+mkdir "$root/DEBIAN"
+needs="libc6 (>= $({ grep -ao 'GLIBC_[0-9.]*' "$program" || echo GLIBC_2.34; } | sort -uV | tail -1 | sed 's/GLIBC_//'))"
+grep -qa 'libgcc_s\.so\.1' "$program" && needs="$needs, libgcc-s1"
+cat >"$root/DEBIAN/control" <<CONTROL
+Package: reiserconv
+Version: $version
+Section: admin
+Priority: optional
+Architecture: amd64
+Maintainer: $maintainer
+Installed-Size: $(du -sk --apparent-size --exclude=DEBIAN "$root" | cut -f 1)
+Depends: $needs
+Recommends: btrfs-progs, reiserfsprogs
+Description: convert a ReiserFS volume to Btrfs in place, and back
+ Linux has dropped ReiserFS. This program turns a clean, unmounted volume of
+ ReiserFS 3.6 into one of Btrfs where it lies. The data of files stays where
+ it is, and the old volume is kept in a file of the new one.
+ .
+ What the program does is proved; the documents say exactly what, and what is
+ only tested.
+CONTROL
+(cd "$root" && find usr -type f -print0 | LC_ALL=C sort -z | xargs -0 md5sum >DEBIAN/md5sums)
+find "$root" -exec touch -h -d "@$SOURCE_DATE_EPOCH" {} +
+package=$to/reiserconv_${version}_amd64.deb
+dpkg-deb --root-owner-group -Zxz --build "$root" "$package" >/dev/null
+echo "$package"
