@@ -15,7 +15,10 @@ FILES = 200
 TAIL = 2000
 JOURNAL_FIRST, JOURNAL_SIZE = 18, 8192
 STAT, INDIRECT, DIRECT, ENTRIES = 0, 1, 2, 500
+# Items of the older form, by what their keys have in place of a kind.
+OLD_STAT, OLD_INDIRECT, OLD_DIRECT = 1 << 32, 0xFFFFFFFE, 0xFFFFFFFF
 ROOM = BLOCK - 24
+WIDTH = 170
 
 
 def blocks_from(first):
@@ -41,8 +44,8 @@ def stat(mode, links, size, blocks):
 
 def head(key, kind, offset, count, length, location):
     """The head of an item; directory items have keys of the older form."""
-    if kind == ENTRIES:
-        return struct.pack("<IIIIHHHH", *key, offset, ENTRIES, count, length, location, 0)
+    if kind >= ENTRIES:
+        return struct.pack("<IIIIHHHH", *key, offset, kind & 0xFFFFFFFF, count, length, location, 0)
     return struct.pack("<IIQHHHH", *key, offset | kind << 60, count, length, location, 1)
 
 
@@ -107,12 +110,12 @@ def add_directory(leaves, key, parent, links, names):
         leaves.add(*item)
 
 
-def inner_levels(nodes, write, numbers):
-    """The nodes above the leaves: at most 170 children each, none with one alone. Answers the root and its level."""
+def inner_levels(nodes, write, numbers, width=WIDTH):
+    """The nodes above the leaves: at most `width` children each, none with one alone. Answers the root and its level."""
     level = 1
     while len(nodes) > 1:
         level += 1
-        parts = [nodes[i : i + 170] for i in range(0, len(nodes), 170)]
+        parts = [nodes[i : i + width] for i in range(0, len(nodes), width)]
         if len(parts[-1]) == 1:
             parts[-1].insert(0, parts[-2].pop())
         nodes = []
@@ -129,7 +132,7 @@ def inner_levels(nodes, write, numbers):
     return nodes[0][0], level
 
 
-def write_system(write, end, root, height, first_free, blocks):
+def write_system(write, end, root, height, first_free, blocks, journal=JOURNAL_SIZE):
     """The bitmap and the superblock of a volume of so many blocks, whose used blocks are those below `end` and the bitmap
     blocks."""
     bitmaps = (blocks - 1) // 32768 + 1
@@ -144,7 +147,7 @@ def write_system(write, end, root, height, first_free, blocks):
         write(17 if bitmap == 0 else first, bits)
     free = blocks - end - sum(1 for bitmap in range(1, bitmaps) if bitmap * 32768 >= end)
     block = bytearray(BLOCK)
-    struct.pack_into("<IIIIII", block, 0, blocks, free, root, JOURNAL_FIRST, 0, JOURNAL_SIZE)
+    struct.pack_into("<IIIIII", block, 0, blocks, free, root, JOURNAL_FIRST, 0, journal)
     struct.pack_into("<IIIII", block, 24, 1024, 0, 900, 30, 30)
     struct.pack_into("<HHHH", block, 44, BLOCK, 972, 2, 1)
     block[52:62] = b"ReIsEr2Fs\0"
