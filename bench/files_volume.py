@@ -49,23 +49,24 @@ def head(key, kind, offset, count, length, location):
     return struct.pack("<IIQHHHH", *key, offset | kind << 60, count, length, location, 1)
 
 
-def directory_items(key, parent, names):
+def directory_items(key, parent, names, place=r5):
     """The items of a directory: its entries by their offsets, so many to an item as fill a leaf."""
     entries = [(1, key, b"."), (2, parent, b"..")]
     taken = set()
     listed = []
     for target, name in names:
-        offset = r5(name)
+        offset = place(name)
         while offset in taken:
             offset += 1
         taken.add(offset)
         listed.append((offset, target, name))
     entries += sorted(listed)
+    entries.reverse()
     while entries:
         part, size = [], 0
-        while entries and size + 16 + (len(entries[0][2]) + 7) // 8 * 8 <= ROOM - 24:
-            size += 16 + (len(entries[0][2]) + 7) // 8 * 8
-            part.append(entries.pop(0))
+        while entries and size + 16 + (len(entries[-1][2]) + 7) // 8 * 8 <= ROOM - 24:
+            size += 16 + (len(entries[-1][2]) + 7) // 8 * 8
+            part.append(entries.pop())
         heads, areas, end = b"", b"", size
         for offset, target, name in part:
             area = name + bytes(-len(name) % 8)
@@ -101,9 +102,9 @@ class Leaves:
         self.items, self.left = [], ROOM
 
 
-def add_directory(leaves, key, parent, links, names):
-    """Adds the items of a directory with these names."""
-    items = list(directory_items(key, parent, names))
+def add_directory(leaves, key, parent, links, names, place=r5):
+    """Adds the items of a directory with these names, whose offsets a function gives."""
+    items = list(directory_items(key, parent, names, place))
     size = sum(len(item[4]) for item in items)
     leaves.add(key, STAT, 0, 0xFFFF, stat(0o40755, links, size, (size + 511) // 512))
     for item in items:
@@ -166,13 +167,13 @@ def writer_of(out):
     return write
 
 
-def end_volume(out, leaves, first_free, spare=0):
+def end_volume(out, leaves, first_free, spare=0, width=WIDTH, journal=JOURNAL_SIZE):
     """Writes the last leaf, the nodes above the leaves and the system blocks, with so many free blocks behind. Answers the
     number of blocks before these."""
     leaves.flush()
-    root, level = inner_levels(leaves.nodes, leaves.write, leaves.numbers)
+    root, level = inner_levels(leaves.nodes, leaves.write, leaves.numbers, width)
     end = next(leaves.numbers)
-    write_system(leaves.write, end, root, level + 1, first_free, end + spare)
+    write_system(leaves.write, end, root, level + 1, first_free, end + spare, journal)
     out.truncate((end + spare) * BLOCK)
     return end
 

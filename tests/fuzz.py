@@ -27,7 +27,7 @@ from pathlib import Path
 
 sys.path.insert(0, str(Path(__file__).resolve().parent / "fuzzing"))
 from base import Draft  # noqa: E402
-from bases import bases_of  # noqa: E402
+from bases import Bases  # noqa: E402
 from changes import change  # noqa: E402
 from program import Program  # noqa: E402
 from runs import Runs, Wrong  # noqa: E402
@@ -52,8 +52,8 @@ def words():
 def draft_of(seed, bases, only):
     """The changed volume of a seed, and the dice that go on."""
     rng = random.Random(seed)
-    base = rng.choices(bases, [base.weight for base in bases])[0]
-    draft = Draft(next((base for base in bases if base.name == only), base))
+    name = bases.draw(rng)
+    draft = Draft(bases.get(only or name))
     change(draft, rng)
     return draft, rng
 
@@ -102,7 +102,7 @@ def main():
         given.first, given.count = given.seed, 1
     with tempfile.TemporaryDirectory(dir="/dev/shm" if os.access("/dev/shm", os.W_OK) else None) as work:
         program = Program(os.environ.get("RECONV", TOP / "crates/reiserconv/out/reiserconv"), work, given.slow)
-        bases = bases_of(program, work, TOP)
+        bases = Bases(program, work, TOP)
         return all_seeds(bases, Runs(program, given.check), given) > 0
 
 

@@ -471,6 +471,8 @@ samples() {
 . "$top/tests/outside/convert.sh"
 # shellcheck source=tests/outside/power.sh
 . "$top/tests/outside/power.sh"
+# shellcheck source=tests/outside/fuzz.sh
+. "$top/tests/outside/fuzz.sh"
 
 # ---- all -------------------------------------------------------------------------------------------------------------
 
@@ -500,6 +502,7 @@ if need mkfs.reiserfs reiserfsprogs && need debugreiserfs reiserfsprogs; then
     if need btrfs btrfs-progs && need zstd zstd; then
         convert_volumes
         killed_conversions
+        fuzzed_volumes
     else
         echo 'skipped: convert, since btrfs and zstd are not to be had'
     fi

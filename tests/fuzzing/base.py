@@ -43,10 +43,11 @@ class Group:
 
 
 class Base:
-    """A volume that is changed: its pages, and its metadata by groups. `path` is the file that gets the changes."""
+    """A volume that is changed: its pages, its metadata by groups, where its nodes and leaves lie, and of ReiserFS the blocks of its
+    log. `path` is the file that gets the changes."""
 
     def __init__(self, name, path):
-        self.name, self.path, self.groups, self.nodes = name, path, {}, []
+        self.name, self.path, self.groups, self.nodes, self.leaves, self.log = name, path, {}, [], [], 0
         self.file = os.open(path, os.O_RDWR)
         self.size = os.fstat(self.file).st_size
         self.pages = pages_of(self.file, self.size)

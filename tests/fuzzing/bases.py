@@ -11,46 +11,63 @@ from volumes import full_volume
 
 # Volumes of tests/volumes, and how often each is drawn.
 PACKED = {"tiny": 4, "collide": 1, "attrs": 1, "xattr-removed": 0.5, "b-basic": 0.5, "b-64k": 0.3}
-# Blocks, children at most below a node, seed, and how often drawn.
-FULL = {"full": (4101, 3, 1, 6), "large": (16641, 170, 2, 3), "tight": (1807, 4, 3, 3)}
-# What is converted, with which options.
-CONVERTED = {"full-4k": ("full", "4096", 4), "large-16k": ("large", "16384", 3), "tight-16k": ("tight", "16384", 2), "full-64k": ("full", "65536", 1), "tiny-4k": ("tiny", "4096", 2)}
+# How often, and blocks, children at most below a node, and seed: one with a deep tree, one with room for a copy of the superblock,
+# and one that has just the space for a conversion. The last blocks of each belong to no chunk.
+FULL = {"full": (6, 4101, 3, 1), "large": (3, 16641, 170, 2), "tight": (3, 1807, 4, 3)}
+# How often, and what is converted, with which size of nodes.
+CONVERTED = {
+    "full-4k": (4, "full", "4096"),
+    "large-16k": (3, "large", "16384"),
+    "tight-16k": (2, "tight", "16384"),
+    "full-64k": (1, "full", "65536"),
+    "tiny-4k": (2, "tiny", "4096"),
+}
 
 
-def add_base(bases, name, path, weight):
-    base = Base(name, path)
-    base.log = 0
-    (btrfs if base.read(65536 + 64, 8) == b"_BHRfS_M" else reiser).find_spans(base)
-    if base.size > 1 << 26:
-        base.span("superblock's copy", 1 << 26, 4096)
-    base.weight = weight
-    bases.append(base)
-    return base
+class Bases:
+    """The volumes by their names. Each is made in a folder when it is first asked for."""
 
+    def __init__(self, program, work, top):
+        self.program, self.work, self.top, self.made = program, work, top, {}
+        parts = [PACKED, {name: one[0] for name, one in FULL.items()}, {name: one[0] for name, one in CONVERTED.items()}]
+        self.weights = {name: weight for part in parts for name, weight in part.items()}
 
-def convert(program, path, size):
-    begun = int(time.time())
-    ended = program.run("convert", "--nodesize", size, path)
-    if ended.status:
-        raise SystemExit(f"the volume {path} is not converted: {ended.err.decode()}")
-    return begun, int(time.time())
+    def draw(self, rng):
+        """The name of a volume."""
+        return rng.choices(list(self.weights), list(self.weights.values()))[0]
 
+    def get(self, name):
+        if name not in self.made:
+            self.made[name] = self.make(name)
+        return self.made[name]
 
-def bases_of(program, work, top):
-    """Makes all volumes in a folder."""
-    bases = []
-    for name, weight in PACKED.items():
-        path = f"{work}/{name}"
-        packed = subprocess.run(["zstd", "-dqf", "--sparse", f"{top}/tests/volumes/{name}.img.zst", "-o", path])
-        if packed.returncode:
-            raise SystemExit(f"the volume {name} is not unpacked")
-        add_base(bases, name, path, weight)
-    for name, (blocks, width, seed, weight) in FULL.items():
-        full_volume(f"{work}/{name}", blocks, width, seed)
-        add_base(bases, name, f"{work}/{name}", weight)
-    for name, (source, size, weight) in CONVERTED.items():
-        path = f"{work}/{name}"
-        shutil.copyfile(f"{work}/{source}", path)
-        moments = convert(program, path, size)
-        btrfs.make_steady(add_base(bases, name, path, weight), *moments)
-    return bases
+    def make(self, name):
+        path = f"{self.work}/{name}"
+        moments = self.write(name, path)
+        base = Base(name, path)
+        (btrfs if base.read(65536 + 64, 8) == b"_BHRfS_M" else reiser).find_spans(base)
+        if base.size > 1 << 26:
+            base.span("superblock's copy", 1 << 26, 4096)
+        if moments:
+            btrfs.make_steady(base, *moments)
+        return base
+
+    def write(self, name, path):
+        """Writes a volume. Answers the moments between which it was converted, if it was."""
+        if name in PACKED:
+            packed = f"{self.top}/tests/volumes/{name}.img.zst"
+            subprocess.run(["zstd", "-dqf", "--sparse", packed, "-o", path], check=True)
+        elif name in FULL:
+            full_volume(path, *FULL[name][1:])
+        else:
+            _, source, size = CONVERTED[name]
+            self.write(source, path)
+            return self.convert(path, size)
+        return None
+
+    def convert(self, path, size):
+        begun = int(time.time())
+        ended = self.program.run("convert", "--nodesize", size, path)
+        if ended.status:
+            raise SystemExit(f"the volume {path} is not converted: {ended.err.decode()}")
+        return begun, int(time.time())

@@ -147,7 +147,6 @@ def seal(draft, wrong):
 
 def find_spans(base):
     """Fills in the groups of a Btrfs volume."""
-    base.leaves = []
     Finder(base)
     base.seal, base.items_of, base.leaf_of = seal, items_of, leaf_of
     base.blocks = base.size // 4096

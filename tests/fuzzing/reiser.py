@@ -104,7 +104,6 @@ def add_node(base, at, level):
 
 def find_spans(base):
     """Fills in the groups of a ReiserFS volume."""
-    base.leaves = []
     words = struct.unpack("<6I", base.read(SUPER, 24))
     blocks, root, journal, length = words[0], words[2], words[3], words[5]
     base.blocks, base.journal, base.log = blocks, journal * BLOCK, length
