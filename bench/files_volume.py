@@ -15,7 +15,10 @@ FILES = 200
 TAIL = 2000
 JOURNAL_FIRST, JOURNAL_SIZE = 18, 8192
 STAT, INDIRECT, DIRECT, ENTRIES = 0, 1, 2, 500
+# Items of the older form, by what their keys have in place of a kind.
+OLD_STAT, OLD_INDIRECT, OLD_DIRECT = 1 << 32, 0xFFFFFFFE, 0xFFFFFFFF
 ROOM = BLOCK - 24
+WIDTH = 170
 
 
 def blocks_from(first):
@@ -41,28 +44,29 @@ def stat(mode, links, size, blocks):
 
 def head(key, kind, offset, count, length, location):
     """The head of an item; directory items have keys of the older form."""
-    if kind == ENTRIES:
-        return struct.pack("<IIIIHHHH", *key, offset, ENTRIES, count, length, location, 0)
+    if kind >= ENTRIES:
+        return struct.pack("<IIIIHHHH", *key, offset, kind & 0xFFFFFFFF, count, length, location, 0)
     return struct.pack("<IIQHHHH", *key, offset | kind << 60, count, length, location, 1)
 
 
-def directory_items(key, parent, names):
+def directory_items(key, parent, names, place=r5):
     """The items of a directory: its entries by their offsets, so many to an item as fill a leaf."""
     entries = [(1, key, b"."), (2, parent, b"..")]
     taken = set()
     listed = []
     for target, name in names:
-        offset = r5(name)
+        offset = place(name)
         while offset in taken:
             offset += 1
         taken.add(offset)
         listed.append((offset, target, name))
     entries += sorted(listed)
+    entries.reverse()
     while entries:
         part, size = [], 0
-        while entries and size + 16 + (len(entries[0][2]) + 7) // 8 * 8 <= ROOM - 24:
-            size += 16 + (len(entries[0][2]) + 7) // 8 * 8
-            part.append(entries.pop(0))
+        while entries and size + 16 + (len(entries[-1][2]) + 7) // 8 * 8 <= ROOM - 24:
+            size += 16 + (len(entries[-1][2]) + 7) // 8 * 8
+            part.append(entries.pop())
         heads, areas, end = b"", b"", size
         for offset, target, name in part:
             area = name + bytes(-len(name) % 8)
@@ -98,21 +102,21 @@ class Leaves:
         self.items, self.left = [], ROOM
 
 
-def add_directory(leaves, key, parent, links, names):
-    """Adds the items of a directory with these names."""
-    items = list(directory_items(key, parent, names))
+def add_directory(leaves, key, parent, links, names, place=r5):
+    """Adds the items of a directory with these names, whose offsets a function gives."""
+    items = list(directory_items(key, parent, names, place))
     size = sum(len(item[4]) for item in items)
     leaves.add(key, STAT, 0, 0xFFFF, stat(0o40755, links, size, (size + 511) // 512))
     for item in items:
         leaves.add(*item)
 
 
-def inner_levels(nodes, write, numbers):
-    """The nodes above the leaves: at most 170 children each, none with one alone. Answers the root and its level."""
+def inner_levels(nodes, write, numbers, width=WIDTH):
+    """The nodes above the leaves: at most `width` children each, none with one alone. Answers the root and its level."""
     level = 1
     while len(nodes) > 1:
         level += 1
-        parts = [nodes[i : i + 170] for i in range(0, len(nodes), 170)]
+        parts = [nodes[i : i + width] for i in range(0, len(nodes), width)]
         if len(parts[-1]) == 1:
             parts[-1].insert(0, parts[-2].pop())
         nodes = []
@@ -129,7 +133,7 @@ def inner_levels(nodes, write, numbers):
     return nodes[0][0], level
 
 
-def write_system(write, end, root, height, first_free, blocks):
+def write_system(write, end, root, height, first_free, blocks, journal=JOURNAL_SIZE):
     """The bitmap and the superblock of a volume of so many blocks, whose used blocks are those below `end` and the bitmap
     blocks."""
     bitmaps = (blocks - 1) // 32768 + 1
@@ -144,7 +148,7 @@ def write_system(write, end, root, height, first_free, blocks):
         write(17 if bitmap == 0 else first, bits)
     free = blocks - end - sum(1 for bitmap in range(1, bitmaps) if bitmap * 32768 >= end)
     block = bytearray(BLOCK)
-    struct.pack_into("<IIIIII", block, 0, blocks, free, root, JOURNAL_FIRST, 0, JOURNAL_SIZE)
+    struct.pack_into("<IIIIII", block, 0, blocks, free, root, JOURNAL_FIRST, 0, journal)
     struct.pack_into("<IIIII", block, 24, 1024, 0, 900, 30, 30)
     struct.pack_into("<HHHH", block, 44, BLOCK, 972, 2, 1)
     block[52:62] = b"ReIsEr2Fs\0"
@@ -163,13 +167,13 @@ def writer_of(out):
     return write
 
 
-def end_volume(out, leaves, first_free, spare=0):
+def end_volume(out, leaves, first_free, spare=0, width=WIDTH, journal=JOURNAL_SIZE):
     """Writes the last leaf, the nodes above the leaves and the system blocks, with so many free blocks behind. Answers the
     number of blocks before these."""
     leaves.flush()
-    root, level = inner_levels(leaves.nodes, leaves.write, leaves.numbers)
+    root, level = inner_levels(leaves.nodes, leaves.write, leaves.numbers, width)
     end = next(leaves.numbers)
-    write_system(leaves.write, end, root, level + 1, first_free, end + spare)
+    write_system(leaves.write, end, root, level + 1, first_free, end + spare, journal)
     out.truncate((end + spare) * BLOCK)
     return end
 

@@ -477,6 +477,8 @@ samples() {
 . "$top/tests/outside/rollback.sh"
 # shellcheck source=tests/outside/power.sh
 . "$top/tests/outside/power.sh"
+# shellcheck source=tests/outside/fuzz.sh
+. "$top/tests/outside/fuzz.sh"
 
 # ---- documents, manual page, package ---------------------------------------------------------------------------------
 
@@ -513,6 +515,7 @@ if need mkfs.reiserfs reiserfsprogs && need debugreiserfs reiserfsprogs; then
         killed_conversions
         killed_rollbacks
         howto_lines
+        fuzzed_volumes
     else
         lacks convert 'btrfs or zstd'
     fi
