@@ -1,5 +1,5 @@
 -- The promise of the program, from what is said of each command.
-use Rattle.std.proofs.Common.{◌≡◌, ◌⊎◌, ◌<◌, ◌^◌, ◌-◌, ℕ, Bool, List, Some, None}
+use Rattle.std.proofs.Common.{◌≡◌, ◌<◌, ◌^◌, ◌-◌, ℕ, Bool, List, Some, None}
 use Rattle.std.specs.Prelude.{IsTrue, Option}
 use Rattle.outside.specs.History.{History, Image, IsSettled, LeftSince, clock, reads}
 use Rattle.vol_block.specs.declared.ids.Ids.{Ids}
@@ -46,7 +46,7 @@ pub keeps_promise : (ids : Ids) (now : ℕ) (asked : Option Asked) (tells : Bool
     → KeepsPromise asked (reads old) (reads new) (status ending) ((disk_new ≡ disk_old) × (disk_old < 2 ^ 64 - 1) × (out_new ≡ out_old) × (out_old < 2 ^ 64 - 1))
     (λ left. IsSettled old × LeftSince (clock old) new left)
 keeps_promise ids now asked tells old new disk_old disk_new out_tells taken_old taken_new out_old out_new ending told blocks performs = record {
-  succeeds = λ done none. done_or_memory ids now asked (reads old) ending disk_old disk_new out_old out_new (to_be_done ids now asked (reads old) done) (performs.right (λ asks. told)) performs.faults none.0 none.1 none.2.0 none.2.1;
+  succeeds = λ done none. done_or_memory ids now asked (reads old) ending disk_old disk_new out_old out_new (to_be_done ids now asked (reads old) done) (performs.right (λ asks. told)) performs.faults none.0 none.1 none.2 none.3;
   makes = λ is. makes ids now asked (reads old) (reads new) blocks (performs.changed told (done_by ending is));
   crash = λ left is. leaves ids now asked (reads old) left blocks (performs.crash told is.0 left is.1);
 }

@@ -1,8 +1,7 @@
 -- What commands do to the tree of files, from the laws on what they do to the blocks.
-use Rattle.std.proofs.Common.{◌≡◌, ◌⊎◌, inl, inr, ⊎_elim, ◌<◌, ◌≤◌, ◌^◌, ℕ, Bool, false, true, sym, subst, ap, refl, ◌∙◌, arith}
+use Rattle.std.proofs.Common.{◌≡◌, inl, inr, ⊎_elim, ◌<◌, ◌^◌, ℕ, false, sym, subst, arith}
 use Rattle.std.specs.Prelude.{length}
-use Rattle.outside.specs.History.{Image, block_at}
-use Rattle.vol_block.specs.Volume.{is_reserved}
+use Rattle.outside.specs.History.{Image}
 use Rattle.vol_block.specs.declared.ids.Ids.{Ids}
 use Rattle.back_laws.specs.Back.{ConvertedVolumesGoBack, CrashesGoBack}
 use Rattle.btr_node.specs.NodeSize.{IsNodeSize}
@@ -10,15 +9,12 @@ use Rattle.convert_core.specs.Converted.{IsConverted, IsConvertible, IsEither}
 use Rattle.convert_steps.specs.Switch.{IsMirror}
 use Rattle.converted_laws.specs.Identifiers.{HasFsid}
 use Rattle.image_source.specs.Laws.{SpareBlocksDecideNothing, is_spare}
-use Rattle.metadata_laws.specs.Apart.{IsSameOutside}
 use Rattle.open_laws.specs.Opens.{ConvertedVolumesOpen}
 use Rattle.rollback_core.specs.Laws.{RecoveryKeeps, RecoveryOpens}
 use Rattle.rollback_core.specs.Recovered.{IsRecovered}
 use Rattle.rollback_core.specs.Recovered as recovery
 use Rattle.rollback_steps.specs.Laws.{RollbackKeeps}
 use Rattle.rollback_steps.specs.RolledBack.{IsLeft, IsRolledBack}
-use Rattle.saved_volume.specs.Saved.{image_blocks}
-use Rattle.saved_volume.specs.Untouched.{IsUntouched}
 use Rattle.space_items.specs.Laws.{AreIds}
 use Rattle.unit_plan.specs.declared.options.Options.{Options}
 use Rattle.unit_plan.specs.declared.options.UuidChoice.{UuidChoice}
@@ -26,7 +22,7 @@ use Rattle.unit_plan.specs.declared.options.UuidChoice.TheVariants.{New, Copy, G
 use Rattle.volume_app.specs.Converting.{IsConvertedWhole, IsEitherWhole}
 use Rattle.volume_app.specs.Recovering as recovering
 use Rattle.volume_app.specs.RollingBack as rolling
-use Rattle.volume_app.specs.Trees.{AreBlocks, HasId, IsConvertedTree, IsRestoredTree, KeepsTree, LeavesConvertedTree, LeavesRestoredTree}
+use Rattle.volume_app.specs.Trees.{AreBlocks, HasId, KeepsTree, LeavesConvertedTree, LeavesRestoredTree}
 use Rattle.volume_app.proofs.Convertible.{converted_was}
 
 -- ---- convert

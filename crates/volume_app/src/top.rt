@@ -65,8 +65,8 @@ pub fn run<D: Disk, O: Sink, E: Sink>(
     // the old bitmap marks used; and a crash at any moment of convert, rollback or recover leaves exactly one of the two formats, with its tree.
     ensures headline { IsTrue D.tells → AreBlocks (reads (D.history disk.old))
         → KeepsPromise (command (map string_bytes words.now)) (reads (D.history disk.old)) (reads (D.history disk.new)) result
-            ((D.faults disk.new ≡ D.faults disk.old) × (D.faults disk.old < 2 ^ 64 - 1) × (O.faults out.new ≡ O.faults out.old) × (O.faults out.old < 2 ^ 64 - 1))
-            (λ left. IsSettled (D.history disk.old) × LeftSince (clock (D.history disk.old)) (D.history disk.new) left) }
+        ((D.faults disk.new ≡ D.faults disk.old) × (D.faults disk.old < 2 ^ 64 - 1) × (O.faults out.new ≡ O.faults out.old) × (O.faults out.old < 2 ^ 64 - 1))
+        (λ left. IsSettled (D.history disk.old) × LeftSince (clock (D.history disk.old)) (D.history disk.new) left) }
 {
     let ending = perform(alloc, words, &ids, now, disk, out);
     let _ = ending.write_line(err);

@@ -81,6 +81,7 @@ returns-in-Some-Recover-clause-usage g c =
     let asked : command (map string_bytes c.args.words.now) ≡ Some (recover c.in-Some-Recover.path.now) =
     sym c.in-Some-Recover.ensures.read ∙ ap (λ (k : Command). Some (seen k)) c.in-Some-Recover.field-0-is in
     (λ is. absurd (subst (Knows recover_meaning) is c.recover_volume.ensures.known), λ none. absurd (some_is_not _ _ asked none))
+
 pub returns-in-Some-Rollback-clause-usage : goal.returns-in-Some-Rollback-clause-usage
 returns-in-Some-Rollback-clause-usage g c =
     let asked : command (map string_bytes c.args.words.now) ≡ Some (rollback c.in-Some-Rollback.path.now) =
