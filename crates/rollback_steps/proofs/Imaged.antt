@@ -1,70 +1,44 @@
 -- The map of the saved image, and the volume in it.
-use Rattle.std.proofs.Common.{◌≡◌, ℕ, ◌<◌, ◌≤◌, List, [], Bool, Option, Some, None, length, min, refl, sym, ◌∙◌, ap, subst, arith}
+use Rattle.std.proofs.Common.{◌≡◌, ℕ, ◌<◌, ◌≤◌, List, [], Bool, Some, None, Ok, length, min, sym, ◌∙◌, ap, subst, arith}
 use Rattle.outside.specs.Format.{format_in}
 use Rattle.outside.specs.History.{Image}
 use Rattle.outside.specs.declared.answer.Answer.TheVariants as answer
 use Rattle.outside.specs.declared.answer.VolAnswer.{VolAnswer}
 use Rattle.outside.specs.declared.answer.VolAnswer.TheVariants.{Refused, Fault, Memory}
-use Rattle.btr_reader.specs.Image.{ImageFile}
-use Rattle.btr_reader.specs.Opening.{opening_refusals}
-use Rattle.btr_reader.specs.Parts.{HasBtrfsRows, own_map, way_refusals}
-use Rattle.btr_reader.specs.Pieces.{MapsImage, map_place}
+use Rattle.btr_reader.specs.Image.{image_refusals, saved_image}
+use Rattle.btr_reader.specs.Opening.{IsOpened, opening_refusals}
+use Rattle.btr_reader.specs.Parts.{HasBtrfsRows, way_refusals}
+use Rattle.btr_reader.specs.Pieces.{map_place}
+use Rattle.btr_reader.specs.Reading.{ReadsImage}
 use Rattle.btr_reader.specs.declared.image_map.ImageMap.{ImageMap}
+use Rattle.btr_super.specs.declared.superblock.Super.{Super}
+use Rattle.btr_walk.specs.declared.map.MapRange.{MapRange}
 use Rattle.vol_block.specs.declared.format.Format.TheVariants.{Btrfs}
 use Rattle.reiser_volume.specs.Answers.{RefusesVolume}
 use Rattle.reiser_volume.specs.Volume.{IsAccepted, superblock, used_of}
 use Rattle.reiser_volume.proofs.Holding.{used_length}
-use Rattle.image_source.proofs.Images.{blocks_alike, length_by}
+use Rattle.image_source.proofs.Images.{length_by}
+use Rattle.image_source.proofs.Mapped.{image_there, map_blocks, map_places}
 use Rattle.saved_volume.specs.Moved.{IsOld, TellsMoved}
-use Rattle.saved_volume.specs.Saved.{IsImageMissing, blocks_by, blocks_by_map, file_blocks, image_blocks, place_by_file, saved_file, saved_place}
+use Rattle.saved_volume.specs.Saved.{blocks_by_map, image_blocks}
 use Rattle.saved_volume.specs.Untouched.{IsUntouched, old_used}
 use Rattle.saved_volume.specs.Using.{IsReservedFree}
-use Rattle.rollback_steps.specs.Answers.{HasImage, HasPlaces, HasVolume, IsReadable, IsRollbackAnswer, RefusesRollback}
+use Rattle.rollback_steps.specs.Answers.{HasImage, HasPlaces, HasVolume, IsReadable, RefusesRollback}
 use Rattle.rollback_steps.specs.Opened.{IsMapOn}
 use Rattle.rollback_steps.specs.Prepared.{by_image}
 use Rattle.rollback_steps.proofs.Reading.{way_readable}
 
 -- ---- the map
 
--- there is no file where there is no map
-pub no_file : (disk : Image) → MapsImage (own_map disk) None (saved_file disk) → IsImageMissing disk
-no_file disk maps = by (saved_file disk) maps
-  where
-    by : (file : Option ImageFile) → MapsImage (own_map disk) None file → file ≡ None
-    by None maps = refl
-    by (Some f) maps = absurd maps
-
--- what a map of the saved file says of it
-pub record IsMapped (disk : Image) (m : ImageMap) (file : Option ImageFile) : Type 0 where
-  pub there : file ≡ None → ⊥
-  pub places : (b : ℕ) → map_place m b ≡ place_by_file (own_map disk) file b
-  pub blocks : m.blocks ≡ file_blocks file
-
-is_mapped : (disk : Image) (m : ImageMap) (file : Option ImageFile) → MapsImage (own_map disk) (Some m) file → IsMapped disk m file
-is_mapped disk m None maps = absurd maps
-is_mapped disk m (Some f) maps = record { there = λ none. absurd (cc none); places = maps.place; blocks = maps.length }
-
-pub map_on : (disk : Image) (m : ImageMap) → IsReadable disk → MapsImage (own_map disk) (Some m) (saved_file disk) → IsMapOn disk m
-unfolding image_blocks
-map_on disk m readable maps =
-    let is = is_mapped disk m (saved_file disk) maps in
-    record {
-      image = record { readable = readable; there = is.there };
-      places = is.places;
-      blocks = blocks_alike (map_place m) (saved_place disk) m.blocks disk is.places ∙ ap (λ (n : ℕ). blocks_by (saved_place disk) n disk) is.blocks;
-    }
+-- the map that was read of an opened volume is that of its saved image
+pub map_on : (disk : Image) (s : Super) (ranges : List MapRange) (opened : IsOpened disk s ranges) (m : ImageMap) → ReadsImage ranges (saved_image disk s ranges) (image_refusals disk s ranges) (Ok (Some m)) → IsReadable disk → IsMapOn disk m
+map_on disk s ranges opened m reads readable = record {
+  image = record { readable = readable; there = image_there disk s ranges opened m reads };
+  places = map_places disk s ranges opened m reads;
+  blocks = map_blocks disk s ranges opened m reads;
+}
 
 -- ---- the volume in the image
-
-pub image_known : (e : VolAnswer) → IsRollbackAnswer (by_image e)
-image_known (Refused r) = tt
-image_known Fault = tt
-image_known Memory = tt
-
-pub image_fault : (e : VolAnswer) → by_image e ≡ answer.Fault → e ≡ Fault
-image_fault (Refused r) is = absurd (cc is)
-image_fault Fault is = refl
-image_fault Memory is = absurd (cc is)
 
 pub image_refuses : (disk : Image) (e : VolAnswer) → HasImage disk → RefusesVolume (image_blocks disk) e → RefusesRollback disk (by_image e)
 image_refuses disk (Refused r) image refused = (image, refused)

@@ -14,20 +14,8 @@ use Rattle.btr_reader.specs.Parts.{IsReadable, IsRowsRefusal, RefusesBtrfsRows, 
 use Rattle.btr_reader.proofs.PartsRead.{one_log}
 use Rattle.btr_super.specs.declared.superblock.Super.{Super}
 use Rattle.saved_volume.specs.Using.{IsUseRefusal, RefusesUse, has_log as use_has_log, unreadable as use_unreadable}
-use Rattle.rollback_steps.specs.Answers.{IsReadRefusal, IsRollbackAnswer, RefusesRollback, bad_tree, bad_way, has_log}
+use Rattle.rollback_steps.specs.Answers.{IsReadRefusal, RefusesRollback, bad_tree, bad_way, has_log}
 use Rattle.rollback_steps.specs.Prepared.{by_btrfs}
-
--- ---- whatever the disk gives
-pub btrfs_known : (e : BtrAnswer) → IsRollbackAnswer (by_btrfs e)
-btrfs_known (Refused r) = tt
-btrfs_known Fault = tt
-btrfs_known Memory = tt
-
--- the answer of a failed call is that of one
-pub btrfs_fault : (e : BtrAnswer) → by_btrfs e ≡ answer.Fault → e ≡ Fault
-btrfs_fault (Refused r) is = absurd (cc is)
-btrfs_fault Fault is = refl
-btrfs_fault Memory is = absurd (cc is)
 
 -- ---- what is wrong with the volume
 rows_refusal : (disk : Image) (r : BtrRefusal) → IsRowsRefusal disk r → IsReadRefusal disk r

@@ -1,25 +1,25 @@
-use Rattle.std.proofs.Common.{None, Ok, Some, sym, subst}
+use Rattle.std.proofs.Common.{None, Ok, sym, subst}
 use Rattle.outside.specs.declared.answer.Answer.{Answer}
-use Rattle.btr_reader.specs.Image.{image_refusals, saved_image}
+use Rattle.btr_reader.specs.Image.{image_refusals}
 use Rattle.btr_reader.specs.Opening.{IsAmong}
-use Rattle.btr_reader.specs.Reading.{ReadsImage}
 use Rattle.btr_reader.proofs.PartsRead.{of_disk}
+use Rattle.image_source.proofs.Mapped.{none_read, read_of_disk, way_sound}
 use Rattle.rollback_steps.specs.Answers.{RefusesRollback}
-use Rattle.rollback_steps.proofs.Imaged.{map_on, no_file, readable_with}
+use Rattle.rollback_steps.proofs.Imaged.{map_on, readable_with}
 use Rattle.rollback_steps.proofs.Reading.{way_refuses}
 use Rattle.rollback_steps.proofs.prepared.read_map.Goals as goal
 
 pub returns-in-Ok-Some-clause-read : goal.returns-in-Ok-Some-clause-read
 returns-in-Ok-Some-clause-read g c = λ tells image is on rows.
+    let opened = on.opened.opened in
     let told = rw c.in-Ok-Some.field-0-is at c.in-Ok-Some.ensures.reads tells image is on.opened in
-    let own = of_disk image _ _ (λ s ranges. ReadsImage ranges (saved_image image s ranges) (image_refusals image s ranges) (Ok (Some c.in-Ok-Some.map))) on.opened.opened told in
-    map_on image c.in-Ok-Some.map (readable_with image on.format rows on.opened.opened.sound own.1) own.0
+    map_on image _ _ opened c.in-Ok-Some.map told (readable_with image on.format rows opened.sound (way_sound image _ _ opened c.in-Ok-Some.map told))
 
 pub returns-in-Ok-None-clause-read : goal.returns-in-Ok-None-clause-read
 returns-in-Ok-None-clause-read g c = λ tells image is on rows.
+    let opened = on.opened.opened in
     let told = rw c.in-Ok-None.field-0-is at c.in-Ok-None.ensures.reads tells image is on.opened in
-    let own = of_disk image _ _ (λ s ranges. ReadsImage ranges (saved_image image s ranges) (image_refusals image s ranges) (Ok None)) on.opened.opened told in
-    (readable_with image on.format rows on.opened.opened.sound own.1, no_file image own.0)
+    (readable_with image on.format rows opened.sound (read_of_disk image _ _ opened (Ok None) told).1, none_read image _ _ opened told)
 
 pub returns-in-Err-clause-read : goal.returns-in-Err-clause-read
 returns-in-Err-clause-read g c = λ tells image is on rows.
