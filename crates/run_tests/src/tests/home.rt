@@ -156,6 +156,9 @@ fn block_of(bytes: &[u8]) -> Result<Block, Fail> {
     Ok(block)
 }
 
+/// The seconds of all times.
+const MOMENT: u32 = 1_000_000_000;
+
 /// What a stat item tells, beside times and owner.
 #[derive(Clone, Copy)]
 struct Stat {
@@ -171,9 +174,9 @@ impl Stat {
         put_u16(&mut body, 0, self.mode);
         put_u32(&mut body, 4, self.names);
         put_u32(&mut body, 8, self.size);
-        for at in [24, 28, 32] {
-            put_u32(&mut body, at, 1_000_000_000);
-        }
+        put_u32(&mut body, 24, MOMENT);
+        put_u32(&mut body, 28, MOMENT);
+        put_u32(&mut body, 32, MOMENT);
         put_u32(&mut body, 36, self.sectors);
         body
     }
@@ -209,12 +212,17 @@ fn r5(name: &[u8]) -> u32 {
     a & 0x7fff_ff80
 }
 
+/// The last decimal digit of a number.
+fn digit(x: u32) -> u8 {
+    b'0' + (x % 10) as u8
+}
+
 /// The entry of a file by its number, whose name is `f` and seven digits. The places of these names ascend with their numbers.
-fn entry(i: u32) -> Entry {
+fn entry_of(i: u32) -> Entry {
     let mut name = *b"f0000000";
-    for (at, unit) in [(5, 100), (6, 10), (7, 1)] {
-        name[at] = b'0' + (i / unit % 10) as u8;
-    }
+    name[5] = digit(i / 100);
+    name[6] = digit(i / 10);
+    name[7] = digit(i);
     Entry {
         place: r5(&name),
         object: file(i),
@@ -303,7 +311,7 @@ impl Tree {
             entries.push(UP)?;
         }
         for i in from..to {
-            entries.push(entry(i))?;
+            entries.push(entry_of(i))?;
         }
         let first = entries.first().ok_or("no entries")?.place;
         let count = u16::try_from(entries.len()).ok().ok_or("many entries")?;

@@ -116,24 +116,26 @@ impl Old {
         Ok(disk)
     }
 
-    /// What a crash left has the rows of the volume behind `recover`, which has nothing to do a second time. It is the volume, or it becomes
-    /// the volume again by a rollback.
-    fn recovers(&self, rt: &(impl Abort + AllocGlobal), left: &mut MemDisk) -> Result<(), Fail> {
+    /// What a crash left has the rows of the volume behind `recover`, which has nothing to do a second time. It is the volume, or, where
+    /// the answer is yes, still Btrfs; it becomes the volume again by a rollback.
+    fn recovers(&self, rt: &(impl Abort + AllocGlobal), left: &mut MemDisk) -> Result<bool, Fail> {
         let first = ran(rt.alloc(), "recover", left, Trouble::Nothing)?;
         assert_eq!(rt; first.status, 0);
         let again = ran(rt.alloc(), "recover", left, Trouble::Nothing)?;
         assert_eq!(rt; again.status, 0);
         assert_eq!(rt; left.writes(), 0);
         self.has_rows(rt, left)?;
-        if first.out.bytes().starts_with(b"volume is btrfs\n") {
+        let is_btrfs = first.out.bytes().starts_with(b"volume is btrfs\n");
+        if is_btrfs {
             let ended = ran(rt.alloc(), "rollback", left, Trouble::Nothing)?;
             assert_eq!(rt; ended.status, 0);
         }
-        self.is_back(rt, left)
+        self.is_back(rt, left)?;
+        Ok(is_btrfs)
     }
 
     /// Runs a command over a disk that holds this volume in one format or the other, stops it behind so many writes, and looks at what
-    /// crashes leave by each of these choices.
+    /// crashes leave by each of these choices: how many leave it Btrfs.
     fn stops_at(
         &self,
         rt: &(impl Abort + AllocGlobal),
@@ -141,15 +143,18 @@ impl Old {
         base: &MemDisk,
         writes: u64,
         choices: &[Choice],
-    ) -> Result<(), Fail> {
+    ) -> Result<u64, Fail> {
         let mut disk = base.after_crash(&[])?;
         let ended = ran(rt.alloc(), word, &mut disk, Trouble::Power(writes))?;
         assert_eq!(rt; ended.status, 3);
+        let mut btrfs = 0u64;
         for choice in choices {
             let numbers = choice.numbers(rt.alloc(), writes)?;
-            self.recovers(rt, &mut disk.after_crash(&numbers)?)?;
+            if self.recovers(rt, &mut disk.after_crash(&numbers)?)? {
+                btrfs = btrfs.saturating_add(1);
+            }
         }
-        Ok(())
+        Ok(btrfs)
     }
 
     /// The same behind each number of writes that leaves this remainder by this divisor.
@@ -160,16 +165,18 @@ impl Old {
         base: &MemDisk,
         each: (u64, u64),
         choices: &[Choice],
-    ) -> Result<(), Fail> {
+    ) -> Result<u64, Fail> {
         let mut whole = base.after_crash(&[])?;
         let ended = ran(rt.alloc(), word, &mut whole, Trouble::Nothing)?;
         assert_eq!(rt; ended.status, 0);
         let (first, step) = each;
+        let mut btrfs = 0u64;
         for writes in 0..whole.writes().saturating_add(1) {
             if step != 0 && writes % step == first {
-                self.stops_at(rt, word, base, writes, choices)?;
+                let more = self.stops_at(rt, word, base, writes, choices)?;
+                btrfs = btrfs.saturating_add(more);
             }
         }
-        Ok(())
+        Ok(btrfs)
     }
 }

@@ -15,43 +15,59 @@ const RANDOM: [Choice; 4] = [
     Choice::Random(4000),
 ];
 
-/// Stops the conversion of a volume at each write.
-fn conversion(rt: &(impl Abort + AllocGlobal), old: &Old, choices: &[Choice]) -> Result<(), Fail> {
+/// Stops the conversion of a volume behind each number of writes: how many crashes leave it Btrfs.
+fn conversion(rt: &(impl Abort + AllocGlobal), old: &Old, choices: &[Choice]) -> Result<u64, Fail> {
     old.stops(rt, "convert", &old.disk, (0, 1), choices)
 }
 
-/// Stops the rollback of a volume at each write.
-fn rollback(rt: &(impl Abort + AllocGlobal), old: &Old, choices: &[Choice]) -> Result<(), Fail> {
+/// The same of the rollback.
+fn rollback(rt: &(impl Abort + AllocGlobal), old: &Old, choices: &[Choice]) -> Result<u64, Fail> {
     let base = old.converted(rt)?;
     old.stops(rt, "rollback", &base, (0, 1), choices)
 }
 
+/// Block 16 waits where the last write is missing, and is there where none is: then the copy waits.
 #[test]
 fn conversion_with_data_in_a_copys_block(rt: HostRuntime) -> Result<(), Fail> {
-    conversion(&rt, &Old::new(&rt, sample_with_file(rt.alloc())?)?, &THREE)
+    let old = Old::new(&rt, sample_with_file(rt.alloc())?)?;
+    assert_eq!(rt; conversion(&rt, &old, &THREE)?, 1 + 3);
+    Ok(())
 }
 
+/// The last of 53 writes is that of block 16.
 #[test]
 fn rollback_with_data_in_a_copys_block(rt: HostRuntime) -> Result<(), Fail> {
-    rollback(&rt, &Old::new(&rt, sample_with_file(rt.alloc())?)?, &THREE)
+    let old = Old::new(&rt, sample_with_file(rt.alloc())?)?;
+    assert_eq!(rt; rollback(&rt, &old, &THREE)?, 53 * 3 + 2);
+    Ok(())
 }
 
 #[test]
 fn conversion_with_data_in_a_copys_block_at_random(rt: HostRuntime) -> Result<(), Fail> {
-    conversion(&rt, &Old::new(&rt, sample_with_file(rt.alloc())?)?, &RANDOM)
+    let old = Old::new(&rt, sample_with_file(rt.alloc())?)?;
+    assert!(rt; conversion(&rt, &old, &RANDOM)? >= 4);
+    Ok(())
 }
 
 #[test]
 fn rollback_with_data_in_a_copys_block_at_random(rt: HostRuntime) -> Result<(), Fail> {
-    rollback(&rt, &Old::new(&rt, sample_with_file(rt.alloc())?)?, &RANDOM)
+    let old = Old::new(&rt, sample_with_file(rt.alloc())?)?;
+    assert!(rt; rollback(&rt, &old, &RANDOM)? >= 53 * 4);
+    Ok(())
 }
 
+/// There is no block for a copy, so the last write is that of block 16.
 #[test]
 fn conversion_with_used_blocks_at_the_end_at_random(rt: HostRuntime) -> Result<(), Fail> {
-    conversion(&rt, &Old::new(&rt, sample_with_end(rt.alloc())?)?, &RANDOM)
+    let old = Old::new(&rt, sample_with_end(rt.alloc())?)?;
+    assert!(rt; conversion(&rt, &old, &RANDOM)? <= 4);
+    Ok(())
 }
 
+/// 53 blocks are restored before block 16.
 #[test]
 fn rollback_with_used_blocks_at_the_end_at_random(rt: HostRuntime) -> Result<(), Fail> {
-    rollback(&rt, &Old::new(&rt, sample_with_end(rt.alloc())?)?, &RANDOM)
+    let old = Old::new(&rt, sample_with_end(rt.alloc())?)?;
+    assert!(rt; rollback(&rt, &old, &RANDOM)? >= 54 * 4);
+    Ok(())
 }
