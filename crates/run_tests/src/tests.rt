@@ -1,5 +1,5 @@
 // Whole runs over a disk in memory, and what they leave.
-ghost use Rattle.std.specs.Prelude.{◌≡◌, ◌≤◌, None, IfOk, length};
+ghost use Rattle.std.specs.Prelude.{◌≡◌, None, OnOk};
 
 mod empty_volume;
 mod faults;
@@ -49,6 +49,24 @@ struct Ended {
     err: MemSink,
 }
 
+/// Flushes and closes a disk, and has the calls fail that are to fail in the next run.
+fn prepare(disk: &mut MemDisk, trouble: Trouble) -> Result<(), Memory>
+    ensures { OnOk result (disk.new.opened ≡ None) }
+{
+    disk.settle();
+    match trouble {
+        Trouble::Call(call) => {
+            disk.fail_call(call)?;
+            Ok(())
+        }
+        Trouble::Power(writes) => {
+            disk.stop_at_write(writes);
+            Ok(())
+        }
+        Trouble::Nothing | Trouble::Output => Ok(()),
+    }
+}
+
 /// Runs a command over a disk that is flushed and closed before it.
 fn ran(alloc: Global, word: &str, disk: &mut MemDisk, trouble: Trouble) -> Result<Ended, Memory> {
     let mut words = Vec::new(alloc);
@@ -56,13 +74,10 @@ fn ran(alloc: Global, word: &str, disk: &mut MemDisk, trouble: Trouble) -> Resul
     words.push(String::from_str(alloc, "x")?)?;
     let mut out = MemSink::new(alloc);
     let mut err = MemSink::new(alloc);
-    disk.settle();
-    match trouble {
-        Trouble::Nothing => {}
-        Trouble::Call(call) => disk.fail_call(call)?,
-        Trouble::Power(writes) => disk.stop_at_write(writes),
-        Trouble::Output => out.fail_call(0)?,
+    if let Trouble::Output = trouble {
+        out.fail_call(0)?;
     }
+    prepare(disk, trouble)?;
     let status = run(alloc, &words, IDS, NOW, disk, &mut out, &mut err);
     Ok(Ended { status, out, err })
 }
@@ -88,7 +103,7 @@ fn block(disk: &mut MemDisk, n: BlockNo) -> Result<Block, Fail> {
     disk.settle();
     disk.open("", Access::Read)?;
     if n >= disk.len() {
-        Err("no block of the disk")?;
+        return Err("no block of the disk".into());
     }
     let mut block = Block::zero();
     disk.read(n, &mut block)?;
@@ -101,7 +116,7 @@ fn put_block(disk: &mut MemDisk, n: BlockNo, to: &Block) -> Result<(), Fail> {
     disk.settle();
     disk.open("", Access::Write)?;
     if n >= disk.len() {
-        Err("no block of the disk")?;
+        return Err("no block of the disk".into());
     }
     disk.write(n, to)?;
     disk.settle();

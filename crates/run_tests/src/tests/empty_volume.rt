@@ -9,7 +9,7 @@ const CHOICES: [Choice; 2] = [Choice::Synced, Choice::Written];
 
 /// Each eighth stop, from the one of this number on.
 fn conversion(rt: &(impl Abort + AllocGlobal), first: u64) -> Result<(), Fail> {
-    let old = Old::new(rt, made(rt.alloc(), 0, 12288)?)?;
+    let old = Old::new(rt, made(rt.alloc(), 0)?)?;
     old.stops(rt, "convert", &old.disk, (first, 8), &CHOICES)?;
     Ok(())
 }

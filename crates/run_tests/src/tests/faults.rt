@@ -8,7 +8,7 @@ use vol_block::{Format, format_of};
 
 #[test]
 fn a_read_that_fails_ends_a_list(rt: HostRuntime) -> Result<(), Fail> {
-    let mut disk = made(rt.alloc(), 0, 12288)?;
+    let mut disk = made(rt.alloc(), 0)?;
     let ended = ran(rt.alloc(), "list", &mut disk, Trouble::Call(5))?;
     assert_eq!(rt; ended.status, 3);
     assert!(rt; ended.out.bytes().is_empty());
@@ -19,7 +19,7 @@ fn a_read_that_fails_ends_a_list(rt: HostRuntime) -> Result<(), Fail> {
 /// The command was done all the same.
 #[test]
 fn an_output_that_fails_undoes_nothing(rt: HostRuntime) -> Result<(), Fail> {
-    let old = Old::new(&rt, made(rt.alloc(), 0, 12288)?)?;
+    let old = Old::new(&rt, made(rt.alloc(), 0)?)?;
     let mut disk = old.disk.after_crash(&[])?;
     for (word, format) in [("convert", Format::Btrfs), ("rollback", Format::Reiser)] {
         let ended = ran(rt.alloc(), word, &mut disk, Trouble::Output)?;

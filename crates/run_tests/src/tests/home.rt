@@ -19,11 +19,6 @@ const ROOT: u32 = 8211;
 /// The first block of the files.
 const DATA: u32 = 8400;
 
-const FILES: u32 = 300;
-
-/// The entry numbers of the files that stand in each of the directory's items.
-const FILES_OF_ITEM: u32 = 75;
-
 /// An object: the number of its directory, and its own.
 #[derive(Clone, Copy)]
 struct Object(u32, u32);
@@ -150,7 +145,7 @@ fn node(alloc: Global, level: u16, count: u16, front: &[u8], back: &[u8]) -> Res
 fn block_of(bytes: &[u8]) -> Result<Block, Fail> {
     let mut block = Block::zero();
     if bytes.len() != 4096 {
-        Err("a block has 4096 bytes")?;
+        return Err("a block has 4096 bytes".into());
     }
     block.bytes.copy_from_slice(bytes);
     Ok(block)
@@ -406,11 +401,10 @@ fn home(alloc: Global) -> Result<MemDisk, Fail> {
     put_superblock(&mut tree.disk)?;
     put_bitmaps(&mut tree.disk)?;
     tree.push_top(alloc)?;
-    for item in 0..FILES / FILES_OF_ITEM {
-        let from = item * FILES_OF_ITEM;
-        tree.push_entries(alloc, from, from + FILES_OF_ITEM)?;
+    for item in 0..4 {
+        tree.push_entries(alloc, item * 75, item * 75 + 75)?;
     }
-    for pair in 0..FILES / 2 {
+    for pair in 0..150 {
         tree.push_files(alloc, pair * 2)?;
     }
     let mut bytes = Vec::new(alloc);

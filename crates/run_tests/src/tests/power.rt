@@ -58,6 +58,7 @@ pub struct Old {
 /// The blocks that a ReiserFS volume uses of a disk of at most 32,768 blocks, so that all bits stand in block 17.
 fn used(alloc: Global, disk: &mut MemDisk) -> Result<Vec<(BlockNo, Block)>, Fail> {
     let bitmap = block(disk, 17)?;
+    disk.settle();
     disk.open("", Access::Read)?;
     let mut used = Vec::new(alloc);
     let mut n = 0u64;

@@ -50,14 +50,14 @@ fn last_leaf(disk: &mut MemDisk, tree: u64) -> Result<BlockNo, Fail> {
         }
     }
     if last == 0 {
-        Err("no leaf of the tree")?;
+        return Err("no leaf of the tree".into());
     }
     Ok(last)
 }
 
 /// The empty volume, converted.
 fn converted(rt: &(impl Abort + AllocGlobal)) -> Result<MemDisk, Fail> {
-    Old::new(rt, made(rt.alloc(), 0, 12288)?)?.converted(rt)
+    Old::new(rt, made(rt.alloc(), 0)?)?.converted(rt)
 }
 
 /// A command is refused so, and writes nothing.
@@ -74,7 +74,7 @@ fn refuses(
 
 #[test]
 fn each_way_is_for_one_format(rt: HostRuntime) -> Result<(), Fail> {
-    let mut disk = made(rt.alloc(), 0, 12288)?;
+    let mut disk = made(rt.alloc(), 0)?;
     refuses(&rt, "rollback", &mut disk, "refused 16 format\n")?;
     let mut disk = converted(&rt)?;
     refuses(&rt, "convert", &mut disk, "refused 16 format\n")

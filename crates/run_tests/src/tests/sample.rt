@@ -2,7 +2,7 @@
 // with its header in block 50, and a tree that is one leaf, block 51, with an empty root directory.
 ghost use Rattle.std.specs.Prelude.{◌≡◌, ◌+◌, ◌<◌, ◌≤◌, None, IfOk, length};
 
-use outside::{Access, Disk, Memory};
+use outside::{Access, BlockSource, Disk, Memory};
 use outside_mem::MemDisk;
 use reiser_make::make;
 use std::alloc::Global;
@@ -165,14 +165,16 @@ pub fn sample_with_end(alloc: Global) -> Result<MemDisk, Memory>
     Ok(disk)
 }
 
-/// The sample volume of a number, as `reiser_make` makes it, on a disk of so many blocks.
-pub fn made(alloc: Global, number: u32, blocks: u64) -> Result<MemDisk, Fail>
-    requires number { number ≤ 4000 }
-    requires blocks { blocks ≤ 100000 }
+/// The sample volume of a number, as `reiser_make` makes it, of 12,288 blocks.
+pub fn made(alloc: Global, number: u32) -> Result<MemDisk, Fail>
+    requires { number ≤ 4000 }
 {
-    let mut disk = MemDisk::new(alloc, blocks)?;
+    let mut disk = MemDisk::new(alloc, 12288)?;
     disk.open("", Access::Write)?;
-    make(alloc, number, blocks, &mut disk)?;
+    if disk.len() < 12288 {
+        return Err("a disk is too short".into());
+    }
+    make(alloc, number, 12288, &mut disk)?;
     disk.settle();
     Ok(disk)
 }

@@ -9,14 +9,14 @@ const RANDOM: [Choice; 1] = [Choice::Random(7)];
 
 /// Each eighth stop of the conversion, from the one of this number on.
 fn conversion(rt: &(impl Abort + AllocGlobal), first: u64) -> Result<(), Fail> {
-    let old = Old::new(rt, made(rt.alloc(), 10, 12288)?)?;
+    let old = Old::new(rt, made(rt.alloc(), 10)?)?;
     old.stops(rt, "convert", &old.disk, (first, 8), &RANDOM)?;
     Ok(())
 }
 
 /// Each eighth stop of the rollback, from the one of this number on.
 fn rollback(rt: &(impl Abort + AllocGlobal), first: u64) -> Result<(), Fail> {
-    let old = Old::new(rt, made(rt.alloc(), 10, 12288)?)?;
+    let old = Old::new(rt, made(rt.alloc(), 10)?)?;
     let base = old.converted(rt)?;
     old.stops(rt, "rollback", &base, (first, 8), &RANDOM)?;
     Ok(())

@@ -2,15 +2,17 @@
 use super::power::Old;
 use super::sample::{made, sample, sample_with_file};
 use super::{Trouble, block, ends, ran};
+use outside_mem::MemDisk;
 use std::process::Abort;
 use std::test::Fail;
+use vol_block::{Format, format_of};
 
 /// What `list` prints of a volume with a root directory alone.
 const ROOT: &str = "d 0755 0 0 1000000000 1000000000 1000000000 - - - - - /\n";
 
 #[test]
 fn an_empty_volume_goes_and_comes(rt: HostRuntime) -> Result<(), Fail> {
-    let old = Old::new(&rt, made(rt.alloc(), 0, 12288)?)?;
+    let old = Old::new(&rt, made(rt.alloc(), 0)?)?;
     let mut disk = old.disk.after_crash(&[])?;
     let done = "converted to btrfs\npieces 257\nblocks 8212\ncopied 256\ntails 0\nunits 4\n";
     ends(&rt, "convert", &mut disk, 0, done, "")?;
@@ -39,8 +41,19 @@ fn the_smallest_volume_goes_and_comes(rt: HostRuntime) -> Result<(), Fail> {
 /// The magic of a Btrfs superblock, at byte 64.
 const MAGIC: &[u8] = b"_BHRfS_M";
 
-/// The block of the first copy of a Btrfs superblock holds the data of a file. The copy is made last; where the power fails before
-/// it, `recover` makes it.
+/// The volume whose file lies in the block of the first copy, stopped before the copy is made, behind a crash that leaves block 16.
+fn without_copy(rt: &(impl Abort + AllocGlobal), old: &Old, writes: u64) -> Result<MemDisk, Fail> {
+    let mut disk = old.disk.after_crash(&[])?;
+    let trouble = Trouble::Power(writes.saturating_sub(1));
+    let ended = ran(rt.alloc(), "convert", &mut disk, trouble)?;
+    assert_eq!(rt; ended.status, 3);
+    let mut left = disk.after_crash(&[1])?;
+    assert_eq!(rt; format_of(&block(&mut left, 16)?), Format::Btrfs);
+    assert!(rt; block(&mut left, 16384)?.bytes == [0x5a; 4096]);
+    Ok(left)
+}
+
+/// The copy is the last block that a conversion writes; where the power fails before it, `recover` makes it.
 #[test]
 fn a_file_in_the_block_of_a_copy_goes_and_comes(rt: HostRuntime) -> Result<(), Fail> {
     let old = Old::new(&rt, sample_with_file(rt.alloc())?)?;
@@ -49,33 +62,14 @@ fn a_file_in_the_block_of_a_copy_goes_and_comes(rt: HostRuntime) -> Result<(), F
     ends(&rt, "convert", &mut whole, 0, done, "")?;
     let writes = whole.writes();
     old.has_rows(&rt, &mut whole)?;
-    assert!(rt; block(&mut whole, 16384)?.bytes[64..].starts_with(MAGIC));
-    let mut disk = old.disk.after_crash(&[])?;
-    let before_copy = Trouble::Power(writes.saturating_sub(1));
-    assert_eq!(rt;
-        ran(rt.alloc(), "convert", &mut disk, before_copy)?.status,
-        3
-    );
-    let mut left = disk.after_crash(&[1])?;
-    assert!(rt; block(&mut left, 16)?.bytes[64..].starts_with(MAGIC));
-    assert!(rt; block(&mut left, 16384)?.bytes == [0x5a; 4096]);
-    ends(
-        &rt,
-        "recover",
-        &mut left,
-        0,
-        "volume is btrfs\nmirrors 1\n",
-        "",
-    )?;
-    ends(
-        &rt,
-        "recover",
-        &mut left,
-        0,
-        "volume is btrfs\nmirrors 0\n",
-        "",
-    )?;
-    assert!(rt; block(&mut left, 16384)? == block(&mut whole, 16384)?);
+    let mut left = without_copy(&rt, &old, writes)?;
+    let told = "volume is btrfs\nmirrors 1\n";
+    ends(&rt, "recover", &mut left, 0, told, "")?;
+    let told = "volume is btrfs\nmirrors 0\n";
+    ends(&rt, "recover", &mut left, 0, told, "")?;
+    let copy = block(&mut whole, 16384)?;
+    assert_eq!(rt; format_of(&copy), Format::Btrfs);
+    assert!(rt; block(&mut left, 16384)? == copy);
     let back = "rolled back to reiserfs\nblocks 53\nrestored 53\n";
     ends(&rt, "rollback", &mut left, 0, back, "")?;
     assert!(rt; block(&mut left, 16384)?.bytes == [0x5a; 4096]);
@@ -85,7 +79,7 @@ fn a_file_in_the_block_of_a_copy_goes_and_comes(rt: HostRuntime) -> Result<(), F
 
 #[test]
 fn a_volume_goes_and_comes_and_goes(rt: HostRuntime) -> Result<(), Fail> {
-    let old = Old::new(&rt, made(rt.alloc(), 10, 12288)?)?;
+    let old = Old::new(&rt, made(rt.alloc(), 10)?)?;
     let mut disk = old.disk.after_crash(&[])?;
     for word in ["convert", "rollback", "convert"] {
         assert_eq!(rt;
