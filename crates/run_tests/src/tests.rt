@@ -67,11 +67,17 @@ fn prepare(disk: &mut MemDisk, trouble: Trouble) -> Result<(), Memory>
     }
 }
 
-/// Runs a command over a disk that is flushed and closed before it.
-fn ran(alloc: Global, word: &str, disk: &mut MemDisk, trouble: Trouble) -> Result<Ended, Memory> {
+/// The words of a command line: a command, and a path.
+fn words_of(alloc: Global, word: &str) -> Result<Vec<String>, Memory> {
     let mut words = Vec::new(alloc);
     words.push(String::from_str(alloc, word)?)?;
     words.push(String::from_str(alloc, "x")?)?;
+    Ok(words)
+}
+
+/// Runs a command over a disk that is flushed and closed before it.
+fn ran(alloc: Global, word: &str, disk: &mut MemDisk, trouble: Trouble) -> Result<Ended, Memory> {
+    let words = words_of(alloc, word)?;
     let mut out = MemSink::new(alloc);
     let mut err = MemSink::new(alloc);
     if let Trouble::Output = trouble {

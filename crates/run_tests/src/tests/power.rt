@@ -62,7 +62,7 @@ fn used(alloc: Global, disk: &mut MemDisk) -> Result<Vec<(BlockNo, Block)>, Fail
     disk.open("", Access::Read)?;
     let mut used = Vec::new(alloc);
     let mut n = 0u64;
-    for byte in bitmap.bytes {
+    for &byte in &bitmap.bytes {
         for bit in 0..8u32 {
             if (byte >> bit) & 1 == 1 && n < disk.len() {
                 let mut block = Block::zero();
