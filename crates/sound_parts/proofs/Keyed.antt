@@ -18,7 +18,7 @@ use Rattle.btr_keys.specs.Key.{make_key}
 use Rattle.btr_keys.specs.declared.key.Key.{Key}
 use Rattle.btr_node.specs.Leaf.{Item}
 use Rattle.btr_node.specs.NodeSize.{IsNodeSize}
-use Rattle.btr_sound.specs.Recount.{DataUse, Recount, TreeOn, all_trees, data_uses, use_by, use_in, uses_in}
+use Rattle.btr_sound.specs.Recount.{DataUse, Recount, TreeOn, all_trees, data_uses, use_by, use_in, use_of, uses_in}
 use Rattle.byte_laws.proofs.Holding.{StaysInTree, stays}
 use Rattle.byte_laws.proofs.Owned.{any_extents}
 use Rattle.byte_laws.proofs.Pieces.{all_of_inode}
@@ -69,9 +69,9 @@ use_tree tree i (Some e) u h = by e.content h
     by (Prealloc d) k = absurd (omega (arith, k.1))
     by (Regular d) k = of_range (is_hole d) k
       where
-        of_range : (b : Bool) → Contains (if b then [] else record { start = d.disk_bytenr; length = d.disk_num_bytes; tree = tree; inode = i.0.objectid; offset = (i.0.offset + (2 ^ 64 - d.offset)) % 2 ^ 64 } ∷ []) u → u.tree ≡ tree
+        of_range : (b : Bool) → Contains (if b then [] else use_of tree i d ∷ []) u → u.tree ≡ tree
         of_range true l = absurd (omega (arith, l.1))
-        of_range false l = ⊎_elim (λ e. sym (ap (λ (x : DataUse). x.tree) e)) (λ (none : Contains [] u). absurd (omega (arith, none.1))) (contains_cases u _ [] l)
+        of_range false l = ⊎_elim (λ (e : use_of tree i d ≡ u). sym (ap (λ (x : DataUse). x.tree) e)) (λ (none : Contains [] u). absurd (omega (arith, none.1))) (contains_cases u (use_of tree i d) [] l)
 
 one_use : (tree : ℕ) (i : Item) (o : Option FileExtentValue) → AreDistinct (use_in tree i o)
 one_use tree i None = distinct_nil [] (λ u h. omega (arith, h.1))
@@ -82,9 +82,9 @@ one_use tree i (Some e) = by e.content
     by (Prealloc d) = distinct_nil [] (λ u h. omega (arith, h.1))
     by (Regular d) = of_range (is_hole d)
       where
-        of_range : (b : Bool) → AreDistinct (if b then [] else record { start = d.disk_bytenr; length = d.disk_num_bytes; tree = tree; inode = i.0.objectid; offset = (i.0.offset + (2 ^ 64 - d.offset)) % 2 ^ 64 } ∷ [])
+        of_range : (b : Bool) → AreDistinct (if b then [] else use_of tree i d ∷ [])
         of_range true = distinct_nil [] (λ u h. omega (arith, h.1))
-        of_range false = distinct_one _
+        of_range false = distinct_one (use_of tree i d)
 
 pub uses_tree : (t : TreeOn) (u : DataUse) → Contains (uses_in t) u → u.tree ≡ t.number
 uses_tree t u h = let at = uses_from t u h in use_tree t.number at.0 (file_extent_of at.0.1) u at.3
@@ -101,7 +101,6 @@ less_never Greater e less = cc less
 -- items that ascend have different keys
 pub no_two : (a b : Item) → item_cmp a b ≡ Less → a.0 ≡ b.0 → ⊥
 no_two a b less same =
-    let other : Item = (b.0, a.1) in
     less_never (item_cmp b b) (item_total.antisymm b b) (subst (λ (k : Key). item_cmp (k, a.1) b ≡ Less) same less)
 
 told_of : (t : TreeOn) (i : Item) (u : DataUse) (b : Bool) → Contains (if b then use_in t.number i (file_extent_of i.1) else []) u → (b ≡ true) × Contains (use_in t.number i (file_extent_of i.1)) u

@@ -17,6 +17,7 @@ use Rattle.btr_node.specs.Leaf.{Item}
 use Rattle.btr_node.specs.NodeSize.{IsNodeSize}
 use Rattle.btr_sound.specs.Recount.{DataUse, Recount, TreeOn, all_trees, data_uses, items_of_tree}
 use Rattle.btr_sound.specs.References.{AreReferences, HasKey, IsDataItem, IsNodeItem, is_group}
+use Rattle.btr_space_items.specs.InlineRef.{FitsInline}
 use Rattle.btr_space_items.specs.declared.inline_ref.InlineRef.{InlineRef}
 use Rattle.btr_space_items.specs.declared.inline_ref.InlineRef.TheVariants.{TreeBlock}
 use Rattle.btr_walk.specs.declared.tree.Pointer.{Pointer}
@@ -46,7 +47,7 @@ use Rattle.unit_plan.specs.declared.chunk.Chunk.{Chunk}
 use Rattle.unit_plan.specs.declared.options.Options.{Options}
 use Rattle.unit_plan.specs.declared.piece.Piece.{Piece}
 use Rattle.sound_laws.specs.Recounted.{recount_for, tree_for}
-use Rattle.sound_laws.proofs.AllUses.{source_low, uses_are}
+use Rattle.sound_laws.proofs.AllUses.{from_is, source_low, uses_are}
 use Rattle.sound_laws.proofs.Recounting.{volume_for}
 use Rattle.sound_laws.proofs.Row.{differ}
 use Rattle.sound_laws.proofs.Trees.{six_all}
@@ -214,17 +215,13 @@ module _ (o : Options) (ids : Ids) (now : ℕ) (image other : Image) (m : Making
       let few = (accepted_is_small image of.accepted).objects (keys m.volume.named) of.opened.are_keys in
       let number : number_of s w.0 ≡ inode = w.2 in
       let low : number_of s w.0 < 2 ^ 64 = inode_low (keys m.volume.named) w.0 few in
-      let place : file_block p ≡ block = ap file_block_of own in
+      let place : file_block p ≡ block = ap (λ (x : Option (ℕ × ℕ)). option_map_or (λ y. y.1) x 0) own in
       let bound = owner_low image m making p inode h (subst (λ (b : ℕ). p.owner ≡ Some (inode, b)) (sym place) own) in
       record { inode_low_ = subst (λ (n : ℕ). n < 2 ^ 64) number low; offset_low = omega (arith, bound, place) }
-    where
-      file_block_of : Option (ℕ × ℕ) → ℕ
-      file_block_of None = 0
-      file_block_of (Some w) = w.1
 
   image_small : (p : Piece) (block : ℕ) → Contains m.pieces p → p.from ≡ Some block → 4096 * block < 2 ^ 64
   image_small p block h from =
-      let low = source_low image m making fit p h (from ∙ sym (ap (λ (x : Option ℕ). let y : Option ℕ = Some (option_map_or (λ (b : ℕ). b) x 0) in y) from)) in
+      let low = source_low image m making fit p h (from_is image m making fit p (ap is_some from)) in
       let is : source_block p ≡ block = ap (λ (x : Option ℕ). option_map_or (λ (b : ℕ). b) x 0) from in
       omega (arith, low, is)
 
@@ -278,7 +275,11 @@ module _ (o : Options) (ids : Ids) (now : ℕ) (image other : Image) (m : Making
     where
       small : IsSmallUse w.0 w.1
       small = file_small p w.0 w.1 h own
+
+      file_fits : FitsInline (data_ref 5 w.0 w.1)
       file_fits = let one = small.inode_low_ in let two = small.offset_low in data_fits 5 w.0 (4096 * w.1) (omega arith) one two
+
+      image_fits : FitsInline (data_ref 256 257 b)
       image_fits = data_fits 256 257 (4096 * b) (omega arith) (omega arith) (image_small p b h from)
 
       ours : Contains (data_uses k) (use_at 5 w.0 w.1 p)

@@ -1,9 +1,8 @@
 -- The items of the checksum tree: checksums of the blocks of pieces, each block once.
-use Rattle.std.proofs.Common.{◌≡◌, ◌≤◌, ◌<◌, ℕ, ◌+◌, ◌*◌, ◌/◌, ◌%◌, List, ◌++◌, length, length-append, take, drop, replicate, get_or, refl, sym, subst, arith}
+use Rattle.std.proofs.Common.{◌≡◌, ◌≤◌, ◌<◌, ℕ, ◌+◌, ◌*◌, List, ◌++◌, length, length-append, take, drop, replicate, get_or, refl, sym, subst, arith}
 use Rattle.std.specs.Prelude.{AllPairs, Contains}
 use Rattle.std.specs.Int.{to_le_bytes, w32}
 use Rattle.std.proofs.lemmas.List.{length-replicate, length-take-le}
-use Rattle.std.proofs.lemmas.List.Elements.{Contains-get_or}
 use Rattle.path_list.proofs.Lists.{from_flat_map, in_flat_map}
 use Rattle.outside.specs.History.{Image, block_at}
 use Rattle.btr_node.specs.Leaf.{Item}
@@ -21,8 +20,8 @@ block_four : (image : Image) (b : ℕ) → length (block_sum Crc32c image b) ≡
 unfolding kind_sum
 block_four image b =
     let own : List ℕ = to_le_bytes w32 (crc32c (block_at image b)) in
-    let both = length-append own (replicate 28 0) in
-    let zeros = length-replicate 28 0 in
+    let both = length-append {A = ℕ} own (replicate 28 0) in
+    let zeros = length-replicate {A = ℕ} 28 0 in
     length-take-le 4 (own ++ replicate 28 0) (omega (arith, both, zeros))
 
 -- an item has as many checksums as it was made with
