@@ -37,7 +37,8 @@ use Rattle.file_items.specs.Extents.{piece_bytes, pieces_of_volume, source_block
 use Rattle.file_items.specs.Small.{image_flags}
 use Rattle.file_items.specs.Tree.{Source, inode_in, kind_in, number_of}
 use Rattle.file_laws.specs.Held.{FilesAreHeld}
-use Rattle.file_laws.proofs.SmallTrees.{image_keys_ascend}
+use Rattle.file_laws.specs.Inodes.{InodesAreThere}
+use Rattle.file_laws.specs.Keys.{ImageKeysAscend}
 use Rattle.fs_rows.specs.declared.row.Kind.TheVariants.{File}
 use Rattle.item_list.specs.Inodes.{inode_item}
 use Rattle.reiser_bitmap.proofs.Ranges.{all_from_contains}
@@ -62,7 +63,7 @@ use Rattle.sound_parts.proofs.SumItems.{EndsFirst, IsOfPiece, count_of, form_of_
 some_same : {A : Type 0} (a b : A) → Some a ≡ Some b → a ≡ b
 some_same a b e = cc
 
-module _ (o : Options) (ids : Ids) (now : ℕ) (image other : Image) (m : Making) (r : VolumeTrees) (nodes : List TreeNode) (v : IsNewVolume o ids now image other m r nodes) (held : FilesAreHeld) (now_low : now < 2 ^ 63) (bytes : HasBytes image) where
+module _ (o : Options) (ids : Ids) (now : ℕ) (image other : Image) (m : Making) (r : VolumeTrees) (nodes : List TreeNode) (v : IsNewVolume o ids now image other m r nodes) (held : FilesAreHeld) (rising : ImageKeysAscend) (are_there : InodesAreThere) (now_low : now < 2 ^ 63) (bytes : HasBytes image) where
   abbrev making : IsMaking image m
   making = v.new.conversion.making
 
@@ -160,7 +161,7 @@ module _ (o : Options) (ids : Ids) (now : ℕ) (image other : Image) (m : Making
   tree_there : (t : TreeOn) → Contains (all_trees k) t → (u : TreeOn) → Contains (all_trees k) u → t.number ≡ u.number → t ≡ u
   tree_there t h u l same =
       ⊎_elim (λ (e : t ≡ u). e) (λ either. ⊎_elim (λ (apart : t.number ≢ u.number). absurd (apart same)) (λ (apart : u.number ≢ t.number). absurd (apart (sym same))) either)
-      (two_cases (λ (x y : TreeOn). x.number ≢ y.number) (all_trees k) t u (all_other o ids now image other m r nodes v) h l)
+      (two_cases (λ (x y : TreeOn). x.number ≢ y.number) (all_trees k) t u (all_other o ids now image other m r nodes v rising) h l)
 
   files_there : Contains (all_trees k) files
   files_there = (4, omega arith, refl)
@@ -183,7 +184,7 @@ module _ (o : Options) (ids : Ids) (now : ℕ) (image other : Image) (m : Making
   sources : AreSources (map_for m.chunks) 0 (pieces_of_volume m.pieces)
   sources =
       are_sources image m making fit
-      (image_extents_ascend m.volume.sup.blocks m.pieces m.options.datasum m.now (image_keys_ascend m.volume image m.options m.plan m.pieces m.now of).saved)
+      (image_extents_ascend m.volume.sup.blocks m.pieces m.options.datasum m.now (rising m.volume image m.options m.plan m.pieces m.now of).saved)
 
   image_bytes : piece_bytes (pieces_of_volume m.pieces) ≤ 2 ^ 41
   image_bytes = sources_bytes (map_for m.chunks) 0 (pieces_of_volume m.pieces) sources (omega arith)
@@ -213,7 +214,7 @@ module _ (o : Options) (ids : Ids) (now : ℕ) (image other : Image) (m : Making
       record { key = w.0; among = w.1.named; number_is = w.2; file = w.1.file }
 
   file_reads : (key : ObjectKey) → Contains s.keys key → inode_of (inode_bytes (inode_in s key)) ≡ Some (inode_in s key)
-  file_reads key among = inode_reads m.volume image m.options m.plan m.pieces of bytes key among
+  file_reads key among = inode_reads are_there m.volume image m.options m.plan m.pieces of bytes key among
 
   file_item : (inode : ℕ) (f : HasFile inode) → Contains (file_tree_items image m) (make_key inode 1 0, inode_bytes (inode_in s f.key))
   file_item inode f = subst (λ (n : ℕ). Contains (file_tree_items image m) (make_key n 1 0, inode_bytes (inode_in s f.key))) f.number_is (inode_there s f.key f.among)
@@ -274,7 +275,7 @@ module _ (o : Options) (ids : Ids) (now : ℕ) (image other : Image) (m : Making
       let item : Contains (image_tree_items m) (make_key 257 1 0, w.body) =
       subst (λ (n : ℕ). Contains (image_tree_items m) (make_key n 1 0, w.body)) number (subst (λ (t : TreeOn). Contains t.items (make_key w.is_use.inode 1 0, w.body)) tree w.item) in
       let one : (make_key 257 1 0, inode_bytes own_image) ≡ (make_key 257 1 0, w.body) =
-      same_item (image_tree_items m) (make_key 257 1 0, inode_bytes own_image) (make_key 257 1 0, w.body) (saved_rise image m making fit) (image_inode_there m.volume.sup.blocks m.pieces m.options.datasum m.now) item refl in
+      same_item (image_tree_items m) (make_key 257 1 0, inode_bytes own_image) (make_key 257 1 0, w.body) (saved_rise image m making fit rising) (image_inode_there m.volume.sup.blocks m.pieces m.options.datasum m.now) item refl in
       let same : own_image ≡ w.inode = some_same own_image w.inode (sym image_reads ∙ (ap (λ (i : Item). inode_of i.1) one ∙ w.inode_is)) in
       true≢false (sym (image_no_sums off) ∙ (ap has_no_sums same ∙ w.with_sums))
 
@@ -350,6 +351,6 @@ module _ (o : Options) (ids : Ids) (now : ℕ) (image other : Image) (m : Making
     right = subst (λ (x : SumKind). All (IsRight other k x) (items_of_tree k 7)) (sym kind_is) (subst (All (IsRight other k sums)) (sym items_are) rights);
   }
 
-pub converted_checksums_are_sound : NewIdsFit → FilesAreHeld → ConvertedChecksumsAreSound
-converted_checksums_are_sound ids_fit held = λ o ids now image other m r nodes is size low are has bytes.
-    checksums o ids now image other m r nodes (volume_for ids_fit o ids now image other m r nodes is size are has) held low bytes
+pub converted_checksums_are_sound : NewIdsFit → FilesAreHeld → ImageKeysAscend → InodesAreThere → ConvertedChecksumsAreSound
+converted_checksums_are_sound ids_fit held rising are_there = λ o ids now image other m r nodes is size low are has bytes.
+    checksums o ids now image other m r nodes (volume_for ids_fit o ids now image other m r nodes is size are has) held rising are_there low bytes

@@ -29,7 +29,7 @@ use Rattle.file_items.specs.Extents.{extents_at, piece_bytes, pieces_of_volume, 
 use Rattle.file_items.specs.Inodes.{if_set, inode_flags}
 use Rattle.file_items.specs.Small.{image_entries, image_flags, image_head, image_items, image_name, root_items}
 use Rattle.file_items.specs.Tree.{Source, content_items, inode_in, kind_in, name_items, number_of, object_items, stat_in, tree_items}
-use Rattle.file_laws.proofs.Inodes.{inodes_are_there}
+use Rattle.file_laws.specs.Inodes.{InodesAreThere}
 use Rattle.fs_rows.specs.Kinds.{is_file, is_symlink}
 use Rattle.fs_rows.specs.declared.row.Kind.{Kind}
 use Rattle.fs_rows.specs.declared.row.Kind.TheVariants.{File}
@@ -127,14 +127,14 @@ bare_placed [] = refl
 bare_placed (i ∷ items) = ap (λ (l : List Item). i ∷ l) (bare_placed items)
 
 -- it reads as it was written
-pub inode_reads : (volume : Volume) (image : Image) (o : Options) (plan : Plan) (pieces : List Piece) → HasPieces volume image o plan pieces → HasBytes image → (key : ObjectKey) → Contains (keys volume.named) key
+pub inode_reads : InodesAreThere → (volume : Volume) (image : Image) (o : Options) (plan : Plan) (pieces : List Piece) → HasPieces volume image o plan pieces → HasBytes image → (key : ObjectKey) → Contains (keys volume.named) key
     → inode_of (inode_bytes (inode_in (made_from volume image o pieces) key)) ≡ Some (inode_in (made_from volume image o pieces) key)
-inode_reads volume image o plan pieces has bytes key among =
+inode_reads there volume image o plan pieces has bytes key among =
     let s : Source = made_from volume image o pieces in
     let items : List TreeItem = map placed (tree_items s) in
     let are : map bare_item items ≡ tree_items s = bare_placed (tree_items s) in
-    let at = inodes_are_there volume image o plan pieces items key has are among in
-    let read = inodes_are_read inodes_are_there volume image o plan pieces items key has are bytes among in
+    let at = there volume image o plan pieces items key has are among in
+    let read = inodes_are_read there volume image o plan pieces items key has are bytes among in
     sym (ap (λ (i : Item). inode_of i.1) at.2) ∙ (sym (ap (option_and_then (λ (i : TreeItem). inode_of i.body)) at.1) ∙ read)
 
 -- ---- the inode of the saved image

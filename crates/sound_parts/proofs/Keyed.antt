@@ -34,8 +34,8 @@ use Rattle.extent_pieces.proofs.Named.{numbered}
 use Rattle.file_items.specs.Extents.{extents_at, file_block, is_owned_by, piece_bytes, pieces_of, pieces_of_volume, source_block}
 use Rattle.file_items.specs.Small.{image_head, image_items, relocation_items}
 use Rattle.file_items.specs.Tree.{Source, extent_items, inline_in, number_of, size_in, tree_items}
+use Rattle.file_laws.specs.Keys.{ImageKeysAscend}
 use Rattle.file_laws.proofs.Keys.{file_keys_ascend}
-use Rattle.file_laws.proofs.SmallTrees.{image_keys_ascend}
 use Rattle.fs_rows.proofs.Functions.{length_bytes}
 use Rattle.item_list.specs.Extents.{extent_item, inline_extent, regular_extent}
 use Rattle.reiser_bitmap.proofs.Ranges.{contains_cases}
@@ -222,12 +222,12 @@ module _ (image : Image) (m : Making) (made : IsMaking image m) (size : IsNodeSi
   pub files_rise : Rise (file_tree_items image m)
   files_rise = ascends_rise (file_tree_items image m) (file_keys_ascend m.volume image m.options m.plan m.pieces of)
 
-  pub saved_rise : Rise (image_tree_items m)
-  saved_rise = ascends_rise (image_tree_items m) (image_keys_ascend m.volume image m.options m.plan m.pieces m.now of).saved
+  pub saved_rise : ImageKeysAscend → Rise (image_tree_items m)
+  saved_rise rising = ascends_rise (image_tree_items m) (rising m.volume image m.options m.plan m.pieces m.now of).saved
 
 -- ---- all trees
 
-module _ (o : Options) (ids : Ids) (now : ℕ) (image other : Image) (m : Making) (r : VolumeTrees) (nodes : List TreeNode) (v : IsNewVolume o ids now image other m r nodes) where
+module _ (o : Options) (ids : Ids) (now : ℕ) (image other : Image) (m : Making) (r : VolumeTrees) (nodes : List TreeNode) (v : IsNewVolume o ids now image other m r nodes) (rising : ImageKeysAscend) where
   abbrev making : IsMaking image m
   making = v.new.conversion.making
 
@@ -288,7 +288,7 @@ module _ (o : Options) (ids : Ids) (now : ℕ) (image other : Image) (m : Making
       (All-cons Once k.root_tree k.others (no_uses k.root_tree (1, omega arith, refl) (λ e. omega (arith, e)) (λ e. omega (arith, e)))
       (six_all Once extents device files sums saved relocation (no_uses extents (2, omega arith, refl) (λ e. omega (arith, e)) (λ e. omega (arith, e))) (no_uses device (3, omega arith, refl) (λ e. omega (arith, e)) (λ e. omega (arith, e)))
       (tree_distinct files (files_rise image m making fit) (λ i u h is l. file_key image m making fit i u h is l)) (no_uses sums (5, omega arith, refl) (λ e. omega (arith, e)) (λ e. omega (arith, e)))
-      (tree_distinct saved (saved_rise image m making fit) (λ i u h is l. image_key image m making fit i u h is l)) (no_uses relocation (7, omega arith, refl) (λ e. omega (arith, e)) (λ e. omega (arith, e)))))
+      (tree_distinct saved (saved_rise image m making fit rising) (λ i u h is l. image_key image m making fit i u h is l)) (no_uses relocation (7, omega arith, refl) (λ e. omega (arith, e)) (λ e. omega (arith, e)))))
 
   -- no use of data is found twice
   pub uses_distinct : AreDistinct (data_uses k)

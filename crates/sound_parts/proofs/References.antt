@@ -1,11 +1,13 @@
 -- The references of a converted volume are sound: its extent tree is the recount of all nodes and of all uses of data.
-use Rattle.std.proofs.Common.{◌≡◌, ◌≢◌, ◌⊎◌, ◌≤◌, ◌<◌, ℕ, ◌+◌, ◌*◌, ◌^◌, inl, inr, eqb, Bool, true, false, cond, List, [], ◌∷◌, length, map, Option, Some, None, refl, sym, ap, subst, ◌∙◌, ⊎_elim, true≢false, arith}
+use Rattle.std.proofs.Common.{◌≡◌, ◌≢◌, ◌⊎◌, ◌≤◌, ◌<◌, ℕ, ◌+◌, ◌-◌, ◌*◌, ◌^◌, inl, inr, eqb, Bool, true, false, cond, not, ◌&&◌, List, [], ◌∷◌, length, map, Option, Some, None, refl, sym, ap, subst, ◌∙◌, ⊎_elim, true≢false, arith}
 use Rattle.std.specs.Prelude.{All, Contains, nat_lt, if◌then◌else◌, is_some}
 use Rattle.std.specs.Option.{option_map_or}
-use Rattle.std.specs.Ordering.{nat_cmp, ordering_then}
+use Rattle.std.specs.List.{count_by}
+use Rattle.std.specs.Ordering.{is_lt, nat_cmp, ordering_then}
 use Rattle.std.specs.declared.cmp.Ordering.{Ordering}
 use Rattle.std.specs.declared.cmp.Ordering.TheVariants.{Less, Equal, Greater}
 use Rattle.std.proofs.lemmas.Bool.{eq-eqb}
+use Rattle.std.proofs.lemmas.List.Sums.{count_by-le-length}
 use Rattle.std.proofs.lemmas.List.Elements.{All-cons, All-contains, All-map}
 use Rattle.path_list.proofs.Lists.{from_map, in_map}
 use Rattle.indexmap.specs.IndexMap.{keys}
@@ -34,8 +36,12 @@ use Rattle.file_items.specs.Extents.{file_block, source_block}
 use Rattle.file_items.specs.Small.{relocation_items}
 use Rattle.file_items.specs.Tree.{number_of}
 use Rattle.file_laws.specs.Held.{FilesAreHeld}
-use Rattle.file_laws.proofs.Entries.{inode_low}
+use Rattle.file_laws.specs.Keys.{ImageKeysAscend}
 use Rattle.reiser_bitmap.proofs.Ranges.{all_from_contains}
+use Rattle.reiser_names.specs.Links.{object_cmp}
+use Rattle.reiser_names.specs.Names.{inode_of}
+use Rattle.reiser_objects.specs.Keys.{root, same_key}
+use Rattle.reiser_objects.specs.declared.key.ObjectKey.{ObjectKey}
 use Rattle.reiser_volume.proofs.Bounds.{accepted_is_small}
 use Rattle.space_items.specs.Chunks.{device_items}
 use Rattle.space_items.specs.Extents.{data_ref, extent_body, extent_items, group_item, hash_of_ref, image_refs, node_item, owner_refs, piece_item, put_refs, used_in}
@@ -81,12 +87,20 @@ kinds_apart a b apart e =
 
 -- ---- the items of the extent tree
 
+-- numbers of inodes fit
+inode_low : (all : List ObjectKey) (key : ObjectKey) → length all ≤ 2 ^ 37 → inode_of all key < 2 ^ 64
+inode_low all key few = by (same_key key root)
+  where
+    by : (b : Bool) → (if b then 256 else 257 + count_by (λ k. is_lt (object_cmp k key) && not (same_key k root)) all) < 2 ^ 64
+    by true = omega arith
+    by false = let low = count_by-le-length (λ (k : ObjectKey). is_lt (object_cmp k key) && not (same_key k root)) all in omega (arith, low, few)
+
 -- a use of a piece: by the file that owns it, or by the saved image
 data IsUseOf (p : Piece) (u : DataUse) : Type 0 where
   of_file : (inode block : ℕ) → p.owner ≡ Some (inode, block) → u ≡ use_at 5 inode block p → IsUseOf p u
   of_image : (block : ℕ) → p.from ≡ Some block → u ≡ use_at 256 257 block p → IsUseOf p u
 
-module _ (o : Options) (ids : Ids) (now : ℕ) (image other : Image) (m : Making) (r : VolumeTrees) (nodes : List TreeNode) (v : IsNewVolume o ids now image other m r nodes) (held : FilesAreHeld) where
+module _ (o : Options) (ids : Ids) (now : ℕ) (image other : Image) (m : Making) (r : VolumeTrees) (nodes : List TreeNode) (v : IsNewVolume o ids now image other m r nodes) (held : FilesAreHeld) (rising : ImageKeysAscend) where
   abbrev making : IsMaking image m
   making = v.new.conversion.making
 
@@ -100,7 +114,7 @@ module _ (o : Options) (ids : Ids) (now : ℕ) (image other : Image) (m : Making
   k = recount_for image other m r nodes
 
   abbrev once : AreDistinct (data_uses k)
-  once = uses_distinct o ids now image other m r nodes v
+  once = uses_distinct o ids now image other m r nodes v rising
 
   abbrev items : List Item
   items = extent_items m.chunks m.pieces nodes m.options.nodesize
@@ -337,6 +351,6 @@ module _ (o : Options) (ids : Ids) (now : ℕ) (image other : Image) (m : Making
     data_ = λ u h. subst (λ (is : List Item). HasKey is (record { objectid = u.start; kind = 168; offset = u.length })) (sym items_are) (data_key u h);
   }
 
-pub converted_references_are_sound : NewIdsFit → FilesAreHeld → ConvertedReferencesAreSound
-converted_references_are_sound ids_fit held = λ o ids now image other m r nodes is size low are has bytes.
-    references o ids now image other m r nodes (volume_for ids_fit o ids now image other m r nodes is size are has) held
+pub converted_references_are_sound : NewIdsFit → FilesAreHeld → ImageKeysAscend → ConvertedReferencesAreSound
+converted_references_are_sound ids_fit held rising = λ o ids now image other m r nodes is size low are has bytes.
+    references o ids now image other m r nodes (volume_for ids_fit o ids now image other m r nodes is size are has) held rising

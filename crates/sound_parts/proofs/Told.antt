@@ -147,14 +147,17 @@ module _ (o : Options) (ids : Ids) (now : ℕ) (image other : Image) (m : Making
       let hit : hits a p.address ≡ 1 = ap (λ (b : Bool). cond b 1 0) (eq-eqb a a refl) in
       let same = nodes_sum o ids now image other m r nodes v (hits a) in
       let at = hit_there a nodes (omega (arith, one, hit, same)) in
-      let of : IsMet at.0 = All-contains IsMet nodes at.0 all_told at.1 in
-      let beside : Contains met of.pointer = in_flat_map (λ (x : TreeOn). x.nodes) (all_trees k) of.tree of.pointer of.there of.met in
-      let place : at.0.address ≡ of.pointer.address = ap (λ (x : TreeNode). x.address) of.is in
-      let level : at.0.level ≡ of.pointer.level = ap (λ (x : TreeNode). x.level) of.is in
-      let pointer : of.pointer ≡ p = same_place of.pointer p beside among (sym place ∙ at.2) in
-      record { node = at.0; there = at.1; address_is = at.2; level_is = level ∙ ap (λ (q : Pointer). q.level) pointer }
+      by at.0 at.1 at.2 (All-contains IsMet nodes at.0 all_told at.1) among
     where
       same_place : (p q : Pointer) → Contains met p → Contains met q → p.address ≡ q.address → p ≡ q
       same_place p q x y same =
           ⊎_elim (λ (e : p ≡ q). e) (λ either. ⊎_elim (λ (apart : p.address ≢ q.address). absurd (apart same)) (λ (apart : q.address ≢ p.address). absurd (apart (sym same))) either)
           (two_cases (λ (u w : Pointer). u.address ≢ w.address) met p q (once o ids now image other m r nodes v) x y)
+
+      by : (x : TreeNode) → Contains nodes x → x.address ≡ p.address → IsMet x → Contains met p → IsTold p
+      by x there same is among =
+          let beside : Contains met is.pointer = in_flat_map (λ (y : TreeOn). y.nodes) (all_trees k) is.tree is.pointer is.there is.met in
+          let place : x.address ≡ is.pointer.address = ap (λ (y : TreeNode). y.address) is.is in
+          let level : x.level ≡ is.pointer.level = ap (λ (y : TreeNode). y.level) is.is in
+          let pointer : is.pointer ≡ p = same_place is.pointer p beside among (sym place ∙ same) in
+          record { node = x; there = there; address_is = same; level_is = level ∙ ap (λ (q : Pointer). q.level) pointer }
