@@ -1,11 +1,9 @@
 -- The checksums of a converted volume are sound.
-use Rattle.std.proofs.Common.{◌≡◌, ◌≢◌, ◌≤◌, ◌<◌, ℕ, ◌+◌, ◌*◌, ◌/◌, ◌%◌, ◌^◌, Bool, true, false, List, [], ◌∷◌, map, take, drop, Option, Some, None, refl, sym, ap, subst, ◌∙◌, ⊎_elim, true≢false, arith}
+use Rattle.std.proofs.Common.{◌≡◌, ◌≢◌, ◌≤◌, ◌<◌, ℕ, ◌+◌, ◌*◌, ◌/◌, ◌%◌, ◌^◌, Bool, true, false, List, [], map, Option, Some, None, refl, sym, ap, subst, ◌∙◌, ⊎_elim, true≢false, arith}
 use Rattle.std.specs.Prelude.{All, AllPairs, Contains, if◌then◌else◌, is_some, ◌↔◌}
 use Rattle.std.proofs.lemmas.List.{append-nil}
-use Rattle.std.proofs.lemmas.List.Elements.{All-contains}
 use Rattle.path_list.proofs.Lists.{from_flat_map, in_flat_map}
-use Rattle.indexmap.specs.IndexMap.{keys}
-use Rattle.outside.specs.History.{Image, block_at}
+use Rattle.outside.specs.History.{Image}
 use Rattle.vol_block.specs.declared.ids.Ids.{Ids}
 use Rattle.btr_keys.specs.Inode.{inode_bytes, inode_of}
 use Rattle.btr_keys.specs.Key.{make_key}
@@ -22,7 +20,7 @@ use Rattle.btr_walk.specs.Map.{place}
 use Rattle.btr_walk.specs.declared.tree.Form.{Form}
 use Rattle.conversion.specs.Making.{IsMaking, Making}
 use Rattle.conversion.specs.Source.{HasPieces, made_from}
-use Rattle.conversion.specs.Standing.{file_tree_items, form, image_tree_items, sum_tree_items}
+use Rattle.conversion.specs.Standing.{file_tree_items, image_tree_items, sum_tree_items}
 use Rattle.conversion.specs.declared.trees.VolumeTrees.{VolumeTrees}
 use Rattle.convert_core.proofs.Moving.{well}
 use Rattle.convert_core.proofs.Wholeness.{blocks_few}
@@ -30,17 +28,14 @@ use Rattle.converted_laws.specs.Identifiers.{NewIdsFit}
 use Rattle.converted_laws.specs.Opened.{IsNewVolume, map_for, super_for}
 use Rattle.converted_laws.proofs.SavedExtents.{AreSources, sources_bytes}
 use Rattle.converted_laws.proofs.SavedPieces.{are_sources}
-use Rattle.csum_kinds.specs.Kind.{kind_sum, kind_width}
 use Rattle.csum_kinds.specs.declared.kind.SumKind.{SumKind}
 use Rattle.extent_pieces.proofs.Owning.{two_cases}
 use Rattle.file_items.specs.Extents.{piece_bytes, pieces_of_volume, source_block}
-use Rattle.file_items.specs.Small.{image_flags}
 use Rattle.file_items.specs.Tree.{Source, inode_in, kind_in, number_of}
 use Rattle.file_laws.specs.Held.{FilesAreHeld}
 use Rattle.file_laws.specs.Inodes.{InodesAreThere}
 use Rattle.file_laws.specs.Keys.{ImageKeysAscend}
 use Rattle.fs_rows.specs.declared.row.Kind.TheVariants.{File}
-use Rattle.item_list.specs.Inodes.{inode_item}
 use Rattle.reiser_bitmap.proofs.Ranges.{all_from_contains}
 use Rattle.reiser_objects.specs.declared.key.ObjectKey.{ObjectKey}
 use Rattle.row_laws.specs.Rows.{HasBytes}
@@ -57,7 +52,7 @@ use Rattle.sound_laws.proofs.Uses.{IsUse, by_file, by_image, use_at}
 use Rattle.sound_parts.specs.Laws.{ConvertedChecksumsAreSound}
 use Rattle.sound_parts.proofs.Flags.{file_no_sums, file_sums, image_extents_ascend, image_inode, image_inode_reads, image_inode_there, inode_reads, inode_there, same_item}
 use Rattle.sound_parts.proofs.Keyed.{all_other, files_rise, saved_rise, uses_tree}
-use Rattle.sound_parts.proofs.Runs.{Covers, IsPart}
+use Rattle.sound_parts.proofs.Runs.{Covers}
 use Rattle.sound_parts.proofs.SumItems.{EndsFirst, IsOfPiece, count_of, form_of_item, items_apart, of_piece, piece_covered, sum_of}
 
 some_same : {A : Type 0} (a b : A) → Some a ≡ Some b → a ≡ b

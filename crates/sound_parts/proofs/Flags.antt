@@ -1,5 +1,5 @@
 -- The inodes of a converted volume: where they stand, and whether their data has checksums.
-use Rattle.std.proofs.Common.{◌≡◌, ◌≢◌, ◌≤◌, ◌<◌, ℕ, ◌+◌, ◌*◌, ◌%◌, ◌^◌, eqb, Bool, true, false, not, ◌&&◌, List, [], ◌∷◌, ◌++◌, filter, map, Option, Some, pos, refl, sym, ap, subst, ◌∙◌, ⊎_elim, arith}
+use Rattle.std.proofs.Common.{◌≡◌, ◌≤◌, ◌<◌, ℕ, ◌+◌, ◌*◌, ◌%◌, ◌^◌, Bool, true, false, not, ◌&&◌, List, [], ◌∷◌, ◌++◌, filter, map, Some, pos, refl, sym, ap, subst, ◌∙◌, ⊎_elim, arith}
 use Rattle.std.specs.Prelude.{Contains, if◌then◌else◌}
 use Rattle.std.specs.Int.{w64}
 use Rattle.std.specs.Option.{option_and_then}
@@ -12,10 +12,8 @@ use Rattle.indexmap.specs.IndexMap.{keys}
 use Rattle.path_list.proofs.Lists.{in_filter, in_flat_map}
 use Rattle.outside.specs.History.{Image}
 use Rattle.btr_keys.specs.Inode.{inode_bytes, inode_layout, inode_of}
-use Rattle.btr_keys.specs.Key.{make_key}
 use Rattle.btr_keys.specs.Stamp.{stamp_layout}
 use Rattle.btr_keys.specs.declared.inode.Inode.{Inode}
-use Rattle.btr_keys.specs.declared.key.Key.{Key}
 use Rattle.btr_keys.proofs.Records.{inodes_read_back}
 use Rattle.btr_node.specs.Leaf.{Item, keys_of}
 use Rattle.btr_node.specs.Order.{ascends}

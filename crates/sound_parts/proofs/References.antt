@@ -1,5 +1,5 @@
 -- The references of a converted volume are sound: its extent tree is the recount of all nodes and of all uses of data.
-use Rattle.std.proofs.Common.{◌≡◌, ◌≢◌, ◌⊎◌, ◌≤◌, ◌<◌, ℕ, ◌+◌, ◌-◌, ◌*◌, ◌^◌, inl, inr, eqb, Bool, true, false, cond, not, ◌&&◌, List, [], ◌∷◌, length, map, Option, Some, None, refl, sym, ap, subst, ◌∙◌, ⊎_elim, true≢false, arith}
+use Rattle.std.proofs.Common.{◌≡◌, ◌≢◌, ◌⊎◌, ◌≤◌, ◌<◌, ℕ, ◌+◌, ◌-◌, ◌*◌, ◌^◌, inl, inr, Bool, true, false, not, ◌&&◌, List, [], ◌∷◌, length, map, Option, Some, None, refl, sym, ap, subst, ◌∙◌, ⊎_elim, true≢false, arith}
 use Rattle.std.specs.Prelude.{All, Contains, nat_lt, if◌then◌else◌, is_some}
 use Rattle.std.specs.Option.{option_map_or}
 use Rattle.std.specs.List.{count_by}
@@ -20,7 +20,6 @@ use Rattle.btr_node.specs.NodeSize.{IsNodeSize}
 use Rattle.btr_sound.specs.Recount.{DataUse, Recount, TreeOn, all_trees, data_uses, items_of_tree}
 use Rattle.btr_sound.specs.References.{AreReferences, HasKey, IsDataItem, IsNodeItem, is_group}
 use Rattle.btr_space_items.specs.InlineRef.{FitsInline}
-use Rattle.btr_space_items.specs.declared.inline_ref.InlineRef.{InlineRef}
 use Rattle.btr_space_items.specs.declared.inline_ref.InlineRef.TheVariants.{TreeBlock}
 use Rattle.btr_walk.specs.declared.tree.Pointer.{Pointer}
 use Rattle.conversion.specs.Making.{IsMaking, Making, new_ids}
@@ -62,7 +61,7 @@ use Rattle.sound_laws.proofs.Used.{file_use, owned, saved_use}
 use Rattle.sound_laws.proofs.Uses.{IsUse, by_file, by_image, owner_low, use_at}
 use Rattle.sound_parts.specs.Laws.{ConvertedReferencesAreSound}
 use Rattle.sound_parts.proofs.Bodies.{data_fits, has_refs, node_fits}
-use Rattle.sound_parts.proofs.DataItems.{one_ref, ref_of, two_refs}
+use Rattle.sound_parts.proofs.DataItems.{one_ref, two_refs}
 use Rattle.sound_parts.proofs.Distinct.{AreDistinct}
 use Rattle.sound_parts.proofs.InMerged.{in_first, in_second}
 use Rattle.sound_parts.proofs.Keyed.{uses_distinct}

@@ -1,5 +1,5 @@
 -- Each node that the extent tree tells of is one that a walk meets, and the other way round.
-use Rattle.std.proofs.Common.{◌≡◌, ◌≢◌, ◌≤◌, ◌<◌, ℕ, zero, suc, ◌+◌, ◌-◌, ◌^◌, eqb, Bool, cond, List, [], ◌∷◌, ◌++◌, length, map, take, drop, sum, refl, sym, ap, ap₂, subst, ◌∙◌, ⊎_elim, arith}
+use Rattle.std.proofs.Common.{◌≡◌, ◌≢◌, ◌≤◌, ℕ, suc, ◌+◌, ◌-◌, ◌^◌, eqb, Bool, cond, List, [], ◌∷◌, ◌++◌, length, map, take, drop, sum, refl, sym, ap, ap₂, subst, ◌∙◌, ⊎_elim, arith}
 use Rattle.std.specs.Prelude.{All, Contains}
 use Rattle.std.specs.List.{flat_map, sum_by}
 use Rattle.std.proofs.lemmas.Bool.{cases_eq, eq-eqb, ne_eqb}
