@@ -1,0 +1,11 @@
+mod Bodies
+mod Checksums
+mod DataItems
+mod Distinct
+mod Flags
+mod InMerged
+mod Keyed
+mod References
+mod Runs
+mod SumItems
+mod Told
