@@ -1,7 +1,7 @@
 #!/usr/bin/env bash
 # convert.sh [DIRECTORIES]: measures `convert` on a ReiserFS volume of 200 files in each of 385 directories, so 77,000 files
 # and about 1 GB, on one of half as many, and on a fresh volume of 300 GiB; and beside it Debian's btrfs-convert on an ext4
-# volume with the same files. Each figure is the least processor time of three runs on copies that are in the page cache,
+# volume with the same files; and `rollback` of the converted volume of 77,000 files. Each figure is the least processor time of three runs on copies that are in the page cache,
 # and the most memory that the program held. It needs python3, 8 GB of disk and 3 GB of memory for the page cache, and
 # btrfs-convert, mkfs.ext4 and mkfs.reiserfs.
 # shellcheck source=bench/begin.sh
@@ -29,6 +29,10 @@ measured "convert, $directories directories" "$work/whole" "$program" convert
 whole=$time
 held_whole=$held
 awk -v a="$whole" -v b="$once" 'BEGIN { printf "twice the files take %.2f times as long\n", a / b }'
+
+"$program" convert "$work/whole" >"$work/text"
+measured "rollback, $directories directories" "$work/whole" "$program" rollback
+awk -v a="$time" -v b="$whole" 'BEGIN { printf "rollback takes %.2f of the time of convert\n", a / b }'
 rm "$work/whole"
 
 truncate -s "$(($(du -sm "$work/whole.files" | cut -f 1) * 3 / 2 + 512))M" "$work/ext4"
