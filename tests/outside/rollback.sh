@@ -64,7 +64,8 @@ rollback_words() {
     ends 'rollback of zeros' 1 'refused 1 novolume' rollback zeros
     volume good 20000
     ends 'rollback of ReiserFS' 1 'refused 16 format' rollback good
-    mkfs.btrfs -q -f zeros >/dev/null 2>&1 || { truncate -s 134217728 zeros; mkfs.btrfs -q -f zeros >/dev/null 2>&1; }
+    truncate -s 134217728 zeros
+    mkfs.btrfs -q -f -m single -d single zeros >/dev/null 2>&1
     ends 'rollback of a Btrfs volume that was never converted' 1 'refused 17 noimage' rollback zeros
 }
 
