@@ -8,13 +8,14 @@ milliseconds() {
     awk -v a="$begun" -v b="$EPOCHREALTIME" 'BEGIN { printf "%d", (b - a) * 1000 }'
 }
 
-# judge FILE: the format that is there, and what its own tool says
+# judge FILE: the format that is there, and what its own tool says. reiserfsck notes in the superblock that it looked, so it looks at a copy.
 judge() {
     if [ "$(dd if="$1" bs=1 skip=65600 count=8 status=none | tr -d '\0')" = _BHRfS_M ]; then
         kept btrfs check --readonly "$1"
         echo "btrfs $status $(grep -c 'no error found' "$work/.out")"
     else
-        kept reiserfsck --check -y "$1"
+        cp --sparse=always "$1" judged
+        kept reiserfsck --check -y judged
         echo "reiserfs $status $(cat "$work/.out" "$work/.err" | grep -c 'No corruptions found')"
     fi
 }
