@@ -2,7 +2,7 @@
 # hostile.sh [PART]: measures `inspect`, `list` and `convert` on volumes that are hostile in size (bench/hostile_volume.py), of each
 # kind two, the second of twice the number, and `list` once more on what is converted, whose text has to be the one from before.
 # PART divides the numbers, for a try with a slow build. Each figure is the least processor time of three runs with all in the page
-# cache, and the most memory that the program held. The table's last column says how many times as long the second volume
+# cache, and the most memory that the program held; a little below 14 MiB is what python3 itself holds. The table's last column says how many times as long the second volume
 # takes. It needs python3, 10 GB of disk that keeps files sparse, and 2 GB of memory for the page cache.
 # shellcheck source=bench/begin.sh
 . "$(dirname "$(readlink -f "${BASH_SOURCE[0]}")")/begin.sh"

@@ -86,11 +86,12 @@ def all_seeds(bases, runs, given):
         command, status = try_seed(seed, bases, runs, given)
         counts[command, status] += 1
         done += 1
-        if done % 10000 == 0:
+        if done % 1000 == 0:
             print(f"{done} runs, {time.monotonic() - begun:.0f} seconds", flush=True)
     for (command, status), count in sorted(counts.items(), key=str):
         print(f"{command:8} status {status}: {count}")
-    print(f"seeds {given.first} to {given.first + done - 1} in {time.monotonic() - begun:.0f} seconds;", runs.summary())
+    took = f"{time.monotonic() - begun:.0f} seconds, {sum(os.times()[:4]):.0f} of a processor"
+    print(f"seeds {given.first} to {given.first + done - 1} in {took};", runs.summary())
     failed = sum(count for (_, status), count in counts.items() if status == "failed")
     print(f"{done - failed} passed, {failed} failed")
     return failed
