@@ -7,9 +7,9 @@
 
 mkfs.reiserfs -q -f -s 513 -l 'a label' /dev/vda >/dev/null 2>&1
 said 'convert: made' $?
-mount -t reiserfs -o noatime,attrs /dev/vda /mnt && perl fill /mnt reiserfs $fill >/dev/null && umount /mnt
+mount -t reiserfs -o noatime,attrs /dev/vda /mnt && perl /job/fill /mnt reiserfs $fill >/dev/null && umount /mnt
 said 'convert: filled by Linux' $?
-mount -t reiserfs -o ro,noatime,attrs /dev/vda /mnt && perl rows /mnt reiserfs >/tmp/before
+mount -t reiserfs -o ro,noatime,attrs /dev/vda /mnt && perl /job/rows /mnt reiserfs >/tmp/before
 said "convert: looked at by Linux, $(wc -l </tmp/before) paths" $?
 (cd /mnt && find . -type f ! -name '*[^a-zA-Z0-9._+-]*' -exec sha256sum {} + | sed 's/  \./ /') >/dev/vdc
 umount /mnt
@@ -31,19 +31,19 @@ same 'convert: btrfs check finds nothing' '0 1 0' "$? $(grep -c 'no error found'
 # for reading alone, and then for writing
 mount -t btrfs -o ro,noatime /dev/vda /mnt
 said 'convert: mounts for reading' $?
-perl rows /mnt btrfs >/tmp/after
+perl /job/rows /mnt btrfs >/tmp/after
 same_file 'convert: Linux sees the same, for reading' /tmp/before /tmp/after
 umount /mnt
 mount -t btrfs -o noatime /dev/vda /mnt
 said 'convert: mounts for writing' $?
-perl rows /mnt btrfs >/tmp/after
+perl /job/rows /mnt btrfs >/tmp/after
 same_file 'convert: Linux sees the same, for writing' /tmp/before /tmp/after
 same 'convert: the label is kept' 'a label' "$(btrfs filesystem label /mnt)"
 
 # the saved image
-perl saved /dev/vdb /mnt/reiserfs_saved/image
+perl /job/saved /dev/vdb /mnt/reiserfs_saved/image
 said 'convert: the image has the bytes of the volume in its used blocks' $?
-losetup -r /dev/loop0 /mnt/reiserfs_saved/image && mount -t reiserfs -o ro,noatime,attrs /dev/loop0 /mnt2 && perl rows /mnt2 reiserfs >/tmp/image && umount /mnt2
+losetup -r /dev/loop0 /mnt/reiserfs_saved/image && mount -t reiserfs -o ro,noatime,attrs /dev/loop0 /mnt2 && perl /job/rows /mnt2 reiserfs >/tmp/image && umount /mnt2
 said 'convert: the image mounts as ReiserFS' $?
 losetup -d /dev/loop0
 same_file 'convert: Linux sees the same in the image' /tmp/before /tmp/image

@@ -5,8 +5,8 @@
 . ./settings
 
 mkfs.reiserfs -q -f -s 513 /dev/vda >/dev/null 2>&1
-mount -t reiserfs -o noatime,attrs /dev/vda /mnt && perl fill /mnt reiserfs few >/dev/null && chattr -R -ia /mnt/flags && umount /mnt
-mount -t reiserfs -o ro,noatime,attrs /dev/vda /mnt && perl rows /mnt reiserfs >/tmp/before && umount /mnt
+mount -t reiserfs -o noatime,attrs /dev/vda /mnt && perl /job/fill /mnt reiserfs few >/dev/null && umount /mnt
+mount -t reiserfs -o ro,noatime,attrs /dev/vda /mnt && perl /job/rows /mnt reiserfs >/tmp/before && umount /mnt
 said "foreign: filled, $(wc -l </tmp/before) paths" $?
 cp /dev/vda /dev/vdb
 run convert /dev/vda
@@ -46,7 +46,7 @@ btrfs balance start -musage=100 /mnt >/tmp/out 2>&1
 said 'foreign: metadata is balanced' $?
 fstrim /mnt
 said 'foreign: trimmed' $?
-perl saved /dev/vdb reiserfs_saved/image
+perl /job/saved /dev/vdb reiserfs_saved/image
 said 'foreign: the image has the bytes of the volume' $?
 cd / && umount /mnt
 said 'foreign: unmounted' $?
@@ -55,7 +55,7 @@ said 'foreign: unmounted' $?
 judged() {
     btrfs check --check-data-csum /dev/vda >/tmp/out 2>&1
     same "foreign: btrfs check $1 finds nothing" '0 1 0' "$? $(grep -c 'no error found' /tmp/out) $(grep -ciE 'mirror|mismatch|warning' /tmp/out)"
-    mount -t btrfs -o ro,noatime /dev/vda /mnt && perl rows /mnt btrfs >/tmp/after && umount /mnt
+    mount -t btrfs -o ro,noatime /dev/vda /mnt && perl /job/rows /mnt btrfs >/tmp/after && umount /mnt
     said "foreign: looked at $1, $(wc -l </tmp/after) paths" $?
     run list /dev/vda
     same "foreign: list $1 ends with status 0" '0|' "$status|$err"
@@ -71,13 +71,13 @@ cp /dev/vda /dev/vdc
 if [ "$rollback" = yes ]; then
     run rollback /dev/vda
     same 'foreign: rollback ends with status 0' '0||rolled back to reiserfs' "$status|$err|$(head -n 1 /tmp/out)"
-    perl saved /dev/vdb /dev/vda
+    perl /job/saved /dev/vdb /dev/vda
     said 'foreign: each used block is as it was' $?
     run list /dev/vda
     same_file 'foreign: list prints the first tree' /tmp/before /tmp/out
     reiserfsck --check -y /dev/vda >/tmp/out 2>&1
     same 'foreign: reiserfsck finds nothing' '0 1' "$? $(grep -c 'No corruptions found' /tmp/out)"
-    mount -t reiserfs -o noatime,attrs /dev/vda /mnt && perl rows /mnt reiserfs >/tmp/after && echo more >/mnt/more && umount /mnt
+    mount -t reiserfs -o noatime,attrs /dev/vda /mnt && perl /job/rows /mnt reiserfs >/tmp/after && echo more >/mnt/more && umount /mnt
     said 'foreign: mounts as ReiserFS for writing' $?
     same_file 'foreign: Linux sees the first tree' /tmp/before /tmp/after
     quiet 'foreign: the kernel complains of nothing behind rollback'
@@ -87,7 +87,7 @@ fi
 cp /dev/vdc /dev/vda
 mount -t btrfs -o noatime /dev/vda /mnt && btrfs balance start -dusage=100 /mnt >/tmp/out 2>&1
 said 'foreign: data is balanced' $?
-perl saved /dev/vdb /mnt/reiserfs_saved/image
+perl /job/saved /dev/vdb /mnt/reiserfs_saved/image
 said 'foreign: the moved image has the bytes of the volume' $?
 umount /mnt
 judged 'behind a balance of data'

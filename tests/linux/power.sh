@@ -5,8 +5,8 @@
 . ./settings
 
 mkfs.reiserfs -q -f -s 513 /dev/vda >/dev/null 2>&1
-mount -t reiserfs -o noatime,attrs /dev/vda /mnt && perl fill /mnt reiserfs few >/dev/null && umount /mnt
-mount -t reiserfs -o ro,noatime,attrs /dev/vda /mnt && perl rows /mnt reiserfs >/tmp/before && umount /mnt
+mount -t reiserfs -o noatime,attrs /dev/vda /mnt && perl /job/fill /mnt reiserfs few >/dev/null && umount /mnt
+mount -t reiserfs -o ro,noatime,attrs /dev/vda /mnt && perl /job/rows /mnt reiserfs >/tmp/before && umount /mnt
 said "power: a volume is filled, $(wc -l </tmp/before) paths" $?
 sync
 echo 3 >/proc/sys/vm/drop_caches
@@ -32,7 +32,7 @@ whole() {
     cmp -s /tmp/before /tmp/out || wrong="$wrong, list prints other rows"
     if [ "$format" = reiserfs ]; then options=noatime,attrs; else options=noatime; fi
     if mount -t "$format" -o $options /dev/vda /mnt; then
-        perl rows /mnt "$format" >/tmp/after
+        perl /job/rows /mnt "$format" >/tmp/after
         cmp -s /tmp/before /tmp/after || wrong="$wrong, Linux sees other rows"
         umount /mnt
     else

@@ -2,15 +2,16 @@
 # Inside of the machine: the kernel makes and fills a volume of each format, and the program has to list what Linux sees of it.
 
 . ./said.sh
+. ./settings
 
 # the mount option that makes flags seen
 options() { if [ "$1" = reiserfs ]; then echo noatime,attrs; else echo noatime; fi; }
 
 # listed KIND DISK: the volume on a disk is filled, and listed to the byte
 listed() {
-    mount -t "$1" -o "$(options "$1")" "$2" /mnt && perl fill /mnt "$1" >/dev/null && umount /mnt
+    mount -t "$1" -o "$(options "$1")" "$2" /mnt && perl /job/fill /mnt "$1" $fill >/dev/null && umount /mnt
     said "$1: filled by Linux" $?
-    mount -t "$1" -o "ro,$(options "$1")" "$2" /mnt && perl rows /mnt "$1" >/tmp/wanted && umount /mnt
+    mount -t "$1" -o "ro,$(options "$1")" "$2" /mnt && perl /job/rows /mnt "$1" >/tmp/wanted && umount /mnt
     said "$1: looked at by Linux, $(wc -l </tmp/wanted) paths" $?
     reiserconv list "$2" >/tmp/found 2>/tmp/err
     said "$1: list ends with status 0" $?

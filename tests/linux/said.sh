@@ -9,8 +9,8 @@ said() {
 same() {
     if [ "$2" = "$3" ]; then echo "ok $1"; else
         echo "FAILED $1"
-        echo "$2" >/tmp/expected
-        echo "$3" >/tmp/found
+        printf '%s\n' "$2" >/tmp/expected
+        printf '%s\n' "$3" >/tmp/found
         diff /tmp/expected /tmp/found | head -n 20
     fi
 }

@@ -52,7 +52,7 @@ small() {
 
 # large: how many KiB one file takes
 large() {
-    dd if=/dev/zero of=/mnt/large bs=64k oflag=sync count=512 2>/dev/null
+    dd if=/dev/zero of=/mnt/large bs=64k conv=fsync count=512 2>/dev/null
     echo $(($(stat -c %s /mnt/large 2>/dev/null || echo 0) / 1024))
 }
 
@@ -79,12 +79,12 @@ for count in $beside; do
     leaves "$count"
     said "tight: $needed units are needed, and $count MiB free beside them" $?
     cp /dev/vda /dev/vdb
-    mount -t reiserfs -o ro,noatime /dev/vda /mnt && perl rows /mnt reiserfs >/tmp/before && umount /mnt
+    mount -t reiserfs -o ro,noatime /dev/vda /mnt && perl /job/rows /mnt reiserfs >/tmp/before && umount /mnt
     run convert /dev/vda
     same "tight: beside $count MiB it converts" '0|' "$status|$err"
     btrfs check /dev/vda >/tmp/out 2>&1
     same "tight: beside $count MiB btrfs check finds nothing" '0 1' "$? $(grep -c 'no error found' /tmp/out)"
-    mount -t btrfs -o ro,noatime /dev/vda /mnt && perl rows /mnt btrfs >/tmp/after && umount /mnt
+    mount -t btrfs -o ro,noatime /dev/vda /mnt && perl /job/rows /mnt btrfs >/tmp/after && umount /mnt
     said "tight: beside $count MiB it mounts for reading" $?
     same_file "tight: beside $count MiB Linux sees the same" /tmp/before /tmp/after
     dmesg -c >/dev/null
