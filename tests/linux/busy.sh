@@ -44,10 +44,10 @@ refuses 'mounted for reading' /dev/vda
 umount /mnt
 opens 'unmounted' /dev/vda
 
-flock /dev/vda sleep 3 &
-sleep 1
+exec 4</dev/vda
+flock 4
 refuses 'locked by another program' /dev/vda
-wait
+exec 4<&-
 opens 'no longer locked' /dev/vda
 
 printf ',48M,L\n,,L\n' | sfdisk -q /dev/vdb 2>/dev/null
