@@ -480,6 +480,9 @@ samples() {
 # shellcheck source=tests/outside/fuzz.sh
 . "$top/tests/outside/fuzz.sh"
 
+# shellcheck source=tests/outside/damaged.sh
+. "$top/tests/outside/damaged.sh"
+
 # ---- documents, manual page, package ---------------------------------------------------------------------------------
 
 # shellcheck source=tests/outside/users.sh
@@ -497,6 +500,7 @@ documents
 manual_page
 package
 released
+damaged_volumes
 if need mkfs.btrfs btrfs-progs; then btrfs_volumes; else
     lacks 'Btrfs volumes' mkfs.btrfs
 fi
