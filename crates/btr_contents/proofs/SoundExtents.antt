@@ -80,3 +80,7 @@ module _ (plan : ℕ → Option Wanted) (ranges : List MapRange) where
   extent_breaks given i ino w reach o r planned own so_far read bad =
       hand_refuses plan ranges given i ino w (Refused r) planned own
       (extent_refused reach ranges (extents_of given ino) i r so_far (subst (λ (x : Option FileExtentValue). Contains (refusals_at ranges reach.end reach.covered i x) r) (sym read) bad))
+
+  -- up to the number of the last item's inode
+  pub up_to : (given : List TreeItem) (top now ino : ℕ) (reach : Reach) → now ≡ top → HasChecked plan ranges given top ino reach → HasChecked plan ranges given now ino reach
+  up_to given top now ino reach same has = subst (λ (n : ℕ). HasChecked plan ranges given n ino reach) (sym same) has

@@ -13,7 +13,7 @@ use Rattle.btr_contents.specs.declared.wanted.Wanted.{Wanted}
 use Rattle.btr_contents.specs.Checked.{AreSound, HasChecked}
 use Rattle.btr_contents.specs.Contents.{wanted_at, RefusesContents}
 use Rattle.btr_contents.specs.Gathering.{last_inode}
-use Rattle.btr_contents.proofs.SoundExtents.{all_sound, none_checked}
+use Rattle.btr_contents.proofs.SoundExtents.{all_sound, none_checked, up_to}
 use Rattle.btr_contents.proofs.Gathered.{refuses_all, refuses_tree}
 use Rattle.btr_contents.proofs.Orders.{next_inode, now_last}
 use Rattle.btr_contents.proofs.sound.check_contents.Goals as goal
@@ -65,13 +65,13 @@ loop-walker-preserved g c =
           let le = next_inode c.advance.new.self here ranges told.0 i came.1 in (
             told.0 ++ i ∷ [],
             came.1,
-            subst (λ (n : ℕ). HasChecked (wanted_at (contains same_node c.args.named.now) (found here ranges c.args.tree)) ranges (told.0 ++ i ∷ []) n c.in_ok-add_item.field-0.ino c.in_ok-add_item.field-0.reach) (sym (now_last told.0 i))
-                (c.in_ok-add_item.ensures.adds _ told.0 i (last_inode told.0) key (sym (c.body.ensures i came.2)) (sym (c.leaf.ensures i came.2)) (rw (sym key) at wanted) le told.2),
+            up_to (wanted_at (contains same_node c.args.named.now) (found here ranges c.args.tree)) ranges (told.0 ++ i ∷ []) i.key.objectid (last_inode (told.0 ++ i ∷ [])) _ _ (now_last told.0 i)
+                (c.in_ok-checked.ensures.adds _ told.0 i (last_inode told.0) key (sym (c.body.ensures i came.2)) (sym (c.leaf.ensures i came.2)) (rw (sym key) at wanted) le told.2),
           );
     }
 
-pub returns-in_err-add_item-clause-refused : goal.returns-in_err-add_item-clause-refused
-returns-in_err-add_item-clause-refused g c = λ tells image is noted.
+pub returns-in_err-checked-clause-refused : goal.returns-in_err-checked-clause-refused
+returns-in_err-checked-clause-refused g c = λ tells image is noted.
     let before = c.loop-walker.invariant in
     let here : Image = g.S.BlockSource.blocks c.args.src.now in
     let ranges : List MapRange = c.args.ranges.now in
@@ -86,11 +86,11 @@ returns-in_err-add_item-clause-refused g c = λ tells image is noted.
     let first = given_first c.advance.new.self here ranges (told.0 ++ i ∷ []) came.1 in
     let tree = c.advance.ensures.tree ∙ before.tree in
     let plan : ℕ → Option Wanted = wanted_at (contains same_node c.args.named.now) (found here ranges c.args.tree) in
-    let err = err_from_is_err_and c.from_residual-in_err-add_item.result c.from_residual-in_err-add_item.ensures.1 in
+    let err = err_from_is_err_and c.from_residual-in_err-checked.result c.from_residual-in_err-checked.ensures.1 in
     rw err.1 (subst (λ (m : Image). RefusesContents (wanted_at (contains same_node c.args.named.now) (found m ranges c.args.tree)) m ranges c.args.tree err.0) is
     (subst (RefusesContents plan here ranges c.args.tree) (sym err.2)
-    (refuses_all plan here ranges c.args.tree (told.0 ++ i ∷ []) first.0 c.in_err-add_item.field-0.0 (ap (λ (t : Tree). found here ranges t) (sym tree) ∙ first.1)
-    (c.in_err-add_item.ensures.adds plan told.0 i (last_inode told.0) key (sym (c.body.ensures i came.2)) (sym (c.leaf.ensures i came.2)) (rw (sym key) at wanted) le told.2))))
+    (refuses_all plan here ranges c.args.tree (told.0 ++ i ∷ []) first.0 c.in_err-checked.field-0.0 (ap (λ (t : Tree). found here ranges t) (sym tree) ∙ first.1)
+    (c.in_err-checked.ensures.adds plan told.0 i (last_inode told.0) key (sym (c.body.ensures i came.2)) (sym (c.leaf.ensures i came.2)) (rw (sym key) at wanted) le told.2))))
 
 pub returns-clause-sound : goal.returns-clause-sound
 returns-clause-sound g c = λ tells image is noted.
@@ -108,8 +108,8 @@ returns-clause-sound g c = λ tells image is noted.
 pub returns-in_err-advance-clause-kept : goal.returns-in_err-advance-clause-kept
 returns-in_err-advance-clause-kept g c = g.met.S.BlockSource.kept_trans _ _ _ c.loop-walker.invariant.kept c.advance.ensures.kept
 
-pub returns-in_err-add_item-clause-kept : goal.returns-in_err-add_item-clause-kept
-returns-in_err-add_item-clause-kept g c = g.met.S.BlockSource.kept_trans _ _ _ c.loop-walker.invariant.kept c.advance.ensures.kept
+pub returns-in_err-checked-clause-kept : goal.returns-in_err-checked-clause-kept
+returns-in_err-checked-clause-kept g c = g.met.S.BlockSource.kept_trans _ _ _ c.loop-walker.invariant.kept c.advance.ensures.kept
 
 pub returns-clause-kept : goal.returns-clause-kept
 returns-clause-kept g c = g.met.S.BlockSource.kept_trans _ _ _ c.loop-walker.invariant.kept c.advance.ensures.kept

@@ -4,7 +4,8 @@ use Rattle.outside.specs.declared.refusal.BtrRefusal.TheVariants.{BadBtrfs}
 use Rattle.outside.specs.declared.rule.BtrRule.TheVariants.{Body}
 use Rattle.btr_keys.specs.FileExtent.{FileExtentValue, file_extent_of, file_extent_value}
 use Rattle.btr_keys.specs.declared.key.Key.{Key}
-use Rattle.btr_files.specs.Extents.{extent_length, covered_by, is_extent_of, refusals_at}
+use Rattle.btr_files.specs.Extents.{extent_length, covered_by, extents_of, is_extent_of, refusals_at}
+use Rattle.btr_files.specs.declared.extents.Reach.{Reach}
 use Rattle.btr_files.proofs.Adding.{reach_more}
 use Rattle.btr_contents.specs.Checked.{HasChecked}
 use Rattle.btr_contents.proofs.Gathered.{own_extent, wanted_extent}
@@ -48,6 +49,7 @@ returns-clause-adds c = λ plan given i top key body leaf wanted le has.
     let own : is_extent_of c.args.key.now.objectid i ≡ true = own_extent i c.args.key.now.objectid number extent.1 in
     let read : file_extent_of i.body ≡ Some x = ap file_extent_of body ∙ (sym c.read.ensures ∙ ap (option_map file_extent_value) c.in-Some.is) in
     let offset = ap (λ (k : Key). k.offset) key in
-    let so_far = reach_more reach _ ranges _ i x (taken.at c.args.wanted planned) read (rw (offset, leaf) c.in-Ok.ensures.ok)
+    let next : Reach = record { end = c.args.key.now.offset + c.extent_length.result; covered = reach.covered + c.covered_by.result } in
+    let so_far = reach_more reach next ranges (extents_of given c.args.key.now.objectid) i x (taken.at c.args.wanted planned) read (rw (offset, leaf) c.in-Ok.ensures.ok)
     (ap (λ (n : ℕ). c.args.key.now.offset + n) c.extent_length.ensures ∙ ap (λ (o : ℕ). o + extent_length x.content) (sym offset)) (ap (λ (n : ℕ). reach.covered + n) c.covered_by.ensures) in
-    subst (λ (n : ℕ). HasChecked plan ranges (given ++ i ∷ []) i.key.objectid n _) (sym c.take_up-taken.ensures.ino) (more_checked plan ranges given i c.args.key.now.objectid reach _ number own taken so_far)
+    subst (λ (n : ℕ). HasChecked plan ranges (given ++ i ∷ []) i.key.objectid n next) (sym c.take_up-taken.ensures.ino) (more_checked plan ranges given i c.args.key.now.objectid reach next number own taken so_far)
