@@ -1,10 +1,10 @@
-use Rattle.std.proofs.Common.{◌≡◌, ℕ, ◌+◌, ◌≤◌, true, [], ◌∷◌, ◌++◌, Some, None, Contains, sym, ◌∙◌, ap, subst, arith}
+use Rattle.std.proofs.Common.{◌≡◌, ℕ, ◌+◌, true, [], ◌∷◌, ◌++◌, Some, None, Contains, sym, ◌∙◌, ap, subst, arith}
 use Rattle.std.specs.Option.{option_map}
 use Rattle.outside.specs.declared.refusal.BtrRefusal.TheVariants.{BadBtrfs}
 use Rattle.outside.specs.declared.rule.BtrRule.TheVariants.{Body}
 use Rattle.btr_keys.specs.FileExtent.{FileExtentValue, file_extent_of, file_extent_value}
 use Rattle.btr_keys.specs.declared.key.Key.{Key}
-use Rattle.btr_files.specs.Extents.{extent_length, covered_by, extents_of, is_extent_of, refusals_at}
+use Rattle.btr_files.specs.Extents.{extent_length, extents_of, is_extent_of, refusals_at}
 use Rattle.btr_files.specs.declared.extents.Reach.{Reach}
 use Rattle.btr_files.proofs.Adding.{reach_more}
 use Rattle.btr_contents.specs.Checked.{HasChecked}
