@@ -53,3 +53,6 @@ returns-clause-checked g c = λ tells image is right i p there at tree_is.
     let checked = subst (λ (root : ℕ). IsChecked c.in_ok-names.names has items root roots) (ap (λ (t : Tree). t.root.address) tree_is) (c.in_ok-named.ensures.named image right items known) in
     tree_checked image sup ranges i p there at slice c.args.tree same tree_is has c.check_contents.result sound checked.keeps checked.are_named (c.check_contents.ensures.sound tells image later noted)
     (c.check_contents.ensures.refused tells image later noted)
+
+pub returns-clause-kept : goal.returns-clause-kept
+returns-clause-kept g c = g.met.S.BlockSource.kept_trans _ _ _ c.read.ensures.kept c.check_contents.ensures.kept
