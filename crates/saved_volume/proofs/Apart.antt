@@ -1,32 +1,23 @@
 -- What lies in none of some blocks, where none of these is in use.
-use Rattle.std.proofs.Common.{◌≡◌, inl, inr, ℕ, ◌+◌, ◌*◌, ◌/◌, ◌<◌, eqb, nat_lt, Bool, true, false, not, ◌&&◌, List, ◌∷◌, ◌++◌, length, get_or, Contains, Option, Some, None, refl, sym, ◌∙◌, ap, subst, arith, if◌then◌else◌}
+use Rattle.std.proofs.Common.{◌≡◌, ℕ, ◌+◌, ◌*◌, ◌/◌, ◌<◌, eqb, Bool, true, false, List, ◌∷◌, ◌++◌, length, get_or, Contains, Option, Some, None, refl, sym, ◌∙◌, ap, subst, arith, if◌then◌else◌}
 use Rattle.std.specs.Option.{option_and_then}
 use Rattle.std.proofs.lemmas.Bool.{and_parts}
 use Rattle.std.proofs.lemmas.List.{get_or_default}
 use Rattle.outside.specs.History.{Image}
-use Rattle.vol_block.specs.Volume.{is_reserved}
-use Rattle.vol_block.proofs.Reserved.{decides_reserved}
-use Rattle.btr_files.specs.Extents.{extents_of, is_extent_of}
+use Rattle.btr_files.specs.Extents.{is_extent_of}
 use Rattle.btr_keys.specs.FileExtent.{ContentValue, FileExtentValue, Inline, Prealloc, Regular, file_extent_of}
-use Rattle.btr_reader.specs.Image.{ImageFile, file_block, image_place, items_at, saved_image}
-use Rattle.btr_reader.specs.Opening.{chunk_tree, root_tree, tree_of}
+use Rattle.btr_reader.specs.Opening.{tree_of}
 use Rattle.btr_reader.specs.Parts.{own_map, own_super}
 use Rattle.btr_super.specs.declared.superblock.Super.{Super}
 use Rattle.btr_walk.specs.Events.{TreeItem, nodes_in}
 use Rattle.btr_walk.specs.Map.{place}
-use Rattle.btr_walk.specs.Walks.{found, met}
+use Rattle.btr_walk.specs.Walks.{met}
 use Rattle.btr_walk.specs.declared.map.MapRange.{MapRange}
 use Rattle.btr_walk.specs.declared.tree.Pointer.{Pointer}
 use Rattle.btr_walk.specs.declared.tree.Tree.{Tree}
-use Rattle.metadata_laws.specs.Apart.{AreExtentsApart, AreNodesApart, IsApart, IsContentApart, IsVolumeApart, boot_map, root_of, saved_tree}
+use Rattle.metadata_laws.specs.Apart.{AreExtentsApart, AreNodesApart, IsApart, IsContentApart, root_of, saved_tree}
 use Rattle.path_list.proofs.Lists.{from_filter}
-use Rattle.reiser_volume.specs.Volume.{superblock}
-use Rattle.image_source.specs.Laws.{is_spare}
-use Rattle.saved_volume.specs.Saved.{image_blocks}
-use Rattle.saved_volume.specs.Untouched.{IsUntouched}
-use Rattle.image_source.proofs.Placed.{has_block, no_some}
-use Rattle.image_source.proofs.Reaching.{reached}
-use Rattle.saved_volume.specs.Using.{HoldsExtent, HoldsNodeOf, HoldsPartOf, IsInUse, LieIn, chunk_node, content_range, file_part, file_trees, item_range, named_by, numbered, root_node, tree_if}
+use Rattle.saved_volume.specs.Using.{HoldsExtent, HoldsNodeOf, LieIn, content_range, file_trees, item_range, named_by, numbered, tree_if}
 
 -- an element of a list by its place
 at_place : {X : Type 0} (xs : List X) (k : ℕ) (d : X) → k < length xs → Contains xs (get_or xs k d)
