@@ -116,9 +116,11 @@ fn tell_line(
     let mut next = sentence.next;
     match (key, outcome.trouble) {
         ("device fault", Some(trouble)) => {
-            let reason = format!(in alloc; "The reason: {}.", trouble)?;
             let fault = of_fault(cause(&trouble));
-            text.say(reason.as_str(), &[])?;
+            if let Cause::System(_) = trouble.cause {
+                let reason = format!(in alloc; "The reason: {}.", trouble)?;
+                text.say(reason.as_str(), &[])?;
+            }
             text.say(fault.means, &[])?;
             next = fault.next;
         }

@@ -316,7 +316,7 @@ pub fn of_line(line: &str) -> Sentence {
 pub fn of_fault(cause: &str) -> Sentence {
     match cause {
         "open" => Sentence {
-            means: "The path is not there, or may not be opened.",
+            means: "It could not be opened: it is not there, for example, or you may not open it.",
             next: "See whether the path is right ('lsblk'). A device is opened by root alone.",
         },
         "kind" => Sentence {
