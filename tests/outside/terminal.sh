@@ -2,6 +2,9 @@
 
 # ---- a terminal ------------------------------------------------------------------------------------------------------
 
+# what most refusals say between what they mean and what to do
+nothing='Nothing was written. What to do:'
+
 # on_terminal WORDS..: runs the program with its output and its errors on a terminal of its own. The bytes that the terminal was sent are in
 # .out, and in $out the same as one line, with single spaces.
 on_terminal() {
@@ -21,7 +24,6 @@ tells() {
 
 # each refusal but the last one, of a reserved block in use, which Linux does not bring about
 told_refusals() {
-    local nothing='Nothing was written. What to do:'
     truncate -s 1048576 zeros
     tells 'no volume' 1 'refused 1 novolume' "or the device ends before it. $nothing See whether" inspect zeros
     volume good 20000
@@ -94,9 +96,8 @@ told_btrfs_refusals() {
 
 # a conversion without the space, and refusals of going back
 told_ways_back() {
-    makes 8400 7 8212
-    run convert made
-    tells 'too little space' 6 "$err" "There is too little free space. Units of 1 MiB that are needed: $(cut -d ' ' -f 4 <<<"$err")," convert made
+    makes 9216 0 9216
+    tells 'too little space' 6 'refused 15 space 4 3 1 3' 'that are needed: 4, and that are free: 3. Of those' convert made
     makes 12288 7 12288
     run convert made
     local place
@@ -158,7 +159,6 @@ progress() {
 
 terminals() {
     need script bsdutils || { lacks 'what is told on a terminal' script; return; }
-    local nothing='Nothing was written. What to do:'
     told_refusals
     told_lines
     progress

@@ -130,7 +130,8 @@ impl<R: Files<File = File> + AllocGlobal + Clock + Clone + Drop> BlockSource for
         match done {
             Ok(()) => {
                 self.watch.reads();
-                self.watch.look(&self.files, n, self.len());
+                let blocks = self.len();
+                self.watch.look(&self.files, n, blocks);
                 Ok(())
             }
             Err(cause) => Err(self.fail(Call::Read(n), cause)),
@@ -178,7 +179,8 @@ impl<R: Files<File = File> + AllocGlobal + Clock + Clone + Drop> Disk for FileDi
         };
         match done {
             Ok(()) => {
-                self.watch.look(&self.files, n, self.len());
+                let blocks = self.len();
+                self.watch.look(&self.files, n, blocks);
                 Ok(())
             }
             Err(cause) => Err(self.fail(Call::Write(n), cause)),

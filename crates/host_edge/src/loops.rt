@@ -19,7 +19,11 @@ pub fn is_behind_a_loop<R: Files + AllocGlobal + Clone + Drop>(
     }
     for entry in fs::read_dir(files, devices)? {
         let entry = entry?;
-        let path = format!(in files.alloc(); "{}/{}/loop/backing_file", devices, entry.file_name())?;
+        let path = format!(in files.alloc();
+            "{}/{}/loop/backing_file",
+            devices,
+            entry.file_name()
+        )?;
         match fs::read(files, path.as_str()) {
             Ok(line) => {
                 if let Some(file) = file_of(line.as_slice()) {

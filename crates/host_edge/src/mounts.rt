@@ -94,7 +94,11 @@ pub const SWAPS: &str = "/proc/swaps";
 
 /// Whether what stands at a place is mounted, by a table of mounts: by the number of the file system's device, and by the source,
 /// since a file system may have a number that is no device's.
-pub fn is_mounted<R: Files + AllocGlobal>(files: &R, mounts: &str, place: &Place) -> io::Result<bool> {
+pub fn is_mounted<R: Files + AllocGlobal>(
+    files: &R,
+    mounts: &str,
+    place: &Place,
+) -> io::Result<bool> {
     let mounts = table(files, mounts)?;
     for line in mounts.as_slice().split(|byte| *byte == b'\n') {
         if let Some(mount) = Mount::read(line) {

@@ -1,10 +1,9 @@
 use crate::devices::{DeviceNumber, family};
 #[cfg(test)]
 use std::alloc::AllocError;
-use std::fs;
 use std::fs::Files;
-use std::io;
 use std::os::unix::fs::MetadataExt;
+use std::{fs, io};
 
 /// The number of a file, which all its names share: that of its file system, and that of its inode there.
 #[derive(Clone, Copy, PartialEq, Eq)]

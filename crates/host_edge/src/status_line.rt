@@ -17,7 +17,11 @@ impl StatusLine {
     /// The line of standard error, if that is a terminal.
     pub fn new(stream: Stderr) -> StatusLine {
         StatusLine {
-            terminal: if stream.is_terminal() { Some(stream) } else { None },
+            terminal: if stream.is_terminal() {
+                Some(stream)
+            } else {
+                None
+            },
             is_shown: Cell::new(false),
         }
     }

@@ -85,7 +85,10 @@ fn a_file_is_a_disk(rt: HostRuntime) -> Result<(), Fail> {
     let mut second = FileDisk::new(&rt, &line);
     assert!(rt; second.open(path, Access::Write).is_err());
     let trouble = format!(in rt.alloc(); "{}", second.trouble().ok_or("no trouble")?)?;
-    assert_eq!(rt; trouble.as_str(), "opening it: another program has locked it");
+    assert_eq!(rt;
+        trouble.as_str(),
+        "opening it: another program has locked it"
+    );
     folder.remove(&rt)?;
     Ok(())
 }
@@ -101,8 +104,17 @@ fn a_disk_keeps_why_its_last_call_failed(rt: HostRuntime) -> Result<(), Fail> {
     assert!(rt; trouble.call == Call::Open);
     assert!(rt; matches!(&trouble.cause, Cause::System(e) if e.kind() == ErrorKind::NotFound));
     let mut folder_as_disk = FileDisk::new(&rt, &line);
-    assert!(rt; folder_as_disk.open(folder.path(&rt, "")?.as_str(), Access::Read).is_err());
-    assert!(rt; matches!(&folder_as_disk.trouble().ok_or("no trouble")?.cause, Cause::Kind));
+    assert!(rt;
+        folder_as_disk
+            .open(folder.path(&rt, "")?.as_str(), Access::Read)
+            .is_err()
+    );
+    assert!(rt;
+        matches!(
+            &folder_as_disk.trouble().ok_or("no trouble")?.cause,
+            Cause::Kind
+        )
+    );
     // A file that is shorter than it was when it was opened.
     fs::write(&rt, path.as_str(), [7; 8192].as_slice())?;
     let mut short = FileDisk::new(&rt, &line);

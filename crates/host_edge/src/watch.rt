@@ -105,8 +105,7 @@ impl<'a> Watch<'a> {
 
     /// The line, with a speed in MiB in a second and a place of the device in percent. It fits into a line of 80 characters.
     fn text(&self, alloc: Global, speed: u64, place: u64) -> Result<String, AllocError> {
-        format!(
-            in alloc;
+        format!(in alloc;
             "read {} MiB, wrote {} MiB, {} MiB/s, at {}% of the device",
             self.read / BLOCKS_OF_MIB,
             self.written / BLOCKS_OF_MIB,
@@ -132,7 +131,11 @@ fn per_second(blocks: u64, time: u64) -> u64 {
 
 /// The place of a block among so many, in percent.
 fn share(at: BlockNo, of: u64) -> u64 {
-    if of == 0 { 0 } else { at.saturating_mul(100) / of }
+    if of == 0 {
+        0
+    } else {
+        at.saturating_mul(100) / of
+    }
 }
 
 #[cfg(test)]

@@ -16,9 +16,15 @@ fn each_device_of_a_mounted_volume_is_found(rt: HostRuntime) -> Result<(), Fail>
     let mut place = Place::new(&rt, volumes.as_str())?;
     assert!(rt; !is_of_a_volume(&rt, volumes.as_str(), &place)?);
     // the whole disk, whose first partition it is
-    place.add(DeviceNumber { major: 8, minor: 16 })?;
+    place.add(DeviceNumber {
+        major: 8,
+        minor: 16,
+    })?;
     assert!(rt; !is_of_a_volume(&rt, volumes.as_str(), &place)?);
-    place.add(DeviceNumber { major: 8, minor: 17 })?;
+    place.add(DeviceNumber {
+        major: 8,
+        minor: 17,
+    })?;
     assert!(rt; is_of_a_volume(&rt, volumes.as_str(), &place)?);
     assert!(rt; !is_of_a_volume(&rt, "/no such folder", &place)?);
     folder.remove(&rt)?;

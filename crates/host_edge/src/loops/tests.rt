@@ -12,7 +12,9 @@ fn the_path_of_a_loop_device_ends_with_its_line(rt: HostRuntime) {
 }
 
 #[test]
-fn a_file_that_a_loop_device_has_is_found_by_each_of_its_names(rt: HostRuntime) -> Result<(), Fail> {
+fn a_file_that_a_loop_device_has_is_found_by_each_of_its_names(
+    rt: HostRuntime,
+) -> Result<(), Fail> {
     let folder = Folder::new(&rt, "loops")?;
     let disk = folder.file(&rt, "disk", "")?;
     let other = folder.file(&rt, "other", "")?;

@@ -90,8 +90,7 @@ fn what_is_mounted_is_found_by_its_number_and_by_its_source(rt: HostRuntime) -> 
     // a symlink, with a space in its name
     let link = folder.path(&rt, "a link")?;
     std::os::unix::fs::symlink(&rt, disk.as_str(), link.as_str())?;
-    let lines = format!(
-        in rt.alloc();
+    let lines = format!(in rt.alloc();
         "23 29 0:22 / /proc rw - proc proc rw\n40 1 0:35 /@ /data rw shared:3 - btrfs {}/a\\040link rw\n41 1 8:17 / /srv rw - ext4 /no/such/node rw\n",
         folder.path(&rt, "")?.as_str()
     )?;
@@ -99,9 +98,15 @@ fn what_is_mounted_is_found_by_its_number_and_by_its_source(rt: HostRuntime) -> 
     assert!(rt; is_mounted(&rt, mounts.as_str(), &Place::new(&rt, disk.as_str())?)?);
     let mut place = Place::new(&rt, other.as_str())?;
     assert!(rt; !is_mounted(&rt, mounts.as_str(), &place)?);
-    place.add(DeviceNumber { major: 8, minor: 16 })?;
+    place.add(DeviceNumber {
+        major: 8,
+        minor: 16,
+    })?;
     assert!(rt; !is_mounted(&rt, mounts.as_str(), &place)?);
-    place.add(DeviceNumber { major: 8, minor: 17 })?;
+    place.add(DeviceNumber {
+        major: 8,
+        minor: 17,
+    })?;
     assert!(rt; is_mounted(&rt, mounts.as_str(), &place)?);
     assert!(rt; !is_mounted(&rt, "/no such table", &place)?);
     folder.remove(&rt)?;
