@@ -18,7 +18,7 @@ tells() {
     local name=$1 want=$2 line=$3 text=$4
     shift 4
     on_terminal "$@"
-    same "$name, on a terminal" "$want|$line|yes" "$status|$(head -1 "$work/.out" | tr -d '\r')|$([[ $out == *"$text"* ]] && echo yes || echo "$out")"
+    same "$name, on a terminal" "$want|$line|yes" "$status|$(head -1 "$work/.out" | sed 's/.*\x1b\[K//' | tr -d '\r')|$([[ $out == *"$text"* ]] && echo yes || echo "$out")"
     ends "$name, without a terminal" "$want" "$line" "$@"
 }
 
@@ -180,8 +180,8 @@ in_use() {
     same "$1 is opened for reading" 0 "$status"
 }
 
-# free NAME PATH: what stands there is opened for writing
-free() {
+# not_in_use NAME PATH: what stands there is opened for writing
+not_in_use() {
     run recover "$2"
     same "$1 is opened for writing" '0|volume is btrfs' "$status|$(head -1 "$work/.out")"
 }
@@ -195,26 +195,26 @@ devices_in_use() {
     rm -f plain
     truncate -s 128M plain
     mkfs.btrfs -q -f -m single -d single plain >/dev/null 2>&1
-    free 'a file without a loop device' plain
+    not_in_use 'a file without a loop device' plain
     device=$(losetup --find --show plain)
     ln -sf plain symlink
     ln -f plain 'hard link'
     in_use 'the file of a loop device' plain
     in_use 'the file of a loop device by a symlink' symlink
     in_use 'the file of a loop device by another name' 'hard link'
-    free 'a loop device' "$device"
+    not_in_use 'a loop device' "$device"
     number=$(cat "/sys/class/block/$(basename "$device")/dev")
     mknod node b "${number%:*}" "${number#*:}"
-    free 'a loop device by another node' node
+    not_in_use 'a loop device by another node' node
     mkdir -p mounted
     mount -t btrfs "$device" mounted
     in_use 'a mounted device' "$device"
     in_use 'a mounted device by another node' node
     umount mounted
-    free 'a device that was unmounted' node
+    not_in_use 'a device that was unmounted' node
     mounted_elsewhere "$device"
     losetup --detach "$device"
-    free 'a file whose loop device was detached' plain
+    not_in_use 'a file whose loop device was detached' plain
     mounted_partition
 }
 
@@ -252,7 +252,7 @@ mounted_partition() {
     in_use 'a mounted partition' part
     ends 'the disk of a mounted partition is not opened for writing' 3 'device fault' recover "$disk"
     umount mounted
-    free 'a partition that was unmounted' part
+    not_in_use 'a partition that was unmounted' part
     partx -d "$disk"
     losetup --detach "$disk"
 }
