@@ -487,6 +487,8 @@ samples() {
 
 # shellcheck source=tests/outside/users.sh
 . "$top/tests/outside/users.sh"
+# shellcheck source=tests/outside/terminal.sh
+. "$top/tests/outside/terminal.sh"
 
 # ---- all -------------------------------------------------------------------------------------------------------------
 
@@ -510,6 +512,8 @@ if need mkfs.reiserfs reiserfsprogs && need debugreiserfs reiserfsprogs; then
     linux_volumes
     damaged_trees
     loop_device
+    devices_in_use
+    terminals
     maker_statuses
     samples
     rare_volumes
