@@ -77,6 +77,10 @@ flags_are : (s : Source) (key : ObjectKey) → (inode_in s key).flags ≡ inode_
 unfolding inode_in
 flags_are s key = refl
 
+-- the lowest flag is that of data without checksums
+pub flag_bit : (s : Source) (key : ObjectKey) → (inode_in s key).flags % 2 ≡ if_set (is_file (kind_in s key) && not s.datasum) 1
+flag_bit s key = ap (λ (n : ℕ). n % 2) (flags_are s key) ∙ low_bit s.datasum s.flags (stat_in s key) (kind_in s key)
+
 -- data of files has checksums just where the option asks for them
 pub file_sums : (s : Source) (key : ObjectKey) → s.datasum ≡ true → has_no_sums (inode_in s key) ≡ false
 file_sums s key on =

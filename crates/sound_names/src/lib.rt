@@ -1,0 +1,6 @@
+//! dev
+#![tactic(auto)]
+
+mod laws;
+
+pub use laws::dev_lists;
