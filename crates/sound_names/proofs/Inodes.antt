@@ -30,9 +30,6 @@ use Rattle.file_items.specs.Tree.{Source, bytes_by, content_items, extent_items,
 use Rattle.file_items.specs.Inodes.{if_set}
 use Rattle.file_laws.specs.Held.{FilesAreHeld}
 use Rattle.file_laws.specs.Inodes.{InodesAreThere}
-use Rattle.file_laws.proofs.FileBlocks.{starts_none}
-use Rattle.file_laws.proofs.Keys.{rest_part}
-use Rattle.file_laws.proofs.Rising.{IsOf}
 use Rattle.file_laws.proofs.Short.{sum_links, sum_mapped}
 use Rattle.fs_rows.proofs.Functions.{length_bytes}
 use Rattle.fs_rows.specs.Kinds.{has_bytes, is_directory, is_file}
@@ -59,13 +56,13 @@ use Rattle.sound_parts.proofs.Flags.{flag_bit, inode_reads}
 use Rattle.sound_names.proofs.Assembling.{Tells, count_is, flat_one, size_is}
 use Rattle.sound_names.proofs.Lists.{kept_all, kept_flat, kept_none}
 use Rattle.sound_names.proofs.Names.{climbs, from_order, in_order, names_by_links, objects, tells_tree, to_back}
-use Rattle.sound_names.proofs.Objects.{indexes, listed, names, s}
+use Rattle.sound_names.proofs.Objects.{indexes, listed, names, rest_behind, s}
 use Rattle.sound_names.proofs.Telling.{index_by}
 
 some_same : {A : Type 0} (a b : A) → Some a ≡ Some b → a ≡ b
 some_same a b e = cc
 
-sum_on : {A : Type 0} (v w : A → ℕ) (xs : List A) → ((x : A) → Contains xs x → v x ≡ w x) → sum_by v xs ≡ sum_by w xs
+pub sum_on : {A : Type 0} (v w : A → ℕ) (xs : List A) → ((x : A) → Contains xs x → v x ≡ w x) → sum_by v xs ≡ sum_by w xs
 sum_on v w [] same = refl
 sum_on v w (x ∷ xs) same =
     let here = same x (at_head x xs) in
@@ -368,15 +365,14 @@ module _ (image : Image) (m : Making) (made : IsMaking image m) where
       pub number : number_of src key ≡ ino
       pub body_is : inode_bytes (inode_in src key) ≡ body
 
-    of_items : (key : ObjectKey) (ino : ℕ) (body : List ℕ) → Contains (object_items src key) (make_key ino 1 0, body) → (number_of src key ≡ ino) × (inode_bytes (inode_in src key) ≡ body)
+    of_items : (key : ObjectKey) (ino : ℕ) (body : List ℕ) → Contains all key → Contains (object_items src key) (make_key ino 1 0, body) → (number_of src key ≡ ino) × (inode_bytes (inode_in src key) ≡ body)
     unfolding object_items
-    of_items key ino body h =
-        let distinct = starts_none image of.found m.options m.plan of.plan_ m.pieces of.placed in
+    of_items key ino body among h =
         let rest : List Item = name_items src key ++ content_items src key (kind_in src key) in
         ⊎_elim
         (λ (is : inode_item (number_of src key) (inode_in src key) ≡ (make_key ino 1 0, body)). (ap (λ (i : Item). i.0.objectid) is, ap (λ (i : Item). i.1) is))
         (λ (later : Contains rest (make_key ino 1 0, body)).
-        let low : 12 ≤ 1 = (all_in (IsOf (number_of src key) 12 108) rest (make_key ino 1 0, body) (rest_part src distinct key).each later).low in
+        let low : 12 ≤ 1 = all_in (λ (i : Item). 12 ≤ i.0.kind) rest (make_key ino 1 0, body) (rest_behind image m made key among) later in
         absurd (omega (arith, low)))
         (head_or_tail (inode_item (number_of src key) (inode_in src key)) rest (make_key ino 1 0, body) h)
 
@@ -384,8 +380,9 @@ module _ (image : Image) (m : Making) (made : IsMaking image m) where
     unfolding tree_items
     of_object ino body h =
         let at = from_flat_map (object_items src) order (make_key ino 1 0, body) h in
-        let is = of_items at.0 ino body at.2 in
-        record { key = at.0; among = from_order image m made at.0 at.1; number = is.0; body_is = is.1 }
+        let among = from_order image m made at.0 at.1 in
+        let is = of_items at.0 ino body among at.2 in
+        record { key = at.0; among = among; number = is.0; body_is = is.1 }
 
     pub inodes_told : FilesAreHeld → InodesAreThere → HasBytes image → (ino : ℕ) (body : List ℕ) (inode : Inode) → Contains (tree_items src) (record { objectid = ino; kind = 1; offset = 0 }, body) → inode_of body ≡ Some inode → IsInode tree ino inode
     inodes_told held there bytes ino body inode h read =

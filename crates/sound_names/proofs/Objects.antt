@@ -4,13 +4,15 @@ use Rattle.std.specs.List.{AllByRecursion}
 use Rattle.std.specs.List.Sorted.{IsPermutation}
 use Rattle.std.proofs.lemmas.List.{append-nil, map-append}
 use Rattle.std.proofs.lemmas.List.Sorted.{Contains-permutation, IsPermutation-append, IsPermutation-filter_both, IsPermutation-map, IsPermutation-refl, IsPermutation-sym, IsPermutation-trans}
-use Rattle.std.proofs.lemmas.List.Sums.{sum_by-cons}
+use Rattle.std.proofs.lemmas.List.Sums.{count_by-le-length}
 use Rattle.castagnoli.specs.Castagnoli.{extref_hash, name_hash}
 use Rattle.indexmap.specs.IndexMap.{keys}
 use Rattle.outside.specs.History.{Image}
-use Rattle.btr_keys.specs.Extref.{extref_head}
+use Rattle.btr_keys.specs.DirEntry.{dir_entry_bytes}
+use Rattle.btr_keys.specs.Extref.{extref_bytes, extref_head}
 use Rattle.btr_keys.specs.FileExtent.{file_extent_bytes, file_extent_of}
-use Rattle.btr_keys.specs.InodeRef.{InodeRefValue, inode_ref_head}
+use Rattle.btr_keys.specs.InodeRef.{InodeRefValue, inode_ref_bytes, inode_ref_head}
+use Rattle.btr_keys.specs.Key.{make_key}
 use Rattle.btr_node.specs.Leaf.{Item}
 use Rattle.btr_sound.specs.Names.{BackName, Entry, IndexEntry, own_name}
 use Rattle.byte_laws.proofs.Holding.{StaysInTree, stays}
@@ -19,12 +21,11 @@ use Rattle.byte_laws.proofs.Reading.{inline_read, regular_read}
 use Rattle.conversion.specs.Making.{IsMaking, Making}
 use Rattle.conversion.specs.Source.{HasPieces, made_from}
 use Rattle.file_items.specs.Extents.{extents_at, file_block, pieces_of}
-use Rattle.file_items.specs.Names.{Entry as Link, Indexed, entries, entries_behind, entry_behind, extref, extrefs, indexed, indexed_in, inode_ref, inode_refs, names_in, names_of, next_index, parent_of, saved_entry}
+use Rattle.file_items.specs.Names.{Entry as Link, Indexed, entries, entries_behind, entry_behind, extref, extrefs, indexed, indexed_in, inode_ref, inode_refs, names_in, names_of, next_index, parent_of, root_ref, saved_entry}
 use Rattle.file_items.specs.Tree.{Source, content_items, extent_items, inline_in, inode_in, kind_in, name_items, number_of, object_items, size_in}
 use Rattle.file_items.proofs.Named.{name_items_other, name_items_root}
-use Rattle.file_laws.proofs.Entries.{entry_fits, inode_low, saved_fits}
 use Rattle.file_laws.proofs.Keys.{root_first}
-use Rattle.file_laws.proofs.Rising.{all_append, all_mapped}
+use Rattle.file_laws.proofs.Rising.{all_append, all_mapped, all_true}
 use Rattle.fs_rows.proofs.Functions.{length_bytes}
 use Rattle.fs_rows.specs.declared.row.Kind.{Kind}
 use Rattle.fs_rows.specs.declared.row.Kind.TheVariants.{Directory, File, Symlink, Character, Block, Fifo, Socket, Subvolume}
@@ -45,19 +46,13 @@ use Rattle.row_laws.proofs.Linking.{is_link}
 use Rattle.row_laws.proofs.Lists.{all_from}
 use Rattle.unit_plan.specs.declared.piece.Piece.{Piece}
 use Rattle.sound_laws.proofs.Uses.{piece_small}
+use Rattle.sound_parts.proofs.Numbers.{inode_low}
 use Rattle.sound_names.proofs.Assembling.{Tells, entry_part, tells_of}
+use Rattle.sound_names.proofs.Fits.{entry_fits, saved_fits}
 use Rattle.sound_names.proofs.Lists.{grouped_all, mapped_flat, same_elements}
 use Rattle.sound_names.proofs.Telling.{FitsEntry, FitsFar, FitsRef, Told, entry_by, far_name, index_by, mapped_twice, ref_name, told_append, told_entries, told_extent, told_fars, told_inode, told_none, told_ref, told_refs}
 
 -- ---- indexes are low
-
-count_low : {X : Type 0} (p : X → Bool) (xs : List X) → count_by p xs ≤ length xs
-count_low p [] = omega arith
-count_low {X} p (x ∷ xs) = by (p x) (count_low p xs) (sum_by-cons (λ (y : X). cond (p y) 1 0) x xs)
-  where
-    by : (b : Bool) → count_by p xs ≤ length xs → count_by p (x ∷ xs) ≡ cond b 1 0 + count_by p xs → count_by p (x ∷ xs) ≤ length (x ∷ xs)
-    by true later is = omega (arith, later, is)
-    by false later is = omega (arith, later, is)
 
 index_low : (before ls : List Naming) (e : Link) → Contains (entries_behind before ls) e → e.index ≤ 2 + length (before ++ ls)
 index_low before [] e h = absurd (omega (arith, h.1))
@@ -65,7 +60,7 @@ index_low before (n ∷ ls) e h =
     ⊎_elim
     (λ (is : entry_behind before n ≡ e).
     let own : 2 + count_by (λ (m : Naming). same_key m.dir n.dir) before ≡ e.index = ap (λ (f : Link). f.index) is in
-    let low = count_low (λ (m : Naming). same_key m.dir n.dir) before in
+    let low = count_by-le-length (λ (m : Naming). same_key m.dir n.dir) before in
     let long = length-append before (n ∷ ls) in
     omega (arith, own, low, long))
     (λ (later : Contains (entries_behind (before ++ n ∷ []) ls) e).
@@ -87,10 +82,10 @@ twice true = refl
 twice false = refl
 
 -- the root directory's name of itself
-abbrev own_ref : InodeRefValue
+abbrev pub own_ref : InodeRefValue
 own_ref = record { index = 0; name = 46 ∷ 46 ∷ [] }
 
-own_fits : inode_ref_head.fits own_ref
+pub own_fits : inode_ref_head.fits own_ref
 unfolding inode_ref_head
 own_fits = ((tt, omega arith), omega arith)
 
@@ -256,6 +251,52 @@ module _ (image : Image) (m : Making) (made : IsMaking image m) where
           told = subst (λ (l : List Item). Told l [] [] refs fars) (sym (name_items_other s key s.keys s.links is refl refl)) both;
           same = IsPermutation-trans (map (back key) own) (map (back key) plain ++ map (back key) late) (refs ++ fars) mapped (IsPermutation-append (map (back key) plain) refs (map (back key) late) fars (groups_give (parent_of s.keys) (back key) plain) lates);
         }
+
+    -- ---- kinds
+
+    -- an item is behind that of an inode
+    abbrev pub IsBehind : Item → Type 0
+    IsBehind i = 12 ≤ i.0.kind
+
+    data_behind : AllByRecursion IsBehind (extent_items s key)
+    unfolding extent_items
+    data_behind = by (inline_in s key)
+      where
+        by : (b : Bool) → AllByRecursion IsBehind (if b then extent_item (number_of s key) 0 (inline_extent (target_bytes (items_of key s.items) (size_in s key))) ∷ [] else extents_at (number_of s key) file_block (pieces_of s.pieces (number_of s key)))
+        by true = (omega arith, tt)
+        by false = all_mapped IsBehind (λ (p : Piece). extent_item (number_of s key) (file_block p) (regular_extent p.place p.count)) (pieces_of s.pieces (number_of s key)) (all_true _ (pieces_of s.pieces (number_of s key)) (λ p. omega arith))
+
+    content_behind : (kind : Kind) → AllByRecursion IsBehind (content_items s key kind)
+    content_behind Directory =
+        let list : List Indexed = indexed_in (kind_in s) s.keys s.links key in
+        let groups : List (ℕ × List Indexed) = grouped (λ (e : Indexed). name_hash e.1.name) list in
+        all_append IsBehind (map (λ (g : ℕ × List Indexed). (make_key n 84 g.0, flat_map (λ (e : Indexed). dir_entry_bytes e.1) g.1)) groups) (map (λ (e : Indexed). (make_key n 96 e.0, dir_entry_bytes e.1)) list)
+        (all_mapped IsBehind (λ (g : ℕ × List Indexed). (make_key n 84 g.0, flat_map (λ (e : Indexed). dir_entry_bytes e.1) g.1)) groups (all_true _ groups (λ g. omega arith)))
+        (all_mapped IsBehind (λ (e : Indexed). (make_key n 96 e.0, dir_entry_bytes e.1)) list (all_true _ list (λ e. omega arith)))
+    content_behind File = data_behind
+    content_behind Symlink = data_behind
+    content_behind Character = tt
+    content_behind Block = tt
+    content_behind Fifo = tt
+    content_behind Socket = tt
+    content_behind Subvolume = tt
+
+    names_behind : AllByRecursion IsBehind (name_items s key)
+    unfolding name_items
+    names_behind = by (same_key key root)
+      where
+        by : (b : Bool) → AllByRecursion IsBehind (if b then root_ref ∷ [] else inode_refs s.keys s.links key ++ extrefs s.keys s.links key)
+        by true = (omega arith, tt)
+        by false =
+            let plain : List Link = filter (λ e. not e.extended) (names_of s.links key) in
+            let far : List Link = ascending (parent_of s.keys) (filter (λ e. e.extended) (names_of s.links key)) in
+            let hash : Link → ℕ = λ e. extref_hash (parent_of s.keys e) e.link.name in
+            all_append IsBehind (inode_refs s.keys s.links key) (extrefs s.keys s.links key)
+            (all_mapped IsBehind (λ (g : ℕ × List Link). (make_key (number_of s key) 12 g.0, flat_map (λ e. inode_ref_bytes (inode_ref e)) g.1)) (grouped (parent_of s.keys) plain) (all_true _ (grouped (parent_of s.keys) plain) (λ g. omega arith)))
+            (all_mapped IsBehind (λ (g : ℕ × List Link). (make_key (number_of s key) 13 g.0, flat_map (λ e. extref_bytes (extref s.keys e)) g.1)) (grouped hash far) (all_true _ (grouped hash far) (λ g. omega arith)))
+
+    pub rest_behind : AllByRecursion IsBehind (name_items s key ++ content_items s key (kind_in s key))
+    rest_behind = all_append IsBehind (name_items s key) (content_items s key (kind_in s key)) names_behind (content_behind (kind_in s key))
 
     -- ---- the whole object
 

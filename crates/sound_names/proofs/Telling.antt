@@ -369,8 +369,12 @@ module _ (n : ℕ) where
   index_list [] all = told_none
   index_list (e ∷ list) all = told_append (index_item e ∷ []) (map index_item list) [] [] (index_by e ∷ []) (map index_by list) [] [] [] [] (one_index e all.0) (index_list list all.1)
 
-  pub told_entries : (list : List Indexed) → AllByRecursion FitsEntry list → Told (entry_items n list) (flat_map (λ g. map entry_by g.1) (grouped hash_by list)) (map index_by list) [] []
+  -- the entries in the order of their hashes
+  abbrev pub hash_entries : List Indexed → List Entry
+  hash_entries list = flat_map (λ g. map entry_by g.1) (grouped hash_by list)
+
+  pub told_entries : (list : List Indexed) → AllByRecursion FitsEntry list → Told (entry_items n list) (hash_entries list) (map index_by list) [] []
   told_entries list all =
-      let hashed : List Entry = flat_map (λ g. map entry_by g.1) (grouped hash_by list) in
+      let hashed : List Entry = hash_entries list in
       subst (λ (h : List Entry). Told (entry_items n list) h (map index_by list) [] []) (append-nil hashed)
       (told_append (map hash_group (grouped hash_by list)) (map index_item list) hashed [] [] (map index_by list) [] [] [] [] (hash_groups (grouped hash_by list) (groups_are hash_by FitsEntry list all)) (index_list list all))

@@ -152,7 +152,7 @@ image_inode_there blocks pieces datasum now =
     Contains-append_left (root_items now image_entries ++ (own ∷ rest)) (extents_at 257 source_block (pieces_of_volume pieces)) own
     (Contains-append_right (root_items now image_entries) (own ∷ rest) own (contains_head own rest))
 
-stamp_fits : (now : ℕ) → now < 2 ^ 63 → stamp_layout.fits (stamp_of now)
+pub stamp_fits : (now : ℕ) → now < 2 ^ 63 → stamp_layout.fits (stamp_of now)
 unfolding stamp_layout
 stamp_fits now low = ((tt, fits_signed_from_abs w64 (pos now) (omega (arith, low))), omega arith)
 

@@ -65,34 +65,10 @@ use Rattle.sound_parts.proofs.DataItems.{one_ref, two_refs}
 use Rattle.sound_parts.proofs.Distinct.{AreDistinct}
 use Rattle.sound_parts.proofs.InMerged.{in_first, in_second}
 use Rattle.sound_parts.proofs.Keyed.{uses_distinct}
+use Rattle.sound_parts.proofs.Numbers.{inode_low, kinds_apart}
 use Rattle.sound_parts.proofs.Told.{IsMet, IsTold, all_met, all_told}
 
--- ---- keys of different kinds
-
-then_first : (o p : Ordering) → ordering_then o p ≡ Equal → o ≡ Equal
-then_first Less p e = e
-then_first Equal p e = refl
-then_first Greater p e = e
-
-then_second : (o p : Ordering) → ordering_then o p ≡ Equal → p ≡ Equal
-then_second Less p e = absurd (cc e)
-then_second Equal p e = e
-then_second Greater p e = absurd (cc e)
-
-kinds_apart : (a b : Key) → a.kind ≢ b.kind → key_cmp a b ≡ Equal → ⊥
-kinds_apart a b apart e =
-    let later : Ordering = nat_cmp a.offset b.offset in
-    differ a.kind b.kind apart (then_first (nat_cmp a.kind b.kind) later (then_second (nat_cmp a.objectid b.objectid) (ordering_then (nat_cmp a.kind b.kind) later) e))
-
 -- ---- the items of the extent tree
-
--- numbers of inodes fit
-inode_low : (all : List ObjectKey) (key : ObjectKey) → length all ≤ 2 ^ 37 → inode_of all key < 2 ^ 64
-inode_low all key few = by (same_key key root)
-  where
-    by : (b : Bool) → (if b then 256 else 257 + count_by (λ k. is_lt (object_cmp k key) && not (same_key k root)) all) < 2 ^ 64
-    by true = omega arith
-    by false = let low = count_by-le-length (λ (k : ObjectKey). is_lt (object_cmp k key) && not (same_key k root)) all in omega (arith, low, few)
 
 -- a use of a piece: by the file that owns it, or by the saved image
 data IsUseOf (p : Piece) (u : DataUse) : Type 0 where
