@@ -1,11 +1,11 @@
 -- A tree has its names where its items tell the same ones in each way.
-use Rattle.std.proofs.Common.{◌≡◌, ◌≢◌, ◌<◌, ℕ, ◌*◌, ◌==◌, Bool, true, false, cond, List, [], ◌∷◌, ◌++◌, map, filter, flat_map, Contains, sum_by, count_by, length, Some, refl, sym, ap, ap₂, subst, ◌∙◌, ⊎_elim, arith}
+use Rattle.std.proofs.Common.{◌≡◌, ◌≢◌, ◌<◌, ℕ, ◌*◌, ◌==◌, true, false, cond, List, [], ◌∷◌, ◌++◌, map, filter, flat_map, Contains, sum_by, count_by, length, Some, refl, sym, ap, ap₂, subst, ◌∙◌, ⊎_elim, arith}
 use Rattle.std.specs.Prelude.{All}
 use Rattle.std.specs.List.{AllByRecursion}
 use Rattle.std.specs.List.Sorted.{IsPermutation}
 use Rattle.std.proofs.lemmas.Bool.{eqb-true}
 use Rattle.std.proofs.lemmas.List.{append-nil, map-append}
-use Rattle.std.proofs.lemmas.List.Sorted.{IsPermutation-append, IsPermutation-refl, IsPermutation-sym, IsPermutation-trans, sum_by-IsPermutation}
+use Rattle.std.proofs.lemmas.List.Sorted.{IsPermutation-append, IsPermutation-refl, IsPermutation-trans, sum_by-IsPermutation}
 use Rattle.path_list.proofs.Lists.{at_head, from_filter, head_or_tail, in_tail}
 use Rattle.btr_keys.specs.Inode.{inode_of}
 use Rattle.btr_keys.specs.declared.inode.Inode.{Inode}
@@ -15,7 +15,7 @@ use Rattle.btr_sound.specs.Recount.{TreeOn}
 use Rattle.file_laws.proofs.Rising.{Climb, all_append}
 use Rattle.reiser_bitmap.proofs.Ranges.{all_from_contains}
 use Rattle.row_laws.proofs.Lists.{all_in}
-use Rattle.sound_names.proofs.Lists.{flat_append, flat_kept, middle_swap, same_elements}
+use Rattle.sound_names.proofs.Lists.{flat_append, flat_kept, middle_swap}
 use Rattle.sound_names.proofs.Telling.{IsOnForm, Told, far_of, hashed_of, if_kind, indexed_of, ref_of}
 
 abbrev pub entry_part : IndexEntry → Entry

@@ -1,12 +1,12 @@
 -- What the entries of the file tree lead to is there, and so is what the root tree tells of the saved image's tree.
-use Rattle.std.proofs.Common.{◌≡◌, ◌≤◌, ◌<◌, ℕ, ◌+◌, ◌^◌, ◌==◌, Bool, true, false, List, [], ◌∷◌, ◌++◌, map, flat_map, Contains, Some, refl, sym, ap, subst, ◌∙◌, ⊎_elim, if◌then◌else◌, true≢false, arith}
+use Rattle.std.proofs.Common.{◌≡◌, ◌<◌, ℕ, ◌^◌, Bool, true, false, List, [], ◌∷◌, map, flat_map, Contains, Some, refl, sym, ap, subst, ◌∙◌, ⊎_elim, if◌then◌else◌, true≢false, arith}
 use Rattle.std.proofs.lemmas.List.Elements.{Contains-append_cases}
 use Rattle.indexmap.specs.IndexMap.{keys}
 use Rattle.outside.specs.History.{Image}
 use Rattle.btr_keys.specs.Inode.{inode_bytes}
 use Rattle.btr_keys.specs.Key.{make_key}
 use Rattle.btr_node.specs.Leaf.{Item}
-use Rattle.btr_sound.specs.Names.{AreNames, BackName, IndexEntry, IsThere, IsTreeEntry, names_inode}
+use Rattle.btr_sound.specs.Names.{AreNames, IndexEntry, IsThere, IsTreeEntry, names_inode}
 use Rattle.btr_space_items.specs.RootRef.{RootRefValue, root_ref_head, root_ref_of}
 use Rattle.btr_space_items.proofs.Records.{root_refs_read_back}
 use Rattle.btr_walk.specs.declared.tree.Pointer.{Pointer}

@@ -1,18 +1,18 @@
 -- What the inodes of the file tree tell is so.
 use Rattle.std.proofs.Common.{◌≡◌, ◌≢◌, ◌≤◌, ◌<◌, ℕ, ◌+◌, ◌*◌, ◌^◌, ◌==◌, ◌&&◌, Bool, true, false, not, cond, List, [], ◌∷◌, ◌++◌, length, map, filter, flat_map, count_by, sum_by, Contains, Option, Some, refl, sym, ap, subst, ◌∙◌, ⊎_elim, if◌then◌else◌, true≢false, arith}
 use Rattle.std.specs.List.{AllByRecursion}
-use Rattle.std.proofs.lemmas.Bool.{and_parts, cases_eq, eq-eqb, eqb-true, ne_eqb}
+use Rattle.std.proofs.lemmas.Bool.{and_parts, eq-eqb, eqb-true, ne_eqb}
 use Rattle.std.proofs.lemmas.List.Sorted.{sum_by-IsPermutation}
 use Rattle.std.proofs.lemmas.List.Sums.{sum_by-cons}
 use Rattle.indexmap.specs.IndexMap.{keys}
 use Rattle.outside.specs.History.{Image}
-use Rattle.btr_keys.specs.FileExtent.{file_extent_bytes, file_extent_of}
+use Rattle.btr_keys.specs.FileExtent.{file_extent_of}
 use Rattle.btr_keys.specs.Inode.{inode_bytes, inode_of}
 use Rattle.btr_keys.specs.Key.{make_key}
 use Rattle.btr_keys.specs.declared.inode.Inode.{Inode}
 use Rattle.btr_names.specs.Inodes.{kind_of_mode}
 use Rattle.btr_node.specs.Leaf.{Item}
-use Rattle.btr_sound.specs.Names.{BackName, IndexEntry, IsInode, directory_size, has_no_sums, inode_nbytes, is_of_inode, name_count, nbytes_of, of_kind, own_name}
+use Rattle.btr_sound.specs.Names.{BackName, IndexEntry, IsInode, directory_size, has_no_sums, inode_nbytes, is_of_inode, name_count, nbytes_of, own_name}
 use Rattle.btr_sound.specs.Recount.{TreeOn}
 use Rattle.btr_walk.specs.declared.tree.Pointer.{Pointer}
 use Rattle.byte_laws.proofs.Holding.{StaysInTree, stays}
@@ -21,11 +21,11 @@ use Rattle.byte_laws.proofs.Pieces.{all_of_inode}
 use Rattle.byte_laws.proofs.Reading.{inline_read, is_extent, regular_read}
 use Rattle.byte_laws.proofs.Sound.{owner_is}
 use Rattle.conversion.specs.Making.{IsMaking, Making}
-use Rattle.conversion.specs.Source.{HasExtents, HasPieces, made_from}
+use Rattle.conversion.specs.Source.{HasPieces}
 use Rattle.extent_pieces.specs.Laws.{AreSortedKeys}
 use Rattle.extent_pieces.proofs.Named.{numbered}
 use Rattle.file_items.specs.Extents.{extents_at, file_block, is_owned_by, piece_bytes, pieces_of}
-use Rattle.file_items.specs.Names.{Entry as Link, Indexed, entries, indexed_in, letters}
+use Rattle.file_items.specs.Names.{Indexed, entries, indexed_in}
 use Rattle.file_items.specs.Tree.{Source, bytes_by, content_items, extent_items, inline_in, inode_in, kind_in, link_count, name_items, number_of, object_items, size_by, size_in, stat_in, tree_items}
 use Rattle.file_items.specs.Inodes.{if_set}
 use Rattle.file_laws.specs.Held.{FilesAreHeld}
@@ -37,7 +37,7 @@ use Rattle.fs_rows.specs.declared.row.Kind.{Kind}
 use Rattle.fs_rows.specs.declared.row.Kind.TheVariants.{Directory, File, Symlink, Character, Block, Fifo, Socket, Subvolume}
 use Rattle.item_list.specs.Extents.{extent_item, inline_extent, regular_extent}
 use Rattle.item_list.specs.Inodes.{inode_item}
-use Rattle.path_list.proofs.Lists.{at_head, from_flat_map, from_map, head_or_tail, in_tail, in_filter, from_filter}
+use Rattle.path_list.proofs.Lists.{at_head, from_flat_map, from_map, head_or_tail, in_tail, from_filter}
 use Rattle.reiser_files.specs.Bytes.{file_byte, target_bytes}
 use Rattle.reiser_objects.specs.Keys.{items_of, root, same_key}
 use Rattle.reiser_objects.specs.Names.{IsNamed}

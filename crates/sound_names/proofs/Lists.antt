@@ -1,11 +1,10 @@
 -- Lists with the same elements, made of others by parts.
-use Rattle.std.proofs.Common.{◌≡◌, ℕ, ◌==◌, Bool, true, false, cond, not, List, [], ◌∷◌, ◌++◌, append_assoc, map, filter, flat_map, Contains, ⊎_elim, refl, sym, ap, subst, ◌∙◌, true≢false, nat_lt, if◌then◌else◌, arith}
-use Rattle.std.specs.List.{AllByRecursion}
+use Rattle.std.proofs.Common.{◌≡◌, ℕ, ◌==◌, Bool, true, false, cond, List, [], ◌∷◌, ◌++◌, append_assoc, map, filter, flat_map, Contains, ⊎_elim, refl, sym, ap, subst, ◌∙◌, true≢false, nat_lt, if◌then◌else◌, arith}
 use Rattle.std.specs.List.Sorted.{IsPermutation}
-use Rattle.std.proofs.lemmas.List.{append-nil, map-append}
+use Rattle.std.proofs.lemmas.List.{map-append}
 use Rattle.std.proofs.lemmas.List.Elements.{filter-append}
-use Rattle.std.proofs.lemmas.List.Sorted.{IsPermutation-append, IsPermutation-append_comm, IsPermutation-append_left, IsPermutation-append_right, IsPermutation-cons, IsPermutation-map, IsPermutation-middle, IsPermutation-refl, IsPermutation-sym, IsPermutation-trans}
-use Rattle.item_list.specs.Groups.{ascending, grouped, in_group}
+use Rattle.std.proofs.lemmas.List.Sorted.{IsPermutation-append, IsPermutation-append_comm, IsPermutation-append_left, IsPermutation-append_right, IsPermutation-cons, IsPermutation-middle, IsPermutation-refl, IsPermutation-trans}
+use Rattle.item_list.specs.Groups.{grouped, in_group}
 use Rattle.path_list.proofs.Lists.{at_head, head_or_tail, in_tail}
 
 pub same_elements : {X : Type 0} (xs ys : List X) → xs ≡ ys → IsPermutation xs ys

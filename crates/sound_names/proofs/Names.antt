@@ -1,16 +1,13 @@
 -- The names that directories of the file tree tell are those that inodes tell.
-use Rattle.std.proofs.Common.{◌≡◌, ◌≢◌, ◌<◌, ℕ, ◌+◌, ◌==◌, Bool, true, false, not, List, [], ◌∷◌, ◌++◌, map, filter, flat_map, Contains, refl, sym, ap, subst, ◌∙◌, ⊎_elim, if◌then◌else◌, arith}
-use Rattle.std.specs.List.{AllByRecursion}
+use Rattle.std.proofs.Common.{◌≡◌, ◌<◌, ℕ, ◌+◌, Bool, true, false, not, List, [], ◌∷◌, ◌++◌, map, filter, flat_map, Contains, refl, sym, ap, subst, ◌∙◌, ⊎_elim, if◌then◌else◌, arith}
 use Rattle.std.specs.List.Sorted.{IsPermutation}
 use Rattle.std.proofs.lemmas.Bool.{cases_Bool, not_from_false}
-use Rattle.std.proofs.lemmas.List.{append-nil, map-append}
-use Rattle.std.proofs.lemmas.List.Elements.{Contains-append_cases, filter-append}
+use Rattle.std.proofs.lemmas.List.{append-nil}
+use Rattle.std.proofs.lemmas.List.Elements.{filter-append}
 use Rattle.std.proofs.lemmas.List.Sorted.{IsPermutation-cons, IsPermutation-map, IsPermutation-sym, IsPermutation-trans}
 use Rattle.indexmap.specs.IndexMap.{keys}
 use Rattle.outside.specs.History.{Image}
-use Rattle.btr_keys.specs.Key.{make_key}
-use Rattle.btr_node.specs.Leaf.{Item}
-use Rattle.btr_sound.specs.Names.{BackName, IndexEntry, back_name, names_inode, own_name}
+use Rattle.btr_sound.specs.Names.{BackName, back_name, names_inode, own_name}
 use Rattle.conversion.specs.Making.{IsMaking, Making}
 use Rattle.conversion.specs.Source.{HasPieces}
 use Rattle.extent_pieces.specs.Laws.{AreSortedKeys}
@@ -29,9 +26,9 @@ use Rattle.reiser_volume.specs.Numbers.{by_inode}
 use Rattle.row_laws.proofs.Known.{root_known}
 use Rattle.row_laws.proofs.Linking.{is_link}
 use Rattle.row_laws.proofs.Lists.{all_from, all_in, kept_map}
-use Rattle.row_laws.proofs.Telling.{good_link, link_directory, one_object}
+use Rattle.row_laws.proofs.Telling.{good_link, link_directory}
 use Rattle.sound_names.proofs.Assembling.{Tells, tells_flat}
-use Rattle.sound_names.proofs.Lists.{AreApart, flat_same, kept_all, kept_flat, mapped_flat, parts_all, same_elements}
+use Rattle.sound_names.proofs.Lists.{AreApart, flat_same, kept_all, kept_flat, mapped_flat, parts_all}
 use Rattle.sound_names.proofs.Objects.{back, indexes, link_among, listed, names, s, tells_object}
 use Rattle.sound_names.proofs.Telling.{index_by, mapped_same, mapped_twice}
 

@@ -1,5 +1,5 @@
 -- What the items of one object of the file tree tell.
-use Rattle.std.proofs.Common.{◌≡◌, ◌≤◌, ◌<◌, ℕ, ◌+◌, ◌*◌, ◌^◌, Bool, true, false, not, cond, List, [], ◌∷◌, ◌++◌, append_assoc, length, length-append, map, filter, flat_map, count_by, Contains, refl, sym, ap, subst, ◌∙◌, ⊎_elim, if◌then◌else◌, arith}
+use Rattle.std.proofs.Common.{◌≡◌, ◌≤◌, ℕ, ◌+◌, ◌^◌, Bool, true, false, not, List, [], ◌∷◌, ◌++◌, append_assoc, length, length-append, map, filter, flat_map, count_by, Contains, refl, sym, ap, subst, ◌∙◌, ⊎_elim, if◌then◌else◌, arith}
 use Rattle.std.specs.List.{AllByRecursion}
 use Rattle.std.specs.List.Sorted.{IsPermutation}
 use Rattle.std.proofs.lemmas.List.{append-nil, map-append}
@@ -10,7 +10,6 @@ use Rattle.indexmap.specs.IndexMap.{keys}
 use Rattle.outside.specs.History.{Image}
 use Rattle.btr_keys.specs.DirEntry.{dir_entry_bytes}
 use Rattle.btr_keys.specs.Extref.{extref_bytes, extref_head}
-use Rattle.btr_keys.specs.FileExtent.{file_extent_bytes, file_extent_of}
 use Rattle.btr_keys.specs.InodeRef.{InodeRefValue, inode_ref_bytes, inode_ref_head}
 use Rattle.btr_keys.specs.Key.{make_key}
 use Rattle.btr_node.specs.Leaf.{Item}
@@ -24,7 +23,6 @@ use Rattle.file_items.specs.Extents.{extents_at, file_block, pieces_of}
 use Rattle.file_items.specs.Names.{Entry as Link, Indexed, entries, entries_behind, entry_behind, extref, extrefs, indexed, indexed_in, inode_ref, inode_refs, names_in, names_of, next_index, parent_of, root_ref, saved_entry}
 use Rattle.file_items.specs.Tree.{Source, content_items, extent_items, inline_in, inode_in, kind_in, name_items, number_of, object_items, size_in}
 use Rattle.file_items.proofs.Named.{name_items_other, name_items_root}
-use Rattle.file_laws.proofs.Keys.{root_first}
 use Rattle.file_laws.proofs.Rising.{all_append, all_mapped, all_true}
 use Rattle.fs_rows.proofs.Functions.{length_bytes}
 use Rattle.fs_rows.specs.declared.row.Kind.{Kind}
@@ -49,8 +47,8 @@ use Rattle.sound_laws.proofs.Uses.{piece_small}
 use Rattle.sound_parts.proofs.Numbers.{inode_low}
 use Rattle.sound_names.proofs.Assembling.{Tells, entry_part, tells_of}
 use Rattle.sound_names.proofs.Fits.{entry_fits, saved_fits}
-use Rattle.sound_names.proofs.Lists.{grouped_all, mapped_flat, same_elements}
-use Rattle.sound_names.proofs.Telling.{FitsEntry, FitsFar, FitsRef, Told, entry_by, far_name, index_by, mapped_twice, ref_name, told_append, told_entries, told_extent, told_fars, told_inode, told_none, told_ref, told_refs}
+use Rattle.sound_names.proofs.Lists.{grouped_all, mapped_flat}
+use Rattle.sound_names.proofs.Telling.{FitsEntry, FitsFar, FitsRef, Told, entry_by, index_by, mapped_twice, told_append, told_entries, told_extent, told_fars, told_inode, told_none, told_ref, told_refs}
 
 -- ---- indexes are low
 

@@ -1,8 +1,7 @@
 -- The names of the tree of the saved image.
-use Rattle.std.proofs.Common.{◌≡◌, ◌≤◌, ◌<◌, ◌⊎◌, inl, inr, ℕ, ◌+◌, ◌*◌, ◌^◌, Bool, true, false, List, [], ◌∷◌, ◌++◌, append_assoc, map, filter, sum_by, Contains, Some, refl, sym, ap, subst, ◌∙◌, ⊎_elim, true≢false, arith}
+use Rattle.std.proofs.Common.{◌≡◌, ◌≤◌, ◌<◌, ◌⊎◌, inl, inr, ℕ, ◌+◌, ◌*◌, ◌^◌, Bool, true, false, List, [], ◌∷◌, ◌++◌, map, sum_by, Contains, Some, refl, sym, ap, subst, ◌∙◌, ⊎_elim, true≢false, arith}
 use Rattle.std.specs.List.{AllByRecursion}
-use Rattle.std.proofs.lemmas.List.{append-nil}
-use Rattle.std.proofs.lemmas.List.Elements.{Contains-append_left, filter-append}
+use Rattle.std.proofs.lemmas.List.Elements.{filter-append}
 use Rattle.std.proofs.lemmas.List.Sorted.{IsPermutation-refl}
 use Rattle.btr_keys.specs.Inode.{inode_bytes, inode_of}
 use Rattle.btr_keys.specs.InodeRef.{InodeRefValue, inode_ref_head}
@@ -14,8 +13,8 @@ use Rattle.btr_sound.specs.Recount.{TreeOn}
 use Rattle.btr_walk.specs.declared.tree.Pointer.{Pointer}
 use Rattle.byte_laws.proofs.Reading.{filter_all, filter_none, is_extent, regular_read}
 use Rattle.file_items.specs.Extents.{extents_at, piece_bytes, pieces_of_volume, source_block}
-use Rattle.file_items.specs.Names.{Indexed, entry_to}
-use Rattle.file_items.specs.Small.{image_entries, image_flags, image_head, image_items, image_name, root_items}
+use Rattle.file_items.specs.Names.{entry_to}
+use Rattle.file_items.specs.Small.{image_entries, image_head, image_items, image_name, root_items}
 use Rattle.file_laws.proofs.Rising.{all_append, all_mapped, all_true}
 use Rattle.file_laws.proofs.Short.{sum_mapped}
 use Rattle.fs_rows.specs.declared.row.Kind.TheVariants.{File}

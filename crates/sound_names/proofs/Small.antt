@@ -1,35 +1,26 @@
 -- The names of the image's tree and of the relocation tree.
-use Rattle.std.proofs.Common.{◌≡◌, ◌≤◌, ◌<◌, ◌⊎◌, inl, inr, ℕ, ◌+◌, ◌*◌, ◌^◌, ◌==◌, Bool, true, false, List, [], ◌∷◌, ◌++◌, length, map, filter, sum_by, Contains, Some, refl, sym, ap, subst, ◌∙◌, ⊎_elim, if◌then◌else◌, true≢false, arith}
+use Rattle.std.proofs.Common.{◌≡◌, ◌<◌, ◌⊎◌, ℕ, ◌*◌, ◌^◌, ◌==◌, Bool, true, List, [], ◌∷◌, length, map, filter, sum_by, Contains, Some, refl, sym, ap, subst, ◌∙◌, ⊎_elim, arith}
 use Rattle.std.specs.List.{AllByRecursion}
-use Rattle.std.proofs.lemmas.List.{append-nil}
-use Rattle.std.proofs.lemmas.List.Elements.{filter-append}
 use Rattle.std.proofs.lemmas.List.Sorted.{IsPermutation-refl}
 use Rattle.btr_keys.specs.Inode.{inode_bytes, inode_layout, inode_of}
 use Rattle.btr_keys.specs.Key.{make_key}
 use Rattle.btr_keys.specs.declared.inode.Inode.{Inode}
 use Rattle.btr_keys.proofs.Records.{inodes_read_back}
 use Rattle.btr_node.specs.Leaf.{Item}
-use Rattle.btr_sound.specs.Names.{AreNames, BackName, Entry, IndexEntry, IsInode, IsThere, IsTreeEntry, inode_nbytes, names_inode, own_name}
+use Rattle.btr_sound.specs.Names.{AreNames, BackName, IndexEntry, IsInode, inode_nbytes, own_name}
 use Rattle.btr_sound.specs.Recount.{TreeOn}
 use Rattle.btr_walk.specs.declared.tree.Pointer.{Pointer}
-use Rattle.byte_laws.proofs.Reading.{filter_all, filter_none, is_extent, regular_read}
-use Rattle.file_items.specs.Extents.{extents_at, piece_bytes, pieces_of_volume, source_block}
 use Rattle.file_items.specs.Names.{Indexed, entry_items, letters, root_ref}
-use Rattle.file_items.specs.Small.{image_entries, image_flags, image_head, image_items, image_name, relocation_items, root_items}
-use Rattle.file_laws.proofs.Rising.{all_append, all_mapped, all_true}
+use Rattle.file_items.specs.Small.{relocation_items, root_items}
 use Rattle.file_laws.proofs.Short.{sum_mapped}
-use Rattle.fs_rows.specs.declared.row.Kind.TheVariants.{File}
-use Rattle.item_list.specs.Extents.{extent_item, regular_extent}
-use Rattle.item_list.specs.Inodes.{inode_item, inode_made, ref_item}
-use Rattle.path_list.proofs.Lists.{at_head, from_map, head_or_tail}
-use Rattle.row_laws.proofs.Lists.{all_in}
-use Rattle.unit_plan.specs.declared.piece.Piece.{Piece}
-use Rattle.sound_parts.proofs.Flags.{image_inode, image_inode_reads, image_inode_there, stamp_fits}
-use Rattle.sound_names.proofs.Assembling.{Tells, count_is, have_names, size_is, tells_of}
-use Rattle.sound_names.proofs.Inodes.{bytes_are, piece_adds, sum_on}
+use Rattle.item_list.specs.Inodes.{inode_item, inode_made}
+use Rattle.path_list.proofs.Lists.{from_map, head_or_tail}
+use Rattle.sound_parts.proofs.Flags.{stamp_fits}
+use Rattle.sound_names.proofs.Assembling.{Tells, have_names, size_is, tells_of}
+use Rattle.sound_names.proofs.Inodes.{bytes_are}
 use Rattle.sound_names.proofs.Lists.{kept_all}
 use Rattle.sound_names.proofs.Objects.{own_fits, own_ref}
-use Rattle.sound_names.proofs.Telling.{FitsEntry, Told, hash_entries, index_by, told_append, told_entries, told_extent, told_inode, told_none, told_ref}
+use Rattle.sound_names.proofs.Telling.{FitsEntry, Told, hash_entries, index_by, told_append, told_entries, told_inode, told_ref}
 
 some_inode : (a b : Inode) → Some a ≡ Some b → a ≡ b
 some_inode a b e = cc

@@ -2,21 +2,18 @@
 use Rattle.std.proofs.Common.{◌≡◌, ℕ, ◌==◌, Bool, true, false, List, [], ◌∷◌, ◌++◌, map, flat_map, Option, Some, refl, sym, ap, subst, ◌∙◌, if◌then◌else◌, nat_lt, arith}
 use Rattle.std.specs.Prelude.{All, IsTrue, is_some}
 use Rattle.std.specs.List.{AllByRecursion}
-use Rattle.std.specs.List.Sorted.{IsPermutation}
 use Rattle.std.proofs.lemmas.Bool.{eqb-true}
-use Rattle.std.proofs.lemmas.List.{append-nil, map-append}
+use Rattle.std.proofs.lemmas.List.{append-nil}
 use Rattle.std.proofs.lemmas.List.Elements.{All-from_recursion}
-use Rattle.std.proofs.lemmas.List.Sorted.{IsPermutation-append, IsPermutation-refl, IsPermutation-trans}
 use Rattle.castagnoli.specs.Castagnoli.{extref_hash, name_hash}
 use Rattle.btr_keys.specs.DirEntry.{DirEntryValue, dir_entry_bytes, dir_entry_head, dir_items_of}
 use Rattle.btr_keys.specs.Extref.{ExtrefValue, extref_bytes, extref_head, extrefs_of}
 use Rattle.btr_keys.specs.FileExtent.{FileExtentValue, file_extent_bytes, file_extent_of}
-use Rattle.btr_keys.specs.Inode.{inode_bytes, inode_of}
+use Rattle.btr_keys.specs.Inode.{inode_of}
 use Rattle.btr_keys.specs.InodeRef.{InodeRefValue, inode_ref_bytes, inode_ref_head, inode_refs_of}
 use Rattle.btr_keys.specs.Key.{make_key}
 use Rattle.btr_keys.specs.Repeated.{RecordsReadBack}
 use Rattle.btr_keys.specs.declared.inode.Inode.{Inode}
-use Rattle.btr_keys.specs.declared.key.Key.{Key}
 use Rattle.btr_keys.proofs.Records.{dir_items_read_back, extrefs_read_back, inode_refs_read_back}
 use Rattle.btr_node.specs.Leaf.{Item}
 use Rattle.btr_sound.specs.Names.{BackName, Entry, IndexEntry, entry_of, or_none}
@@ -149,11 +146,11 @@ module _ {A : Type 0} (number : A → ℕ) (P : A → Type 0) where
   groups_are [] all = tt
   groups_are (x ∷ xs) all = group_in (number x) x (grouped number xs) refl all.0 (groups_are xs all.1)
 
-mapped_twice : {A B C : Type 0} (f : A → B) (h : B → C) (xs : List A) → map h (map f xs) ≡ map (λ x. h (f x)) xs
+pub mapped_twice : {A B C : Type 0} (f : A → B) (h : B → C) (xs : List A) → map h (map f xs) ≡ map (λ x. h (f x)) xs
 mapped_twice f h [] = refl
 mapped_twice {A} {B} {C} f h (x ∷ xs) = ap (λ (l : List C). h (f x) ∷ l) (mapped_twice f h xs)
 
-mapped_same : {A B : Type 0} (f h : A → B) (xs : List A) → AllByRecursion (λ x. f x ≡ h x) xs → map f xs ≡ map h xs
+pub mapped_same : {A B : Type 0} (f h : A → B) (xs : List A) → AllByRecursion (λ x. f x ≡ h x) xs → map f xs ≡ map h xs
 mapped_same f h [] all = refl
 mapped_same {A} {B} f h (x ∷ xs) all = ap (λ (y : B). y ∷ map f xs) all.0 ∙ ap (λ (l : List B). h x ∷ l) (mapped_same f h xs all.1)
 

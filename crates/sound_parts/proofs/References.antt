@@ -1,19 +1,15 @@
 -- The references of a converted volume are sound: its extent tree is the recount of all nodes and of all uses of data.
-use Rattle.std.proofs.Common.{◌≡◌, ◌≢◌, ◌⊎◌, ◌≤◌, ◌<◌, ℕ, ◌+◌, ◌-◌, ◌*◌, ◌^◌, inl, inr, Bool, true, false, not, ◌&&◌, List, [], ◌∷◌, length, map, Option, Some, None, refl, sym, ap, subst, ◌∙◌, ⊎_elim, true≢false, arith}
+use Rattle.std.proofs.Common.{◌≡◌, ◌≢◌, ◌⊎◌, ◌≤◌, ◌<◌, ℕ, ◌+◌, ◌-◌, ◌*◌, ◌^◌, inl, inr, Bool, true, false, List, [], ◌∷◌, length, map, Option, Some, None, refl, sym, ap, subst, ◌∙◌, ⊎_elim, true≢false, arith}
 use Rattle.std.specs.Prelude.{All, Contains, nat_lt, if◌then◌else◌, is_some}
 use Rattle.std.specs.Option.{option_map_or}
-use Rattle.std.specs.List.{count_by}
-use Rattle.std.specs.Ordering.{is_lt, nat_cmp, ordering_then}
-use Rattle.std.specs.declared.cmp.Ordering.{Ordering}
-use Rattle.std.specs.declared.cmp.Ordering.TheVariants.{Less, Equal, Greater}
+use Rattle.std.specs.declared.cmp.Ordering.TheVariants.{Equal}
 use Rattle.std.proofs.lemmas.Bool.{eq-eqb}
-use Rattle.std.proofs.lemmas.List.Sums.{count_by-le-length}
 use Rattle.std.proofs.lemmas.List.Elements.{All-cons, All-contains, All-map}
 use Rattle.path_list.proofs.Lists.{from_map, in_map}
 use Rattle.indexmap.specs.IndexMap.{keys}
 use Rattle.outside.specs.History.{Image}
 use Rattle.vol_block.specs.declared.ids.Ids.{Ids}
-use Rattle.btr_keys.specs.Key.{key_cmp, make_key}
+use Rattle.btr_keys.specs.Key.{make_key}
 use Rattle.btr_keys.specs.declared.key.Key.{Key}
 use Rattle.btr_node.specs.Leaf.{Item}
 use Rattle.btr_node.specs.NodeSize.{IsNodeSize}
@@ -37,10 +33,6 @@ use Rattle.file_items.specs.Tree.{number_of}
 use Rattle.file_laws.specs.Held.{FilesAreHeld}
 use Rattle.file_laws.specs.Keys.{ImageKeysAscend}
 use Rattle.reiser_bitmap.proofs.Ranges.{all_from_contains}
-use Rattle.reiser_names.specs.Links.{object_cmp}
-use Rattle.reiser_names.specs.Names.{inode_of}
-use Rattle.reiser_objects.specs.Keys.{root, same_key}
-use Rattle.reiser_objects.specs.declared.key.ObjectKey.{ObjectKey}
 use Rattle.reiser_volume.proofs.Bounds.{accepted_is_small}
 use Rattle.space_items.specs.Chunks.{device_items}
 use Rattle.space_items.specs.Extents.{data_ref, extent_body, extent_items, group_item, hash_of_ref, image_refs, node_item, owner_refs, piece_item, put_refs, used_in}
@@ -54,7 +46,6 @@ use Rattle.unit_plan.specs.declared.piece.Piece.{Piece}
 use Rattle.sound_laws.specs.Recounted.{recount_for, tree_for}
 use Rattle.sound_laws.proofs.AllUses.{from_is, source_low, uses_are}
 use Rattle.sound_laws.proofs.Recounting.{volume_for}
-use Rattle.sound_laws.proofs.Row.{differ}
 use Rattle.sound_laws.proofs.Trees.{six_all}
 use Rattle.sound_laws.proofs.Unreserved.{fit_size}
 use Rattle.sound_laws.proofs.Used.{file_use, owned, saved_use}
