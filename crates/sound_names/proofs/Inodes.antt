@@ -199,8 +199,8 @@ module _ (image : Image) (m : Making) (made : IsMaking image m) where
 
       count_told : (kind_in src key ≡ Directory → ⊥) → count_by (λ l. same_key l.target key) src.links ≡ name_count tree n
       count_told other =
-          let first : sum_by of_own (own_name ∷ map (to_back image m made) (entries src.links)) ≡ cond (256 == n) 1 0 + sum_by of_own (map (to_back image m made) (entries src.links)) = sum_by-cons of_own own_name (map (to_back image m made) (entries src.links)) in
-          let none : cond (256 == n) 1 0 ≡ 0 = ap (λ (b : Bool). cond b 1 0) (not_root other) in
+          let first : sum_by of_own (own_name ∷ map (to_back image m made) (entries src.links)) ≡ of_own own_name + sum_by of_own (map (to_back image m made) (entries src.links)) = sum_by-cons of_own own_name (map (to_back image m made) (entries src.links)) in
+          let none : of_own own_name ≡ 0 = ap {B = ℕ} (λ (b : Bool). cond b 1 0) (not_root other) in
           let links = links_count in
           let moved = sum_by-IsPermutation of_own name_all (own_name ∷ map (to_back image m made) (entries src.links)) (names_by_links image m made) in
           let count = count_is tree index_all name_all tells n in

@@ -13,7 +13,7 @@ use Rattle.btr_sound.specs.Recount.{TreeOn}
 use Rattle.btr_walk.specs.declared.tree.Pointer.{Pointer}
 use Rattle.byte_laws.proofs.Reading.{filter_all, filter_none, is_extent, regular_read}
 use Rattle.file_items.specs.Extents.{extents_at, piece_bytes, pieces_of_volume, source_block}
-use Rattle.file_items.specs.Names.{entry_to}
+use Rattle.file_items.specs.Names.{entry_items, entry_to, root_ref}
 use Rattle.file_items.specs.Small.{image_entries, image_head, image_items, image_name, root_items}
 use Rattle.file_laws.proofs.Rising.{all_append, all_mapped, all_true}
 use Rattle.file_laws.proofs.Short.{sum_mapped}
@@ -154,7 +154,7 @@ module _ (blocks now : ℕ) (pieces : List Piece) (datasum : Bool) (few : blocks
 
     root_there : IsThere saved 256
     unfolding image_items image_head
-    root_there = (inode_bytes (root_inode now image_entries), at_head (inode_item 256 (root_inode now image_entries)) _)
+    root_there = (inode_bytes (root_inode now image_entries), at_head (inode_item 256 (root_inode now image_entries)) (((root_ref ∷ entry_items 256 image_entries) ++ of_image) ++ extents))
 
     pub saved_names : AreNames roots saved
     saved_names =

@@ -1,5 +1,5 @@
 -- The names of the image's tree and of the relocation tree.
-use Rattle.std.proofs.Common.{◌≡◌, ◌<◌, ◌⊎◌, ℕ, ◌*◌, ◌^◌, ◌==◌, Bool, true, List, [], ◌∷◌, length, map, filter, sum_by, Contains, Some, refl, sym, ap, subst, ◌∙◌, ⊎_elim, arith}
+use Rattle.std.proofs.Common.{◌≡◌, ◌<◌, ◌⊎◌, ℕ, ◌-◌, ◌*◌, ◌^◌, ◌==◌, Bool, true, List, [], ◌∷◌, length, map, filter, sum_by, Contains, Some, refl, sym, ap, subst, ◌∙◌, ⊎_elim, arith}
 use Rattle.std.specs.List.{AllByRecursion}
 use Rattle.std.proofs.lemmas.List.Sorted.{IsPermutation-refl}
 use Rattle.btr_keys.specs.Inode.{inode_bytes, inode_layout, inode_of}
@@ -22,7 +22,7 @@ use Rattle.sound_names.proofs.Lists.{kept_all}
 use Rattle.sound_names.proofs.Objects.{own_fits, own_ref}
 use Rattle.sound_names.proofs.Telling.{FitsEntry, Told, hash_entries, index_by, told_append, told_entries, told_inode, told_ref}
 
-some_inode : (a b : Inode) → Some a ≡ Some b → a ≡ b
+pub some_inode : (a b : Inode) → Some a ≡ Some b → a ≡ b
 some_inode a b e = cc
 
 -- ---- a root directory
@@ -33,7 +33,7 @@ root_told now list fit =
     (told_inode 256 (inode_made now 0x41ED (2 * letters list) 0 0))
     (told_append (root_ref ∷ []) (entry_items 256 list) [] (hash_entries 256 list) [] (map (index_by 256) list) (own_name ∷ []) [] [] [] (told_ref 256 256 own_ref own_fits) (told_entries 256 list fit))
 
-abbrev root_inode : ℕ → List Indexed → Inode
+abbrev pub root_inode : ℕ → List Indexed → Inode
 root_inode now list = inode_made now 0x41ED (2 * letters list) 0 0
 
 made_fits : (now size : ℕ) → now < 2 ^ 63 → size < 2 ^ 64 → inode_layout.fits (inode_made now 0x41ED size 0 0)
@@ -41,10 +41,10 @@ unfolding inode_layout
 made_fits now size low few =
     ((((((((((((((((tt, omega arith), omega arith), omega (arith, few)), omega arith), omega arith), omega arith), omega arith), omega arith), omega arith), omega arith), omega arith), omega arith), stamp_fits now low), stamp_fits now low), stamp_fits now low), stamp_fits 0 (omega arith))
 
-root_reads : (now : ℕ) (list : List Indexed) → now < 2 ^ 63 → letters list < 2 ^ 63 → inode_of (inode_bytes (root_inode now list)) ≡ Some (root_inode now list)
+pub root_reads : (now : ℕ) (list : List Indexed) → now < 2 ^ 63 → letters list < 2 ^ 63 → inode_of (inode_bytes (root_inode now list)) ≡ Some (root_inode now list)
 root_reads now list low few = inodes_read_back (root_inode now list) (made_fits now (2 * letters list) low (omega (arith, few)))
 
-root_inode_told : (now : ℕ) (list : List Indexed) (t : TreeOn) (names : List BackName) → Tells t.items (map (index_by 256) list) names → inode_nbytes t 256 ≡ 0 → IsInode t 256 (root_inode now list)
+pub root_inode_told : (now : ℕ) (list : List Indexed) (t : TreeOn) (names : List BackName) → Tells t.items (map (index_by 256) list) names → inode_nbytes t 256 ≡ 0 → IsInode t 256 (root_inode now list)
 root_inode_told now list t names tells none =
     let in_own : IndexEntry → Bool = λ e. e.entry.dir == 256 in
     let all : filter in_own (map (index_by 256) list) ≡ map (index_by 256) list = kept_all in_own (map (index_by 256) list) (λ e h. let x = from_map (index_by 256) list e h in subst (λ (y : IndexEntry). in_own y ≡ true) x.2 refl) in
