@@ -4,6 +4,15 @@ use outside::{Access, BlockSource, Disk};
 use outside_mem::MemDisk;
 use vol_block::{Block, BlockNo, Format, format_of};
 
+/// How many blocks a disk has.
+pub fn block_count(disk: &mut MemDisk) -> Result<u64, Broken> {
+    disk.settle();
+    disk.open("", Access::Read)?;
+    let count = disk.len();
+    disk.settle();
+    Ok(count)
+}
+
 /// A block of a disk.
 pub fn block(disk: &mut MemDisk, n: BlockNo) -> Result<Block, Broken> {
     disk.settle();

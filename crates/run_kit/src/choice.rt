@@ -30,7 +30,11 @@ impl Choice {
 
     /// The numbers for so many blocks.
     pub(crate) fn numbers(self, alloc: Global, count: u64) -> Result<Vec<u32>, Memory> {
-        let seed = if let Choice::Random(seed) = self { seed } else { 0 };
+        let seed = if let Choice::Random(seed) = self {
+            seed
+        } else {
+            0
+        };
         let many = u32::try_from(count).unwrap_or(0);
         let mut state = seed.wrapping_add(many.wrapping_mul(2_654_435_761));
         let mut numbers = Vec::new(alloc);

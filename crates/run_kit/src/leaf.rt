@@ -169,12 +169,20 @@ pub struct Entry {
 impl Entry {
     /// The entry of a directory itself.
     pub fn dot(object: Object) -> Entry {
-        Entry { place: 1, object, name: *b".\0\0\0\0\0\0\0" }
+        Entry {
+            place: 1,
+            object,
+            name: *b".\0\0\0\0\0\0\0",
+        }
     }
 
     /// The entry of the directory above.
     pub fn up(object: Object) -> Entry {
-        Entry { place: 2, object, name: *b"..\0\0\0\0\0\0" }
+        Entry {
+            place: 2,
+            object,
+            name: *b"..\0\0\0\0\0\0",
+        }
     }
 
     /// The head of the entry, whose name begins at this byte of its item.

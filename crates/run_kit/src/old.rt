@@ -1,5 +1,5 @@
 // A ReiserFS volume, and what has to come back of it.
-use crate::block_access::block;
+use crate::block_access::{block, block_count};
 use crate::broken::Broken;
 use crate::run::done;
 use outside_mem::MemDisk;
@@ -15,13 +15,13 @@ pub struct Old {
     rows: Vec<u8>,
 }
 
-/// The numbers of the blocks that a bitmap block marks, from block 0 on.
-fn marked(alloc: Global, bitmap: &Block) -> Result<Vec<BlockNo>, Broken> {
+/// The numbers of the blocks that a bitmap block marks, from block 0 on, of a disk of so many blocks.
+fn marked(alloc: Global, bitmap: &Block, count: u64) -> Result<Vec<BlockNo>, Broken> {
     let mut marked = Vec::new(alloc);
     let mut n = 0u64;
     for &byte in &bitmap.bytes {
         for bit in 0..8u32 {
-            if (byte >> bit) & 1 == 1 {
+            if (byte >> bit) & 1 == 1 && n < count {
                 marked.push(n)?;
             }
             n = n.wrapping_add(1);
@@ -33,8 +33,9 @@ fn marked(alloc: Global, bitmap: &Block) -> Result<Vec<BlockNo>, Broken> {
 /// The blocks that a ReiserFS volume uses of a disk of at most 32,768 blocks, so that all bits stand in block 17.
 fn used(alloc: Global, disk: &mut MemDisk) -> Result<Vec<(BlockNo, Block)>, Broken> {
     let bitmap = block(disk, 17)?;
+    let count = block_count(disk)?;
     let mut used = Vec::new(alloc);
-    for &n in &marked(alloc, &bitmap)? {
+    for &n in &marked(alloc, &bitmap, count)? {
         used.push((n, block(disk, n)?))?;
     }
     Ok(used)
@@ -46,7 +47,12 @@ impl Old {
         let mut disk = disk;
         let rows = done(alloc, "list", &mut disk)?;
         let used = used(alloc, &mut disk)?;
-        Ok(Old { alloc, disk, used, rows })
+        Ok(Old {
+            alloc,
+            disk,
+            used,
+            rows,
+        })
     }
 
     /// A disk of its own with the volume.

@@ -13,8 +13,7 @@ fn a_home_volume_needs_seven_units(rt: HostRuntime) -> Result<(), Fail> {
     Ok(())
 }
 
-const DONE: &str =
-    "converted to btrfs\npieces 1016\nblocks 9856\ncopied 256\ntails 300\nunits 7\n";
+const DONE: &str = "converted to btrfs\npieces 1016\nblocks 9856\ncopied 256\ntails 300\nunits 7\n";
 
 const BACK: &str = "rolled back to reiserfs\nblocks 9556\nrestored 256\n";
 

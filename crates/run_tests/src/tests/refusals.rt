@@ -11,7 +11,10 @@ fn the_last_unit_of_a_volume_counts_where_it_is_whole(rt: HostRuntime) -> Result
     for blocks in [9216, 9471] {
         let mut disk = made(rt.alloc(), 0, blocks)?;
         let line = "refused 15 space 4 3 1 3\n";
-        assert!(rt; ends(rt.alloc(), "convert", &mut disk, 6, "", line)?, "{blocks}");
+        assert!(rt;
+            ends(rt.alloc(), "convert", &mut disk, 6, "", line)?,
+            "{blocks}"
+        );
         assert_eq!(rt; disk.writes(), 0);
     }
     Ok(())
@@ -25,8 +28,14 @@ fn pointers_to_what_is_no_block_of_a_file(rt: HostRuntime) -> Result<(), Fail> {
         (51, "refused 6 damaged 51 8\n"),
     ] {
         let mut disk = one_file(rt.alloc(), pointer)?;
-        assert!(rt; ends(rt.alloc(), "inspect", &mut disk, 1, "", line)?, "{pointer}");
-        assert!(rt; ends(rt.alloc(), "convert", &mut disk, 1, "", line)?, "{pointer}");
+        assert!(rt;
+            ends(rt.alloc(), "inspect", &mut disk, 1, "", line)?,
+            "{pointer}"
+        );
+        assert!(rt;
+            ends(rt.alloc(), "convert", &mut disk, 1, "", line)?,
+            "{pointer}"
+        );
         assert_eq!(rt; disk.writes(), 0);
     }
     Ok(())

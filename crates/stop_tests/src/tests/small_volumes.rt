@@ -27,7 +27,10 @@ fn conversion_with_data_in_a_copys_block(rt: HostRuntime) -> Result<(), Fail> {
 fn rollback_with_data_in_a_copys_block(rt: HostRuntime) -> Result<(), Fail> {
     let old = Old::new(rt.alloc(), one_file(rt.alloc(), 16384)?)?;
     let base = old.converted()?;
-    assert_eq!(rt; old.stops("rollback", &base, Stops::ALL, &THREE)?, 53 * 3 + 2);
+    assert_eq!(rt;
+        old.stops("rollback", &base, Stops::ALL, &THREE)?,
+        53 * 3 + 2
+    );
     Ok(())
 }
 
