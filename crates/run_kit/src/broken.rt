@@ -20,6 +20,8 @@ pub enum Broken {
     Leaf,
     /// A run ended with this status.
     Status(u8),
+    /// This command did not end as it had to.
+    Step(&'static str),
     /// The rows are not those of the volume before.
     Rows,
     /// This block, which the volume uses, has other bytes than before.

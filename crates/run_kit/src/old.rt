@@ -6,7 +6,7 @@ use outside_mem::MemDisk;
 use std::alloc::Global;
 use vol_block::{Block, BlockNo};
 
-/// A ReiserFS volume: its disk, the blocks that it uses, and the text of its rows.
+/// A ReiserFS volume: its disk, the blocks that it uses of the first 32,768, and the text of its rows.
 #[derive(Drop)]
 pub struct Old {
     pub(crate) alloc: Global,
@@ -30,7 +30,7 @@ fn marked(alloc: Global, bitmap: &Block, count: u64) -> Result<Vec<BlockNo>, Bro
     Ok(marked)
 }
 
-/// The blocks that a ReiserFS volume uses of a disk of at most 32,768 blocks, so that all bits stand in block 17.
+/// The blocks that a ReiserFS volume uses of the first 32,768 blocks of a disk, whose bits stand in block 17.
 fn used(alloc: Global, disk: &mut MemDisk) -> Result<Vec<(BlockNo, Block)>, Broken> {
     let bitmap = block(disk, 17)?;
     let count = block_count(disk)?;
@@ -42,7 +42,7 @@ fn used(alloc: Global, disk: &mut MemDisk) -> Result<Vec<(BlockNo, Block)>, Brok
 }
 
 impl Old {
-    /// The volume of a disk of at most 32,768 blocks.
+    /// The volume of a disk. Of a disk of more than 32,768 blocks only the first of them are looked at.
     pub fn new(alloc: Global, disk: MemDisk) -> Result<Old, Broken> {
         let mut disk = disk;
         let rows = done(alloc, "list", &mut disk)?;

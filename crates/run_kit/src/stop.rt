@@ -77,6 +77,11 @@ impl Old {
         Ok(whole.writes())
     }
 
+    /// How often the conversion of the volume writes.
+    pub fn converted_writes(&self) -> Result<u64, Broken> {
+        self.writes_of("convert", &self.copy()?)
+    }
+
     /// Runs a command over copies of a disk that holds this volume in one format or the other, stops it behind these numbers of writes
     /// and where all are made, and looks each time at what crashes leave by each of these choices: how many leave it Btrfs.
     ///

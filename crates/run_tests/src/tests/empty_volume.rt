@@ -1,5 +1,6 @@
 // Volumes with an empty root directory: what is printed of them, and what comes back.
-use run_kit::{Old, empty_root, ends, made};
+use run_kit::End::Done;
+use run_kit::{Old, Step, empty_root, follow, made};
 use std::test::Fail;
 
 /// What `list` prints of a root directory alone, in both formats.
@@ -11,8 +12,8 @@ const BEFORE: &str =
 #[test]
 fn an_empty_volume_is_told(rt: HostRuntime) -> Result<(), Fail> {
     let mut disk = made(rt.alloc(), 0, 12288)?;
-    assert!(rt; ends(rt.alloc(), "inspect", &mut disk, 0, BEFORE, "")?);
-    assert!(rt; ends(rt.alloc(), "list", &mut disk, 0, ROOT, "")?);
+    let steps = [Step("inspect", Done(BEFORE)), Step("list", Done(ROOT))];
+    follow(rt.alloc(), &mut disk, &steps)?;
     Ok(())
 }
 
@@ -26,26 +27,25 @@ const BACK: &str = "rolled back to reiserfs\nblocks 8212\nrestored 256\n";
 #[test]
 fn an_empty_volume_goes_and_comes(rt: HostRuntime) -> Result<(), Fail> {
     let old = Old::new(rt.alloc(), made(rt.alloc(), 0, 12288)?)?;
-    let mut disk = old.copy()?;
-    assert!(rt; ends(rt.alloc(), "convert", &mut disk, 0, DONE, "")?);
-    assert!(rt; ends(rt.alloc(), "list", &mut disk, 0, ROOT, "")?);
-    assert!(rt; ends(rt.alloc(), "inspect", &mut disk, 0, BETWEEN, "")?);
-    assert!(rt; ends(rt.alloc(), "rollback", &mut disk, 0, BACK, "")?);
-    old.is_back(&mut disk)?;
-    old.has_rows(&mut disk)?;
+    old.goes_and_comes(&[
+        Step("convert", Done(DONE)),
+        Step("list", Done(ROOT)),
+        Step("inspect", Done(BETWEEN)),
+        Step("rollback", Done(BACK)),
+    ])?;
     Ok(())
 }
 
 const SMALL: &str = "converted to btrfs\npieces 52\nblocks 52\ncopied 52\ntails 0\nunits 4\n";
 
+const SMALL_BACK: &str = "rolled back to reiserfs\nblocks 52\nrestored 52\n";
+
 #[test]
 fn the_smallest_volume_goes_and_comes(rt: HostRuntime) -> Result<(), Fail> {
     let old = Old::new(rt.alloc(), empty_root(rt.alloc())?)?;
-    let mut disk = old.copy()?;
-    assert!(rt; ends(rt.alloc(), "convert", &mut disk, 0, SMALL, "")?);
-    let back = "rolled back to reiserfs\nblocks 52\nrestored 52\n";
-    assert!(rt; ends(rt.alloc(), "rollback", &mut disk, 0, back, "")?);
-    old.is_back(&mut disk)?;
-    old.has_rows(&mut disk)?;
+    old.goes_and_comes(&[
+        Step("convert", Done(SMALL)),
+        Step("rollback", Done(SMALL_BACK)),
+    ])?;
     Ok(())
 }
