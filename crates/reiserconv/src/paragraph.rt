@@ -20,7 +20,7 @@ impl Paragraph {
     }
 
     /// Appends words. `{1}` in one stands for the first of the numbers, and so on.
-    pub fn say(&mut self, words: &str, numbers: &[&str]) -> Result<(), AllocError> {
+    pub fn say<'a, 'b>(&mut self, words: &'a str, numbers: &[&'b str]) -> Result<(), AllocError> {
         for word in words.split(' ') {
             match hole(word, numbers) {
                 Some((front, number, back)) => self.word(front, number, back)?,
@@ -70,7 +70,7 @@ impl Paragraph {
 }
 
 /// The parts of a word with a place for a number, with the number in its place.
-fn hole<'a>(word: &'a str, numbers: &[&'a str]) -> Option<(&'a str, &'a str, &'a str)> {
+fn hole<'a, 'b>(word: &'a str, numbers: &[&'b str]) -> Option<(&'a str, &'b str, &'a str)> {
     let (front, rest) = word.split_once('{')?;
     let (place, back) = rest.split_once('}')?;
     let place: usize = place.parse().ok()?;
