@@ -57,8 +57,8 @@ part_convert() {
     grub
 }
 
-# GRUB reads each file of the converted volume, by the checksums that Linux made of them before. It may refuse one with a hole: versions
-# before 2.12 know no holes but those that an extent stands for, which is so on volumes of mkfs.btrfs too.
+# GRUB reads each file of the converted volume, by the checksums that Linux made of them before. It may refuse one with a hole: version
+# 2.06 knows no holes but those that an extent stands for, which is so on volumes of mkfs.btrfs too.
 grub() {
     local sum path count=0 unread=0 wrong=''
     while read -r sum path; do
