@@ -30,14 +30,6 @@ run() {
     err=$(cat /tmp/err)
 }
 
-# ends NAME STATUS LINE WORDS..: the run prints nothing, and ends with this status and this line
-ends() {
-    name=$1 want="$2|$3|"
-    shift 3
-    run "$@"
-    same "$name" "$want" "$status|$err|$(cat /tmp/out)"
-}
-
 # the options by which a volume of a kind is mounted here: flags are seen, and times stay
 options() { if [ "$1" = reiserfs ]; then echo noatime,attrs; else echo noatime; fi; }
 

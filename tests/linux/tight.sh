@@ -33,16 +33,16 @@ leaves() {
     [ $surplus = 0 ]
 }
 
-# small: how many files of 1000 bytes can be made and synced, up to 2000
+# small: how many files of 1000 bytes can be made and synced, up to 1000
 small() {
     mkdir /mnt/small
     perl -e 'my $i = 0;
-        while ($i < 2000) { open my $out, ">", "/mnt/small/$i" or last; print {$out} "x" x 1000 or last; close $out or last; $i++; `sync` if $i % 500 == 0 }
+        while ($i < 1000) { open my $out, ">", "/mnt/small/$i" or last; print {$out} "x" x 1000 or last; close $out or last; $i++; `sync` if $i % 250 == 0 }
         print $i' 2>/dev/null
     sync
 }
 
-# large: how many KiB one file takes
+# large: how many KiB one file takes, up to 32 MiB
 large() {
     dd if=/dev/zero of=/mnt/large bs=64k conv=fsync count=512 2>/dev/null
     echo $(($(stat -c %s /mnt/large 2>/dev/null || echo 0) / 1024))
@@ -51,17 +51,16 @@ large() {
 # yes_no COMMAND..: whether it succeeds
 yes_no() { if "$@" >/dev/null 2>&1; then echo yes; else echo no; fi; }
 
-# tried COUNT: lines of figures; whether the volume mounts for writing
+# tried COUNT: a line of figures; whether the volume mounts for writing
 tried() {
     if ! mount -t btrfs -o noatime /dev/vda /mnt 2>/dev/null; then
         echo "# tight: $1 MiB beside: no mount for writing ($(dmesg -c | sed -n 's/.*\(BTRFS.*-28\).*/\1/p' | tail -n 1))"
         return 1
     fi
-    line="a file is emptied $(yes_no sh -c ': >/mnt/file-1001 && sync'), small files $(small), removed $(yes_no rm -r /mnt/small)"
-    line="$line, one large file of $(large) KiB, removed $(yes_no rm /mnt/large)"
-    sync
-    line="$line, snapshot $(yes_no btrfs subvolume snapshot /mnt /mnt/snap), label $(yes_no btrfs filesystem label /mnt tight)"
-    echo "# tight: $1 MiB beside: mounts for writing, $line, balance of metadata $(yes_no btrfs balance start -musage=100 /mnt)"
+    line="a file of $(large) KiB, removed $(yes_no rm /mnt/large), $(small) small files, removed $(yes_no rm -r /mnt/small)"
+    line="$line, the saved image removed $(yes_no btrfs subvolume delete -c /mnt/reiserfs_saved), files of before removed $(yes_no sh -c 'rm /mnt/file-100* && sync')"
+    btrfs subvolume sync /mnt >/dev/null
+    echo "# tight: $1 MiB beside: mounts for writing, $line, then a file of $(large) KiB"
     umount /mnt
 }
 
@@ -81,6 +80,10 @@ for count in $beside; do
     mounted=$?
     [ "$count" -lt $enough ] || said "tight: $count MiB beside: it mounts for writing" $mounted
     checked "tight: $count MiB beside: btrfs check finds nothing behind it"
+    if [ $mounted != 0 ]; then
+        run rollback /dev/vda
+        same "tight: $count MiB beside: it goes back" '0|' "$status|$err"
+    fi
     cp /dev/vdb /dev/vda
 done
 more 1 1024
