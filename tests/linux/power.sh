@@ -1,3 +1,4 @@
+# shellcheck shell=dash disable=SC2154
 # Inside of the machine: the power is cut at moments of a command, which are numbered from first to last; command, first and last are set
 # before. /dev/vda has the volume on which the command starts, /dev/vdb takes the log of its writes, and /dev/vdc all that is written over
 # the volume while it is tried: /dev/dm-0 is the volume with that over it.

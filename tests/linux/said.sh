@@ -1,3 +1,4 @@
+# shellcheck shell=dash disable=SC2034
 # How a check is counted inside of the machine. The scripts there read this file.
 
 # said NAME STATUS: a line for a check

@@ -4,7 +4,7 @@
 . ./said.sh
 beside='16 8 4 2 1 0'
 # from so many MiB beside the needed units on the new volume mounts for writing
-enough=8
+enough=4
 
 # figures: the free units of the volume, and those that a conversion needs
 figures() {
