@@ -88,7 +88,7 @@ part_power-convert-2() { power_of convert 21 40; }
 part_power-rollback() { power_of rollback 1 20; }
 part_power-recover() { power_of recover 1 10; }
 
-# The parts run side by side, and the output of each is printed when it has ended.
+# The parts run side by side, the longest first, and the output of each is printed when it has ended.
 side_by_side() {
     local part jobs=${JOBS:-$(nproc)} running=0
     for part in "$@"; do
@@ -102,11 +102,11 @@ side_by_side() {
     wait
 }
 
-[ $# != 0 ] || set -- foreign power tight convert busy read
+[ $# != 0 ] || set -- tight foreign power convert read busy
 parts=()
 for part in "$@"; do
     case $part in
-        power) parts+=(power-convert-1 power-convert-2 power-rollback power-recover) ;;
+        power) parts+=(power-rollback power-convert-1 power-convert-2 power-recover) ;;
         *) declare -F "part_$part" >/dev/null || cannot "there is no part $part" && parts+=("$part") ;;
     esac
 done
