@@ -35,7 +35,7 @@ leaves() {
 
 # small: how many files of 1000 bytes can be made and synced, up to 1000
 small() {
-    mkdir /mnt/small
+    mkdir /mnt/small 2>/dev/null
     perl -e 'my $i = 0;
         while ($i < 1000) { open my $out, ">", "/mnt/small/$i" or last; print {$out} "x" x 1000 or last; close $out or last; $i++; `sync` if $i % 250 == 0 }
         print $i' 2>/dev/null
@@ -57,7 +57,7 @@ tried() {
         echo "# tight: $1 MiB beside: no mount for writing ($(dmesg -c | sed -n 's/.*\(BTRFS.*-28\).*/\1/p' | tail -n 1))"
         return 1
     fi
-    line="a file of $(large) KiB, removed $(yes_no rm /mnt/large), $(small) small files, removed $(yes_no rm -r /mnt/small)"
+    line="a file of $(large) KiB, removed $(yes_no rm /mnt/large), $(small) small files, removed $(yes_no rm -rf /mnt/small)"
     line="$line, the saved image removed $(yes_no btrfs subvolume delete -c /mnt/reiserfs_saved), files of before removed $(yes_no sh -c 'rm /mnt/file-100* && sync')"
     btrfs subvolume sync /mnt >/dev/null
     echo "# tight: $1 MiB beside: mounts for writing, $line, then a file of $(large) KiB"
