@@ -480,10 +480,15 @@ samples() {
 # shellcheck source=tests/outside/fuzz.sh
 . "$top/tests/outside/fuzz.sh"
 
+# shellcheck source=tests/outside/damaged.sh
+. "$top/tests/outside/damaged.sh"
+
 # ---- documents, manual page, package ---------------------------------------------------------------------------------
 
 # shellcheck source=tests/outside/users.sh
 . "$top/tests/outside/users.sh"
+# shellcheck source=tests/outside/terminal.sh
+. "$top/tests/outside/terminal.sh"
 
 # ---- all -------------------------------------------------------------------------------------------------------------
 
@@ -497,6 +502,7 @@ documents
 manual_page
 package
 released
+damaged_volumes
 if need mkfs.btrfs btrfs-progs; then btrfs_volumes; else
     lacks 'Btrfs volumes' mkfs.btrfs
 fi
@@ -506,6 +512,8 @@ if need mkfs.reiserfs reiserfsprogs && need debugreiserfs reiserfsprogs; then
     linux_volumes
     damaged_trees
     loop_device
+    devices_in_use
+    terminals
     maker_statuses
     samples
     rare_volumes

@@ -4,6 +4,11 @@
 links   a file with 65,536 names in one directory
 names   a directory with 100,000 empty files
 sparse  a file of 2^44 bytes of which only the last block is there
+large   a file of 2 GiB, whose blocks are holes of FILE
+removed a file that was removed and is still to be cleaned up
+taken   a directory of the root whose name a conversion needs
+long    a file whose name has 256 bytes
+crowd   32 files whose names have one hash of Btrfs
 """
 import struct
 import sys
@@ -12,6 +17,7 @@ from pathlib import Path
 sys.path.insert(0, str(Path(__file__).resolve().parent.parent / "bench"))
 from files_volume import (  # noqa: E402
     BLOCK,
+    DIRECT,
     INDIRECT,
     JOURNAL_FIRST,
     JOURNAL_SIZE,
@@ -23,6 +29,7 @@ from files_volume import (  # noqa: E402
     stat,
     writer_of,
 )
+from hash_names import names_of_one_hash  # noqa: E402
 
 ROOT, FOLDER = (1, 2), (2, 3)
 FIRST_FILE = 4
@@ -58,13 +65,57 @@ def sparse(leaves):
     return 1
 
 
+def large(leaves):
+    """A pointer to each of 2^19 blocks, a leaf full in an item."""
+    target, blocks, most = (FOLDER[1], FIRST_FILE), 1 << 19, 1000
+    add_directory(leaves, FOLDER, ROOT, 2, [(target, b"large")])
+    leaves.add(target, STAT, 0, 0xFFFF, stat(0o100644, 1, blocks * BLOCK, blocks * 8))
+    for first in range(0, blocks, most):
+        places = [next(leaves.numbers) for _ in range(min(most, blocks - first))]
+        leaves.add(target, INDIRECT, first * BLOCK + 1, 0, struct.pack(f"<{len(places)}I", *places))
+    return 1
+
+
+def removed(leaves):
+    """An empty directory, and the item that tells of a file to be removed, behind all others."""
+    add_directory(leaves, FOLDER, ROOT, 2, [])
+    leaves.add((0xFFFFFFFF, FIRST_FILE), DIRECT, BLOCK + 1, 0xFFFF, struct.pack("<I", FOLDER[1]))
+    return 1
+
+
+def taken(leaves):
+    """An empty directory."""
+    add_directory(leaves, FOLDER, ROOT, 2, [])
+    return 0
+
+
+def files(leaves, listed):
+    """Empty files with these names."""
+    targets = [(FOLDER[1], FIRST_FILE + i) for i in range(len(listed))]
+    add_directory(leaves, FOLDER, ROOT, 2, list(zip(targets, listed)))
+    for target in targets:
+        leaves.add(target, STAT, 0, 0xFFFF, stat(0o100644, 1, 0, 0))
+    return len(targets)
+
+
+def long(leaves):
+    return files(leaves, [b"x" * 256])
+
+
+def crowd(leaves):
+    return files(leaves, names_of_one_hash(7, 32, length=250))
+
+
+KINDS = {it.__name__: it for it in (links, names, sparse, large, removed, taken, long, crowd)}
+
+
 def main():
     kind, path = sys.argv[1:]
     numbers = blocks_from(JOURNAL_FIRST + JOURNAL_SIZE + 1)
     with open(path, "wb") as out:
         leaves = Leaves(writer_of(out), numbers)
-        add_directory(leaves, ROOT, (0, 1), 3, [(FOLDER, b"folder")])
-        count = {"links": links, "names": names, "sparse": sparse}[kind](leaves)
+        add_directory(leaves, ROOT, (0, 1), 3, [(FOLDER, b"reiserfs_saved" if kind == "taken" else b"folder")])
+        count = KINDS[kind](leaves)
         end_volume(out, leaves, FIRST_FILE + count, FREE)
 
 

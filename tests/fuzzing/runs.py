@@ -5,7 +5,7 @@ import subprocess
 
 from base import PAGE
 
-REFUSED = re.compile(rb"refused \d+ [a-z]+( \d+)*\n")
+REFUSED = re.compile(rb"refused (19 image )?\d+ [a-z]+( \d+)*\n")
 NO_SPACE = re.compile(rb"refused 15 space \d+ \d+ \d+ \d+\n")
 # Where the superblock of Btrfs has copies.
 COPIES = {16384, 1 << 26}

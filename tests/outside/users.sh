@@ -156,13 +156,14 @@ documents() {
     same 'all refusals are found' "$(has_rollback && echo 19 || echo 15)" "$(refusal_words | wc -l)"
     while read -r refusal; do
         same "docs/REFUSALS.md has $refusal" yes "$(grep -q "^### \`$refusal[ \`]" "$top/docs/REFUSALS.md" && echo yes)"
-        same "docs/reiserconv.8 has $refusal" yes "$(grep -qx "\.It $refusal" "$top/docs/reiserconv.8" && echo yes)"
+        same "docs/reiserconv.8 has $refusal" yes "$(grep -q "^\.It $refusal\( \|$\)" "$top/docs/reiserconv.8" && echo yes)"
     done < <(refusal_words)
     for file in "$top"/README.md "$top"/docs/*.md; do links "$file"; done
     if need python3 python3; then
         same 'docs/PROVED.md names what stands in the sources' 0 "$("$top/tests/proved.py" >proved.txt; echo $?)"
+        same 'what is said of each line is that of docs/refusals.table' '' "$("$top/docs/refusals.py" --check)"
     else
-        lacks 'the names in docs/PROVED.md' python3
+        lacks 'the names in docs/PROVED.md, and docs/refusals.table' python3
     fi
 }
 

@@ -29,6 +29,7 @@ use Rattle.conversion.specs.Making.{IsMaking, Making}
 use Rattle.conversion.specs.Source.{made_from}
 use Rattle.conversion.specs.Standing.{file_tree_items, image_tree_items}
 use Rattle.conversion.specs.declared.trees.VolumeTrees.{VolumeTrees}
+use Rattle.converted_laws.proofs.SavedWay.{HasSavedEntry, pointer_by, saved_there}
 use Rattle.converted_laws.specs.Laws.{IsReadableWithTrees}
 use Rattle.converted_laws.specs.Opened.{ReadsTree}
 use Rattle.converted_laws.proofs.RootKept.{saved_found}
@@ -50,53 +51,6 @@ use Rattle.row_laws.specs.Names.{NamesKeepRules}
 use Rattle.saved_volume.specs.Using.{file_pointer, file_trees, named_by, numbered, tree_if}
 use Rattle.space_items.specs.declared.node.TreeNode.{TreeNode}
 use Rattle.tree_writer.specs.Trees.{root_pointer}
-
--- the root directory's entry for the tree of the saved image
-record HasSavedEntry (items : List TreeItem) : Type 0 where
-  entry : Naming
-  among : Contains (namings items) entry
-  dir : entry.dir ≡ 256
-  name : entry.name ≡ codes "reiserfs_saved"
-  location : entry.location ≡ make_key 256 132 (2 ^ 64 - 1)
-
-module _ (image : Image) (m : Making) (made : IsMaking image m) (entries : EntriesAreThere) (items : List TreeItem) (are : map bare_item items ≡ file_tree_items image m) where
-  abbrev s : Source
-  s = made_from m.volume image m.options m.pieces
-
-  root_kind : kind_in s root ≡ Directory
-  root_kind =
-      let is : IsDirectory (volume_items image) root = made.has_pieces.accepted.objects.root_directory in
-      let stat : stat_in s root ≡ is.stat = ap (λ (o : Option ObjectStat). unwrap_or o no_stat) is.has_stat in
-      ap kind_by stat ∙ ap (λ (o : Option Kind). unwrap_or o File) is.known
-
-  -- the last entry of the root directory
-  abbrev last : Indexed
-  last = (next_index s.links root, saved_entry)
-
-  last_in : Contains (indexed_in (kind_in s) s.keys s.links root) last
-  last_in =
-      Contains-append_right (map (λ e. (e.index, entry_to (inode_of s.keys e.link.target) (kind_in s e.link.target) e.link.name)) (names_in s.links root))
-      (if same_key root root then (next_index s.links root, saved_entry) ∷ [] else []) last (0, omega arith, refl)
-
-  saved_there : HasSavedEntry items
-  saved_there =
-      let own : Naming = naming_by (number_of s root) last in
-      let first : Contains (map (naming_by (number_of s root)) (indexed_in (kind_in s) s.keys s.links root)) own = in_map (naming_by (number_of s root)) (indexed_in (kind_in s) s.keys s.links root) last last_in in
-      let of_root : Contains (namings_by s root (kind_in s root)) own = subst (λ (k : Kind). Contains (namings_by s root k) own) (sym root_kind) first in
-      let all : Contains (flat_map (λ key. namings_by s key (kind_in s key)) (by_inode s.keys)) own = Contains-append_left (namings_by s root (kind_in s root)) _ own of_root in
-      let told : Contains (map unplaced (namings items)) own = subst (λ (l : List Naming). Contains l own) (sym (entries m.volume image m.options m.plan m.pieces items made.has_pieces are)) all in
-      let at = from_map unplaced (namings items) own told in
-      record {
-        entry = at.0;
-        among = at.1;
-        dir = ap (λ (n : Naming). n.dir) at.2 ∙ root_first s.keys root refl;
-        name = ap (λ (n : Naming). n.name) at.2;
-        location = ap (λ (n : Naming). n.location) at.2;
-      }
-
--- a tree's root by its root item
-pointer_by : (image : Image) (s : Super) (ranges : List MapRange) (number : ℕ) (at : Root) (items : List Item) → ReadsTree image s ranges number at items → pointer_in (root_item number (roots_on image s ranges)) ≡ Some (root_pointer at)
-pointer_by image s ranges number at items tree = ap pointer_in tree.has_item ∙ tree.leads
 
 module _ (entries : EntriesAreThere) (names : NamesKeepRules) (image other : Image) (m : Making) (r : VolumeTrees) (nodes : List TreeNode) (made : IsMaking image m) (is : IsReadableWithTrees image other m r nodes) where
   abbrev t : Super

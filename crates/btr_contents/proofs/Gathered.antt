@@ -90,24 +90,24 @@ none_some o x none is = no_some (none ∙ is)
     no_some : None ≡ Some x → ⊥
     no_some e = cc e
 
-no_number : (n : ℕ) (i : TreeItem) → (i.key.objectid == n) ≡ false → is_extent_of n i ≡ false
+pub no_number : (n : ℕ) (i : TreeItem) → (i.key.objectid == n) ≡ false → is_extent_of n i ≡ false
 no_number n i is = ap (λ (t : Bool). t && (i.key.kind == 108)) is
 
-module _ (plan : ℕ → Option Wanted) (image : Image) (ranges : List MapRange) where
-  -- the extents of a wanted inode, with an item that is of none
-  passed : (given : List TreeItem) (i : TreeItem) (n : ℕ) (w : Wanted) → None ≡ item_wanted plan i.key → plan n ≡ Some w → extents_of (given ++ i ∷ []) n ≡ extents_of given n
-  passed given i n w none planned = extents_of-other given i n (by (i.key.kind == 108) (i.key.objectid == n) refl refl)
-    where
-      by : (k t : Bool) → (i.key.kind == 108) ≡ k → (i.key.objectid == n) ≡ t → is_extent_of n i ≡ false
-      by k false kind number = no_number n i number
-      by false true kind number = ap (λ (t : Bool). t && (i.key.kind == 108)) number ∙ kind
-      by true true kind number =
-          absurd (none_some (plan n) w (none ∙ (ap (λ (t : Bool). if t then plan i.key.objectid else None) kind ∙ ap plan (eqb-true i.key.objectid n number))) planned)
+-- the extents of a wanted inode, with an item that is of none
+pub passed : (plan : ℕ → Option Wanted) (given : List TreeItem) (i : TreeItem) (n : ℕ) (w : Wanted) → None ≡ item_wanted plan i.key → plan n ≡ Some w → extents_of (given ++ i ∷ []) n ≡ extents_of given n
+passed plan given i n w none planned = extents_of-other given i n (by (i.key.kind == 108) (i.key.objectid == n) refl refl)
+  where
+    by : (k t : Bool) → (i.key.kind == 108) ≡ k → (i.key.objectid == n) ≡ t → is_extent_of n i ≡ false
+    by k false kind number = no_number n i number
+    by false true kind number = ap (λ (t : Bool). t && (i.key.kind == 108)) number ∙ kind
+    by true true kind number =
+        absurd (none_some (plan n) w (none ∙ (ap (λ (t : Bool). if t then plan i.key.objectid else None) kind ∙ ap plan (eqb-true i.key.objectid n number))) planned)
 
+module _ (plan : ℕ → Option Wanted) (image : Image) (ranges : List MapRange) where
   pub pass_over : (given : List TreeItem) (i : TreeItem) (top : ℕ) (told : ℕ → Option Content) (hand : Option Hand) → None ≡ item_wanted plan i.key → top ≤ i.key.objectid → HasGathered plan image ranges given top told hand
       → HasGathered plan image ranges (given ++ i ∷ []) i.key.objectid told hand
   pass_over given i top told hand none le has = record {
-    others = λ n w planned other. tells_same image ranges given (given ++ i ∷ []) n w (told n) (passed given i n w none planned) (has.others n w planned other);
+    others = λ n w planned other. tells_same image ranges given (given ++ i ∷ []) n w (told n) (passed plan given i n w none planned) (has.others n w planned other);
     at = at hand has.at;
   }
     where
@@ -117,7 +117,7 @@ module _ (plan : ℕ → Option Wanted) (image : Image) (ranges : List MapRange)
         record {
           planned = held.planned;
           size = held.size;
-          marks = subst (λ (z : List TreeItem). MarksExtents h.marker image ranges z) (sym (passed given i h.ino h.wanted none held.planned)) held.marks;
+          marks = subst (λ (z : List TreeItem). MarksExtents h.marker image ranges z) (sym (passed plan given i h.ino h.wanted none held.planned)) held.marks;
         },
         before,
         omega (arith, upto, le),

@@ -1,2 +1,3 @@
+pub mod SoundExtents
 pub mod Gathered
 pub mod Orders

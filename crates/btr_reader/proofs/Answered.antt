@@ -22,13 +22,14 @@ use Rattle.btr_names.specs.declared.table.Names.{Names}
 use Rattle.btr_names.specs.Refuses.{RefusesNames}
 use Rattle.btr_names.specs.Steps.{AreNamed, links_of}
 use Rattle.btr_names.specs.TreeLinks.{AreTreeLinks}
+use Rattle.btr_contents.specs.Checked.{AreSound}
 use Rattle.btr_contents.specs.Contents.{wanted_at, RefusesContents}
 use Rattle.btr_reader.specs.Made.{IsChecked, IsMemory, RefusesChecked, RefusesRows, RefusesTree}
 use Rattle.btr_reader.specs.Opening.{tree_of}
 use Rattle.btr_reader.specs.Reading.{FindsTree}
 use Rattle.btr_reader.specs.Roots.{root_item, pointer_of}
-use Rattle.btr_reader.specs.Rows.{AreRows, AreBtrfsRows, BreaksExtents, roots_on, IsTreeRefusal, no_root_item, bad_root_item, bad_tree, bad_names, bad_extents}
-use Rattle.btr_reader.proofs.Bridging.{breaks_named, none_among}
+use Rattle.btr_reader.specs.Rows.{AreRows, AreBtrfsRows, BreaksExtents, CanBeRead, roots_on, IsTreeRefusal, no_root_item, bad_root_item, bad_tree, bad_names, bad_extents}
+use Rattle.btr_reader.proofs.Bridging.{breaks_named, extents_right, none_among}
 
 some_none : {X : Type 0} (x : X) (o : Option X) → o ≡ Some x → o ≡ None → ⊥
 some_none x o some none = cc
@@ -72,6 +73,11 @@ pub without_log : (image : Image) (s : Super) (ranges : List MapRange) (result :
     → MatchResult result (λ rows. (s.log_root ≡ 0) × ((whole : List WholeRow) × AreBtrfsRows image s ranges whole × (rows ≡ map row_of whole))) (RefusesRows image s ranges)
 without_log image s ranges (Ok rows) none h = (none, h)
 without_log image s ranges (Err e) none h = tree_or_log image s ranges e none h
+
+pub checked_without_log : {X : Type 0} (image : Image) (s : Super) (ranges : List MapRange) (result : Result X BtrAnswer) → s.log_root ≡ 0 → MatchResult result (λ _. CanBeRead image s ranges) (RefusesTree image s ranges)
+    → MatchResult result (λ _. (s.log_root ≡ 0) × CanBeRead image s ranges) (RefusesRows image s ranges)
+checked_without_log image s ranges (Ok x) none h = (none, h)
+checked_without_log image s ranges (Err e) none h = tree_or_log image s ranges e none h
 
 module _ (image : Image) (s : Super) (ranges : List MapRange) (i : TreeItem) (p : Pointer) (there : root_item 5 (roots_on image s ranges) ≡ Some i) (at : pointer_of i.body ≡ Some p) where
   abbrev items : List TreeItem
@@ -124,3 +130,11 @@ module _ (image : Image) (s : Super) (ranges : List MapRange) (i : TreeItem) (p 
         → MatchResult result (λ rows. (whole : List WholeRow) × AreBtrfsRows image s ranges whole × (rows ≡ map row_of whole)) (RefusesTree image s ranges)
     rows_answered (Ok rows) (whole, are, made) = (whole, record { readable = readable; item = i; has_item = there; at = p; has_root = at; rows_are = are }, made)
     rows_answered (Err e) h = of_memory image s ranges e h
+
+  -- what a check of the contents answers
+  pub tree_checked : {X : Type 0} (slice : List MapRange) (t : Tree) (same : slice ≡ ranges) (is : t ≡ tree_of s 5 p) (has : NodeId → Bool) (result : Result X BtrAnswer) → wrong image ranges (tree_of s 5 p) ≡ [] → KeepsNames roots items p.address
+      → AreNamed items has → OnOk result (AreSound (wanted_at has (found image slice t)) slice (found image slice t)) → IfErr result (RefusesContents (wanted_at has (found image slice t)) image slice t)
+      → MatchResult result (λ _. CanBeRead image s ranges) (RefusesTree image s ranges)
+  tree_checked slice t same is has (Ok x) sound keeps named right refused =
+      readable sound keeps (extents_right roots items p.address keeps has named ranges (here slice t same is (λ r x. AreSound (wanted_at has (found image r x)) r (found image r x)) right))
+  tree_checked slice t same is has (Err e) sound keeps named right refused = contents_refused slice t same is has e named refused

@@ -18,6 +18,7 @@ use Rattle.btr_names.specs.Rules.{KeepsNames}
 use Rattle.btr_names.specs.Steps.{inode_node, AreNamed}
 use Rattle.fs_rows.specs.declared.content.Content.{Content}
 use Rattle.btr_contents.specs.declared.wanted.Wanted.{Wanted}
+use Rattle.btr_contents.specs.Checked.{AreSound}
 use Rattle.btr_contents.specs.Contents as kept
 use Rattle.btr_contents.specs.Contents.{wanted_by, wanted_inode, wanted_at, TellsContent, HasContents}
 use Rattle.btr_reader.specs.Rows.{BreaksExtents}
@@ -88,10 +89,7 @@ module _ (has_root : ℕ → Bool) (items : List TreeItem) (root_at : ℕ) (keep
       let link : Wanted = record { link = true; size = own.size } in
       ap (option_and_then (wanted_by own.size)) kind ∙ ap (λ (b : Bool). if b then Some link else None) (short ino own is on kind)
 
-  module _ (image : Image) (ranges : List MapRange) (told : ℕ → Option Content) (contents : HasContents (wanted_at has items) image ranges items told) where
-    sound_of : (ino : ℕ) (w : Wanted) → wanted_at has items ino ≡ Some w → extents_refusals ranges 0 0 (extents_of items ino) ≡ []
-    sound_of ino w planned = told_sound image ranges items ino w (told ino) (contents ino w planned)
-
+  module _ (ranges : List MapRange) (sound_of : AreSound (wanted_at has items) ranges items) where
     sound_by : (ino : ℕ) → IsNamed items ino → HasKind items ino File ⊎ HasKind items ino Symlink → extents_refusals ranges 0 0 (extents_of items ino) ≡ []
     sound_by ino is (inl (own, on, kind)) =
         let w : Wanted = record { link = false; size = own.size } in
@@ -100,5 +98,8 @@ module _ (has_root : ℕ → Bool) (items : List TreeItem) (root_at : ℕ) (keep
         let w : Wanted = record { link = true; size = own.size } in
         sound_of ino w (wanted_of ino own (Some w) is on (link_wanted ino own is on kind))
 
-    pub extents_sound : (r : BtrRefusal) → BreaksExtents ranges items r → ⊥
-    extents_sound r b = none_among (extents_refusals ranges 0 0 (extents_of items b.ino)) r (sound_by b.ino b.named b.kind) b.among
+    pub extents_right : (r : BtrRefusal) → BreaksExtents ranges items r → ⊥
+    extents_right r b = none_among (extents_refusals ranges 0 0 (extents_of items b.ino)) r (sound_by b.ino b.named b.kind) b.among
+
+  pub extents_sound : (image : Image) (ranges : List MapRange) (told : ℕ → Option Content) → HasContents (wanted_at has items) image ranges items told → (r : BtrRefusal) → BreaksExtents ranges items r → ⊥
+  extents_sound image ranges told contents = extents_right ranges (λ ino w planned. told_sound image ranges items ino w (told ino) (contents ino w planned))

@@ -16,7 +16,7 @@ use Rattle.btr_reader.specs.declared.volume.Btrfs.{Btrfs}
 use Rattle.btr_reader.specs.Made.{RefusesRows}
 use Rattle.btr_reader.specs.Opening.{super_on, chunk_map, opening_refusals, IsOpened, IsAmong, IsSuperAnswer}
 use Rattle.btr_reader.specs.Parts.{own_super, own_map, log_of, log_tree, Tree, IsBtrfsRefusal, HasBtrfsRows, IsRowsRefusal, has_log, unreadable, ListsBtrfs, RefusesBtrfsRows}
-use Rattle.btr_reader.specs.Rows.{AreBtrfsRows, IsTreeRefusal}
+use Rattle.btr_reader.specs.Rows.{AreBtrfsRows, CanBeRead, IsTreeRefusal}
 use Rattle.btr_reader.specs.Volume.{IsVolumeOn}
 use Rattle.btr_reader.proofs.Opens.{super_refused}
 
@@ -112,6 +112,15 @@ rows_listed image volume (Ok rows) on none (log, told) = (
   (told.0, of_disk image volume.sup volume.ranges.items (λ t m. AreBtrfsRows image t m told.0) on.opened told.1, told.2),
 )
 rows_listed image volume (Err e) on none refuses = tree_refuses image volume.sup volume.ranges.items e none on.opened refuses
+
+-- whether the rows of such a volume can be read
+pub rows_checked : {X : Type 0} (image : Image) (volume : Btrfs) (result : Result X BtrAnswer) → IsVolumeOn image volume → volume.sup.log_root ≡ 0
+    → MatchResult result (λ _. (volume.sup.log_root ≡ 0) × CanBeRead image volume.sup volume.ranges.items) (RefusesRows image volume.sup volume.ranges.items) → MatchResult result (λ _. HasBtrfsRows image) (RefusesBtrfsRows image)
+rows_checked image volume (Ok x) on none told = record {
+  log = no_log image volume.sup on.opened.super none;
+  tree = tree_readable image volume.sup volume.ranges.items on.opened told.1;
+}
+rows_checked image volume (Err e) on none refuses = tree_refuses image volume.sup volume.ranges.items e none on.opened refuses
 
 -- the answer of a superblock that is read from block 16
 pub super_answer : (image : Image) (block : List ℕ) (device : ℕ) (e : BtrAnswer) → block ≡ block_at image 16 → device ≡ length image → IsSuperAnswer (super_of block 16 device) e → IsSuperAnswer (super_on image) e

@@ -125,6 +125,10 @@ pub data IsTreeRefusal (image : Image) (s : Super) (ranges : List MapRange) (r :
   bad_names : (i : TreeItem) (p : Pointer) → root_item 5 (roots_on image s ranges) ≡ Some i → pointer_of i.body ≡ Some p → BreaksNames (has_root (roots_on image s ranges)) (found image ranges (tree_of s 5 p)) p.address r → IsTreeRefusal image s ranges r
   bad_extents : (i : TreeItem) (p : Pointer) → root_item 5 (roots_on image s ranges) ≡ Some i → pointer_of i.body ≡ Some p → BreaksExtents ranges (found image ranges (tree_of s 5 p)) r → IsTreeRefusal image s ranges r
 
+-- Nothing is wrong with the file tree, so that its rows can be read.
+abbrev pub CanBeRead : Image → Super → List MapRange → Type 0
+CanBeRead image s ranges = (r : BtrRefusal) → ¬ IsTreeRefusal image s ranges r
+
 -- The rows of a volume that can be opened, and whose file tree has no refusal.
 pub record AreBtrfsRows (image : Image) (s : Super) (ranges : List MapRange) (rows : List WholeRow) : Type 0 where
   pub readable : (r : BtrRefusal) → ¬ IsTreeRefusal image s ranges r

@@ -2,6 +2,7 @@
 #![tactic(auto)]
 
 mod bootstrap;
+mod checks;
 mod chunk;
 mod chunk_tree;
 mod entries;

@@ -68,7 +68,7 @@ impl Btrfs {
     }
 
     /// The file tree.
-    fn file_tree(&self) -> Result<Tree, BtrAnswer>
+    pub(crate) fn file_tree(&self) -> Result<Tree, BtrAnswer>
         ensures walkable { IfOk result IsWalkable }
         ensures cause { IfErr result IsNoFault }
         ensures finds { (image : Image) → HasRoots self.now.roots (roots_on image self.now.sup self.now.ranges.items) →
@@ -83,7 +83,12 @@ impl Btrfs {
 
     /// The inodes that are named in a tree with these names, whose root node has this address, where all the rules of names
     /// are kept.
-    fn named(&self, alloc: Global, names: &Names, root: u64) -> Result<IndexSet<NodeId>, BtrAnswer>
+    pub(crate) fn named(
+        &self,
+        alloc: Global,
+        names: &Names,
+        root: u64,
+    ) -> Result<IndexSet<NodeId>, BtrAnswer>
         ensures cause { IfErr result IsNoFault }
         ensures named { (image : Image) → HasRoots self.now.roots (roots_on image self.now.sup self.now.ranges.items) →
             (items : List TreeItem) → HasNoted names.now items →

@@ -10,6 +10,7 @@ mod note;
 mod tree;
 mod walker;
 
+pub use blocks::read_node;
 pub use laws::{children_give_items, leaves_give_items, nodes_decide, subtrees_are_trees};
 pub use map::{MapRange, is_mapped, place};
 pub use note::{Notes, note_items};

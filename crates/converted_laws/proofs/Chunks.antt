@@ -141,7 +141,7 @@ same_list : (xs : List ℕ) → pointwise nat_eq xs xs ≡ true
 same_list [] = refl
 same_list (x ∷ xs) = and_from (eqb x x) (pointwise nat_eq xs xs) (eq-eqb x x refl) (same_list xs)
 
-same_itself : (a : ChunkAt) → same_chunk a a ≡ true
+pub same_itself : (a : ChunkAt) → same_chunk a a ≡ true
 same_itself a =
     let b : ChunkBody = a.chunk in
     and_from _ _ (eq-eqb a.logical a.logical refl)

@@ -55,12 +55,12 @@ use Rattle.converted_laws.proofs.RootKept.{root_sound, saved_found}
 use Rattle.converted_laws.proofs.Saved.{has_image}
 
 -- the root directory's entry for the tree of the saved image
-record HasSavedEntry (items : List TreeItem) : Type 0 where
-  entry : Naming
-  among : Contains (namings items) entry
-  dir : entry.dir ≡ 256
-  name : entry.name ≡ codes "reiserfs_saved"
-  location : entry.location ≡ make_key 256 132 (2 ^ 64 - 1)
+pub record HasSavedEntry (items : List TreeItem) : Type 0 where
+  pub entry : Naming
+  pub among : Contains (namings items) entry
+  pub dir : entry.dir ≡ 256
+  pub name : entry.name ≡ codes "reiserfs_saved"
+  pub location : entry.location ≡ make_key 256 132 (2 ^ 64 - 1)
 
 module _ (image : Image) (m : Making) (made : IsMaking image m) (entries : EntriesAreThere) (items : List TreeItem) (are : map bare_item items ≡ file_tree_items image m) where
   abbrev s : Source
@@ -81,7 +81,7 @@ module _ (image : Image) (m : Making) (made : IsMaking image m) (entries : Entri
       Contains-append_right (map (λ e. (e.index, entry_to (inode_of s.keys e.link.target) (kind_in s e.link.target) e.link.name)) (names_in s.links root))
       (if same_key root root then (next_index s.links root, saved_entry) ∷ [] else []) last (0, omega arith, refl)
 
-  saved_there : HasSavedEntry items
+  pub saved_there : HasSavedEntry items
   saved_there =
       let own : Naming = naming_by (number_of s root) last in
       let first : Contains (map (naming_by (number_of s root)) (indexed_in (kind_in s) s.keys s.links root)) own = in_map (naming_by (number_of s root)) (indexed_in (kind_in s) s.keys s.links root) last last_in in
@@ -105,7 +105,7 @@ module _ (image : Image) (s : Super) (ranges : List MapRange) where
   below_by number next at items tree =
       ap (after_root next) tree.has_item ∙ ap (after_pointer next tree.item.leaf) tree.leads
 
-  pointer_by : (number : ℕ) (at : Root) (items : List Item) → ReadsTree image s ranges number at items → pointer_in (root_item number (roots_on image s ranges)) ≡ Some (root_pointer at)
+  pub pointer_by : (number : ℕ) (at : Root) (items : List Item) → ReadsTree image s ranges number at items → pointer_in (root_item number (roots_on image s ranges)) ≡ Some (root_pointer at)
   pointer_by number at items tree = ap pointer_in tree.has_item ∙ tree.leads
 
   entries_none : (number : ℕ) (at : Root) (items : List Item) → ReadsTree image s ranges number at items → root_refusals (found image ranges (tree_of s number (root_pointer at))) ≡ [] → entry_refusals image ranges (tree_of s number (root_pointer at)) ≡ []

@@ -22,15 +22,12 @@ impl DeviceNumber {
         })
     }
 
-    /// The number of the block device at a path; what is not there has none.
-    pub fn at<R: Files>(files: &R, path: &str) -> io::Result<Option<DeviceNumber>> {
-        match fs::metadata(files, path) {
-            Ok(status) if status.file_type().is_block_device() => {
-                Ok(Some(DeviceNumber::decoded(status.rdev())))
-            }
-            Ok(_) => Ok(None),
-            Err(e) if e.kind() == ErrorKind::NotFound => Ok(None),
-            Err(e) => Err(e),
+    /// The number of a file, if that is a block device.
+    pub fn of(status: &fs::Metadata) -> Option<DeviceNumber> {
+        if status.file_type().is_block_device() {
+            Some(DeviceNumber::decoded(status.rdev()))
+        } else {
+            None
         }
     }
 
@@ -49,7 +46,10 @@ impl DeviceNumber {
 }
 
 /// The number in the file `dev` of a folder, if there is one.
-fn number_in<R: Files + AllocGlobal>(files: &R, folder: &str) -> io::Result<Option<DeviceNumber>> {
+pub fn number_in<R: Files + AllocGlobal>(
+    files: &R,
+    folder: &str,
+) -> io::Result<Option<DeviceNumber>> {
     let path = format!(in files.alloc(); "{}/dev", folder)?;
     match fs::read_to_string(files, path.as_str()) {
         Ok(text) => Ok(DeviceNumber::read(text.trim_end().as_bytes())),

@@ -3,14 +3,17 @@ ghost use Rattle.outside.specs.Fault.{Rose};
 ghost use Rattle.outside.specs.History.{nothing};
 ghost use Rattle.host_edge.specs.FileDisk.{Kept, opened_for, length_of, kept_refl, kept_trans, closed_length, tells_nothing};
 
-use crate::devices::{DeviceNumber, family, is_held};
-use crate::mounts::is_busy;
+use crate::in_use::Use;
 use crate::opened::Opened;
+use crate::place::Place;
+use crate::status_line::StatusLine;
+use crate::trouble::{Call, Cause, Trouble};
+use crate::watch::Watch;
 use outside::{Access, BlockSource, Disk, Fault};
+use std::fs;
 use std::fs::{File, Files, OpenOptions};
-use std::io::ErrorKind;
 use std::os::unix::fs::FileTypeExt;
-use std::{fs, io};
+use std::time::Clock;
 use vol_block::{Block, BlockNo};
 
 /// A file or a device as a disk, read and written a whole block at a time at its place.
@@ -20,69 +23,78 @@ use vol_block::{Block, BlockNo};
 ///
 /// Only a plain file or a block device is opened. For writing it is not opened where it is in use: where it is mounted,
 /// swapped to, or below another device, where that is true of one of its partitions or of the device that it is a
-/// partition of, or where another program holds a lock on it. Each of these counts as a failure too.
+/// partition of, where it is the file of a loop device, or where another program holds a lock on it. Each of these counts as a
+/// failure too. Why the last failure came is kept.
+///
+/// On a terminal it shows how much was read and written.
 #[derive(Drop)]
-pub struct FileDisk<R: Files<File = File> + AllocGlobal + Clone + Drop> {
+pub struct FileDisk<'a, R: Files<File = File> + AllocGlobal + Clock + Clone + Drop> {
     files: R,
     opened: Option<Opened>,
     faults: u64,
+    trouble: Option<Trouble>,
+    watch: Watch<'a>,
 }
 
-impl<R: Files<File = File> + AllocGlobal + Clone + Drop> FileDisk<R> {
-    /// A disk that is not open. It will find its file by these files.
-    pub fn new(files: R) -> Self
+impl<'a, R: Files<File = File> + AllocGlobal + Clock + Clone + Drop> FileDisk<'a, R> {
+    /// A disk that is not open. It will find its file by these files, and show on this line what it does.
+    pub fn new(files: R, line: &'a StatusLine) -> Self
         ensures { opened_for result ≡ None }
     {
         FileDisk {
             files,
             opened: None,
             faults: 0,
+            trouble: None,
+            watch: Watch::new(line),
         }
     }
 
-    fn open_file(&self, path: &str, access: Access) -> io::Result<Opened>
+    /// Why the last failure came.
+    pub fn trouble(&self) -> Option<Trouble> {
+        self.trouble
+    }
+
+    /// How many blocks were to be written, whether that succeeded or not.
+    pub fn written(&self) -> u64 {
+        self.watch.written()
+    }
+
+    fn open_file(&self, path: &str, access: Access) -> Result<Opened, Cause>
         ensures { IfOk result (λ opened. opened.access ≡ access) }
     {
         let kind = fs::metadata(&self.files, path)?.file_type();
         if !kind.is_file() && !kind.is_block_device() {
-            return Err(io::Error::from(ErrorKind::InvalidInput));
+            return Err(Cause::Kind);
         }
-        if access == Access::Write && self.is_in_use(path)? {
-            return Err(io::Error::from(ErrorKind::ResourceBusy));
+        if access == Access::Write {
+            if let Some(found) = Use::of(&self.files, &Place::new(&self.files, path)?)? {
+                return Err(Cause::InUse(found));
+            }
         }
         let file = OpenOptions::new()
             .read(true)
             .write(access == Access::Write)
             .open(&self.files, path)?;
         if access == Access::Write && file.try_lock().is_err() {
-            return Err(io::Error::from(ErrorKind::ResourceBusy));
+            return Err(Cause::InUse(Use::Locked));
         }
-        Opened::new(file, access)
+        Ok(Opened::new(file, access)?)
     }
 
-    /// Whether what stands at a path is in use: mounted, swapped to, or below another device; of a device also its
-    /// partitions and the device that it is a partition of.
-    fn is_in_use(&self, path: &str) -> io::Result<bool> {
-        let here = self.files.canonicalize(self.files.alloc(), path)?;
-        let devices = match DeviceNumber::at(&self.files, path)? {
-            Some(device) => family(&self.files, device)?,
-            None => Vec::new(self.files.alloc()),
-        };
-        Ok(is_held(&self.files, &devices)? || is_busy(&self.files, &devices, here.as_str())?)
-    }
-
-    /// Counts a failure.
-    fn fail(&mut self) -> Fault
+    /// Counts a failure, and keeps why it came.
+    fn fail(&mut self, call: Call, cause: Cause) -> Fault
         ensures rose { Rose self.old.faults self.new.faults }
         ensures later { self.old.faults ≤ self.new.faults }
         ensures opened { self.new.opened ≡ self.old.opened }
     {
+        self.trouble = Some(Trouble { call, cause });
         self.faults = self.faults.saturating_add(1);
         Fault
     }
 }
 
-impl<R: Files<File = File> + AllocGlobal + Clone + Drop> BlockSource for FileDisk<R> {
+impl<R: Files<File = File> + AllocGlobal + Clock + Clone + Drop> BlockSource for FileDisk<'_, R> {
     ghost tells = { false };
 
     ghost blocks = { λ d. [] };
@@ -112,17 +124,22 @@ impl<R: Files<File = File> + AllocGlobal + Clone + Drop> BlockSource for FileDis
 
     fn read(&mut self, n: BlockNo, into: &mut Block) -> Result<(), Fault> {
         let done = match &self.opened {
-            Some(file) => file.read(n, into),
-            None => Err(Fault),
+            Some(file) => file.read(n, into).map_err(Cause::System),
+            None => Err(Cause::Closed),
         };
         match done {
-            Ok(()) => Ok(()),
-            Err(Fault) => Err(self.fail()),
+            Ok(()) => {
+                self.watch.reads();
+                let blocks = self.len();
+                self.watch.look(&self.files, n, blocks);
+                Ok(())
+            }
+            Err(cause) => Err(self.fail(Call::Read(n), cause)),
         }
     }
 }
 
-impl<R: Files<File = File> + AllocGlobal + Clone + Drop> Disk for FileDisk<R> {
+impl<R: Files<File = File> + AllocGlobal + Clock + Clone + Drop> Disk for FileDisk<'_, R> {
     ghost history = { λ d. nothing };
 
     ghost opened = { λ d. opened_for d };
@@ -147,28 +164,37 @@ impl<R: Files<File = File> + AllocGlobal + Clone + Drop> Disk for FileDisk<R> {
         match self.open_file(path, access) {
             Ok(opened) => {
                 self.opened = Some(opened);
+                self.watch.begin(&self.files);
                 Ok(())
             }
-            Err(_) => Err(self.fail()),
+            Err(cause) => Err(self.fail(Call::Open, cause)),
         }
     }
 
     fn write(&mut self, n: BlockNo, from: &Block) -> Result<(), Fault> {
+        self.watch.writes();
         let done = match &self.opened {
-            Some(file) => file.write(n, from),
-            None => Err(Fault),
+            Some(file) => file.write(n, from).map_err(Cause::System),
+            None => Err(Cause::Closed),
         };
         match done {
-            Ok(()) => Ok(()),
-            Err(Fault) => Err(self.fail()),
+            Ok(()) => {
+                let blocks = self.len();
+                self.watch.look(&self.files, n, blocks);
+                Ok(())
+            }
+            Err(cause) => Err(self.fail(Call::Write(n), cause)),
         }
     }
 
     fn sync(&mut self) -> Result<(), Fault> {
         let done = match &self.opened {
-            Some(file) => file.file.sync_all().is_ok(),
-            None => false,
+            Some(file) => file.file.sync_all().map_err(Cause::System),
+            None => Err(Cause::Closed),
         };
-        if done { Ok(()) } else { Err(self.fail()) }
+        match done {
+            Ok(()) => Ok(()),
+            Err(cause) => Err(self.fail(Call::Sync, cause)),
+        }
     }
 }

@@ -1,6 +1,7 @@
 ghost use Rattle.std.specs.Prelude.{◌≡◌, ◌≤◌, length, OnSome};
 
 use crate::devices::DeviceNumber;
+use crate::place::Place;
 use std::alloc::{AllocError, Global};
 use std::fs::Files;
 use std::io::ErrorKind;
@@ -85,37 +86,27 @@ fn table<R: Files + AllocGlobal>(files: &R, path: &str) -> io::Result<Vec<u8>> {
     }
 }
 
-/// Whether a path leads to this one, which has no symlinks and no dots.
-fn leads_to<R: Files + AllocGlobal>(files: &R, path: &str, here: &str) -> bool {
-    match files.canonicalize(files.alloc(), path) {
-        Ok(path) => path.as_str() == here,
-        Err(_) => false,
-    }
-}
+/// Where Linux tells what is mounted in this process's name space.
+pub const MOUNTS: &str = "/proc/self/mountinfo";
 
-/// Whether one of these devices, or what stands at this path, is mounted or is swapped to. The path has no symlinks and no
-/// dots.
-pub fn is_busy<R: Files + AllocGlobal>(
-    files: &R,
-    devices: &[DeviceNumber],
-    here: &str,
-) -> io::Result<bool> {
-    Ok(is_mounted(files, devices, here)? || is_swap(files, devices, here)?)
-}
+/// Where Linux tells what it swaps to.
+pub const SWAPS: &str = "/proc/swaps";
 
-fn is_mounted<R: Files + AllocGlobal>(
+/// Whether what stands at a place is mounted, by a table of mounts: by the number of the file system's device, and by the source,
+/// since a file system may have a number that is no device's.
+pub fn is_mounted<R: Files + AllocGlobal>(
     files: &R,
-    devices: &[DeviceNumber],
-    here: &str,
+    mounts: &str,
+    place: &Place,
 ) -> io::Result<bool> {
-    let mounts = table(files, "/proc/self/mountinfo")?;
+    let mounts = table(files, mounts)?;
     for line in mounts.as_slice().split(|byte| *byte == b'\n') {
         if let Some(mount) = Mount::read(line) {
-            if devices.contains(&mount.device()) {
+            if place.has(mount.device()) {
                 return Ok(true);
             }
             if let Some(source) = mount.source(files.alloc())? {
-                if leads_to(files, source.as_str(), here) {
+                if place.is_at(files, source.as_str()) {
                     return Ok(true);
                 }
             }
@@ -124,25 +115,17 @@ fn is_mounted<R: Files + AllocGlobal>(
     Ok(false)
 }
 
-/// The first line of `/proc/swaps` has the names of the columns, and each other one begins with a path.
-fn is_swap<R: Files + AllocGlobal>(
-    files: &R,
-    devices: &[DeviceNumber],
-    here: &str,
-) -> io::Result<bool> {
-    let swaps = table(files, "/proc/swaps")?;
+/// Whether what stands at a place is swapped to, by a table of swap spaces. Its first line has the names of the columns, and each
+/// other one begins with a path.
+pub fn is_swap<R: Files + AllocGlobal>(files: &R, swaps: &str, place: &Place) -> io::Result<bool> {
+    let swaps = table(files, swaps)?;
     for line in swaps.as_slice().split(|byte| *byte == b'\n') {
         let Some(first) = line.split(|byte| *byte == b' ' || *byte == b'\t').next() else {
             continue;
         };
         if let Some(path) = path_of(files.alloc(), first)? {
-            if leads_to(files, path.as_str(), here) {
+            if place.is_at(files, path.as_str()) {
                 return Ok(true);
-            }
-            if let Some(device) = DeviceNumber::at(files, path.as_str())? {
-                if devices.contains(&device) {
-                    return Ok(true);
-                }
             }
         }
     }

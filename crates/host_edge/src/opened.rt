@@ -1,9 +1,9 @@
 ghost use Rattle.std.specs.Prelude.{◌≡◌, ◌≤◌, ◌<◌, ◌^◌, IfOk};
 
-use outside::{Access, Fault};
+use outside::Access;
 use std::fs::File;
 use std::io;
-use std::io::{Seek, SeekFrom};
+use std::io::{ErrorKind, Seek, SeekFrom};
 use std::os::unix::fs::FileExt;
 use vol_block::{Block, BlockNo};
 
@@ -32,7 +32,7 @@ impl Opened {
     }
 
     /// Reads a block at its place.
-    pub fn read(&self, n: BlockNo, into: &mut Block) -> Result<(), Fault>
+    pub fn read(&self, n: BlockNo, into: &mut Block) -> io::Result<()>
         requires { n < self.now.blocks }
     {
         let mut at = 0;
@@ -41,7 +41,8 @@ impl Opened {
                 .file
                 .read_at(&mut into.bytes[at..], n * BLOCK_BYTES + at as u64)
             {
-                Ok(0) | Err(_) => return Err(Fault),
+                Ok(0) => return Err(io::Error::from(ErrorKind::UnexpectedEof)),
+                Err(e) => return Err(e),
                 Ok(count) => at += count,
             }
         }
@@ -49,7 +50,7 @@ impl Opened {
     }
 
     /// Writes a block at its place.
-    pub fn write(&self, n: BlockNo, from: &Block) -> Result<(), Fault>
+    pub fn write(&self, n: BlockNo, from: &Block) -> io::Result<()>
         requires { n < self.now.blocks }
     {
         let mut at = 0;
@@ -58,7 +59,8 @@ impl Opened {
                 .file
                 .write_at(&from.bytes[at..], n * BLOCK_BYTES + at as u64)
             {
-                Ok(0) | Err(_) => return Err(Fault),
+                Ok(0) => return Err(io::Error::from(ErrorKind::WriteZero)),
+                Err(e) => return Err(e),
                 Ok(count) => at += count,
             }
         }

@@ -1,20 +1,27 @@
 ghost use Rattle.std.specs.Prelude.{◌≡◌, ◌≤◌, false, []};
 ghost use Rattle.outside.specs.Fault.{Rose};
 
+use crate::status_line::StatusLine;
 use outside::{Fault, Sink};
 use std::io::Write;
 
-/// A sink over a stream, as standard output or standard error. It keeps nothing back, and counts each failure.
+/// A sink over a stream, as standard output or standard error. It keeps nothing back, and counts each failure. Before it
+/// writes, it wipes the line that a terminal shows, since the stream may go to the same terminal.
 #[derive(Drop)]
-pub struct StdSink<W: Write + Drop> {
+pub struct StdSink<'a, W: Write + Drop> {
     stream: W,
     faults: u64,
+    shown: &'a StatusLine,
 }
 
-impl<W: Write + Drop> StdSink<W> {
+impl<'a, W: Write + Drop> StdSink<'a, W> {
     /// A sink that passes on to this stream.
-    pub fn new(stream: W) -> Self {
-        StdSink { stream, faults: 0 }
+    pub fn new(stream: W, shown: &'a StatusLine) -> Self {
+        StdSink {
+            stream,
+            faults: 0,
+            shown,
+        }
     }
 
     /// The stream.
@@ -32,7 +39,7 @@ impl<W: Write + Drop> StdSink<W> {
     }
 }
 
-impl<W: Write + Drop> Sink for StdSink<W> {
+impl<W: Write + Drop> Sink for StdSink<'_, W> {
     ghost tells = { false };
 
     ghost taken = { λ _. [] };
@@ -40,6 +47,7 @@ impl<W: Write + Drop> Sink for StdSink<W> {
     ghost faults = { λ s. s.faults };
 
     fn write(&mut self, bytes: &[u8]) -> Result<(), Fault> {
+        self.shown.wipe();
         match write_all(&mut self.stream, bytes) {
             Ok(()) => Ok(()),
             Err(Fault) => Err(self.fail()),

@@ -1,9 +1,57 @@
-use crate::{FileDisk, StdSink};
+use crate::{Call, Cause, FileDisk, LineSink, StatusLine, StdSink};
 use outside::{Access, BlockSource, Disk, Sink};
-use std::io::Write;
+use std::alloc::Global;
+use std::fs::Files;
+use std::io::{ErrorKind, Write};
 use std::test::Fail;
 use std::{env, fs, io};
 use vol_block::Block;
+
+/// A folder for the files of a test.
+#[derive(Drop)]
+pub struct Folder {
+    path: String,
+}
+
+impl Folder {
+    /// A new folder, with this word in its name.
+    pub fn new(rt: &HostRuntime, word: &str) -> Result<Folder, Fail> {
+        let name = format!(in rt.alloc(); "host_edge-{}-{}", word, std::process::id(rt.process()))?;
+        let path = env::temp_dir(rt)?.join(rt.alloc(), name.as_str())?;
+        fs::create_dir(rt, path.as_str())?;
+        let path = fs::canonicalize(rt, path.as_str())?;
+        Ok(Folder {
+            path: String::from_str(rt.alloc(), path.as_str())?,
+        })
+    }
+
+    /// The path of a file in it, or its own of no name.
+    pub fn path(&self, rt: &HostRuntime, name: &str) -> Result<String, Fail> {
+        if name.is_empty() {
+            return Ok(format!(in rt.alloc(); "{}", self.path.as_str())?);
+        }
+        Ok(format!(in rt.alloc(); "{}/{}", self.path.as_str(), name)?)
+    }
+
+    /// A file in it with this text, and its path.
+    pub fn file(&self, rt: &HostRuntime, name: &str, text: &str) -> Result<String, Fail> {
+        let path = self.path(rt, name)?;
+        fs::write(rt, path.as_str(), text)?;
+        Ok(path)
+    }
+
+    /// A folder in it.
+    pub fn folder(&self, rt: &HostRuntime, name: &str) -> Result<(), Fail> {
+        fs::create_dir(rt, self.path(rt, name)?.as_str())?;
+        Ok(())
+    }
+
+    /// Removes it with all that is in it.
+    pub fn remove(&self, rt: &HostRuntime) -> Result<(), Fail> {
+        fs::remove_dir_all(rt, self.path.as_str())?;
+        Ok(())
+    }
+}
 
 fn filled(byte: u8) -> Block {
     Block {
@@ -13,12 +61,13 @@ fn filled(byte: u8) -> Block {
 
 #[test]
 fn a_file_is_a_disk(rt: HostRuntime) -> Result<(), Fail> {
-    let name = format!(in rt.alloc(); "host_edge-{}", std::process::id(rt.process()))?;
-    let path = env::temp_dir(&rt)?.join(rt.alloc(), name.as_str())?;
+    let folder = Folder::new(&rt, "disk")?;
+    let path = folder.path(&rt, "disk")?;
     let path = path.as_str();
     // Two blocks and a part of a third.
     fs::write(&rt, path, [7; 9000].as_slice())?;
-    let mut disk = FileDisk::new(&rt);
+    let line = StatusLine::none();
+    let mut disk = FileDisk::new(&rt, &line);
     assert_eq!(rt; disk.len(), 0);
     disk.open(path, Access::Write)?;
     assert_eq!(rt; disk.len(), 2);
@@ -30,9 +79,51 @@ fn a_file_is_a_disk(rt: HostRuntime) -> Result<(), Fail> {
     disk.read(0, &mut block)?;
     assert!(rt; block == filled(7));
     assert_eq!(rt; fs::read(&rt, path)?.len(), 9000);
-    fs::remove_file(&rt, path)?;
-    let mut gone = FileDisk::new(&rt);
-    assert!(rt; gone.open(path, Access::Read).is_err());
+    assert_eq!(rt; disk.written(), 1);
+    assert!(rt; disk.trouble().is_none());
+    // While it is open for writing, no other disk is opened so.
+    let mut second = FileDisk::new(&rt, &line);
+    assert!(rt; second.open(path, Access::Write).is_err());
+    let trouble = format!(in rt.alloc(); "{}", second.trouble().ok_or("no trouble")?)?;
+    assert_eq!(rt;
+        trouble.as_str(),
+        "opening it: another program has locked it"
+    );
+    folder.remove(&rt)?;
+    Ok(())
+}
+
+#[test]
+fn a_disk_keeps_why_its_last_call_failed(rt: HostRuntime) -> Result<(), Fail> {
+    let folder = Folder::new(&rt, "trouble")?;
+    let path = folder.path(&rt, "disk")?;
+    let line = StatusLine::none();
+    let mut gone = FileDisk::new(&rt, &line);
+    assert!(rt; gone.open(path.as_str(), Access::Read).is_err());
+    let trouble = gone.trouble().ok_or("no trouble")?;
+    assert!(rt; trouble.call == Call::Open);
+    assert!(rt; matches!(&trouble.cause, Cause::System(e) if e.kind() == ErrorKind::NotFound));
+    let mut folder_as_disk = FileDisk::new(&rt, &line);
+    assert!(rt;
+        folder_as_disk
+            .open(folder.path(&rt, "")?.as_str(), Access::Read)
+            .is_err()
+    );
+    assert!(rt;
+        matches!(
+            &folder_as_disk.trouble().ok_or("no trouble")?.cause,
+            Cause::Kind
+        )
+    );
+    // A file that is shorter than it was when it was opened.
+    fs::write(&rt, path.as_str(), [7; 8192].as_slice())?;
+    let mut short = FileDisk::new(&rt, &line);
+    short.open(path.as_str(), Access::Read)?;
+    fs::write(&rt, path.as_str(), [7; 5000].as_slice())?;
+    assert!(rt; short.read(1, &mut Block::zero()).is_err());
+    let trouble = format!(in rt.alloc(); "{}", short.trouble().ok_or("no trouble")?)?;
+    assert_eq!(rt; trouble.as_str(), "reading block 1: unexpected end of file");
+    folder.remove(&rt)?;
     Ok(())
 }
 
@@ -61,14 +152,28 @@ impl Write for Slow {
 
 #[test]
 fn a_stream_is_a_sink(rt: HostRuntime) -> Result<(), Fail> {
-    let mut sink = StdSink::new(Slow {
+    let line = StatusLine::none();
+    let slow = Slow {
         taken: Vec::new(rt.alloc()),
         calls: 4,
-    });
+    };
+    let mut sink = StdSink::new(slow, &line);
     sink.write(b"ab")?;
     sink.write(b"")?;
     sink.write(b"cdefg")?;
     assert!(rt; sink.write(b"hijkl").is_err());
     assert_eq!(rt; sink.stream().taken.as_slice(), b"abcdefghij".as_slice());
+    Ok(())
+}
+
+#[test]
+fn a_line_is_kept_up_to_its_length(rt: HostRuntime) -> Result<(), Fail> {
+    let line = StatusLine::none();
+    let mut sink = LineSink::new(StdSink::new(io::sink(), &line));
+    sink.write(b"refused 16 ")?;
+    sink.write(b"format\n")?;
+    assert_eq!(rt; sink.line(), b"refused 16 format\n".as_slice());
+    sink.write(&[b'x'; 4096])?;
+    assert_eq!(rt; sink.line().len(), 160);
     Ok(())
 }

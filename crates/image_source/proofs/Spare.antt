@@ -26,44 +26,12 @@ use Rattle.saved_volume.specs.Saved.{image_blocks}
 use Rattle.saved_volume.specs.Untouched.{IsUntouched}
 use Rattle.image_source.proofs.Placed.{has_block, no_some}
 use Rattle.image_source.proofs.Reaching.{reached}
+use Rattle.saved_volume.proofs.Apart.{extents_apart, file_tree_among, nodes_apart, saved_tree_among}
 use Rattle.saved_volume.specs.Using.{HoldsExtent, HoldsNodeOf, HoldsPartOf, IsInUse, LieIn, chunk_node, content_range, file_part, file_trees, item_range, named_by, numbered, root_node, tree_if}
-
--- an element of a list by its place
-at_place : {X : Type 0} (xs : List X) (k : ℕ) (d : X) → k < length xs → Contains xs (get_or xs k d)
-at_place xs k d below = (k, below, get_or_default xs k (get_or xs k d) d below)
 
 when_below : (t : Bool) (o : Option ℕ) (at : ℕ) → (if t then o else None) ≡ Some at → o ≡ Some at
 when_below true o at is = is
 when_below false o at is = absurd (no_some at is)
-
--- some bytes that lie nowhere in some blocks
-module _ (test : ℕ → Bool) (ranges : List MapRange) where
-  byte_apart : (address count k : ℕ) → k < count → ((b : ℕ) → LieIn ranges address count b → test b ≡ false) → IsApart test (place ranges (address + k))
-  byte_apart address count k below outside = by (place ranges (address + k)) refl
-    where
-      by : (o : Option ℕ) → place ranges (address + k) ≡ o → IsApart test o
-      by None is = tt
-      by (Some a) is = outside (a / 4096) (record { k = k; within = below; at = a; place_is = is; block = refl })
-
-  nodes_apart : (disk : Image) (t : Tree) → ((b : ℕ) → HoldsNodeOf disk ranges t b → test b ≡ false) → AreNodesApart test disk ranges t
-  nodes_apart disk t outside i d below k inside =
-      byte_apart (get_or (nodes_in (met disk ranges t)) i d).address t.form.nodesize (4096 * k) (omega (arith, inside))
-      (λ b lies. outside b (record { node = get_or (nodes_in (met disk ranges t)) i d; among = at_place (nodes_in (met disk ranges t)) i d below; lies = lies }))
-
-  content_apart : (items : List TreeItem) → ((b : ℕ) → HoldsExtent items ranges b → test b ≡ false) → (i : TreeItem) → Contains items i → (c : ContentValue) → item_range i ≡ content_range c → IsContentApart test ranges c
-  content_apart items outside i among (Inline bytes) is = tt
-  content_apart items outside i among (Prealloc r) is = tt
-  content_apart items outside i among (Regular r) is = λ some k below.
-      let range : item_range i ≡ Some r = is ∙ ap (λ (t : Bool). if t then None else Some r) some in
-      byte_apart (r.disk_bytenr + r.offset) r.num_bytes k below (λ b lies. outside b (record { item = i; among = among; range = r; range_is = range; lies = lies }))
-
-  extents_apart : (items : List TreeItem) → ((b : ℕ) → HoldsExtent items ranges b → test b ≡ false) → AreExtentsApart test ranges items
-  extents_apart items outside ino i e among read =
-      let from = from_filter (is_extent_of ino) items i among in
-      let kind : eqb i.key.kind 108 ≡ true = (and_parts (eqb i.key.objectid ino) (eqb i.key.kind 108) from.1).1 in
-      let range : item_range i ≡ content_range e.content =
-      ap (λ (t : Bool). if t then option_and_then (λ x. content_range x.content) (file_extent_of i.body) else None) kind ∙ ap (λ (o : Option FileExtentValue). option_and_then (λ x. content_range x.content) o) read in
-      content_apart items outside i from.0 e.content range
 
 module _ (disk : Image) (u : IsUntouched disk) where
   abbrev blocks : ℕ
@@ -107,18 +75,6 @@ module _ (disk : Image) (u : IsUntouched disk) where
     pub file_extents_apart : AreExtentsApart (is_spare disk) ranges (found disk ranges t)
     file_extents_apart = extents_apart (is_spare disk) ranges (found disk ranges t) (λ b holds. part_apart b (inr holds))
 
-  -- the file tree is one of them, and that of the saved image is the other
-  pub file_tree_among : (p : Pointer) → root_of disk 5 ≡ Some p → Contains (file_trees disk s ranges) (tree_of s 5 p)
-  file_tree_among p is =
-      subst (λ (o : Option Pointer). Contains (tree_if s 5 o ++ named_by disk s ranges o) (tree_of s 5 p)) (sym is) (0, omega arith, refl)
-
-  pub saved_tree_among : (p : Pointer) (number : ℕ) (q : Pointer) → root_of disk 5 ≡ Some p → saved_tree disk p ≡ Some number → root_of disk number ≡ Some q
-      → Contains (file_trees disk s ranges) (tree_of s number q)
-  saved_tree_among p number q root saved at =
-      subst (λ (o : Option Pointer). Contains (tree_if s 5 o ++ named_by disk s ranges o) (tree_of s number q)) (sym root)
-      (subst (λ (o : Option ℕ). Contains (tree_of s 5 p ∷ numbered disk s ranges o) (tree_of s number q)) (sym saved)
-      (subst (λ (o : Option Pointer). Contains (tree_of s 5 p ∷ tree_if s number o) (tree_of s number q)) (sym at) (1, omega arith, refl)))
-
   -- a block of the saved image is in use
   image_in_use : (f : ImageFile) (b at : ℕ) → saved_image disk s ranges ≡ Some f → image_place ranges f b ≡ Some at → IsInUse disk at
   image_in_use f b at is placed =
@@ -134,7 +90,7 @@ module _ (disk : Image) (u : IsUntouched disk) where
       ∙ (ap content_range has.content ∙ ap (λ (t : Bool). if t then None else Some has.range) has.some)) in
       file_part (record {
         tree = tree_of s way.number way.q;
-        among = saved_tree_among way.p way.number way.q way.root way.saved way.at;
+        among = saved_tree_among disk way.p way.number way.q way.root way.saved way.at;
         holds = inr (record { item = has.item; among = from.0; range = has.range; range_is = range; lies = has.lies });
       })
 
@@ -144,8 +100,8 @@ module _ (disk : Image) (u : IsUntouched disk) where
     superblock = superblock_apart;
     chunks = chunks_apart;
     roots = roots_apart;
-    files = λ p root. file_nodes_apart (tree_of s 5 p) (file_tree_among p root);
-    extents = λ p root. file_extents_apart (tree_of s 5 p) (file_tree_among p root);
-    saved = λ p number q root saved at. file_nodes_apart (tree_of s number q) (saved_tree_among p number q root saved at);
+    files = λ p root. file_nodes_apart (tree_of s 5 p) (file_tree_among disk p root);
+    extents = λ p root. file_extents_apart (tree_of s 5 p) (file_tree_among disk p root);
+    saved = λ p number q root saved at. file_nodes_apart (tree_of s number q) (saved_tree_among disk p number q root saved at);
     blocks = λ f b at is placed. in_use_apart at (image_in_use f b at is placed);
   }

@@ -5,7 +5,6 @@
 //! now lies elsewhere, and a reserved block that the Btrfs volume uses.
 #![tactic(auto)]
 
-mod blocks;
 mod extents;
 mod laws;
 mod moved;

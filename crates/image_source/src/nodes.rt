@@ -1,5 +1,5 @@
 // The nodes of a tree, by its inner nodes alone.
-ghost use Rattle.std.specs.Prelude.{◌≡◌, ◌≤◌, ◌+◌, ◌-◌, [], map, IfErr, IfOk, Contains};
+ghost use Rattle.std.specs.Prelude.{◌≡◌, ◌≤◌, ◌+◌, ◌-◌, [], length, map, IfErr, IfOk, Contains};
 ghost use Rattle.std.specs.Result.{MatchResult};
 ghost use Rattle.outside.specs.Fault.{HasCauseOf};
 ghost use Rattle.outside.specs.History.{OverTold};
@@ -13,11 +13,10 @@ ghost use Rattle.image_source.specs.Nodes.{below_faults, below_nodes, own_faults
 ghost use Rattle.image_source.specs.Reserved.{IsMapApart};
 ghost use Rattle.saved_volume.specs.Using.{HoldsNode, HoldsNodeOf, TellsReserved};
 
-use crate::blocks::{read_node, zeroed};
 use crate::reserved::reserved_in;
 use crate::trees::refused;
 use btr_node::InnerView;
-use btr_walk::{MapRange, Pointer, Tree};
+use btr_walk::{MapRange, Pointer, Tree, read_node};
 use outside::{BlockSource, BtrAnswer, Memory};
 use std::alloc::Global;
 use vol_block::BlockNo;
@@ -124,4 +123,13 @@ fn children_of(alloc: Global, view: &InnerView<'_>, level: u8) -> Result<Vec<Poi
         })?;
     }
     Ok(children)
+}
+
+/// A buffer of so many zeros.
+fn zeroed(alloc: Global, n: usize) -> Result<Vec<u8>, Memory>
+    ensures { IfOk result (λ bytes. length bytes.items ≡ n) }
+{
+    let mut bytes = Vec::new(alloc);
+    bytes.resize(n, 0)?;
+    Ok(bytes)
 }

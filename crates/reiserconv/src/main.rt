@@ -1,10 +1,14 @@
 //! The program `reiserconv`: it makes the disk, the sinks, the identifiers and the moment, calls `run`, and ends with
-//! its status.
+//! its status. To a person at a terminal it also tells what the line of a run means, and what to do.
 #![tactic(auto)]
 
+mod advice;
+mod paragraph;
+mod sentences;
 mod start;
 
-use host_edge::{FileDisk, StdSink};
+use advice::{Outcome, advice};
+use host_edge::{FileDisk, LineSink, StatusLine, StdSink};
 use outside::Sink;
 use start::Start;
 use std::process::ExitCode;
@@ -14,21 +18,35 @@ use volume_app::run;
 const START_FAULT: u8 = 7;
 
 fn main(rt: HostRuntime) -> ExitCode {
-    let mut err = StdSink::new(rt.stderr());
-    let Ok(start) = Start::new(&rt) else {
-        let _ = err.write(b"start fault\n");
-        return ExitCode::from(START_FAULT);
+    let shown = StatusLine::new(rt.stderr());
+    let mut err = LineSink::new(StdSink::new(rt.stderr(), &shown));
+    let mut out = StdSink::new(rt.stdout(), &shown);
+    let mut disk = FileDisk::new(&rt, &shown);
+    let status = match Start::new(&rt) {
+        Ok(start) => run(
+            rt.alloc(),
+            &start.words,
+            start.ids,
+            start.now,
+            &mut disk,
+            &mut out,
+            &mut err,
+        ),
+        Err(_) => {
+            let _ = err.write(b"start fault\n");
+            START_FAULT
+        }
     };
-    let mut out = StdSink::new(rt.stdout());
-    let mut disk = FileDisk::new(&rt);
-    let status = run(
-        rt.alloc(),
-        &start.words,
-        start.ids,
-        start.now,
-        &mut disk,
-        &mut out,
-        &mut err,
-    );
+    shown.wipe();
+    if shown.is_seen() {
+        let outcome = Outcome {
+            line: err.line(),
+            trouble: disk.trouble(),
+            wrote: disk.written() > 0,
+        };
+        if let Ok(text) = advice(rt.alloc(), &outcome) {
+            let _ = err.write(text.as_bytes());
+        }
+    }
     ExitCode::from(status)
 }

@@ -42,7 +42,7 @@ pub fn prepare<S: BlockSource>(alloc: Global, src: &mut S) -> Result<WayBack, An
 {
     let block = find_superblock(src)?;
     let volume = open_volume(alloc, src, &block)?;
-    read_rows(alloc, src, &volume)?;
+    check_rows(alloc, src, &volume)?;
     let map = read_map(alloc, src, &volume)?;
     prepare_old(alloc, src, &volume, &map)
 }
@@ -111,15 +111,15 @@ fn open_volume<S: BlockSource>(alloc: Global, src: &mut S, block: &Block) -> Res
     }
 }
 
-/// Reads the rows of the Btrfs volume, which a crash has to leave. They are not kept.
-fn read_rows<S: BlockSource>(alloc: Global, src: &mut S, volume: &Btrfs) -> Result<(), Answer>
+/// Whether the rows of the Btrfs volume, which a crash has to leave, can be read.
+fn check_rows<S: BlockSource>(alloc: Global, src: &mut S, volume: &Btrfs) -> Result<(), Answer>
     ensures kept { S.kept src.old src.new }
-    ensures read { OverTold S.tells (S.blocks src.old) (λ disk. IsOpenedOn disk volume.now → MatchResult result (λ _. HasBtrfsRows disk) (RefusesRollback disk)) }
+    ensures checked { OverTold S.tells (S.blocks src.old) (λ disk. IsOpenedOn disk volume.now → MatchResult result (λ _. HasBtrfsRows disk) (RefusesRollback disk)) }
     ensures cause { HasCauseOf Answer.Fault (S.faults src.old) (S.faults src.new) result }
     ensures answers { IfErr result IsRollbackAnswer }
 {
-    match volume.rows(alloc, src) {
-        Ok(_) => Ok(()),
+    match volume.check_rows(alloc, src) {
+        Ok(()) => Ok(()),
         Err(answer) => Err(btrfs_answer(answer)),
     }
 }

@@ -1,7 +1,7 @@
 //! The program `sample_volume`: it makes the disk and the sink, calls `run` of `sample_app`, and ends with its status.
 #![tactic(auto)]
 
-use host_edge::{FileDisk, StdSink};
+use host_edge::{FileDisk, StatusLine, StdSink};
 use outside::Sink;
 use sample_app::run;
 use std::env::Env;
@@ -12,12 +12,13 @@ use std::{env, io};
 const START_FAULT: u8 = 7;
 
 fn main(rt: HostRuntime) -> ExitCode {
-    let mut err = StdSink::new(rt.stderr());
+    let line = StatusLine::none();
+    let mut err = StdSink::new(rt.stderr(), &line);
     let Ok(words) = words(&rt) else {
         let _ = err.write(b"start fault\n");
         return ExitCode::from(START_FAULT);
     };
-    let mut disk = FileDisk::new(&rt);
+    let mut disk = FileDisk::new(&rt, &line);
     let status = run(rt.alloc(), &words, &mut disk, &mut err);
     ExitCode::from(status)
 }

@@ -14,30 +14,10 @@ use Rattle.btr_reader.specs.declared.chunk.ChunkAt.{ChunkAt}
 use Rattle.btr_sound.specs.Recount.{added_chunk, chunks_on}
 use Rattle.convert_steps.specs.Superblock.{is_system_role}
 use Rattle.converted_laws.specs.Opened.{chunk_at, other_part}
-use Rattle.converted_laws.proofs.Chunks.{all_fit}
+use Rattle.converted_laws.proofs.Chunks.{all_fit, same_itself}
 use Rattle.reiser_bitmap.proofs.Ranges.{contains_cases, contains_head, contains_tail}
 use Rattle.space_items.specs.Chunks.{chunk_body, chunk_item, chunk_items}
 use Rattle.unit_plan.specs.declared.chunk.Chunk.{Chunk}
-
-same_list : (xs : List ℕ) → pointwise nat_eq xs xs ≡ true
-same_list [] = refl
-same_list (x ∷ xs) = and_from (eqb x x) (pointwise nat_eq xs xs) (eq-eqb x x refl) (same_list xs)
-
-same_itself : (a : ChunkAt) → same_chunk a a ≡ true
-same_itself a =
-    let b : ChunkBody = a.chunk in
-    and_from _ _ (eq-eqb a.logical a.logical refl)
-    (and_from _ _ (eq-eqb b.length b.length refl)
-    (and_from _ _ (eq-eqb b.owner b.owner refl)
-    (and_from _ _ (eq-eqb b.stripe_len b.stripe_len refl)
-    (and_from _ _ (eq-eqb b.kind b.kind refl)
-    (and_from _ _ (eq-eqb b.io_align b.io_align refl)
-    (and_from _ _ (eq-eqb b.io_width b.io_width refl)
-    (and_from _ _ (eq-eqb b.sector_size b.sector_size refl)
-    (and_from _ _ (eq-eqb b.num_stripes b.num_stripes refl)
-    (and_from _ _ (eq-eqb b.sub_stripes b.sub_stripes refl)
-    (and_from _ _ (eq-eqb b.stripe.devid b.stripe.devid refl)
-    (and_from _ _ (eq-eqb b.stripe.offset b.stripe.offset refl) (same_list b.stripe.device_uuid))))))))))))
 
 -- a chunk of the array is no new one
 known : (ids : Ids) (boot : List Chunk) (c : Chunk) → Contains boot c → list_any (same_chunk (chunk_at ids c)) (map (chunk_at ids) boot) ≡ true

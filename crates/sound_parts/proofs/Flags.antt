@@ -77,6 +77,10 @@ flags_are : (s : Source) (key : ObjectKey) → (inode_in s key).flags ≡ inode_
 unfolding inode_in
 flags_are s key = refl
 
+-- the lowest flag is that of data without checksums
+pub flag_bit : (s : Source) (key : ObjectKey) → (inode_in s key).flags % 2 ≡ if_set (is_file (kind_in s key) && not s.datasum) 1
+flag_bit s key = ap (λ (n : ℕ). n % 2) (flags_are s key) ∙ low_bit s.datasum s.flags (stat_in s key) (kind_in s key)
+
 -- data of files has checksums just where the option asks for them
 pub file_sums : (s : Source) (key : ObjectKey) → s.datasum ≡ true → has_no_sums (inode_in s key) ≡ false
 file_sums s key on =
@@ -148,7 +152,7 @@ image_inode_there blocks pieces datasum now =
     Contains-append_left (root_items now image_entries ++ (own ∷ rest)) (extents_at 257 source_block (pieces_of_volume pieces)) own
     (Contains-append_right (root_items now image_entries) (own ∷ rest) own (contains_head own rest))
 
-stamp_fits : (now : ℕ) → now < 2 ^ 63 → stamp_layout.fits (stamp_of now)
+pub stamp_fits : (now : ℕ) → now < 2 ^ 63 → stamp_layout.fits (stamp_of now)
 unfolding stamp_layout
 stamp_fits now low = ((tt, fits_signed_from_abs w64 (pos now) (omega (arith, low))), omega arith)
 

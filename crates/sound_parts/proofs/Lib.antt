@@ -2,9 +2,10 @@ mod Bodies
 mod Checksums
 mod DataItems
 mod Distinct
-mod Flags
-mod InMerged
+pub mod Flags
+pub mod InMerged
 mod Keyed
+pub mod Numbers
 mod References
 mod Runs
 mod SumItems

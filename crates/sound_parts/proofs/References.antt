@@ -1,19 +1,15 @@
 -- The references of a converted volume are sound: its extent tree is the recount of all nodes and of all uses of data.
-use Rattle.std.proofs.Common.{◌≡◌, ◌≢◌, ◌⊎◌, ◌≤◌, ◌<◌, ℕ, ◌+◌, ◌-◌, ◌*◌, ◌^◌, inl, inr, Bool, true, false, not, ◌&&◌, List, [], ◌∷◌, length, map, Option, Some, None, refl, sym, ap, subst, ◌∙◌, ⊎_elim, true≢false, arith}
+use Rattle.std.proofs.Common.{◌≡◌, ◌≢◌, ◌⊎◌, ◌≤◌, ◌<◌, ℕ, ◌+◌, ◌-◌, ◌*◌, ◌^◌, inl, inr, Bool, true, false, List, [], ◌∷◌, length, map, Option, Some, None, refl, sym, ap, subst, ◌∙◌, ⊎_elim, true≢false, arith}
 use Rattle.std.specs.Prelude.{All, Contains, nat_lt, if◌then◌else◌, is_some}
 use Rattle.std.specs.Option.{option_map_or}
-use Rattle.std.specs.List.{count_by}
-use Rattle.std.specs.Ordering.{is_lt, nat_cmp, ordering_then}
-use Rattle.std.specs.declared.cmp.Ordering.{Ordering}
-use Rattle.std.specs.declared.cmp.Ordering.TheVariants.{Less, Equal, Greater}
+use Rattle.std.specs.declared.cmp.Ordering.TheVariants.{Equal}
 use Rattle.std.proofs.lemmas.Bool.{eq-eqb}
-use Rattle.std.proofs.lemmas.List.Sums.{count_by-le-length}
 use Rattle.std.proofs.lemmas.List.Elements.{All-cons, All-contains, All-map}
 use Rattle.path_list.proofs.Lists.{from_map, in_map}
 use Rattle.indexmap.specs.IndexMap.{keys}
 use Rattle.outside.specs.History.{Image}
 use Rattle.vol_block.specs.declared.ids.Ids.{Ids}
-use Rattle.btr_keys.specs.Key.{key_cmp, make_key}
+use Rattle.btr_keys.specs.Key.{make_key}
 use Rattle.btr_keys.specs.declared.key.Key.{Key}
 use Rattle.btr_node.specs.Leaf.{Item}
 use Rattle.btr_node.specs.NodeSize.{IsNodeSize}
@@ -37,10 +33,6 @@ use Rattle.file_items.specs.Tree.{number_of}
 use Rattle.file_laws.specs.Held.{FilesAreHeld}
 use Rattle.file_laws.specs.Keys.{ImageKeysAscend}
 use Rattle.reiser_bitmap.proofs.Ranges.{all_from_contains}
-use Rattle.reiser_names.specs.Links.{object_cmp}
-use Rattle.reiser_names.specs.Names.{inode_of}
-use Rattle.reiser_objects.specs.Keys.{root, same_key}
-use Rattle.reiser_objects.specs.declared.key.ObjectKey.{ObjectKey}
 use Rattle.reiser_volume.proofs.Bounds.{accepted_is_small}
 use Rattle.space_items.specs.Chunks.{device_items}
 use Rattle.space_items.specs.Extents.{data_ref, extent_body, extent_items, group_item, hash_of_ref, image_refs, node_item, owner_refs, piece_item, put_refs, used_in}
@@ -54,7 +46,6 @@ use Rattle.unit_plan.specs.declared.piece.Piece.{Piece}
 use Rattle.sound_laws.specs.Recounted.{recount_for, tree_for}
 use Rattle.sound_laws.proofs.AllUses.{from_is, source_low, uses_are}
 use Rattle.sound_laws.proofs.Recounting.{volume_for}
-use Rattle.sound_laws.proofs.Row.{differ}
 use Rattle.sound_laws.proofs.Trees.{six_all}
 use Rattle.sound_laws.proofs.Unreserved.{fit_size}
 use Rattle.sound_laws.proofs.Used.{file_use, owned, saved_use}
@@ -65,34 +56,10 @@ use Rattle.sound_parts.proofs.DataItems.{one_ref, two_refs}
 use Rattle.sound_parts.proofs.Distinct.{AreDistinct}
 use Rattle.sound_parts.proofs.InMerged.{in_first, in_second}
 use Rattle.sound_parts.proofs.Keyed.{uses_distinct}
+use Rattle.sound_parts.proofs.Numbers.{inode_low, kinds_apart}
 use Rattle.sound_parts.proofs.Told.{IsMet, IsTold, all_met, all_told}
 
--- ---- keys of different kinds
-
-then_first : (o p : Ordering) → ordering_then o p ≡ Equal → o ≡ Equal
-then_first Less p e = e
-then_first Equal p e = refl
-then_first Greater p e = e
-
-then_second : (o p : Ordering) → ordering_then o p ≡ Equal → p ≡ Equal
-then_second Less p e = absurd (cc e)
-then_second Equal p e = e
-then_second Greater p e = absurd (cc e)
-
-kinds_apart : (a b : Key) → a.kind ≢ b.kind → key_cmp a b ≡ Equal → ⊥
-kinds_apart a b apart e =
-    let later : Ordering = nat_cmp a.offset b.offset in
-    differ a.kind b.kind apart (then_first (nat_cmp a.kind b.kind) later (then_second (nat_cmp a.objectid b.objectid) (ordering_then (nat_cmp a.kind b.kind) later) e))
-
 -- ---- the items of the extent tree
-
--- numbers of inodes fit
-inode_low : (all : List ObjectKey) (key : ObjectKey) → length all ≤ 2 ^ 37 → inode_of all key < 2 ^ 64
-inode_low all key few = by (same_key key root)
-  where
-    by : (b : Bool) → (if b then 256 else 257 + count_by (λ k. is_lt (object_cmp k key) && not (same_key k root)) all) < 2 ^ 64
-    by true = omega arith
-    by false = let low = count_by-le-length (λ (k : ObjectKey). is_lt (object_cmp k key) && not (same_key k root)) all in omega (arith, low, few)
 
 -- a use of a piece: by the file that owns it, or by the saved image
 data IsUseOf (p : Piece) (u : DataUse) : Type 0 where

@@ -1,5 +1,7 @@
-use super::Mount;
+use super::{Mount, is_mounted, is_swap};
 use crate::devices::DeviceNumber;
+use crate::place::Place;
+use crate::tests::Folder;
 use std::process::Abort;
 use std::test::Fail;
 
@@ -78,4 +80,48 @@ fn what_is_no_line_is_passed_over(rt: HostRuntime) {
     assert!(rt; Mount::read(b"").is_none());
     assert!(rt; Mount::read(b"29 1 8 / / rw - ext4 /dev/sda1 rw").is_none());
     assert!(rt; Mount::read(b"29 1 8:1 / / rw ext4 /dev/sda1 rw").is_none());
+}
+
+#[test]
+fn what_is_mounted_is_found_by_its_number_and_by_its_source(rt: HostRuntime) -> Result<(), Fail> {
+    let folder = Folder::new(&rt, "mounts")?;
+    let disk = folder.file(&rt, "my disk", "")?;
+    let other = folder.file(&rt, "other", "")?;
+    // a symlink, with a space in its name
+    let link = folder.path(&rt, "a link")?;
+    std::os::unix::fs::symlink(&rt, disk.as_str(), link.as_str())?;
+    let lines = format!(in rt.alloc();
+        "23 29 0:22 / /proc rw - proc proc rw\n40 1 0:35 /@ /data rw shared:3 - btrfs {}/a\\040link rw\n41 1 8:17 / /srv rw - ext4 /no/such/node rw\n",
+        folder.path(&rt, "")?.as_str()
+    )?;
+    let mounts = folder.file(&rt, "mounts", lines.as_str())?;
+    assert!(rt; is_mounted(&rt, mounts.as_str(), &Place::new(&rt, disk.as_str())?)?);
+    let mut place = Place::new(&rt, other.as_str())?;
+    assert!(rt; !is_mounted(&rt, mounts.as_str(), &place)?);
+    place.add(DeviceNumber {
+        major: 8,
+        minor: 16,
+    })?;
+    assert!(rt; !is_mounted(&rt, mounts.as_str(), &place)?);
+    place.add(DeviceNumber {
+        major: 8,
+        minor: 17,
+    })?;
+    assert!(rt; is_mounted(&rt, mounts.as_str(), &place)?);
+    assert!(rt; !is_mounted(&rt, "/no such table", &place)?);
+    folder.remove(&rt)?;
+    Ok(())
+}
+
+#[test]
+fn what_is_swapped_to_is_found_by_its_path(rt: HostRuntime) -> Result<(), Fail> {
+    let folder = Folder::new(&rt, "swaps")?;
+    let disk = folder.file(&rt, "disk", "")?;
+    let other = folder.file(&rt, "other", "")?;
+    let lines = format!(in rt.alloc(); "Filename\tType\tSize\n{}  file\t1000\n", disk.as_str())?;
+    let swaps = folder.file(&rt, "swaps", lines.as_str())?;
+    assert!(rt; is_swap(&rt, swaps.as_str(), &Place::new(&rt, disk.as_str())?)?);
+    assert!(rt; !is_swap(&rt, swaps.as_str(), &Place::new(&rt, other.as_str())?)?);
+    folder.remove(&rt)?;
+    Ok(())
 }

@@ -1,0 +1,69 @@
+ghost use Rattle.std.specs.Prelude.{◌≡◌, ◌≢◌, ◌≤◌, List, Some, Err};
+ghost use Rattle.std.specs.Result.{MatchResult};
+ghost use Rattle.outside.specs.Fault.{HasCauseOf};
+ghost use Rattle.outside.specs.History.{Image, OverTold};
+ghost use Rattle.outside.specs.declared.refusal.BtrRefusal.TheVariants.{BadBtrfs, LogPending};
+ghost use Rattle.outside.specs.declared.rule.BtrRule.TheVariants.{SuperField};
+ghost use Rattle.btr_walk.specs.declared.tree.Pointer.{Pointer as PointerOf};
+ghost use Rattle.btr_walk.specs.Events.{TreeItem};
+ghost use Rattle.btr_walk.specs.Walks.{LieOn};
+ghost use Rattle.btr_reader.specs.Made.{RefusesRows, RefusesTree};
+ghost use Rattle.btr_reader.specs.Opening.{tree_of};
+ghost use Rattle.btr_reader.specs.Reading.{IsWalkable};
+ghost use Rattle.btr_reader.specs.Roots.{root_item, pointer_of, HasRoots};
+ghost use Rattle.btr_reader.specs.Volume.{IsVolumeOn};
+ghost use Rattle.btr_reader.specs.Rows.{CanBeRead, roots_on};
+
+use crate::refused::refused;
+use crate::volume::Btrfs;
+use btr_contents::check_contents;
+use btr_names::Names;
+use btr_walk::Tree;
+use outside::{BlockSource, BtrAnswer, BtrRefusal, BtrRule};
+use std::alloc::Global;
+
+impl Btrfs {
+    /// Whether the rows of the file tree can be read. It is refused exactly where [`Btrfs::rows`] is, by one of the same
+    /// things, but it reads no bytes of a file and makes no row.
+    pub fn check_rows<S: BlockSource>(&self, alloc: Global, src: &mut S) -> Result<(), BtrAnswer>
+        ensures kept { S.kept src.old src.new }
+        ensures cause { HasCauseOf BtrAnswer.Fault (S.faults src.old) (S.faults src.new) result }
+        // Over any source: a log tree first, and then another number of blocks.
+        ensures logged { self.now.sup.log_root ≢ 0 → result ≡ Err (BtrAnswer.Refused (LogPending self.now.sup.log_root)) }
+        ensures resized { self.now.sup.log_root ≡ 0 → S.size src.old ≢ self.now.device → result ≡ Err (BtrAnswer.Refused (BadBtrfs 65536 SuperField)) }
+        ensures checked { OverTold S.tells (S.blocks src.old) (λ image. IsVolumeOn image self.now →
+            MatchResult result (λ _. (self.now.sup.log_root ≡ 0) × CanBeRead image self.now.sup self.now.ranges.items) (RefusesRows image self.now.sup self.now.ranges.items)) }
+    {
+        if self.sup.log_root != 0 {
+            return Err(BtrAnswer::Refused(BtrRefusal::LogPending {
+                address: self.sup.log_root,
+            }));
+        }
+        if src.len() != self.device {
+            return Err(refused(65536, BtrRule::SuperField));
+        }
+        let tree = self.file_tree()?;
+        self.check_tree(alloc, src, tree)
+    }
+
+    /// Whether the rows of the file tree can be read.
+    fn check_tree<S: BlockSource>(
+        &self,
+        alloc: Global,
+        src: &mut S,
+        tree: Tree,
+    ) -> Result<(), BtrAnswer>
+        requires inside { LieOn (S.size src.old) self.now.ranges.items }
+        requires walkable { IsWalkable tree }
+        ensures kept { S.kept src.old src.new }
+        ensures cause { HasCauseOf BtrAnswer.Fault (S.faults src.old) (S.faults src.new) result }
+        ensures checked { OverTold S.tells (S.blocks src.old) (λ image. HasRoots self.now.roots (roots_on image self.now.sup self.now.ranges.items) →
+            (i : TreeItem) (p : PointerOf) → root_item 5 (roots_on image self.now.sup self.now.ranges.items) ≡ Some i → pointer_of i.body ≡ Some p → tree ≡ tree_of self.now.sup 5 p →
+            MatchResult result (λ _. CanBeRead image self.now.sup self.now.ranges.items) (RefusesTree image self.now.sup self.now.ranges.items)) }
+    {
+        let ranges = self.ranges.as_slice();
+        let names = Names::read(alloc, src, tree, ranges)?;
+        let named = self.named(alloc, &names, tree.root.address)?;
+        check_contents(alloc, src, tree, ranges, &names, &named)
+    }
+}

@@ -1,0 +1,64 @@
+ghost use Rattle.std.specs.Prelude.{◌≤◌, false, []};
+
+use crate::std_sink::StdSink;
+use outside::{Fault, Sink};
+use std::io::Write;
+
+/// How many bytes of a line are kept. Each line of a program of this repository has fewer.
+const KEPT: usize = 160;
+
+/// The first bytes of a text.
+#[derive(Drop)]
+struct Front {
+    bytes: [u8; KEPT],
+    length: usize,
+    ghost bounded: { length ≤ 160 },
+}
+
+impl Front {
+    /// Takes in as many of the bytes as there is room for.
+    fn add(&mut self, bytes: &[u8]) {
+        let room = &mut self.bytes[self.length..];
+        let count = bytes.len().min(room.len());
+        room[..count].copy_from_slice(&bytes[..count]);
+        self.length += count;
+    }
+}
+
+/// A sink over a stream that keeps what it passes on, up to the length of a line.
+#[derive(Drop)]
+pub struct LineSink<'a, W: Write + Drop> {
+    sink: StdSink<'a, W>,
+    front: Front,
+}
+
+impl<'a, W: Write + Drop> LineSink<'a, W> {
+    /// A sink that passes on to this one, and has kept nothing yet.
+    pub fn new(sink: StdSink<'a, W>) -> Self {
+        LineSink {
+            sink,
+            front: Front {
+                bytes: [0; KEPT],
+                length: 0,
+            },
+        }
+    }
+
+    /// What was passed on.
+    pub fn line(&self) -> &[u8] {
+        &self.front.bytes[..self.front.length]
+    }
+}
+
+impl<W: Write + Drop> Sink for LineSink<'_, W> {
+    ghost tells = { false };
+
+    ghost taken = { λ _. [] };
+
+    ghost faults = { λ s. s.sink.faults };
+
+    fn write(&mut self, bytes: &[u8]) -> Result<(), Fault> {
+        self.front.add(bytes);
+        self.sink.write(bytes)
+    }
+}

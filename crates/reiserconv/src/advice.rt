@@ -1,0 +1,166 @@
+// What a person at a terminal is told below the line of a run: what it means, what is safe, and what to do.
+use crate::paragraph::Paragraph;
+use crate::sentences::{
+    Sentence, of_btrfs_rule, of_fault, of_feature, of_line, of_refusal, of_rule, of_safety,
+};
+use host_edge::{Call, Cause, Trouble, Use};
+use std::alloc::{AllocError, Global};
+use std::str;
+
+/// How a run ended that was not done.
+#[derive(Drop)]
+pub struct Outcome<'a> {
+    /// The line on the error sink, with its line feed.
+    pub line: &'a [u8],
+    /// Why the last call of the device failed, if one did.
+    pub trouble: Option<Trouble>,
+    /// Whether a block was to be written.
+    pub wrote: bool,
+}
+
+/// The text for a person. It has a line feed at its end, and nothing where nothing is known of the line.
+pub fn advice(alloc: Global, outcome: &Outcome<'_>) -> Result<String, AllocError> {
+    let mut text = Paragraph::new(alloc);
+    let line = str::from_utf8(outcome.line).unwrap_or("").trim_end();
+    match line.strip_prefix("refused ") {
+        Some(words) => tell_refusal(alloc, &mut text, words, outcome.wrote)?,
+        None => tell_line(alloc, &mut text, line, outcome)?,
+    }
+    Ok(text.into_text())
+}
+
+/// A refusal, as its line tells it.
+#[derive(Clone, Copy)]
+struct Refusal<'a> {
+    number: u64,
+    numbers: &'a [&'a str],
+}
+
+impl<'a> Refusal<'a> {
+    /// Reads a number, a word, and the numbers behind it.
+    fn read(words: &'a [&'a str]) -> Option<Refusal<'a>> {
+        match words {
+            [number, _, numbers @ ..] => Some(Refusal {
+                number: number.parse().ok()?,
+                numbers,
+            }),
+            _ => None,
+        }
+    }
+
+    /// What is said of the rule or the feature that one of the numbers names.
+    fn detail(&self) -> Option<Sentence> {
+        match self.number {
+            3 => Some(of_feature(self.numbers.first()?.parse().ok()?)),
+            6 => Some(of_rule(self.numbers.get(1)?.parse().ok()?)),
+            13 => Some(of_btrfs_rule(self.numbers.get(1)?.parse().ok()?)),
+            _ => None,
+        }
+    }
+
+    /// Tells what it means, and returns what to do.
+    fn tell(&self, text: &mut Paragraph) -> Result<&'static str, AllocError> {
+        let sentence = of_refusal(self.number);
+        text.say(sentence.means, self.numbers)?;
+        let mut next = sentence.next;
+        if let Some(detail) = self.detail() {
+            text.say(detail.means, self.numbers)?;
+            if !detail.next.is_empty() {
+                next = detail.next;
+            }
+        }
+        Ok(next)
+    }
+}
+
+/// The number of the refusal of a saved image, behind whose word stands the image's own.
+const IMAGE: u64 = 19;
+
+fn tell_refusal(
+    alloc: Global,
+    text: &mut Paragraph,
+    line: &str,
+    wrote: bool,
+) -> Result<(), AllocError> {
+    let mut words = Vec::new(alloc);
+    for word in line.split(' ') {
+        words.push(word)?;
+    }
+    if let Some(refusal) = Refusal::read(words.as_slice()) {
+        let next = refusal.tell(text)?;
+        if refusal.number == IMAGE {
+            if let Some(own) = Refusal::read(refusal.numbers) {
+                let _ = own.tell(text)?;
+            }
+        }
+        text.end()?;
+        tell_safety(text, if wrote { "free" } else { "nothing" })?;
+        tell_next(text, next, refusal.numbers)?;
+    }
+    Ok(())
+}
+
+/// Tells of a line that is no refusal.
+fn tell_line(
+    alloc: Global,
+    text: &mut Paragraph,
+    line: &str,
+    outcome: &Outcome<'_>,
+) -> Result<(), AllocError> {
+    let key = if line.starts_with("usage: ") {
+        "usage: .."
+    } else {
+        line
+    };
+    let sentence = of_line(key);
+    let mut next = sentence.next;
+    match (key, outcome.trouble) {
+        ("device fault", Some(trouble)) => {
+            let fault = of_fault(cause(&trouble));
+            if let Cause::System(_) = trouble.cause {
+                let reason = format!(in alloc; "The reason: {}.", trouble)?;
+                text.say(reason.as_str(), &[])?;
+            }
+            text.say(fault.means, &[])?;
+            next = fault.next;
+        }
+        _ => text.say(sentence.means, &[])?,
+    }
+    text.end()?;
+    match key {
+        "device fault" | "out of memory" => {
+            tell_safety(text, if outcome.wrote { "cut" } else { "nothing" })?
+        }
+        "output fault" => tell_safety(text, "done")?,
+        _ => {}
+    }
+    tell_next(text, next, &[])
+}
+
+fn tell_safety(text: &mut Paragraph, case: &str) -> Result<(), AllocError> {
+    text.say(of_safety(case).means, &[])?;
+    text.end()
+}
+
+fn tell_next(text: &mut Paragraph, next: &str, numbers: &[&str]) -> Result<(), AllocError> {
+    if !next.is_empty() {
+        text.say("What to do:", &[])?;
+        text.say(next, numbers)?;
+        text.end()?;
+    }
+    Ok(())
+}
+
+/// The cause's name in the table of sentences.
+fn cause(trouble: &Trouble) -> &'static str {
+    match trouble.cause {
+        Cause::InUse(Use::Mounted) => "mounted",
+        Cause::InUse(Use::Swap) => "swap",
+        Cause::InUse(Use::Held) => "held",
+        Cause::InUse(Use::Loop) => "loop",
+        Cause::InUse(Use::Locked) => "locked",
+        Cause::Kind => "kind",
+        Cause::System(_) | Cause::Closed if trouble.call == Call::Open => "open",
+        Cause::System(_) | Cause::Closed => "device",
+    }
+}

@@ -1,0 +1,375 @@
+// Made by docs/refusals.py of docs/refusals.table: change that one, and not this file.
+
+/// What a line means, and what to do next, each empty where there is nothing to say. In the text of a refusal `{1}` stands for the first
+/// number of its line, and so on.
+#[derive(Clone, Copy)]
+pub struct Sentence {
+    pub means: &'static str,
+    pub next: &'static str,
+}
+
+const NOTHING: Sentence = Sentence {
+    means: "",
+    next: "",
+};
+
+/// Of the refusal with this number.
+pub fn of_refusal(number: u64) -> Sentence {
+    match number {
+        1 => Sentence {
+            means: "There is no superblock of either format at its place (byte 65536), or the device ends before it.",
+            next: "See whether this is the right device: it has to be the partition and not the whole disk. 'lsblk --fs' shows which partition has which format.",
+        },
+        2 => Sentence {
+            means: "The volume was not unmounted, or is mounted right now: its superblock has the state {1}.",
+            next: "Mount it in Linux and unmount it, or run 'reiserfsck --check', which replays the journal.",
+        },
+        3 => Sentence {
+            means: "The volume has something that is not supported: feature {1}, with the value {2}.",
+            next: "",
+        },
+        4 => Sentence {
+            means: "The volume has {1} blocks of 4 KiB, and the device only {2} of them. The end of the volume is missing.",
+            next: "Look for the right partition, or restore the size of the partition or file. Don't write to it before: 'reiserfsck' would see damage in what is only missing here.",
+        },
+        5 => Sentence {
+            means: "The journal holds at least one transaction that is not in its place yet, number {1}.",
+            next: "Mount the volume in Linux and unmount it, or run 'reiserfsck --check', which replays the journal.",
+        },
+        6 => Sentence {
+            means: "At block {1} a rule of the format is broken, rule {2}.",
+            next: "Run 'reiserfsck --check', and do what it says. With '--rebuild-tree' it writes a lot: have a copy before. Where it finds nothing and the line stays, keep the volume as it is, and report the line.",
+        },
+        7 => Sentence {
+            means: "There are extended attributes or access control lists, which the program does not carry over: those of {1} {2}.",
+            next: "Mount the volume in Linux with the options 'user_xattr,acl'. Keep what you need ('getfattr -R -d -m - /mnt/disk', 'getfacl -R /mnt/disk'), and remove the attributes ('setfattr -x NAME FILE', 'setfacl -R -b /mnt/disk'). Empty folders that stay behind in '.reiserfs_priv' do no harm.",
+        },
+        8 => Sentence {
+            means: "A file was removed, or cut short, while a program had it open, and is still to be cleaned up: object {1}.",
+            next: "Mount the volume in Linux for writing, and unmount it.",
+        },
+        9 => Sentence {
+            means: "The root directory has an entry 'reiserfs_saved', a name that a conversion needs for itself.",
+            next: "Rename it.",
+        },
+        10 => Sentence {
+            means: "A name of the object {1} {2} has more than 255 bytes, or the object is a symbolic link whose target has more than 3900: {3} bytes.",
+            next: "Shorten it. 'find /mnt/disk -xdev -inum {2}' prints where it is.",
+        },
+        11 => Sentence {
+            means: "In the directory {1} {2} more names share the hash {3} than Btrfs can hold.",
+            next: "Rename some of the names there, until it is no longer refused. 'find /mnt/disk -xdev -inum {2}' prints where it is.",
+        },
+        13 => Sentence {
+            means: "At the address {1}, in bytes, a rule of the format is broken, rule {2}.",
+            next: "Run 'btrfs check --readonly'. Where it finds nothing, the volume may have something that this program does not know, and is sound all the same.",
+        },
+        14 => Sentence {
+            means: "The volume was not unmounted, and a log waits to be replayed, at the address {1}.",
+            next: "Mount it in Linux and unmount it.",
+        },
+        15 => Sentence {
+            means: "There is too little free space. Units of 1 MiB that are needed: {1}, and that are free: {2}. Of those that are needed, so many have to lie one behind the other: {3}, and the longest row of free ones has {4}.",
+            next: "Remove or move away large files, take smaller nodes ('--nodesize 4096'), or make the volume larger: see HOWTO.md.",
+        },
+        16 => Sentence {
+            means: "The volume already has the format that the command makes.",
+            next: "Nothing.",
+        },
+        17 => Sentence {
+            means: "There is no file 'image' in a subvolume 'reiserfs_saved' of the root, so that there is nothing to go back to.",
+            next: "If you have renamed or moved them, give them their names and places back. If they were removed, stay with Btrfs, or copy your files to a new volume.",
+        },
+        18 => Sentence {
+            means: "Block {1} of the old volume no longer lies where it lay. A balance, a defragmentation, a deduplication or a smaller size moves blocks.",
+            next: "Stay with Btrfs, or copy your files to a new volume. The old volume can still be read: the file 'image' is one, if no other number is wrong with it.",
+        },
+        19 => Sentence {
+            means: "The old volume in the file 'image' is refused. Somebody has written to the file, or a block of it is damaged.",
+            next: "Stay with Btrfs. A copy of the file can be checked and mended by 'reiserfsck', and read like any volume.",
+        },
+        20 => Sentence {
+            means: "Block {1}, which the old volume needs back, is used by Btrfs.",
+            next: "Stay with Btrfs, or copy your files to a new volume.",
+        },
+        _ => NOTHING,
+    }
+}
+
+/// Of a rule of ReiserFS that is broken.
+pub fn of_rule(number: u64) -> Sentence {
+    match number {
+        1 => Sentence {
+            means: "A field of the superblock is out of its bounds.",
+            next: "",
+        },
+        2 => Sentence {
+            means: "A block of the superblock, of the bitmaps or of the journal is marked free.",
+            next: "",
+        },
+        3 => Sentence {
+            means: "A node has a wrong level or a wrong number of items.",
+            next: "",
+        },
+        4 => Sentence {
+            means: "The parts of a node do not fit together.",
+            next: "",
+        },
+        5 => Sentence {
+            means: "An item's key is not above that of the item before.",
+            next: "",
+        },
+        6 => Sentence {
+            means: "A block that is pointed to is marked free.",
+            next: "",
+        },
+        7 => Sentence {
+            means: "A pointer leaves the volume.",
+            next: "",
+        },
+        8 => Sentence {
+            means: "A block is reached twice, or belongs to the superblock, the bitmaps or the journal.",
+            next: "",
+        },
+        9 => Sentence {
+            means: "An item's body is not as it has to be.",
+            next: "",
+        },
+        10 => Sentence {
+            means: "An entry of a directory is not as it has to be.",
+            next: "",
+        },
+        11 => Sentence {
+            means: "An object has no stat data, an unknown kind, or items that its kind does not have.",
+            next: "",
+        },
+        12 => Sentence {
+            means: "Two items of an object hold the same byte.",
+            next: "",
+        },
+        13 => Sentence {
+            means: "A directory has one name twice.",
+            next: "",
+        },
+        14 => Sentence {
+            means: "A directory has two names, or the root has one.",
+            next: "",
+        },
+        15 => Sentence {
+            means: "A size, or the number of names of an object, is out of its range.",
+            next: "",
+        },
+        16 => Sentence {
+            means: "A block reads otherwise than before.",
+            next: "Somebody else wrote to the device while the command ran, or the device fails. Look at 'dmesg' and at the state of the disk ('smartctl -a'), and begin again.",
+        },
+        _ => NOTHING,
+    }
+}
+
+/// Of a rule of Btrfs that is broken.
+pub fn of_btrfs_rule(number: u64) -> Sentence {
+    match number {
+        1 => Sentence {
+            means: "The checksum of the superblock is wrong.",
+            next: "",
+        },
+        2 => Sentence {
+            means: "A field of the superblock is out of its bounds.",
+            next: "",
+        },
+        3 => Sentence {
+            means: "A chunk is not as it has to be, overlaps another, or leaves the device.",
+            next: "",
+        },
+        4 => Sentence {
+            means: "An address lies in no chunk.",
+            next: "",
+        },
+        5 => Sentence {
+            means: "The checksum of a node is wrong.",
+            next: "",
+        },
+        6 => Sentence {
+            means: "A node's address, file system, owner, level, generation or number of items is not what its parent says.",
+            next: "",
+        },
+        7 => Sentence {
+            means: "The parts of a node do not fit together.",
+            next: "",
+        },
+        8 => Sentence {
+            means: "Keys do not ascend.",
+            next: "",
+        },
+        9 => Sentence {
+            means: "An item's body is not as it has to be.",
+            next: "",
+        },
+        10 => Sentence {
+            means: "An entry names an inode or a tree that is not there.",
+            next: "",
+        },
+        11 => Sentence {
+            means: "There is a name that no directory may have, or one name twice.",
+            next: "",
+        },
+        12 => Sentence {
+            means: "Extents of a file overlap, are not aligned, or leave the space that they name.",
+            next: "",
+        },
+        13 => Sentence {
+            means: "A directory has two names.",
+            next: "",
+        },
+        _ => NOTHING,
+    }
+}
+
+/// Of what is not supported.
+pub fn of_feature(number: u64) -> Sentence {
+    match number {
+        1 => Sentence {
+            means: "It is ReiserFS of format 3.5.",
+            next: "Mount it once in Linux with the option 'conv', which makes it one of format 3.6.",
+        },
+        2 => Sentence {
+            means: "Blocks of ReiserFS have another size than 4096 bytes.",
+            next: "",
+        },
+        3 => Sentence {
+            means: "The journal of the ReiserFS volume lies on another device.",
+            next: "Let 'reiserfstune' bring it back.",
+        },
+        4 => Sentence {
+            means: "'reiserfsck' has marked the ReiserFS volume as damaged.",
+            next: "Let 'reiserfsck' finish.",
+        },
+        5 => Sentence {
+            means: "The ReiserFS volume has more than 2^29 blocks, which is 2 TiB.",
+            next: "",
+        },
+        11 => Sentence {
+            means: "The Btrfs volume has incompatible features that are not read.",
+            next: "",
+        },
+        12 => Sentence {
+            means: "A kind of checksum of Btrfs is not known.",
+            next: "",
+        },
+        13 => Sentence {
+            means: "Sectors of Btrfs have another size than 4096 bytes.",
+            next: "",
+        },
+        14 => Sentence {
+            means: "Nodes of Btrfs have another size than 4, 8, 16, 32 or 64 KiB.",
+            next: "",
+        },
+        15 => Sentence {
+            means: "The Btrfs volume has more devices than one.",
+            next: "",
+        },
+        16 => Sentence {
+            means: "Chunks are kept twice, or spread over devices.",
+            next: "Make them single with 'btrfs balance start -f -dconvert=single -mconvert=single -sconvert=single', which closes the way back.",
+        },
+        17 => Sentence {
+            means: "A file is compressed.",
+            next: "",
+        },
+        18 => Sentence {
+            means: "A file is encrypted.",
+            next: "",
+        },
+        _ => NOTHING,
+    }
+}
+
+/// Of a line that is no refusal.
+pub fn of_line(line: &str) -> Sentence {
+    match line {
+        "usage: .." => Sentence {
+            means: "The arguments are invalid, and nothing was opened.",
+            next: "'reiserconv --help' has the commands. A path may not begin with a dash: write './-name'.",
+        },
+        "device fault" => Sentence {
+            means: "A call of the system failed, or the device is in use.",
+            next: "",
+        },
+        "out of memory" => Sentence {
+            means: "The system gave no memory.",
+            next: "Close other programs, or add swap space.",
+        },
+        "output fault" => Sentence {
+            means: "The text could not be printed, for example since the disk that it goes to is full.",
+            next: "",
+        },
+        "start fault" => Sentence {
+            means: "The arguments, the clock or the random numbers of the system could not be had, and nothing was opened.",
+            next: "See whether '/proc' is mounted, and whether each argument is text in UTF-8.",
+        },
+        _ => NOTHING,
+    }
+}
+
+/// Of a device that fails, by the cause.
+pub fn of_fault(cause: &str) -> Sentence {
+    match cause {
+        "open" => Sentence {
+            means: "It could not be opened: it is not there, for example, or you may not open it.",
+            next: "See whether the path is right ('lsblk'). A device is opened by root alone.",
+        },
+        "kind" => Sentence {
+            means: "It is neither a plain file nor a block device.",
+            next: "Give a partition or a file that holds a volume.",
+        },
+        "mounted" => Sentence {
+            means: "It is mounted, or one of its partitions or the disk that it lies on is.",
+            next: "Unmount it with 'umount'; 'findmnt' shows what is mounted where. The volume that the system runs from is converted from a rescue system.",
+        },
+        "swap" => Sentence {
+            means: "It is swap space, or one of its partitions or the disk that it lies on is.",
+            next: "See whether this is the right device. 'swapoff' ends its use.",
+        },
+        "held" => Sentence {
+            means: "Another device lies on it, or on one of its partitions or the disk that it lies on: a RAID, a logical volume, or an encrypted one.",
+            next: "Give the device that lies on it, if that is the one with the volume. 'lsblk' shows both.",
+        },
+        "loop" => Sentence {
+            means: "A loop device is attached to the file.",
+            next: "Unmount it if it is mounted, and detach it with 'losetup -d'; 'losetup -a' lists all. Or give the loop device in place of the file.",
+        },
+        "locked" => Sentence {
+            means: "Another program has locked it, such as another run of this one.",
+            next: "Wait until that program has ended; 'fuser -v' shows it.",
+        },
+        "device" => Sentence {
+            means: "Reading, writing or flushing failed.",
+            next: "Look at 'dmesg' and at the state of the disk ('smartctl -a'). Where the disk fails, make a copy of it first ('ddrescue'), and go on with that.",
+        },
+        _ => NOTHING,
+    }
+}
+
+/// What is safe.
+pub fn of_safety(case: &str) -> Sentence {
+    match case {
+        "nothing" => Sentence {
+            means: "Nothing was written.",
+            next: "",
+        },
+        "free" => Sentence {
+            means: "Free blocks may have been written; all blocks in use are as they were, and so is the volume.",
+            next: "",
+        },
+        "cut" => Sentence {
+            means: "Blocks were written. The volume is the old one or the new one, as after a power cut: 'reiserconv recover' says which, and can be called again.",
+            next: "",
+        },
+        "done" => Sentence {
+            means: "What was to be done is done.",
+            next: "",
+        },
+        _ => NOTHING,
+    }
+}

@@ -1,0 +1,152 @@
+// Changes of a converted volume.
+use crate::block_access::{block, put_block};
+use crate::broken::Broken;
+use castagnoli::crc32c;
+use outside_mem::MemDisk;
+use std::alloc::Global;
+use vol_block::{Block, BlockNo, u32_at, u64_at};
+
+/// A node of four blocks.
+#[derive(Drop)]
+struct Node {
+    first: BlockNo,
+    bytes: Vec<u8>,
+}
+
+impl Node {
+    /// The node of four blocks from this one on.
+    fn read(alloc: Global, disk: &mut MemDisk, first: BlockNo) -> Result<Node, Broken> {
+        let mut bytes = Vec::new(alloc);
+        for i in 0..4u64 {
+            let part = block(disk, first.saturating_add(i))?;
+            bytes.extend_from_slice(&part.bytes)?;
+        }
+        Ok(Node { first, bytes })
+    }
+
+    /// The bytes of the node from this one on, where it has them.
+    fn has(&self, at: usize, bytes: &[u8]) -> bool {
+        at <= self.bytes.len() && self.bytes[at..].starts_with(bytes)
+    }
+
+    /// Gives the node other bytes from this one on, where they end inside of it.
+    fn put(&mut self, at: usize, bytes: &[u8]) -> Result<(), Broken> {
+        let len = self.bytes.len();
+        if at > len || bytes.len() > len - at {
+            return Err(Broken::TooLong);
+        }
+        self.bytes[at..at + bytes.len()].copy_from_slice(bytes);
+        Ok(())
+    }
+
+    /// Puts the node back, with its checksum.
+    fn write(&mut self, disk: &mut MemDisk) -> Result<(), Broken> {
+        if self.bytes.len() != 16384 {
+            return Err(Broken::TooLong);
+        }
+        let sum = crc32c(&self.bytes[32..]);
+        self.put(0, &sum.to_le_bytes())?;
+        let mut n = self.first;
+        for part in self.bytes.chunks_exact(4096) {
+            let mut to = Block::zero();
+            to.bytes.copy_from_slice(part);
+            put_block(disk, n, &to)?;
+            n = n.saturating_add(1);
+        }
+        Ok(())
+    }
+}
+
+/// Whether a block begins a leaf of this tree: a node tells the volume, its own address, its tree and its level.
+fn begins_leaf(head: &Block, first: BlockNo, tree: u64) -> bool {
+    let bytes = &head.bytes;
+    bytes[32..48] == [0x11; 16]
+        && u64_at(bytes, 48) / 4096 == first
+        && u64_at(bytes, 88) == tree
+        && bytes[100] == 0
+}
+
+/// The last leaf of a tree, by the numbers of their blocks.
+fn last_leaf(disk: &mut MemDisk, tree: u64) -> Result<BlockNo, Broken> {
+    let mut last = 0;
+    for n in 2112..3072u64 {
+        let first = n * 4;
+        if begins_leaf(&block(disk, first)?, first, tree) {
+            last = first;
+        }
+    }
+    if last == 0 {
+        return Err(Broken::Leaf);
+    }
+    Ok(last)
+}
+
+/// Takes the root's entry of the saved image out of a converted volume of the empty root directory: these are the last two items of the file
+/// tree's last leaf, which has four.
+pub fn remove_image(alloc: Global, disk: &mut MemDisk) -> Result<(), Broken> {
+    let leaf = last_leaf(disk, 5)?;
+    let mut node = Node::read(alloc, disk, leaf)?;
+    if !node.has(96, &4u32.to_le_bytes()) {
+        return Err(Broken::Leaf);
+    }
+    node.put(96, &2u32.to_le_bytes())?;
+    node.write(disk)
+}
+
+/// The body of a file extent of so many whole blocks from this one on.
+fn extent(alloc: Global, first: u64, blocks: u64) -> Result<Vec<u8>, Broken> {
+    let first = first.saturating_mul(4096);
+    let bytes = blocks.saturating_mul(4096);
+    let mut body = Vec::new(alloc);
+    body.extend_from_slice(&1u64.to_le_bytes())?;
+    body.extend_from_slice(&bytes.to_le_bytes())?;
+    body.extend_from_slice(&[0, 0, 0, 0, 1])?;
+    for value in [first, bytes, 0, bytes] {
+        body.extend_from_slice(&value.to_le_bytes())?;
+    }
+    Ok(body)
+}
+
+/// The place of the head of item 55 in its node, and that of its body.
+const HEAD: usize = 101 + 25 * 55;
+
+const BODY: usize = 13315;
+
+/// The head of an item of the image's extents: from this byte of the image on, with the body at this place.
+fn extent_head(alloc: Global, from: u64, at: usize) -> Result<Vec<u8>, Broken> {
+    let mut head = Vec::new(alloc);
+    head.extend_from_slice(&257u64.to_le_bytes())?;
+    head.extend_from_slice(&[108])?;
+    head.extend_from_slice(&from.to_le_bytes())?;
+    head.extend_from_slice(&u32::try_from(at).unwrap_or(0).to_le_bytes())?;
+    head.extend_from_slice(&53u32.to_le_bytes())?;
+    Ok(head)
+}
+
+/// The image's last extent maps its blocks 256 to 8211 to themselves. It is item 55, the last one of its leaf. It becomes one up to block
+/// 7999, and an item more maps those behind to blocks 8212 to 8423.
+fn split_extent(alloc: Global, node: &mut Node) -> Result<(), Broken> {
+    let is_last = node.has(96, &56u32.to_le_bytes());
+    let head = extent_head(alloc, 256 * 4096, BODY)?;
+    let body = extent(alloc, 256, 7956)?;
+    if !is_last || !node.has(HEAD, &head) || !node.has(101 + BODY, &body) {
+        return Err(Broken::Leaf);
+    }
+    node.put(96, &57u32.to_le_bytes())?;
+    node.put(101 + BODY, &extent(alloc, 256, 7744)?)?;
+    node.put(101 + BODY - 53, &extent(alloc, 8212, 212)?)?;
+    node.put(HEAD + 25, &extent_head(alloc, 8000 * 4096, BODY - 53)?)
+}
+
+/// Moves blocks 8000 to 8211 of the saved image of a converted volume of 12,288 blocks with an empty root directory: they are mapped to the
+/// free blocks 8212 to 8423, which get the same bytes.
+pub fn move_image(alloc: Global, disk: &mut MemDisk) -> Result<(), Broken> {
+    for i in 0..212 {
+        let bytes = block(disk, 8000 + i)?;
+        put_block(disk, 8212 + i, &bytes)?;
+    }
+    let leaf = last_leaf(disk, 256)?;
+    let mut node = Node::read(alloc, disk, leaf)?;
+    split_extent(alloc, &mut node)?;
+    node.write(disk)
+}

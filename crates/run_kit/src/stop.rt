@@ -1,0 +1,106 @@
+// Commands that are stopped behind their writes, and what crashes leave then.
+use crate::broken::Broken;
+use crate::choice::Choice;
+use crate::old::Old;
+use crate::run::{Trouble, done, ran};
+use outside_mem::MemDisk;
+
+/// Behind which numbers of writes a command is stopped: those that leave the remainder `first` by `step`.
+#[derive(Clone, Copy)]
+pub struct Stops {
+    pub first: u64,
+    pub step: u64,
+}
+
+impl Stops {
+    /// All of them.
+    pub const ALL: Stops = Stops { first: 0, step: 1 };
+
+    fn has(self, writes: u64) -> bool {
+        self.step != 0 && writes % self.step == self.first
+    }
+}
+
+impl Old {
+    /// Sees that `recover` has nothing to do a second time.
+    fn is_recovered(&self, left: &mut MemDisk) -> Result<(), Broken> {
+        done(self.alloc, "recover", left)?;
+        let writes = left.writes();
+        if writes != 0 {
+            return Err(Broken::Again(writes));
+        }
+        Ok(())
+    }
+
+    /// Sees that what a crash left has the rows of the volume behind `recover`, and is the volume, or becomes it by a rollback: whether
+    /// it was still Btrfs.
+    fn recovers(&self, left: &mut MemDisk) -> Result<bool, Broken> {
+        let told = done(self.alloc, "recover", left)?;
+        self.is_recovered(left)?;
+        self.has_rows(left)?;
+        let is_btrfs = told.as_slice().starts_with(b"volume is btrfs\n");
+        if is_btrfs {
+            done(self.alloc, "rollback", left)?;
+        }
+        self.is_back(left)?;
+        Ok(is_btrfs)
+    }
+
+    /// Stops a command behind so many writes, and looks at what crashes leave by each of these choices: how many leave it Btrfs.
+    fn stop(
+        &self,
+        word: &str,
+        base: &MemDisk,
+        writes: u64,
+        choices: &[Choice],
+    ) -> Result<u64, Broken> {
+        let mut disk = base.after_crash(&[])?;
+        let ended = ran(self.alloc, word, &mut disk, Trouble::Power(writes))?;
+        if ended.status != 3 {
+            return Err(Broken::Status(ended.status));
+        }
+        let mut btrfs = 0u64;
+        for choice in choices {
+            let numbers = choice.numbers(self.alloc, writes)?;
+            let mut left = disk.after_crash(&numbers)?;
+            if self.recovers(&mut left)? {
+                btrfs = btrfs.saturating_add(1);
+            }
+        }
+        Ok(btrfs)
+    }
+
+    /// How often a command writes that nothing stops.
+    fn writes_of(&self, word: &str, base: &MemDisk) -> Result<u64, Broken> {
+        let mut whole = base.after_crash(&[])?;
+        done(self.alloc, word, &mut whole)?;
+        Ok(whole.writes())
+    }
+
+    /// How often the conversion of the volume writes.
+    pub fn converted_writes(&self) -> Result<u64, Broken> {
+        self.writes_of("convert", &self.copy()?)
+    }
+
+    /// Runs a command over copies of a disk that holds this volume in one format or the other, stops it behind these numbers of writes
+    /// and where all are made, and looks each time at what crashes leave by each of these choices: how many leave it Btrfs.
+    ///
+    /// Whatever a crash leaves has the rows of the volume behind `recover`, which has nothing to do a second time; and it is the volume, or
+    /// becomes it by a rollback.
+    pub fn stops(
+        &self,
+        word: &str,
+        base: &MemDisk,
+        stops: Stops,
+        choices: &[Choice],
+    ) -> Result<u64, Broken> {
+        let last = self.writes_of(word, base)?;
+        let mut btrfs = 0u64;
+        for writes in 0..last.saturating_add(1) {
+            if stops.has(writes) {
+                btrfs = btrfs.saturating_add(self.stop(word, base, writes, choices)?);
+            }
+        }
+        Ok(btrfs)
+    }
+}

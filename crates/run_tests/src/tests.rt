@@ -1,0 +1,6 @@
+mod copied_block;
+mod empty_volume;
+mod faults;
+mod home_volume;
+mod refusals;
+mod ten_files;

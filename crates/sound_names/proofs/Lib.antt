@@ -1,0 +1,11 @@
+mod Assembling
+mod Entered
+mod Fits
+mod HavingNames
+mod Inodes
+mod Lists
+mod Names
+mod Objects
+mod Saved
+mod Small
+mod Telling

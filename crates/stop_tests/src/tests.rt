@@ -1,0 +1,3 @@
+mod empty_volume;
+mod small_volumes;
+mod ten_files;
