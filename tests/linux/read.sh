@@ -1,33 +1,17 @@
 #!/bin/sh
-# Inside of the machine: the kernel makes and fills a volume of each format, and the program has to list what Linux sees of it.
+# Inside of the machine: the kernel fills a volume that mkfs.btrfs made, and the program has to list what Linux sees of it.
+. ./said.sh
 
-# said NAME STATUS: a line for a check
-said() {
-    if [ "$2" = 0 ]; then echo "ok $1"; else echo "FAILED $1"; fi
-}
-
-# listed KIND DISK: the volume on a disk is filled, and listed to the byte
-listed() {
-    mount -t "$1" -o noatime "$2" /mnt && perl fill /mnt "$1" >/dev/null && umount /mnt
-    said "$1: filled by Linux" $?
-    mount -t "$1" -o ro,noatime "$2" /mnt && perl rows /mnt "$1" >/tmp/wanted && umount /mnt
-    said "$1: looked at by Linux, $(wc -l </tmp/wanted) paths" $?
-    reiserconv list "$2" >/tmp/found 2>/tmp/err
-    said "$1: list ends with status 0" $?
-    cat /tmp/err
-    cmp -s /tmp/wanted /tmp/found
-    same=$?
-    said "$1: list prints what Linux sees" $same
-    [ $same = 0 ] || diff /tmp/wanted /tmp/found | head -n 20
-    reiserconv inspect "$2" >/tmp/found 2>&1
-    said "$1: inspect ends with status 0" $?
-    said "$1: inspect names the format" "$([ "$(head -n 1 /tmp/found)" = "format $1" ]; echo $?)"
-}
-
-mkfs.reiserfs -q -f /dev/vda >/dev/null 2>&1
-said 'reiserfs: made' $?
-listed reiserfs /dev/vda
-mkfs.btrfs -q -f -m single -d single /dev/vdb >/dev/null 2>&1
-said 'btrfs: made' $?
-listed btrfs /dev/vdb
+mkfs.btrfs -q -f -m single -d single /dev/vda >/dev/null 2>&1
+said 'read: made' $?
+mount -t btrfs -o noatime /dev/vda /mnt && perl /job/fill /mnt btrfs >/dev/null && umount /mnt
+said 'read: filled by Linux' $?
+seen btrfs /dev/vda /tmp/before
+said "read: looked at by Linux, $(wc -l </tmp/before) paths" $?
+run list /dev/vda
+same 'read: list ends with status 0' '0|' "$status|$err"
+same_file 'read: list prints what Linux sees' /tmp/before /tmp/out
+run inspect /dev/vda
+same 'read: inspect names the format' '0|format btrfs' "$status|$(head -n 1 /tmp/out)"
+quiet 'read: the kernel complains of nothing'
 exit 0

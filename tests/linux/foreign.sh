@@ -1,0 +1,93 @@
+#!/bin/sh
+# Inside of the machine: what is on a converted volume is written, removed, renamed, and moved by the kernel's own tools, list prints what
+# Linux sees then, and the volume goes back. /dev/vda is the volume, /dev/vdb keeps what it was, /dev/vdc what it became.
+. ./said.sh
+
+filled /dev/vda few
+said 'foreign: filled' $?
+seen reiserfs /dev/vda /tmp/before
+said "foreign: looked at, $(wc -l </tmp/before) paths" $?
+cp --sparse=always /dev/vda /dev/vdb
+run convert /dev/vda
+same 'foreign: converted' '0|' "$status|$err"
+mount -t btrfs -o noatime /dev/vda /mnt
+said 'foreign: mounts for writing' $?
+quiet 'foreign: the kernel complains of nothing when it mounts'
+cd /mnt || exit 1
+
+mkdir new && perl -e 'for (1 .. 3000) { open my $out, ">", "new/file-$_" or die $!; print {$out} "$_ " x ($_ % 500); close $out or die $! }'
+said 'foreign: small files' $?
+head -c 12345678 /dev/urandom >large && sync
+said 'foreign: a large file' $?
+rm -r many sizes/65537 sizes/100 && find new -name '*7' -exec rm {} +
+said 'foreign: removed' $?
+mv sizes/300001 moved && mv links/d1 new/d1 && mv holes cavities && mv new/file-1 names/-
+said 'foreign: renamed' $?
+ln links/one again && ln large new/large && ln sizes/2048 twice && rm links/d2/name-1
+said 'foreign: linked' $?
+echo inside | dd of=moved bs=1 seek=100000 conv=notrunc status=none && echo behind >>sizes/4096 && truncate -s 5000 sizes/12289 && truncate -s 1M sizes/1
+said 'foreign: written into old files' $?
+chmod 600 sizes/2049 && chown 5:6 sizes/4095 && touch -d @1000000001.25 sizes/4097 && chattr +i new/file-2 && mkfifo new/pipe && ln -s nowhere new/link
+said 'foreign: modes, owners, times, flags' $?
+cp --reflink=always large copied && rm large && sync
+said 'foreign: blocks that two files share' $?
+btrfs subvolume snapshot /mnt /mnt/snapshot >/dev/null && btrfs subvolume snapshot -r /mnt /mnt/second >/dev/null && echo changed >>sizes/8191 && rm snapshot/moved && sync
+said 'foreign: snapshots' $?
+btrfs subvolume delete -c /mnt/snapshot /mnt/second >/dev/null && btrfs subvolume sync /mnt >/dev/null
+said 'foreign: snapshots gone' $?
+btrfs filesystem defragment -r sizes new moved cavities >/dev/null 2>&1
+said 'foreign: defragmented' $?
+btrfs filesystem label /mnt 'another label'
+said 'foreign: a label' $?
+scrubbed 'foreign: scrub finds nothing'
+btrfs balance start -musage=100 /mnt >/tmp/out 2>&1
+said 'foreign: metadata is balanced' $?
+fstrim /mnt
+said 'foreign: trimmed' $?
+perl /job/saved /dev/vdb reiserfs_saved/image
+said 'foreign: the image has the bytes of the volume' $?
+cd / && umount /mnt
+said 'foreign: unmounted' $?
+
+# judged NAME: what is on /dev/vda is a good volume, and list prints what Linux sees
+judged() {
+    checked "foreign: btrfs check $1 finds nothing"
+    seen btrfs /dev/vda /tmp/after
+    said "foreign: looked at $1, $(wc -l </tmp/after) paths" $?
+    run list /dev/vda
+    same "foreign: list $1 ends with status 0" '0|' "$status|$err"
+    same_file "foreign: list $1 prints what Linux sees" /tmp/after /tmp/out
+    run inspect /dev/vda
+    same "foreign: inspect $1 finds the image" "0||another\\x20label|$(($(cat /sys/class/block/vda/size) / 8))" \
+        "$status|$err|$(sed -n 's/^label //p' /tmp/out)|$(sed -n 's/^image //p' /tmp/out)"
+    quiet "foreign: the kernel complains of nothing $1"
+}
+judged 'behind the writes'
+cp --sparse=always /dev/vda /dev/vdc
+
+run rollback /dev/vda
+same 'foreign: rollback ends with status 0' '0||rolled back to reiserfs' "$status|$err|$(head -n 1 /tmp/out)"
+perl /job/saved /dev/vdb /dev/vda
+said 'foreign: each used block is as it was' $?
+run list /dev/vda
+same_file 'foreign: list prints the first tree' /tmp/before /tmp/out
+reiserfsck --check -y /dev/vda >/tmp/out 2>&1
+same 'foreign: reiserfsck finds nothing' '0 1' "$? $(grep -c 'No corruptions found' /tmp/out)"
+mount -t reiserfs -o noatime,attrs /dev/vda /mnt && perl /job/rows /mnt reiserfs >/tmp/after && echo more >/mnt/more && umount /mnt
+said 'foreign: mounts as ReiserFS for writing' $?
+same_file 'foreign: Linux sees the first tree' /tmp/before /tmp/after
+quiet 'foreign: the kernel complains of nothing behind rollback'
+
+# A balance of data moves blocks of the image too.
+cp /dev/vdc /dev/vda
+mount -t btrfs -o noatime /dev/vda /mnt && btrfs balance start -dusage=100 /mnt >/tmp/out 2>&1
+said 'foreign: data is balanced' $?
+perl /job/saved /dev/vdb /mnt/reiserfs_saved/image
+said 'foreign: the moved image has the bytes of the volume' $?
+umount /mnt
+judged 'behind a balance of data'
+volume=$(sha256sum </dev/vda)
+run rollback /dev/vda
+same 'foreign: rollback of a moved image is refused' '1|refused 18 moved' "$status|${err% *}"
+same 'foreign: a refused rollback leaves the volume' "$volume" "$(sha256sum </dev/vda)"
+exit 0

@@ -1,0 +1,65 @@
+# shellcheck shell=dash disable=SC2034
+# How a check is counted inside of the machine. The scripts there read this file.
+
+# said NAME STATUS: a line for a check
+said() {
+    if [ "$2" = 0 ]; then echo "ok $1"; else echo "FAILED $1"; fi
+}
+
+# same NAME EXPECTED FOUND: two texts are the same
+same() {
+    if [ "$2" = "$3" ]; then echo "ok $1"; else
+        echo "FAILED $1"
+        printf '%s\n' "$2" >/tmp/expected
+        printf '%s\n' "$3" >/tmp/found
+        diff /tmp/expected /tmp/found | head -n 20
+    fi
+}
+
+# same_file NAME EXPECTED FOUND: two files are the same, and hold something
+same_file() {
+    if [ -s "$2" ] && cmp -s "$2" "$3"; then echo "ok $1"; else
+        echo "FAILED $1"
+        diff "$2" "$3" | head -n 20
+    fi
+}
+
+# run WORDS..: the program; its status is in $status, its output in /tmp/out and its error line in $err
+run() {
+    reiserconv "$@" >/tmp/out 2>/tmp/err
+    status=$?
+    err=$(cat /tmp/err)
+}
+
+# the options by which a volume of a kind is mounted here: flags are seen, and times stay
+options() { if [ "$1" = reiserfs ]; then echo noatime,attrs; else echo noatime; fi; }
+
+# filled DISK [few]: a new ReiserFS volume with a small journal, which the kernel fills
+filled() {
+    mkfs.reiserfs -q -f -s 513 -l 'a label' "$1" >/dev/null 2>&1 &&
+        mount -t reiserfs -o noatime,attrs "$1" /mnt && perl /job/fill /mnt reiserfs ${2:-} >/dev/null && umount /mnt
+}
+
+# seen KIND DISK FILE: mounts a volume for reading, and puts into a file what Linux sees of it
+seen() {
+    mount -t "$1" -o "ro,$(options "$1")" "$2" /mnt && perl /job/rows /mnt "$1" >"$3" && umount /mnt
+}
+
+# checked NAME: btrfs check finds nothing on /dev/vda, and warns of nothing
+checked() {
+    btrfs check --check-data-csum /dev/vda >/tmp/out 2>&1
+    same "$1" '0 1 0' "$? $(grep -c 'no error found' /tmp/out) $(grep -ciE 'mirror|mismatch|warning' /tmp/out)"
+}
+
+# scrubbed NAME: scrub reads each block of /mnt and finds nothing
+scrubbed() {
+    btrfs scrub start -B /mnt >/tmp/out 2>&1
+    same "$1" '0 1' "$? $(grep -c 'no errors found' /tmp/out)"
+}
+
+# quiet NAME: the kernel has complained of nothing since the last time, but that it will drop ReiserFS
+dmesg -c >/dev/null
+quiet() {
+    dmesg -c | grep -iE 'BTRFS:? (warning|error|critical)|reiserfs (warning|error|panic)|I/O error|BUG|WARNING:|Oops|call trace' | grep -v deprecated >/tmp/complaints
+    same "$1" '' "$(cat /tmp/complaints)"
+}
