@@ -120,6 +120,9 @@ fn a_disk_keeps_why_its_last_call_failed(rt: HostRuntime) -> Result<(), Fail> {
     let mut short = FileDisk::new(&rt, &line);
     short.open(path.as_str(), Access::Read)?;
     fs::write(&rt, path.as_str(), [7; 5000].as_slice())?;
+    if short.len() < 2 {
+        return Err("a disk is too short".into());
+    }
     assert!(rt; short.read(1, &mut Block::zero()).is_err());
     let trouble = format!(in rt.alloc(); "{}", short.trouble().ok_or("no trouble")?)?;
     assert_eq!(rt; trouble.as_str(), "reading block 1: unexpected end of file");
