@@ -84,9 +84,14 @@ static int fails(void)
 
 #define REAL(name) ((__typeof__(&name))dlsym(RTLD_NEXT, #name))
 
+static int is_volume(const char *path)
+{
+	return volume && !strcmp(path, volume);
+}
+
 static int opened(const char *path, int fd)
 {
-	if (volume && !strcmp(path, volume))
+	if (is_volume(path))
 		volume_fd = fd;
 	return fd;
 }
@@ -97,7 +102,7 @@ int open(const char *path, int flags, ...)
 	va_start(more, flags);
 	mode_t mode = va_arg(more, mode_t);
 	va_end(more);
-	if (volume && !strcmp(path, volume) && fails())
+	if (is_volume(path) && fails())
 		return -1;
 	return opened(path, REAL(open)(path, flags, mode));
 }
@@ -108,7 +113,7 @@ int openat(int at, const char *path, int flags, ...)
 	va_start(more, flags);
 	mode_t mode = va_arg(more, mode_t);
 	va_end(more);
-	if (volume && !strcmp(path, volume) && fails())
+	if (is_volume(path) && fails())
 		return -1;
 	return opened(path, REAL(openat)(at, path, flags, mode));
 }
@@ -145,22 +150,25 @@ ssize_t pwrite(int fd, const void *from, size_t size, off_t at)
 	return REAL(pwrite)(fd, from, size, at);
 }
 
+/* Whether a sync of this file fails; where it does not, what was written to the volume stays. */
+static int sync_fails(int fd)
+{
+	if (fd != volume_fd)
+		return 0;
+	if (fails())
+		return 1;
+	last = NULL;
+	return 0;
+}
+
 int fsync(int fd)
 {
-	if (fd == volume_fd && fails())
-		return -1;
-	if (fd == volume_fd)
-		last = NULL;
-	return REAL(fsync)(fd);
+	return sync_fails(fd) ? -1 : REAL(fsync)(fd);
 }
 
 int fdatasync(int fd)
 {
-	if (fd == volume_fd && fails())
-		return -1;
-	if (fd == volume_fd)
-		last = NULL;
-	return REAL(fdatasync)(fd);
+	return sync_fails(fd) ? -1 : REAL(fdatasync)(fd);
 }
 
 ssize_t write(int fd, const void *from, size_t size)
