@@ -1,12 +1,14 @@
 #!/usr/bin/env bash
-# make.sh: puts the programs into release/, as the kit proves and compiles them here, for machines without the kit:
+# make.sh: runs `rt ci`, and puts the programs that it built into release/, for machines without the kit:
 #
 #     reiserconv, sample_volume    the programs
 #     SHA256SUMS                   their SHA-256, which `sha256sum -c` compares
 #     MADE_OF                      what they were made of: the commit, the kit, one checksum over all sources, and what they need
 #
-# make.sh --check: makes them, and says whether the ones in release/ are the same to the byte and of the same sources. The status is 1
-# where they are not.
+# make.sh --check: says whether the ones in release/ are the programs that the last `rt ci` here built, to the byte, and of the sources as
+# they are. The status is 1 where they are not.
+#
+# make.sh --remove: removes what an earlier `rt ci` built, so that a check after the next one sees that one's programs.
 set -euo pipefail
 
 cd "$(dirname "$(readlink -f "${BASH_SOURCE[0]}")")/.."
@@ -14,24 +16,26 @@ cd "$(dirname "$(readlink -f "${BASH_SOURCE[0]}")")/.."
 . release/programs.sh
 names=(reiserconv sample_volume)
 
-# Makes each program anew, in its crate's folder.
+# Has the gate make each program anew.
 make_all() {
     local made
     checksum=$(sum)
-    for name in "${names[@]}"; do
-        mkdir -p "crates/$name/out"
-        (
-            flock 9
-            rm -f "crates/$name/out/$name"
-            build
-        ) 9>"crates/$name/out/.build.lock"
-    done
+    remove_all
+    rt ci
     made=$(sum)
     [ "$made" = "$checksum" ] || { echo 'release/make.sh: the sources changed meanwhile' >&2; exit 1; }
 }
 
+# Removes what an earlier run of the gate built.
+remove_all() {
+    for name in "${names[@]}"; do
+        rm -f "crates/$name/out/$name"
+    done
+}
+
 check_all() {
     local status=0
+    checksum=$(sum)
     for name in "${names[@]}"; do
         if ! cmp "release/$name" "crates/$name/out/$name"; then
             status=1
@@ -66,10 +70,8 @@ put_all() {
 }
 
 case "${1:-}" in
-    --check)
-        make_all
-        check_all
-        ;;
+    --check) check_all ;;
+    --remove) remove_all ;;
     '')
         mapfile -t places < <(sources)
         if [ -n "$(git status --porcelain -- "${places[@]}")" ]; then
@@ -80,7 +82,7 @@ case "${1:-}" in
         put_all
         ;;
     *)
-        echo 'usage: release/make.sh [--check]' >&2
+        echo 'usage: release/make.sh [--check | --remove]' >&2
         exit 2
         ;;
 esac
