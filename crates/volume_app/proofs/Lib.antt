@@ -7,3 +7,4 @@ pub mod Outcomes
 pub mod Performing
 pub mod Promise
 pub mod Trees
+pub mod Trying
