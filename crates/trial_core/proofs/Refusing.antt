@@ -29,67 +29,37 @@ use Rattle.trial_core.specs.Round.{FreeAreBytes, plain}
 
 pub convert_refused : RefusalsBreakRules → InOrderHasFormat → (image : Image) (e : Answer) → IsAccepted image → RefusesConvert plain image e → RefusesRound image (by_step e)
 convert_refused breaks formats image (answer.Volume r) accepted refused = absurd (breaks image r refused.1 accepted)
-convert_refused breaks formats image (answer.Btr r) accepted refused = absurd refused
 convert_refused breaks formats image (answer.NoSpace needed free run_needed longest) accepted refused = refused.1
 convert_refused breaks formats image answer.WrongFormat accepted refused =
     let both : Reiser ≡ Btrfs = sym (formats.accepted image accepted).0 ∙ refused in
     absurd (cc both)
-convert_refused breaks formats image answer.ImageMissing accepted refused = absurd refused
-convert_refused breaks formats image (answer.ImageMoved b) accepted refused = absurd refused
-convert_refused breaks formats image (answer.ImageDamaged r) accepted refused = absurd refused
-convert_refused breaks formats image (answer.ReservedUsed b) accepted refused = absurd refused
 convert_refused breaks formats image answer.Fault accepted refused = tt
 convert_refused breaks formats image answer.Memory accepted refused = tt
+convert_refused breaks formats image _ accepted refused = absurd refused
 
 pub convert_leaves : (old new : History) (e : Answer) → (e ≢ answer.Fault → e ≢ answer.Memory → new ≡ old) → LeavesRound old new (by_step e)
-convert_leaves old new (answer.Volume r) same = tt
-convert_leaves old new (answer.Btr r) same = tt
 convert_leaves old new (answer.NoSpace needed free run_needed longest) same = same (λ is. absurd (cc is)) (λ is. absurd (cc is))
-convert_leaves old new answer.WrongFormat same = tt
-convert_leaves old new answer.ImageMissing same = tt
-convert_leaves old new (answer.ImageMoved b) same = tt
-convert_leaves old new (answer.ImageDamaged r) same = tt
-convert_leaves old new (answer.ReservedUsed b) same = tt
-convert_leaves old new answer.Fault same = tt
-convert_leaves old new answer.Memory same = tt
+convert_leaves old new _ same = tt
 
 pub step_known : (e : Answer) → IsRoundAnswer (by_step e)
-step_known (answer.Volume r) = refl
-step_known (answer.Btr r) = refl
 step_known (answer.NoSpace needed free run_needed longest) = tt
-step_known answer.WrongFormat = refl
-step_known answer.ImageMissing = refl
-step_known (answer.ImageMoved b) = refl
-step_known (answer.ImageDamaged r) = refl
-step_known (answer.ReservedUsed b) = refl
 step_known answer.Fault = tt
 step_known answer.Memory = tt
+step_known _ = refl
 
 -- ---- of a rollback
 
 pub rollback_refused : RefusalsAreOfTouched → (disk : Image) (e : Answer) → RefusesRollback disk e → StopsUnless (IsUntouched disk) (by_step e)
-rollback_refused touched disk (answer.Volume r) refused = inr (refl, touched disk (answer.Volume r) refused (λ is. absurd (cc is)) (λ is. absurd (cc is)))
-rollback_refused touched disk (answer.Btr r) refused = inr (refl, touched disk (answer.Btr r) refused (λ is. absurd (cc is)) (λ is. absurd (cc is)))
 rollback_refused touched disk (answer.NoSpace needed free run_needed longest) refused = absurd refused
-rollback_refused touched disk answer.WrongFormat refused = inr (refl, touched disk answer.WrongFormat refused (λ is. absurd (cc is)) (λ is. absurd (cc is)))
-rollback_refused touched disk answer.ImageMissing refused = inr (refl, touched disk answer.ImageMissing refused (λ is. absurd (cc is)) (λ is. absurd (cc is)))
-rollback_refused touched disk (answer.ImageMoved b) refused = inr (refl, touched disk (answer.ImageMoved b) refused (λ is. absurd (cc is)) (λ is. absurd (cc is)))
-rollback_refused touched disk (answer.ImageDamaged r) refused = inr (refl, touched disk (answer.ImageDamaged r) refused (λ is. absurd (cc is)) (λ is. absurd (cc is)))
-rollback_refused touched disk (answer.ReservedUsed b) refused = inr (refl, touched disk (answer.ReservedUsed b) refused (λ is. absurd (cc is)) (λ is. absurd (cc is)))
 rollback_refused touched disk answer.Fault refused = inl (inl refl)
 rollback_refused touched disk answer.Memory refused = inl (inr refl)
+rollback_refused touched disk e refused = inr (refl, touched disk e refused (λ is. absurd (cc is)) (λ is. absurd (cc is)))
 
 pub rollback_known : (e : Answer) → IsRollbackAnswer e → IsReadAnswer (by_step e)
-rollback_known (answer.Volume r) known = inr refl
-rollback_known (answer.Btr r) known = inr refl
 rollback_known (answer.NoSpace needed free run_needed longest) known = absurd known
-rollback_known answer.WrongFormat known = inr refl
-rollback_known answer.ImageMissing known = inr refl
-rollback_known (answer.ImageMoved b) known = inr refl
-rollback_known (answer.ImageDamaged r) known = inr refl
-rollback_known (answer.ReservedUsed b) known = inr refl
 rollback_known answer.Fault known = inl (inl refl)
 rollback_known answer.Memory known = inl (inr refl)
+rollback_known _ known = inr refl
 
 -- ---- of what is read
 

@@ -6,6 +6,7 @@ use Rattle.vol_block.specs.declared.ids.Ids.{Ids}
 use Rattle.back_laws.specs.Back.{ConvertedVolumesGoBack, GoesBack}
 use Rattle.btr_node.specs.NodeSize.{IsNodeSize}
 use Rattle.btr_reader.specs.Laws.{BtrfsRowsAreOne}
+use Rattle.btr_reader.specs.Parts.{ListsBtrfs}
 use Rattle.convert_core.specs.Converted.{IsConverted}
 use Rattle.fs_rows.specs.Rows.{WholeRow, row_of}
 use Rattle.fs_rows.specs.declared.row.Row.{Row}
@@ -20,7 +21,7 @@ use Rattle.space_items.specs.Laws.{AreIds}
 use Rattle.trial_parts.specs.Parts.{summary_of, used_mark}
 use Rattle.trial_parts.specs.declared.summary.TrialSummary.{TrialSummary}
 use Rattle.trial_core.specs.Answers.{IsReadAnswer, LeavesRound, RefusesRound, StopsUnless}
-use Rattle.trial_core.specs.Round.{AreBtrfs, AreReiser, FreeAreBytes, IsKnown, IsRound, IsSummary, UsedAreBytes, plain}
+use Rattle.trial_core.specs.Round.{AreReiser, FreeAreBytes, IsKnown, IsRound, IsSummary, UsedAreBytes, plain}
 use Rattle.trial_core.specs.declared.known.Known.{Known}
 use Rattle.trial_core.proofs.Bytes.{all_bytes, same_mark}
 use Rattle.trial_core.proofs.Refusing.{read_leaves, unless_refuses}
@@ -32,12 +33,12 @@ size = inr (inr (inl refl))
 -- ---- rows
 
 -- a Btrfs volume has one list of rows
-pub listed_once : BtrfsRowsAreOne → (disk : Image) (rows others : List Row) → AreBtrfs disk rows → AreBtrfs disk others → rows ≡ others
+pub listed_once : BtrfsRowsAreOne → (disk : Image) (rows others : List Row) → ListsBtrfs disk rows → ListsBtrfs disk others → rows ≡ others
 listed_once one disk rows others first second =
     first.1.2 ∙ (ap (λ (whole : List WholeRow). map row_of whole) (one disk _ _ first.1.0 second.1.0 first.1.1 second.1.1) ∙ sym second.1.2)
 
 -- the rows of the volume before are those of the one in between
-pub has_rows : (image between : Image) (rows : List Row) → AreReiser image rows → OpensAsBefore image between → AreBtrfs between rows
+pub has_rows : (image between : Image) (rows : List Row) → AreReiser image rows → OpensAsBefore image between → ListsBtrfs between rows
 has_rows image between rows are opens = (opens.has_rows, (are.0, opens.rows are.0 are.1, are.2))
 
 -- ---- the conversion
@@ -60,8 +61,8 @@ restored image between other goes rolled b used =
 
 -- on the way there
 pub there : ConvertedVolumesOpen → ConvertedVolumesGoBack → (ids : Ids) (now : ℕ) (image between : Image) (known : Known) → now < 2 ^ 63 → AreIds ids → IsKnown image known → IsConverted plain ids now image between
-    → (result : Result (Unit {0}) Answer) → MatchResult result (λ _. AreBtrfs between known.rows) (StopsUnless (AreBtrfs between known.rows))
-    → MatchResult result (λ _. IsConverted plain ids now image between × AreBtrfs between known.rows × (FreeAreBytes image → GoesBack image between)) (RefusesRound image)
+    → (result : Result (Unit {0}) Answer) → MatchResult result (λ _. ListsBtrfs between known.rows) (StopsUnless (ListsBtrfs between known.rows))
+    → MatchResult result (λ _. IsConverted plain ids now image between × ListsBtrfs between known.rows × (FreeAreBytes image → GoesBack image between)) (RefusesRound image)
 there opens back ids now image between known low are is c (Ok x) rows = (c, rows, λ free. gone_back ids now image between low are c is.bytes free back)
 there opens back ids now image between known low are is c (Err e) rows =
     unless_refuses image e rows (λ free. has_rows image between known.rows is.rows (opened ids now image between low are c is.bytes free opens))
@@ -81,7 +82,7 @@ reading_leaves old new (Ok x) known = tt
 reading_leaves old new (Err e) known = read_leaves old new e known
 
 -- all of it
-pub round : (ids : Ids) (now : ℕ) (image between other : Image) (known : Known) (told : TrialSummary) → IsKnown image known → IsConverted plain ids now image between → AreBtrfs between known.rows → IsRolledBack between other
+pub round : (ids : Ids) (now : ℕ) (image between other : Image) (known : Known) (told : TrialSummary) → IsKnown image known → IsConverted plain ids now image between → ListsBtrfs between known.rows → IsRolledBack between other
     → used_mark (used_of image) other ≡ used_mark (used_of image) image → told ≡ summary_of known.rows → IsRound ids now image other × IsSummary image told
 round ids now image between other known told is c rows rolled blocks same =
     (record {

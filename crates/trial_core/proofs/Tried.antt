@@ -90,114 +90,63 @@ told_number one number old new told made (rows, are, is) =
 
 pub scratch_refuses : (number : ℕ) (disk : Image) (e : Answer) → RefusesScratch disk e → RefusesTrial number disk e
 scratch_refuses number disk (answer.Volume r) refused = (refused.0, inl (refused.1, refused.2))
-scratch_refuses number disk (answer.Btr r) refused = absurd refused
-scratch_refuses number disk (answer.NoSpace needed free run_needed longest) refused = absurd refused
 scratch_refuses number disk answer.WrongFormat refused = refused
-scratch_refuses number disk answer.ImageMissing refused = absurd refused
-scratch_refuses number disk (answer.ImageMoved b) refused = absurd refused
-scratch_refuses number disk (answer.ImageDamaged r) refused = absurd refused
-scratch_refuses number disk (answer.ReservedUsed b) refused = absurd refused
 scratch_refuses number disk answer.Fault refused = tt
-scratch_refuses number disk answer.Memory refused = absurd refused
+scratch_refuses number disk _ refused = absurd refused
 
 pub scratch_leaves : (number : ℕ) (old new : History) (e : Answer) → IsScratchAnswer e → new ≡ old → LeavesRefused number old new e
 scratch_leaves number old new (answer.Volume r) known same = (λ short. same, λ bytes. same)
-scratch_leaves number old new (answer.Btr r) known same = same
-scratch_leaves number old new (answer.NoSpace needed free run_needed longest) known same = absurd known
 scratch_leaves number old new answer.WrongFormat known same = same
-scratch_leaves number old new answer.ImageMissing known same = same
-scratch_leaves number old new (answer.ImageMoved b) known same = same
-scratch_leaves number old new (answer.ImageDamaged r) known same = same
-scratch_leaves number old new (answer.ReservedUsed b) known same = same
 scratch_leaves number old new answer.Fault known same = tt
-scratch_leaves number old new answer.Memory known same = tt
+scratch_leaves number old new _ known same = absurd known
 
 pub scratch_known : (e : Answer) → IsScratchAnswer e → IsTrialAnswer e
 scratch_known (answer.Volume r) known = inl known
-scratch_known (answer.Btr r) known = known
-scratch_known (answer.NoSpace needed free run_needed longest) known = tt
 scratch_known answer.WrongFormat known = tt
-scratch_known answer.ImageMissing known = known
-scratch_known (answer.ImageMoved b) known = known
-scratch_known (answer.ImageDamaged r) known = known
-scratch_known (answer.ReservedUsed b) known = known
 scratch_known answer.Fault known = tt
-scratch_known answer.Memory known = tt
+scratch_known _ known = absurd known
 
 pub make_refuses : (number : ℕ) (disk : Image) (e : Answer) → IsScratch disk → IsMakeAnswer number e → RefusesTrial number disk e
-make_refuses number disk (answer.Volume r) scratch known = absurd known
-make_refuses number disk (answer.Btr r) scratch known = known
-make_refuses number disk (answer.NoSpace needed free run_needed longest) scratch known = (scratch.format, scratch.long, inl known)
-make_refuses number disk answer.WrongFormat scratch known = absurd known
-make_refuses number disk answer.ImageMissing scratch known = known
-make_refuses number disk (answer.ImageMoved b) scratch known = known
-make_refuses number disk (answer.ImageDamaged r) scratch known = known
-make_refuses number disk (answer.ReservedUsed b) scratch known = known
+make_refuses number disk (answer.NoSpace needed free run_needed longest) scratch known = (scratch, inl known)
 make_refuses number disk answer.Fault scratch known = tt
 make_refuses number disk answer.Memory scratch known = tt
+make_refuses number disk _ scratch known = absurd known
 
 pub make_leaves : (number : ℕ) (old mid new : History) (e : Answer) → mid ≡ old → IsMakeAnswer number e → LeavesRound mid new e → LeavesRefused number old new e
-make_leaves number old mid new (answer.Volume r) same known leaves = absurd known
-make_leaves number old mid new (answer.Btr r) same known leaves = absurd known
 make_leaves number old mid new (answer.NoSpace needed free run_needed longest) same known leaves = (λ many. leaves ∙ same, λ few. absurd (omega (arith, few, known.0)))
-make_leaves number old mid new answer.WrongFormat same known leaves = absurd known
-make_leaves number old mid new answer.ImageMissing same known leaves = absurd known
-make_leaves number old mid new (answer.ImageMoved b) same known leaves = absurd known
-make_leaves number old mid new (answer.ImageDamaged r) same known leaves = absurd known
-make_leaves number old mid new (answer.ReservedUsed b) same known leaves = absurd known
 make_leaves number old mid new answer.Fault same known leaves = tt
 make_leaves number old mid new answer.Memory same known leaves = tt
+make_leaves number old mid new _ same known leaves = absurd known
 
 pub make_known : (number : ℕ) (e : Answer) → IsMakeAnswer number e → IsTrialAnswer e
-make_known number (answer.Volume r) known = absurd known
-make_known number (answer.Btr r) known = known
 make_known number (answer.NoSpace needed free run_needed longest) known = tt
-make_known number answer.WrongFormat known = tt
-make_known number answer.ImageMissing known = known
-make_known number (answer.ImageMoved b) known = known
-make_known number (answer.ImageDamaged r) known = known
-make_known number (answer.ReservedUsed b) known = known
 make_known number answer.Fault known = tt
 make_known number answer.Memory known = tt
+make_known number _ known = absurd known
 
 module _ (number : ℕ) (old mid : History) (scratch : IsScratch (reads old)) (room : needed_by number ≤ 65536) (made : IsMade number old mid) where
   pub round_refuses : (e : Answer) → RefusesRound (reads mid) e → RefusesTrial number (reads old) e
   round_refuses (answer.Volume r) refused = (scratch.format, inr (refused.0, scratch.long, λ bytes. refused.1 (free_bytes number old mid made bytes)))
-  round_refuses (answer.Btr r) refused = refused
   round_refuses (answer.NoSpace needed free run_needed longest) refused =
-      (scratch.format, scratch.long, inr (room, subst (λ (image : Image). RefusesRound image (answer.NoSpace needed free run_needed longest)) made.written refused))
-  round_refuses answer.WrongFormat refused = absurd refused
-  round_refuses answer.ImageMissing refused = refused
-  round_refuses (answer.ImageMoved b) refused = refused
-  round_refuses (answer.ImageDamaged r) refused = refused
-  round_refuses (answer.ReservedUsed b) refused = refused
+      (scratch, inr (room, subst (λ (image : Image). RefusesRound image (answer.NoSpace needed free run_needed longest)) made.written refused))
   round_refuses answer.Fault refused = tt
   round_refuses answer.Memory refused = tt
+  round_refuses _ refused = absurd refused
 
   pub round_leaves : (new : History) (e : Answer) → RefusesRound (reads mid) e → LeavesRound mid new e → LeavesRefused number old new e
   round_leaves new (answer.Volume r) refused leaves = (λ short. absurd (omega (arith, short, scratch.long)), λ bytes. absurd (refused.1 (free_bytes number old mid made bytes)))
-  round_leaves new (answer.Btr r) refused leaves = absurd refused
   round_leaves new (answer.NoSpace needed free run_needed longest) refused leaves =
       (λ many. absurd (omega (arith, many, room)), λ few. (ap reads leaves ∙ made.written, subst IsSettled (sym leaves) made.settled))
-  round_leaves new answer.WrongFormat refused leaves = absurd refused
-  round_leaves new answer.ImageMissing refused leaves = absurd refused
-  round_leaves new (answer.ImageMoved b) refused leaves = absurd refused
-  round_leaves new (answer.ImageDamaged r) refused leaves = absurd refused
-  round_leaves new (answer.ReservedUsed b) refused leaves = absurd refused
   round_leaves new answer.Fault refused leaves = tt
   round_leaves new answer.Memory refused leaves = tt
+  round_leaves new _ refused leaves = absurd refused
 
 pub round_known : (e : Answer) → IsRoundAnswer e → IsTrialAnswer e
 round_known (answer.Volume r) known = inr known
-round_known (answer.Btr r) known = known
 round_known (answer.NoSpace needed free run_needed longest) known = tt
-round_known answer.WrongFormat known = tt
-round_known answer.ImageMissing known = known
-round_known (answer.ImageMoved b) known = known
-round_known (answer.ImageDamaged r) known = known
-round_known (answer.ReservedUsed b) known = known
 round_known answer.Fault known = tt
 round_known answer.Memory known = tt
+round_known _ known = absurd known
 
 -- ---- what is left
 

@@ -16,7 +16,7 @@ use Rattle.reiser_make.specs.declared.maker.MakeAnswer.TheVariants as maker
 use Rattle.row_laws.specs.Rows.{HasBytes}
 use Rattle.convert_steps.specs.Prepared.{LacksSpace}
 use Rattle.trial_core.specs.Round.{FreeAreBytes, plain}
-use Rattle.trial_core.specs.Trial.{needed_by, sample_on}
+use Rattle.trial_core.specs.Trial.{IsScratch, needed_by, sample_on}
 
 -- ---- the answers by those of the steps
 
@@ -25,16 +25,10 @@ abbrev pub changed : Answer
 changed = answer.Volume (Damaged 16 Reread)
 
 abbrev pub by_step : Answer → Answer
-by_step (answer.Volume r) = changed
-by_step (answer.Btr r) = changed
 by_step (answer.NoSpace needed free run_needed longest) = answer.NoSpace needed free run_needed longest
-by_step answer.WrongFormat = changed
-by_step answer.ImageMissing = changed
-by_step (answer.ImageMoved b) = changed
-by_step (answer.ImageDamaged r) = changed
-by_step (answer.ReservedUsed b) = changed
 by_step answer.Fault = answer.Fault
 by_step answer.Memory = answer.Memory
+by_step _ = changed
 
 abbrev pub by_volume : VolAnswer → Answer
 by_volume (of_reiser.Refused r) = changed
@@ -65,134 +59,91 @@ IsReadAnswer e = IsStop e ⊎ (e ≡ changed)
 abbrev pub StopsUnless : Type 0 → Answer → Type 0
 StopsUnless Holds e = IsStop e ⊎ ((e ≡ changed) × ¬ Holds)
 
+-- ---- of a round
+
 -- The answer where an accepted volume is not converted and rolled back: it has too little space. It is called changed only where one of the
 -- blocks that it leaves free tells no bytes.
 abbrev pub RefusesRound : Image → Answer → Type 0
 RefusesRound image (answer.Volume r) = (r ≡ Damaged 16 Reread) × ¬ FreeAreBytes image
-RefusesRound image (answer.Btr r) = ⊥
 RefusesRound image (answer.NoSpace needed free run_needed longest) = LacksSpace image plain needed free run_needed longest
-RefusesRound image answer.WrongFormat = ⊥
-RefusesRound image answer.ImageMissing = ⊥
-RefusesRound image (answer.ImageMoved b) = ⊥
-RefusesRound image (answer.ImageDamaged r) = ⊥
-RefusesRound image (answer.ReservedUsed b) = ⊥
 RefusesRound image answer.Fault = Unit {0}
 RefusesRound image answer.Memory = Unit {0}
+RefusesRound image _ = ⊥
 
 -- what may be answered of a round whatever the disk gives
 abbrev pub IsRoundAnswer : Answer → Type 0
 IsRoundAnswer (answer.Volume r) = r ≡ Damaged 16 Reread
-IsRoundAnswer (answer.Btr r) = ⊥
 IsRoundAnswer (answer.NoSpace needed free run_needed longest) = Unit {0}
-IsRoundAnswer answer.WrongFormat = ⊥
-IsRoundAnswer answer.ImageMissing = ⊥
-IsRoundAnswer (answer.ImageMoved b) = ⊥
-IsRoundAnswer (answer.ImageDamaged r) = ⊥
-IsRoundAnswer (answer.ReservedUsed b) = ⊥
 IsRoundAnswer answer.Fault = Unit {0}
 IsRoundAnswer answer.Memory = Unit {0}
+IsRoundAnswer _ = ⊥
 
--- what a round leaves that ends so: nothing was written where there is too little space
+-- what a step leaves that ends so: nothing was written where there is too little space
 abbrev pub LeavesRound : History → History → Answer → Type 0
-LeavesRound old new (answer.Volume r) = Unit {0}
-LeavesRound old new (answer.Btr r) = Unit {0}
 LeavesRound old new (answer.NoSpace needed free run_needed longest) = new ≡ old
-LeavesRound old new answer.WrongFormat = Unit {0}
-LeavesRound old new answer.ImageMissing = Unit {0}
-LeavesRound old new (answer.ImageMoved b) = Unit {0}
-LeavesRound old new (answer.ImageDamaged r) = Unit {0}
-LeavesRound old new (answer.ReservedUsed b) = Unit {0}
-LeavesRound old new answer.Fault = Unit {0}
-LeavesRound old new answer.Memory = Unit {0}
+LeavesRound old new _ = Unit {0}
 
 -- ---- of what comes before a round
 
 -- a disk that is none for a trial has a volume, or too few blocks
 abbrev pub RefusesScratch : Image → Answer → Type 0
 RefusesScratch disk (answer.Volume r) = (format_in disk ≡ Neither) × (r ≡ Short 65536 (length disk)) × (length disk < 65536)
-RefusesScratch disk (answer.Btr r) = ⊥
-RefusesScratch disk (answer.NoSpace needed free run_needed longest) = ⊥
 RefusesScratch disk answer.WrongFormat = format_in disk ≢ Neither
-RefusesScratch disk answer.ImageMissing = ⊥
-RefusesScratch disk (answer.ImageMoved b) = ⊥
-RefusesScratch disk (answer.ImageDamaged r) = ⊥
-RefusesScratch disk (answer.ReservedUsed b) = ⊥
 RefusesScratch disk answer.Fault = Unit {0}
-RefusesScratch disk answer.Memory = ⊥
+RefusesScratch disk _ = ⊥
 
 -- so whatever the disk gives
 abbrev pub IsScratchAnswer : Answer → Type 0
 IsScratchAnswer (answer.Volume r) = (device : ℕ) × (r ≡ Short 65536 device)
-IsScratchAnswer (answer.Btr r) = ⊥
-IsScratchAnswer (answer.NoSpace needed free run_needed longest) = ⊥
 IsScratchAnswer answer.WrongFormat = Unit {0}
-IsScratchAnswer answer.ImageMissing = ⊥
-IsScratchAnswer (answer.ImageMoved b) = ⊥
-IsScratchAnswer (answer.ImageDamaged r) = ⊥
-IsScratchAnswer (answer.ReservedUsed b) = ⊥
 IsScratchAnswer answer.Fault = Unit {0}
-IsScratchAnswer answer.Memory = ⊥
+IsScratchAnswer _ = ⊥
 
--- the sample is not made where it has more blocks than the volume
+-- the sample takes more blocks than the volume has: that many of 65,536, and no run of free units is asked for
+abbrev pub IsTooLarge : ℕ → ℕ → ℕ → ℕ → ℕ → Type 0
+IsTooLarge number needed free run_needed longest = (65536 < needed_by number) × (needed ≡ needed_by number) × (free ≡ 65536) × (run_needed ≡ 0) × (longest ≡ 0)
+
+-- what may be answered where the sample is not made
 abbrev pub IsMakeAnswer : ℕ → Answer → Type 0
-IsMakeAnswer number (answer.Volume r) = ⊥
-IsMakeAnswer number (answer.Btr r) = ⊥
-IsMakeAnswer number (answer.NoSpace needed free run_needed longest) = (65536 < needed_by number) × (needed ≡ needed_by number) × (free ≡ 65536) × (run_needed ≡ 0) × (longest ≡ 0)
-IsMakeAnswer number answer.WrongFormat = ⊥
-IsMakeAnswer number answer.ImageMissing = ⊥
-IsMakeAnswer number (answer.ImageMoved b) = ⊥
-IsMakeAnswer number (answer.ImageDamaged r) = ⊥
-IsMakeAnswer number (answer.ReservedUsed b) = ⊥
+IsMakeAnswer number (answer.NoSpace needed free run_needed longest) = IsTooLarge number needed free run_needed longest
 IsMakeAnswer number answer.Fault = Unit {0}
 IsMakeAnswer number answer.Memory = Unit {0}
+IsMakeAnswer number _ = ⊥
 
 -- ---- of a trial
 
--- the sample has more blocks than the volume, or too little space for a conversion
+-- the sample is too large for the volume, or leaves too little space for a conversion
 abbrev pub LacksRoom : ℕ → Image → ℕ → ℕ → ℕ → ℕ → Type 0
 LacksRoom number disk needed free run_needed longest =
-    ((65536 < needed_by number) × (needed ≡ needed_by number) × (free ≡ 65536) × (run_needed ≡ 0) × (longest ≡ 0))
-    ⊎ ((needed_by number ≤ 65536) × LacksSpace (sample_on number disk) plain needed free run_needed longest)
+    IsTooLarge number needed free run_needed longest ⊎ ((needed_by number ≤ 65536) × LacksSpace (sample_on number disk) plain needed free run_needed longest)
 
 -- The answer where a disk is not taken for the trial of a number: it has a volume; it has too few blocks; or the sample has too little room.
 -- It is called changed only where it tells blocks that are no bytes.
 abbrev pub RefusesTrial : ℕ → Image → Answer → Type 0
 RefusesTrial number disk (answer.Volume r) =
     (format_in disk ≡ Neither) × (((r ≡ Short 65536 (length disk)) × (length disk < 65536)) ⊎ ((r ≡ Damaged 16 Reread) × (65536 ≤ length disk) × ¬ HasBytes disk))
-RefusesTrial number disk (answer.Btr r) = ⊥
-RefusesTrial number disk (answer.NoSpace needed free run_needed longest) = (format_in disk ≡ Neither) × (65536 ≤ length disk) × LacksRoom number disk needed free run_needed longest
+RefusesTrial number disk (answer.NoSpace needed free run_needed longest) = IsScratch disk × LacksRoom number disk needed free run_needed longest
 RefusesTrial number disk answer.WrongFormat = format_in disk ≢ Neither
-RefusesTrial number disk answer.ImageMissing = ⊥
-RefusesTrial number disk (answer.ImageMoved b) = ⊥
-RefusesTrial number disk (answer.ImageDamaged r) = ⊥
-RefusesTrial number disk (answer.ReservedUsed b) = ⊥
 RefusesTrial number disk answer.Fault = Unit {0}
 RefusesTrial number disk answer.Memory = Unit {0}
+RefusesTrial number disk _ = ⊥
 
 -- what may be answered whatever the disk gives
 abbrev pub IsTrialAnswer : Answer → Type 0
 IsTrialAnswer (answer.Volume r) = ((device : ℕ) × (r ≡ Short 65536 device)) ⊎ (r ≡ Damaged 16 Reread)
-IsTrialAnswer (answer.Btr r) = ⊥
 IsTrialAnswer (answer.NoSpace needed free run_needed longest) = Unit {0}
 IsTrialAnswer answer.WrongFormat = Unit {0}
-IsTrialAnswer answer.ImageMissing = ⊥
-IsTrialAnswer (answer.ImageMoved b) = ⊥
-IsTrialAnswer (answer.ImageDamaged r) = ⊥
-IsTrialAnswer (answer.ReservedUsed b) = ⊥
 IsTrialAnswer answer.Fault = Unit {0}
 IsTrialAnswer answer.Memory = Unit {0}
+IsTrialAnswer _ = ⊥
 
--- What a refusal leaves. Where the disk has a volume or too few blocks, and where the sample has more blocks than the volume, nothing was
--- written. Where the sample has too little space for a conversion it stays, and has reached the device.
+-- What a refusal leaves. Where the disk has a volume or too few blocks, and where the sample is too large for the volume, nothing was
+-- written. Where the sample leaves too little space for a conversion it stays, and has reached the device. After a failed call or want of
+-- memory any block may have been written.
 abbrev pub LeavesRefused : ℕ → History → History → Answer → Type 0
 LeavesRefused number old new (answer.Volume r) = (length (reads old) < 65536 → new ≡ old) × (HasBytes (reads old) → new ≡ old)
-LeavesRefused number old new (answer.Btr r) = new ≡ old
 LeavesRefused number old new (answer.NoSpace needed free run_needed longest) =
     (65536 < needed_by number → new ≡ old) × (needed_by number ≤ 65536 → (reads new ≡ sample_on number (reads old)) × IsSettled new)
-LeavesRefused number old new answer.WrongFormat = new ≡ old
-LeavesRefused number old new answer.ImageMissing = new ≡ old
-LeavesRefused number old new (answer.ImageMoved b) = new ≡ old
-LeavesRefused number old new (answer.ImageDamaged r) = new ≡ old
-LeavesRefused number old new (answer.ReservedUsed b) = new ≡ old
 LeavesRefused number old new answer.Fault = Unit {0}
 LeavesRefused number old new answer.Memory = Unit {0}
+LeavesRefused number old new _ = new ≡ old

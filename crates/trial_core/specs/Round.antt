@@ -4,7 +4,7 @@ use Rattle.csum_kinds.specs.declared.kind.SumKind.TheVariants.{Crc32c}
 use Rattle.convert_core.specs.Converted.{IsConverted}
 use Rattle.fs_rows.specs.Rows.{WholeRow, row_of}
 use Rattle.fs_rows.specs.declared.row.Row.{Row}
-use Rattle.btr_reader.specs.Parts.{AreRowsOfBtrfs, HasBtrfsRows}
+use Rattle.btr_reader.specs.Parts.{ListsBtrfs}
 use Rattle.outside.specs.History.{Image, block_at}
 use Rattle.reiser_bitmap.specs.Bits.{has}
 use Rattle.reiser_volume.specs.Volume.{AreRowsOf, used_of}
@@ -27,15 +27,11 @@ plain = record { nodesize = 16384; inline = true; datasum = true; label = LabelC
 abbrev pub AreReiser : Image → List Row → Type 0
 AreReiser image rows = (whole : List WholeRow) × AreRowsOf image whole × (rows ≡ map row_of whole)
 
--- and of a Btrfs volume
-abbrev pub AreBtrfs : Image → List Row → Type 0
-AreBtrfs image rows = HasBtrfsRows image × ((whole : List WholeRow) × AreRowsOfBtrfs image whole × (rows ≡ map row_of whole))
-
 -- the Btrfs volume has the rows of the ReiserFS volume
 pub record HaveSameRows (image other : Image) : Type 0 where
   pub rows : List Row
   pub before : AreReiser image rows
-  pub between : AreBtrfs other rows
+  pub between : ListsBtrfs other rows
 
 -- ---- the bytes of blocks
 

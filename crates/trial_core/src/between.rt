@@ -3,9 +3,8 @@ ghost use Rattle.std.specs.Prelude.{◌≡◌, ◌<◌, IfErr};
 ghost use Rattle.std.specs.Result.{MatchResult};
 ghost use Rattle.outside.specs.Fault.{HasCauseOf};
 ghost use Rattle.outside.specs.History.{OverTold};
-ghost use Rattle.btr_reader.specs.Parts.{HasBtrfsRows};
+ghost use Rattle.btr_reader.specs.Parts.{HasBtrfsRows, ListsBtrfs};
 ghost use Rattle.trial_core.specs.Answers.{IsReadAnswer, StopsUnless};
-ghost use Rattle.trial_core.specs.Round.{AreBtrfs};
 
 use crate::answers::{btrfs_answer, fault_answer};
 use btr_reader::Btrfs;
@@ -21,7 +20,7 @@ const SUPERBLOCK: BlockNo = 16;
 pub fn read_btrfs_rows<S: BlockSource>(alloc: Global, src: &mut S) -> Result<Rows, Answer>
     requires inside { 16 < S.size src.old }
     ensures kept { S.kept src.old src.new }
-    ensures told { OverTold S.tells (S.blocks src.old) (λ image. MatchResult result (AreBtrfs image) (StopsUnless (HasBtrfsRows image))) }
+    ensures told { OverTold S.tells (S.blocks src.old) (λ image. MatchResult result (ListsBtrfs image) (StopsUnless (HasBtrfsRows image))) }
     ensures cause { HasCauseOf Answer.Fault (S.faults src.old) (S.faults src.new) result }
     ensures answers { IfErr result IsReadAnswer }
 {

@@ -2,6 +2,7 @@
 ghost use Rattle.std.specs.Prelude.{◌≡◌, ◌≤◌, ◌<◌, ◌^◌, Some, IfErr, IsTrue, OnOk, length};
 ghost use Rattle.std.specs.Result.{MatchResult};
 ghost use Rattle.back_laws.specs.Back.{GoesBack};
+ghost use Rattle.btr_reader.specs.Parts.{ListsBtrfs};
 ghost use Rattle.convert_core.specs.Converted.{IsConverted};
 ghost use Rattle.outside.specs.Fault.{HasCauseOf};
 ghost use Rattle.outside.specs.History.{Image, IsSettled, OverTold, reads};
@@ -10,7 +11,7 @@ ghost use Rattle.rollback_steps.specs.RolledBack.{IsRolledBack};
 ghost use Rattle.saved_volume.specs.Untouched.{IsUntouched};
 ghost use Rattle.space_items.specs.Laws.{AreIds};
 ghost use Rattle.trial_core.specs.Answers.{IsReadAnswer, IsRoundAnswer, LeavesRound, RefusesRound, StopsUnless};
-ghost use Rattle.trial_core.specs.Round.{AreBtrfs, FreeAreBytes, IsKnown, IsRound, IsSummary, plain};
+ghost use Rattle.trial_core.specs.Round.{FreeAreBytes, IsKnown, IsRound, IsSummary, plain};
 ghost use Rattle.trial_parts.specs.Parts.{used_mark};
 
 use crate::answers::{changed, step_answer};
@@ -70,7 +71,7 @@ fn go_there<D: Disk>(
     ensures open { D.opened disk.new ≡ D.opened disk.old }
     ensures size { D.size disk.new ≡ D.size disk.old }
     ensures told { OverTold D.tells (reads (D.history disk.old)) (λ image. IsAccepted image → IsKnown image known.now →
-        MatchResult result (λ _. IsConverted plain ids.now now image (reads (D.history disk.new)) × AreBtrfs (reads (D.history disk.new)) known.now.rows × (FreeAreBytes image → GoesBack image (reads (D.history disk.new))))
+        MatchResult result (λ _. IsConverted plain ids.now now image (reads (D.history disk.new)) × ListsBtrfs (reads (D.history disk.new)) known.now.rows × (FreeAreBytes image → GoesBack image (reads (D.history disk.new))))
         (RefusesRound image)) }
     ensures leaves { IsTrue D.tells → IfErr result (LeavesRound (D.history disk.old) (D.history disk.new)) }
     ensures cause { HasCauseOf Answer.Fault (D.faults disk.old) (D.faults disk.new) result }
@@ -114,7 +115,7 @@ fn convert<D: Disk>(alloc: Global, ids: &Ids, now: u64, disk: &mut D) -> Result<
 fn compare_rows<S: BlockSource>(alloc: Global, known: &Known, src: &mut S) -> Result<(), Answer>
     requires inside { 16 < S.size src.old }
     ensures kept { S.kept src.old src.new }
-    ensures told { OverTold S.tells (S.blocks src.old) (λ between. MatchResult result (λ _. AreBtrfs between known.now.rows) (StopsUnless (AreBtrfs between known.now.rows))) }
+    ensures told { OverTold S.tells (S.blocks src.old) (λ between. MatchResult result (λ _. ListsBtrfs between known.now.rows) (StopsUnless (ListsBtrfs between known.now.rows))) }
     ensures cause { HasCauseOf Answer.Fault (S.faults src.old) (S.faults src.new) result }
     ensures answers { IfErr result IsReadAnswer }
 {
