@@ -169,7 +169,7 @@ trial_done number disk Fault disk_old disk_new due refuses device same low = abs
 trial_done number disk Memory disk_old disk_new due refuses device same low = inr refl
 trial_done number disk WrongFormat disk_old disk_new due refuses device same low = absurd (refuses due.0.scratch.format)
 trial_done number disk (NoSpace needed free run_needed longest_run) disk_old disk_new due refuses device same low =
-    absurd (⊎_elim (λ full. absurd (omega (arith, full.0, due.0.room))) (λ lacks. lacks_none trial_round.plain (sample_on number disk) needed free run_needed longest_run due.0.convertible lacks.1) refuses.2)
+    absurd (⊎_elim (λ full. absurd (omega (arith, full.0, due.0.room))) (λ lacks. lacks_none trial_round.plain (sample_on number disk) needed free run_needed longest_run due.0.convertible lacks.1) refuses.1)
 trial_done number disk ImageMissing disk_old disk_new due refuses device same low = absurd refuses
 trial_done number disk (ImageMoved block) disk_old disk_new due refuses device same low = absurd refuses
 trial_done number disk (ImageDamaged refusal) disk_old disk_new due refuses device same low = absurd refuses

@@ -71,7 +71,7 @@ refused_lacks number old new (Volume refusal) refuses leaves is = absurd (omega 
 refused_lacks number old new (Btr refusal) refuses leaves is = absurd (omega (arith, is))
 refused_lacks number old new (NoSpace needed free run_needed longest_run) refuses leaves is =
     ⊎_elim (λ full. (inl (full.0, ap reads (leaves.0 full.0)), λ settled. subst IsSettled (sym (leaves.0 full.0)) settled))
-    (λ lacks. (inr (lacks.0, (leaves.1 lacks.0).0), λ settled. (leaves.1 lacks.0).1)) refuses.2
+    (λ lacks. (inr (lacks.0, (leaves.1 lacks.0).0), λ settled. (leaves.1 lacks.0).1)) refuses.1
 refused_lacks number old new WrongFormat refuses leaves is = absurd (omega (arith, is))
 refused_lacks number old new ImageMissing refuses leaves is = absurd (omega (arith, is))
 refused_lacks number old new (ImageMoved block) refuses leaves is = absurd (omega (arith, is))
