@@ -1,4 +1,5 @@
 pub mod Convertible
+pub mod Counts
 pub mod Formats
 pub mod Inspecting
 pub mod Listing
