@@ -5,6 +5,7 @@ use Rattle.std.specs.Result.{MatchResult}
 use Rattle.vol_block.specs.declared.ids.Ids.{Ids}
 use Rattle.back_laws.specs.Back.{ConvertedVolumesGoBack, GoesBack}
 use Rattle.btr_node.specs.NodeSize.{IsNodeSize}
+use Rattle.btr_reader.specs.Laws.{BtrfsRowsAreOne}
 use Rattle.btr_reader.specs.Parts.{ListsBtrfs}
 use Rattle.convert_core.specs.Converted.{IsConverted}
 use Rattle.fs_rows.specs.Rows.{WholeRow, row_of}
@@ -30,6 +31,11 @@ pub size : IsNodeSize plain.nodesize
 size = inr (inr (inl refl))
 
 -- ---- rows
+
+-- a Btrfs volume has one list of rows
+pub listed_once : BtrfsRowsAreOne → (disk : Image) (rows others : List Row) → ListsBtrfs disk rows → ListsBtrfs disk others → rows ≡ others
+listed_once one disk rows others first second =
+    first.1.2 ∙ (ap (λ (whole : List WholeRow). map row_of whole) (one disk _ _ first.1.0 second.1.0 first.1.1 second.1.1) ∙ sym second.1.2)
 
 -- the rows of the volume before are those of the one in between
 pub has_rows : (image between : Image) (rows : List Row) → AreReiser image rows → OpensAsBefore image between → ListsBtrfs between rows
