@@ -84,12 +84,14 @@ reading_leaves old new (Err e) known = read_leaves old new e known
 -- all of it
 pub round : (ids : Ids) (now : ℕ) (image between other : Image) (known : Known) (told : TrialSummary) → IsKnown image known → IsConverted plain ids now image between → ListsBtrfs between known.rows → IsRolledBack between other
     → used_mark (used_of image) other ≡ used_mark (used_of image) image → told ≡ summary_of known.rows → IsRound ids now image other × IsSummary image told
-round ids now image between other known told is c rows rolled blocks same =
-    (record {
-      between = between;
-      converted = c;
-      rows = record { rows = known.rows; before = is.rows; between = rows };
-      rolled_back = rolled;
-      bytes = is.bytes;
-      blocks = blocks;
-    }, (known.rows, is.rows, same))
+round ids now image between other known told is c rows rolled blocks same = (
+  record {
+    between = between;
+    converted = c;
+    rows = record { rows = known.rows; before = is.rows; between = rows };
+    rolled_back = rolled;
+    bytes = is.bytes;
+    blocks = blocks;
+  },
+  (known.rows, is.rows, same),
+)

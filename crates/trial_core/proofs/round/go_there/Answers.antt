@@ -15,7 +15,7 @@ returns-in_err-convert-clause-told g c = λ tells image is accepted known.
 pub returns-in_err-convert-clause-leaves : goal.returns-in_err-convert-clause-leaves
 returns-in_err-convert-clause-leaves g c = λ tells.
     let err = err_from_is_err_and c.from_residual.result c.from_residual.ensures.1 in
-    rw err.1 (subst (λ (e : Answer). LeavesRound _ _ e) (sym err.2) (c.in_err-convert.ensures.leaves tells))
+    rw err.1 (subst (λ (e : Answer). LeavesRound (g.D.Disk.history c.args.disk.now) (g.D.Disk.history c.convert.new.disk) e) (sym err.2) (c.in_err-convert.ensures.leaves tells))
 
 pub returns-clause-told : goal.returns-clause-told
 returns-clause-told g c = λ tells image is accepted known.
