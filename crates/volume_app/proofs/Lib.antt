@@ -8,4 +8,4 @@ pub mod Outcomes
 pub mod Performing
 pub mod Promise
 pub mod Trees
-pub mod Trying
+pub mod Trials

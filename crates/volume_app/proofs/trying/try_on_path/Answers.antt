@@ -2,7 +2,7 @@ use Rattle.std.proofs.Common.{ap}
 use Rattle.trial_parts.specs.declared.summary.TrialSummary.{TrialSummary}
 use Rattle.volume_app.specs.Trying.{trial_meaning, trial_text}
 use Rattle.volume_app.proofs.Performing.{failed, ok_kept, performed, printed_lacks}
-use Rattle.volume_app.proofs.Trying.{refused_keeps, refused_lacks, triable_was, tried_keeps, tried_whole}
+use Rattle.volume_app.proofs.Trials.{refused_keeps, refused_lacks, triable_was, tried_keeps, tried_whole}
 use Rattle.volume_app.proofs.trying.try_on_path.Goals as goal
 
 pub returns-in-Ok : goal.returns-in-Ok
