@@ -1,5 +1,5 @@
 -- The blocks of a volume that hold bytes, and the mark of the used ones.
-use Rattle.std.proofs.Common.{◌≡◌, ℕ, ◌<◌, Bool, true, false, List, [], ◌∷◌, Contains, refl, sym, ◌∙◌, ap, subst}
+use Rattle.std.proofs.Common.{◌≡◌, ℕ, ◌<◌, Bool, true, false, List, [], ◌∷◌, Contains, refl, ◌∙◌, ap}
 use Rattle.std.specs.Prelude.{slice_index}
 use Rattle.fs_rows.specs.Mark.{mark_of}
 use Rattle.object_files.specs.Laws.{SameUsed}

@@ -1,7 +1,6 @@
 -- The answers of the steps, as those of a round and of a trial.
-use Rattle.std.proofs.Common.{◌≡◌, inl, inr, ⊎_elim, ℕ, refl, sym, ◌∙◌, subst, None, Some}
-use Rattle.std.specs.Prelude.{◌≢◌, ◌⊎◌}
-use Rattle.outside.specs.Format.{format_in}
+use Rattle.std.proofs.Common.{◌≡◌, inl, inr, refl, sym, ◌∙◌, subst, None, Some}
+use Rattle.std.specs.Prelude.{◌≢◌}
 use Rattle.outside.specs.History.{History, Image}
 use Rattle.outside.specs.declared.answer.Answer.{Answer}
 use Rattle.outside.specs.declared.answer.Answer.TheVariants as answer
@@ -22,7 +21,7 @@ use Rattle.rollback_core.specs.Laws.{InOrderHasFormat}
 use Rattle.rollback_steps.specs.Answers.{IsRollbackAnswer, RefusesRollback}
 use Rattle.rollback_steps.specs.Laws.{RefusalsAreOfTouched}
 use Rattle.saved_volume.specs.Untouched.{IsUntouched}
-use Rattle.trial_core.specs.Answers.{IsReadAnswer, IsRoundAnswer, IsStop, LeavesRound, RefusesRound, StopsUnless, by_btrfs, by_step, by_volume, changed}
+use Rattle.trial_core.specs.Answers.{IsReadAnswer, IsRoundAnswer, IsStop, LeavesRound, RefusesRound, StopsUnless, by_btrfs, by_step, by_volume}
 use Rattle.trial_core.specs.Round.{FreeAreBytes, plain}
 
 -- ---- of a conversion

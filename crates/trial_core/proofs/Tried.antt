@@ -1,19 +1,17 @@
 -- A trial, from what is said of its steps.
-use Rattle.std.proofs.Common.{◌≡◌, inl, inr, ⊎_elim, Result, Ok, Err, ℕ, ◌<◌, ◌≤◌, ◌^◌, ◌+◌, ◌%◌, ◌==◌, Bool, true, false, ◌&&◌, ◌||◌, List, length, map, refl, sym, ◌∙◌, ap, subst, arith, true≢false}
-use Rattle.std.specs.Prelude.{◌⊎◌, IfErr, IsTrue, nat_lt, slice_index}
+use Rattle.std.proofs.Common.{◌≡◌, inl, inr, ⊎_elim, Result, Ok, Err, ℕ, ◌<◌, ◌≤◌, false, ◌&&◌, List, length, map, refl, sym, ◌∙◌, ap, subst, arith, true≢false}
+use Rattle.std.specs.Prelude.{IfErr, IsTrue, nat_lt, slice_index}
 use Rattle.std.specs.Result.{MatchResult}
 use Rattle.std.proofs.lemmas.Bool.{and_parts}
 use Rattle.std.proofs.lemmas.Bool.Decides.{Decides-ltb}
 use Rattle.vol_block.specs.declared.ids.Ids.{Ids}
 use Rattle.back_laws.specs.Back.{ConvertedVolumesGoBack}
-use Rattle.outside.specs.Format.{format_in}
 use Rattle.outside.specs.History.{History, Image, IsSettled, WritesOnly, after, block_at, reads, synced}
 use Rattle.outside.specs.declared.answer.Answer.{Answer}
 use Rattle.outside.specs.declared.answer.Answer.TheVariants as answer
 use Rattle.outside.proofs.Crash.{reads_only}
 use Rattle.fs_rows.specs.Rows.{WholeRow, row_of}
 use Rattle.fs_rows.specs.declared.row.Row.{Row}
-use Rattle.object_files.specs.Laws.{SameUsed}
 use Rattle.reiser_bitmap.specs.Bits.{has}
 use Rattle.reiser_make.specs.Layout.{IsUsed}
 use Rattle.reiser_make.specs.Maker.{IsRight, Keeps, usage_of}
@@ -26,7 +24,7 @@ use Rattle.reiser_volume.specs.Laws.{RowsAreOne}
 use Rattle.reiser_volume.specs.Volume.{used_of}
 use Rattle.rollback_steps.specs.Laws.{RollbackKeeps}
 use Rattle.row_laws.specs.Rows.{HasBytes}
-use Rattle.sample_laws.specs.Laws.{Fits, SamplesMarkUsed}
+use Rattle.sample_laws.specs.Laws.{SamplesMarkUsed}
 use Rattle.sample_laws.specs.Rows.{IsAsDescribed, SamplesAreAsDescribed}
 use Rattle.trial_parts.specs.Parts.{summary_of}
 use Rattle.trial_parts.specs.declared.summary.TrialSummary.{TrialSummary}

@@ -1,5 +1,5 @@
 // The rows of the Btrfs volume in between.
-ghost use Rattle.std.specs.Prelude.{◌≡◌, ◌<◌, IfErr};
+ghost use Rattle.std.specs.Prelude.{◌<◌, IfErr};
 ghost use Rattle.std.specs.Result.{MatchResult};
 ghost use Rattle.outside.specs.Fault.{HasCauseOf};
 ghost use Rattle.outside.specs.History.{OverTold};

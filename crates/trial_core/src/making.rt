@@ -1,8 +1,6 @@
 // The sample of a trial.
 ghost use Rattle.std.specs.Prelude.{◌≡◌, ◌≤◌, Some, IfErr, IsTrue, OnOk};
-ghost use Rattle.std.specs.Result.{MatchResult};
 ghost use Rattle.outside.specs.Fault.{HasCauseOf};
-ghost use Rattle.outside.specs.History.{OverTold, reads};
 ghost use Rattle.trial_core.specs.Answers.{IsMakeAnswer, LeavesRound};
 ghost use Rattle.trial_core.specs.Trial.{IsMade, needed_by};
 

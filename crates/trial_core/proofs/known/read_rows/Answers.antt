@@ -1,8 +1,6 @@
 use Rattle.std.proofs.Common.{◌∙◌, sym, subst}
 use Rattle.trial_core.specs.Answers.{IsStop}
 use Rattle.trial_core.proofs.Refusing.{rows_stopped, volume_refused}
-use Rattle.trial_core.proofs.Rounds.{round}
-use Rattle.trial_core.proofs.Tried.{tried_result}
 use Rattle.trial_core.proofs.known.read_rows.Goals as goal
 
 pub returns-in-Err-clause-told : goal.returns-in-Err-clause-told

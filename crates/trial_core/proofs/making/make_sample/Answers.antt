@@ -1,4 +1,4 @@
-use Rattle.std.proofs.Common.{◌≡◌, ◌≤◌, length, arith}
+use Rattle.std.proofs.Common.{◌≡◌, length, arith}
 use Rattle.outside.specs.History.{reads}
 use Rattle.trial_core.proofs.Tried.{made_whole}
 use Rattle.trial_core.proofs.making.make_sample.Goals as goal

@@ -1,7 +1,5 @@
-use Rattle.std.proofs.Common.{◌≡◌, sym, ◌∙◌, ap, subst}
-use Rattle.std.specs.Result.{MatchResult}
+use Rattle.std.proofs.Common.{◌≡◌, sym, ◌∙◌, subst}
 use Rattle.std.proofs.lemmas.Result.{err_from_is_err_and}
-use Rattle.outside.specs.History.{History, Image, reads}
 use Rattle.outside.specs.declared.answer.Answer.{Answer}
 use Rattle.trial_core.specs.Answers.{LeavesRound, RefusesRound}
 use Rattle.trial_core.proofs.Rounds.{reading_leaves, there}
