@@ -66,7 +66,7 @@ def read_table(path):
 def plain(block, field):
     """A text without its marks, with `{1}` for the first number."""
     text = re.sub(r"\[([^]]*)\]\([^)]*\)", r"\1", block.text(field)).replace("`", "'")
-    if block.kind == "refused" and field == "means":
+    if block.kind in ("refused", "trial") and field == "means":
         for place, name in enumerate(block.names, 1):
             text = re.sub(rf"\b{name}\b", f"{{{place}}}", text)
     elif block.kind == "refused" and field == "do":
@@ -106,6 +106,7 @@ def sentences(blocks):
         "pub struct Sentence {\n    pub means: &'static str,\n    pub next: &'static str,\n}\n",
         'const NOTHING: Sentence = Sentence {\n    means: "",\n    next: "",\n};\n',
         function("of_refusal", "number: u64", "Of the refusal with this number.", arms("refused", number)) + "\n",
+        function("of_trial", "number: u64", "Of the refusal of a trial with this number, where it is another matter.", arms("trial", number)) + "\n",
         function("of_rule", "number: u64", "Of a rule of ReiserFS that is broken.", arms("rule", number)) + "\n",
         function("of_btrfs_rule", "number: u64", "Of a rule of Btrfs that is broken.", arms("btrfs", number)) + "\n",
         function("of_feature", "number: u64", "Of what is not supported.", arms("feature", number)) + "\n",
@@ -151,6 +152,7 @@ def safety(blocks):
 def parts_of_document(blocks):
     found = {it: sections(blocks, it) for it in ("reiserfs", "btrfs", "conversion", "back")}
     found["safe"] = safety(blocks)
+    found["trial"] = rows(blocks, "trial", ["Line", "What it means, and what to do"], lambda it: [f"`{it.name}`", both(it)])
     found["rules of ReiserFS"] = rows(blocks, "rule", ["Rule", "What is broken"], lambda it: [it.name, both(it)])
     found["rules of Btrfs"] = rows(blocks, "btrfs", ["Rule", "What is broken"], lambda it: [it.name, both(it)])
     found["features"] = rows(blocks, "feature", ["Feature", "What it is, and what helps", "VALUE"], lambda it: [it.name, both(it), it.text("value")])

@@ -3,7 +3,9 @@ _reiserconv() {
     local word=${COMP_WORDS[COMP_CWORD]} before=${COMP_WORDS[COMP_CWORD - 1]} words
     COMPREPLY=()
     if [ "$COMP_CWORD" = 1 ]; then
-        words='inspect list convert recover rollback --help --version'
+        words='inspect list convert recover rollback trial --help --version'
+    elif [ "$COMP_CWORD" = 2 ] && [ "$before" = trial ]; then
+        words='0 100 1000 4000'
     elif [ "$before" = --nodesize ]; then
         words='4096 8192 16384 32768 65536'
     elif [ "$before" = --uuid ]; then

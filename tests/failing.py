@@ -13,6 +13,7 @@ turn (with all after it, as where a disk is gone), and each write of the output 
 - Where a device call fails the status is 3. Then `recover` and `list` print the rows from before, both where all that was written is there
   and where all is lost that was written since the last sync.
 - Where a write of the output fails the status is 5, and the volume is as after status 0.
+- A trial is made on a new file; nothing is looked for there where it was not done. Of its many device calls some are taken.
 
 The program is that of the environment's RECONV, or else release/reiserconv. It needs a C compiler and the sample program of release/. The last
 line is `N passed, M failed`; each failure has a line."""
@@ -34,7 +35,10 @@ from volumes import BLOCK, SUPERBLOCK, empty_volume, marked  # noqa: E402
 TOP = Path(__file__).resolve().parent.parent
 PROGRAM = os.environ.get("RECONV", str(TOP / "release/reiserconv"))
 Ended = collections.namedtuple("Ended", "status out err counts")
+# Its words but the path, and what the volume is before, None for a new file.
 Command = collections.namedtuple("Command", "word base")
+# The blocks of a file for a trial, and how many of its device calls are refused.
+SCRATCH, SOME = 65536, 60
 
 
 class Bench:
@@ -55,11 +59,17 @@ class Bench:
         self.held = Path(self.volume).read_bytes()
         return self.held
 
+    def clear(self):
+        """Has the volume be a new file for a trial."""
+        with open(self.volume, "wb") as it:
+            it.truncate(SCRATCH * BLOCK)
+        self.held = None
+
     def run(self, word, **refused):
         counts = f"{self.folder.name}/counts"
         given = {"PATH": "/nowhere", "LD_PRELOAD": self.shim, "VOLUME": self.volume, "COUNTS": counts}
         given.update({name: str(value) for name, value in refused.items()})
-        ran = subprocess.run([PROGRAM, word, self.volume], env=given, capture_output=True, check=False)
+        ran = subprocess.run([PROGRAM, *word.split(), self.volume], env=given, capture_output=True, check=False)
         return Ended(ran.returncode, ran.stdout, ran.stderr, [int(it) for it in Path(counts).read_text().split()])
 
     def rows(self):
@@ -135,10 +145,54 @@ class Table:
             yield f"write {number} of the output", self.output, (number,)
 
 
+class Trial:
+    """The runs of a trial on a new file, which leaves these rows."""
+
+    def __init__(self, bench, command, rows):
+        self.bench, self.word, self.rows = bench, command.word, rows
+        self.whole = self.run()
+        if self.whole.status:
+            raise SystemExit(f"{self.word} ends with status {self.whole.status}: {self.whole.err.decode()}")
+
+    def run(self, **refused):
+        self.bench.clear()
+        return self.bench.run(self.word, **refused)
+
+    def is_done(self):
+        return self.bench.run("list")[:2] == self.rows or "the trial was done, and the sample is not there"
+
+    def memory(self, number):
+        ended = self.run(MEMORY=number)
+        if ended.status == 0:
+            return self.is_done()
+        if ended.status in (3, 7):
+            return ended.counts[1] == 0 or f"status {ended.status}, and the device was open"
+        return (ended.status, ended.out, ended.err) == (4, b"", b"out of memory\n") or f"status {ended.status}"
+
+    def call(self, number):
+        ended = self.run(CALL=number)
+        return (ended.status, ended.out, ended.err) == (3, b"", b"device fault\n") or f"status {ended.status}"
+
+    def output(self, number):
+        ended = self.run(OUTPUT=number)
+        return self.is_done() if (ended.status, ended.err) == (5, b"output fault\n") else f"status {ended.status}"
+
+    def all(self, with_calls=True):
+        """The checks, each with its name."""
+        allocations, calls, outputs = self.whole.counts
+        for number in range(1, allocations + 1):
+            yield f"allocation {number}", self.memory, (number,)
+        for number in range(1, calls + 1, max(1, calls // SOME)) if with_calls else ():
+            yield f"call {number}", self.call, (number,)
+        for number in range(1, outputs + 1) if with_calls else ():
+            yield f"write {number} of the output", self.output, (number,)
+
+
 def part(task):
     """Each JOBS-th check of a command, from one on: how many passed, and lines for those that failed."""
     shim, command, rows, used, with_calls, first, jobs = task
-    table = Table(Bench(shim), command, rows, used)
+    bench = Bench(shim)
+    table = Table(bench, command, rows, used) if command.base else Trial(bench, command, rows)
     passed, failed = 0, []
     for name, check, words in itertools.islice(table.all(with_calls), first, None, jobs):
         answer = check(*words)
@@ -168,6 +222,14 @@ def sample(number, folder):
     return Path(path).read_bytes()
 
 
+def told_of(base):
+    """What is said of a volume: its format and how many blocks it has."""
+    if base is None:
+        return f"a new file, {SCRATCH}"
+    form = "Btrfs" if base[SUPERBLOCK][64:72] == b"_BHRfS_M" else "ReiserFS"
+    return f"{form}, {len(base) // BLOCK}"
+
+
 def tasks(shim, folder, number):
     """The commands with their volumes."""
     small = empty_volume()
@@ -175,6 +237,7 @@ def tasks(shim, folder, number):
     for word, base in itertools.product(("inspect", "list", "recover", "convert", "rollback"), (small, other)):
         if (word, base) not in (("convert", other), ("rollback", small)):
             yield Command(word, base), rows, marked(small), True
+    yield Command("trial 0", None), rows, (), True
     if number:
         volume = sample(number, folder)
         yield Command("convert", volume), converted(shim, volume)[1], marked(volume), False
@@ -200,8 +263,7 @@ def main():
                     told = "{} allocations, {} calls of the device, {} writes of the output".format(*counts)
                 for line in lines:
                     print(line)
-            form = "Btrfs" if command.base[SUPERBLOCK][64:72] == b"_BHRfS_M" else "ReiserFS"
-            print(f"{command.word} of {form}, {len(command.base) // BLOCK} blocks: {told}: {sums[0]} passed, {sums[1]} failed", flush=True)
+            print(f"{command.word} of {told_of(command.base)} blocks: {told}: {sums[0]} passed, {sums[1]} failed", flush=True)
             passed, failed = passed + sums[0], failed + sums[1]
     print(f"{passed} passed, {failed} failed")
     return 1 if failed or not passed else 0

@@ -115,6 +115,9 @@ words_and_statuses() {
     ends 'a command alone' 2 "$usage" inspect
     ends 'a list alone' 2 "$usage" list
     ends 'two paths' 2 "$usage" inspect one two
+    ends 'a trial without a number' 2 "$usage" trial scratch
+    ends 'a number with zeros before it' 2 "$usage" trial 007 scratch
+    ends 'a trial of too large a number' 2 "$usage" trial 4001 scratch
     ends 'a path with a dash' 2 "$usage" inspect -x
     ends 'an empty path' 2 "$usage" inspect ''
     ends 'a path that is not there' 3 'device fault' inspect "$work/nothing"
@@ -477,6 +480,8 @@ samples() {
 . "$top/tests/outside/rollback.sh"
 # shellcheck source=tests/outside/power.sh
 . "$top/tests/outside/power.sh"
+# shellcheck source=tests/outside/trial.sh
+. "$top/tests/outside/trial.sh"
 # shellcheck source=tests/outside/fuzz.sh
 . "$top/tests/outside/fuzz.sh"
 
@@ -522,6 +527,7 @@ if need mkfs.reiserfs reiserfsprogs && need debugreiserfs reiserfsprogs; then
         rolled_back_volumes
         killed_conversions
         killed_rollbacks
+        trials
         howto_lines
         fuzzed_volumes
     else

@@ -9,11 +9,12 @@ super() { dd if="$1" bs=4096 skip=16 count=1 status=none | sha256sum; }
 refuses() {
     super=$(super "$2")
     found=''
-    for word in convert recover rollback; do
-        run "$word" "$2"
+    for word in convert recover rollback 'trial 0'; do
+        # shellcheck disable=SC2086
+        run $word "$2"
         found="$found$word $status $err$(cat /tmp/out), "
     done
-    same "busy: $1" "convert 3 device fault, recover 3 device fault, rollback 3 device fault, $super" "$found$(super "$2")"
+    same "busy: $1" "convert 3 device fault, recover 3 device fault, rollback 3 device fault, trial 0 3 device fault, $super" "$found$(super "$2")"
 }
 
 # opens NAME PATH: it is in order, and open to a command that writes

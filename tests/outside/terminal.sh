@@ -27,6 +27,8 @@ told_refusals() {
     truncate -s 1048576 zeros
     tells 'no volume' 1 'refused 1 novolume' "or the device ends before it. $nothing See whether" inspect zeros
     volume good 20000
+    tells 'a trial on a short file' 1 'refused 4 short 65536 256' "which is 256 MiB, and the device has only 256 of them. $nothing Take a longer file" trial 1 zeros
+    tells 'a trial on a volume' 1 'refused 16 format' "which the trial would overwrite. $nothing Take another file" trial 1 good
     told_field() { # NAME LINE TEXT BYTE BYTES: a copy with this field is refused so
         cp --sparse=always good changed
         put changed "$4" "$5"

@@ -55,6 +55,8 @@ boot_system() {
 howto() {
     zstd -dqf "$top/tests/volumes/tiny.img.zst" -o volume
     truncate -s 400M volume
+    how_to 0 >commands
+    follow 'try it first' volume true
     how_to 1 >commands
     follow before volume 'mkdir -p disk && mount -t tmpfs none disk'
     how_to 2 >commands
@@ -175,7 +177,7 @@ manual_page() {
     # whether the manuals that it refers to are there is a matter of the machine
     same 'mandoc finds nothing in the manual page' '' "$(mandoc -Tlint "$page" 2>/dev/null | grep -v 'referenced manual not found')"
     run --help
-    for word in $(sed -n 's/^  \([a-z]*\) PATH.*/\1/p' "$work/.out"); do
+    for word in $(sed -n 's/^  \([a-z]*\) \(N \)\?PATH.*/\1/p' "$work/.out"); do
         same "the manual page has the command $word" yes "$(grep -q "^\.It Cm $word " "$page" && echo yes)"
     done
     for word in $(sed -n 's/^  -\(-[a-z-]*\).*/\1/p' "$work/.out"); do

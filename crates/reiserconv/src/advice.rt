@@ -2,6 +2,7 @@
 use crate::paragraph::Paragraph;
 use crate::sentences::{
     Sentence, of_btrfs_rule, of_fault, of_feature, of_line, of_refusal, of_rule, of_safety,
+    of_trial,
 };
 use host_edge::{Call, Cause, Trouble, Use};
 use std::alloc::{AllocError, Global};
@@ -16,6 +17,8 @@ pub struct Outcome<'a> {
     pub trouble: Option<Trouble>,
     /// Whether a block was to be written.
     pub wrote: bool,
+    /// Whether it was a trial, on a device that is to be overwritten.
+    pub is_trial: bool,
 }
 
 /// The text for a person. It has a line feed at its end, and nothing where nothing is known of the line.
@@ -23,7 +26,7 @@ pub fn advice(alloc: Global, outcome: &Outcome<'_>) -> Result<String, AllocError
     let mut text = Paragraph::new(alloc);
     let line = str::from_utf8(outcome.line).unwrap_or("").trim_end();
     match line.strip_prefix("refused ") {
-        Some(words) => tell_refusal(alloc, &mut text, words, outcome.wrote)?,
+        Some(words) => tell_refusal(alloc, &mut text, words, outcome)?,
         None => tell_line(alloc, &mut text, line, outcome)?,
     }
     Ok(text.into_text())
@@ -58,9 +61,19 @@ impl<'a> Refusal<'a> {
         }
     }
 
+    /// What is said of it, of a trial or of another command.
+    fn sentence(&self, is_trial: bool) -> Sentence {
+        let own = of_trial(self.number);
+        if is_trial && !own.means.is_empty() {
+            own
+        } else {
+            of_refusal(self.number)
+        }
+    }
+
     /// Tells what it means, and returns what to do.
-    fn tell(&self, text: &mut Paragraph) -> Result<&'static str, AllocError> {
-        let sentence = of_refusal(self.number);
+    fn tell(&self, text: &mut Paragraph, is_trial: bool) -> Result<&'static str, AllocError> {
+        let sentence = self.sentence(is_trial);
         text.say(sentence.means, self.numbers)?;
         let mut next = sentence.next;
         if let Some(detail) = self.detail() {
@@ -80,21 +93,21 @@ fn tell_refusal(
     alloc: Global,
     text: &mut Paragraph,
     line: &str,
-    wrote: bool,
+    outcome: &Outcome<'_>,
 ) -> Result<(), AllocError> {
     let mut words = Vec::new(alloc);
     for word in line.split(' ') {
         words.push(word)?;
     }
     if let Some(refusal) = Refusal::read(words.as_slice()) {
-        let next = refusal.tell(text)?;
+        let next = refusal.tell(text, outcome.is_trial)?;
         if refusal.number == IMAGE {
             if let Some(own) = Refusal::read(refusal.numbers) {
-                let _ = own.tell(text)?;
+                let _ = own.tell(text, false)?;
             }
         }
         text.end()?;
-        tell_safety(text, if wrote { "free" } else { "nothing" })?;
+        tell_safety(text, written(outcome, "free"))?;
         tell_next(text, next, refusal.numbers)?;
     }
     Ok(())
@@ -128,13 +141,20 @@ fn tell_line(
     }
     text.end()?;
     match key {
-        "device fault" | "out of memory" => {
-            tell_safety(text, if outcome.wrote { "cut" } else { "nothing" })?
-        }
+        "device fault" | "out of memory" => { tell_safety(text, written(outcome, "cut"))? }
         "output fault" => tell_safety(text, "done")?,
         _ => {}
     }
     tell_next(text, next, &[])
+}
+
+/// The name of what is safe: this one where something was written, and it was no trial.
+fn written(outcome: &Outcome<'_>, case: &'static str) -> &'static str {
+    match (outcome.wrote, outcome.is_trial) {
+        (false, _) => "nothing",
+        (true, false) => case,
+        (true, true) => "trial",
+    }
 }
 
 fn tell_safety(text: &mut Paragraph, case: &str) -> Result<(), AllocError> {

@@ -22,16 +22,20 @@ fn main(rt: HostRuntime) -> ExitCode {
     let mut err = LineSink::new(StdSink::new(rt.stderr(), &shown));
     let mut out = StdSink::new(rt.stdout(), &shown);
     let mut disk = FileDisk::new(&rt, &shown);
+    let mut is_trial = false;
     let status = match Start::new(&rt) {
-        Ok(start) => run(
-            rt.alloc(),
-            &start.words,
-            start.ids,
-            start.now,
-            &mut disk,
-            &mut out,
-            &mut err,
-        ),
+        Ok(start) => {
+            is_trial = start.is_trial();
+            run(
+                rt.alloc(),
+                &start.words,
+                start.ids,
+                start.now,
+                &mut disk,
+                &mut out,
+                &mut err,
+            )
+        }
         Err(_) => {
             let _ = err.write(b"start fault\n");
             START_FAULT
@@ -43,6 +47,7 @@ fn main(rt: HostRuntime) -> ExitCode {
             line: err.line(),
             trouble: disk.trouble(),
             wrote: disk.written() > 0,
+            is_trial,
         };
         if let Ok(text) = advice(rt.alloc(), &outcome) {
             let _ = err.write(text.as_bytes());

@@ -96,6 +96,25 @@ pub fn of_refusal(number: u64) -> Sentence {
     }
 }
 
+/// Of the refusal of a trial with this number, where it is another matter.
+pub fn of_trial(number: u64) -> Sentence {
+    match number {
+        4 => Sentence {
+            means: "A trial takes {1} blocks of 4 KiB, which is 256 MiB, and the device has only {2} of them.",
+            next: "Take a longer file ('truncate -s 256M scratch.img' makes one) or device.",
+        },
+        15 => Sentence {
+            means: "The sample is too large for its volume of 256 MiB, or leaves too little space for a conversion.",
+            next: "Take a smaller number, and report the line: no number is known that is refused so.",
+        },
+        16 => Sentence {
+            means: "There is a volume of ReiserFS or Btrfs, which the trial would overwrite.",
+            next: "Take another file or device. Where it holds nothing but the sample of another trial, 'wipefs --all' takes away what tells of a volume.",
+        },
+        _ => NOTHING,
+    }
+}
+
 /// Of a rule of ReiserFS that is broken.
 pub fn of_rule(number: u64) -> Sentence {
     match number {
@@ -364,6 +383,10 @@ pub fn of_safety(case: &str) -> Sentence {
         },
         "cut" => Sentence {
             means: "Blocks were written. The volume is the old one or the new one, as after a power cut: 'reiserconv recover' says which, and can be called again.",
+            next: "",
+        },
+        "trial" => Sentence {
+            means: "Blocks of the device were written. It held no volume before, and what it holds now is of no use.",
             next: "",
         },
         "done" => Sentence {

@@ -34,6 +34,14 @@ impl Start {
             now: seconds(rt)?,
         })
     }
+
+    /// Whether the words ask for a trial.
+    pub fn is_trial(&self) -> bool {
+        match self.words.as_slice() {
+            [word, ..] => word.as_str() == "trial",
+            [] => false,
+        }
+    }
 }
 
 /// The words of the command line, without the program's name.

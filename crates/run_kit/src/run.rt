@@ -63,10 +63,12 @@ fn prepare(disk: &mut MemDisk, trouble: Trouble) -> Result<(), Memory>
     }
 }
 
-/// The words of a command line: a command, and a path.
-fn words_of(alloc: Global, word: &str) -> Result<Vec<String>, Memory> {
+/// The words of a command line: those of a command, and a path.
+fn words_of(alloc: Global, command: &str) -> Result<Vec<String>, Memory> {
     let mut words = Vec::new(alloc);
-    words.push(String::from_str(alloc, word)?)?;
+    for word in command.split(' ') {
+        words.push(String::from_str(alloc, word)?)?;
+    }
     words.push(String::from_str(alloc, "x")?)?;
     Ok(words)
 }
@@ -87,14 +89,14 @@ fn taken(alloc: Global, sink: &MemSink) -> Result<Vec<u8>, Memory> {
     Ok(bytes)
 }
 
-/// Runs a command that has a path alone over a disk, which is flushed and closed before it.
+/// Runs a command that has its path behind all other words over a disk, which is flushed and closed before it.
 pub fn ran(
     alloc: Global,
-    word: &str,
+    command: &str,
     disk: &mut MemDisk,
     trouble: Trouble,
 ) -> Result<Ended, Memory> {
-    let words = words_of(alloc, word)?;
+    let words = words_of(alloc, command)?;
     let mut out = output(alloc, trouble)?;
     let mut err = MemSink::new(alloc);
     prepare(disk, trouble)?;

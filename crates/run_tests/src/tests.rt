@@ -4,3 +4,4 @@ mod faults;
 mod home_volume;
 mod refusals;
 mod ten_files;
+mod trials;

@@ -1,4 +1,5 @@
 pub mod Convertible
+pub mod Counts
 pub mod Formats
 pub mod Inspecting
 pub mod Listing
@@ -7,3 +8,4 @@ pub mod Outcomes
 pub mod Performing
 pub mod Promise
 pub mod Trees
+pub mod Trials

@@ -22,11 +22,15 @@ use Rattle.rollback_core.specs.Recovered.{IsRecoverable}
 use Rattle.rollback_core.proofs.Keeping.{in_order_recovers}
 use Rattle.rollback_steps.specs.Answers.{RefusesRollback}
 use Rattle.rollback_steps.proofs.Refusing.{touched}
+use Rattle.row_laws.specs.Rows.{HasBytes}
 use Rattle.saved_volume.specs.Untouched.{IsUntouched}
+use Rattle.trial_core.specs.Answers.{RefusesTrial}
+use Rattle.trial_core.specs.Round as trial_round
+use Rattle.trial_core.specs.Trial.{sample_on}
 use Rattle.unit_plan.specs.Choice.{HasEnoughSpace}
 use Rattle.unit_plan.specs.Needed.{need}
 use Rattle.unit_plan.specs.declared.options.Options.{Options}
-use Rattle.volume_app.specs.Command.{Asked, inspect, list, convert, recover, rollback, help, version}
+use Rattle.volume_app.specs.Command.{Asked, inspect, list, convert, recover, rollback, trial, help, version}
 use Rattle.volume_app.specs.Ending.{status}
 use Rattle.reiser_volume.specs.Volume.{IsAccepted, used_of}
 use Rattle.reiser_volume.proofs.Refusals.{not_refused}
@@ -36,6 +40,7 @@ use Rattle.volume_app.specs.Listing.{IsListable, ListRefuses}
 use Rattle.btr_reader.proofs.PartsRead.{rows_not_refused}
 use Rattle.volume_app.proofs.Convertible.{accepted_is_reiser}
 use Rattle.volume_app.specs.Outcome.{EndsRight, HasFaults, IsDoneWith, Prints, Reports, ending_of, meaning}
+use Rattle.volume_app.specs.Trying.{IsTriable}
 
 -- a text that was written is that of the ending
 pub prints_text : (is_text : List ℕ → Type 0) (text old new : List ℕ) (written : Result (Unit {0}) faults.Fault) → is_text text → Takes old text written new → Prints is_text (ending_of written) old new
@@ -155,7 +160,22 @@ rollback_done disk (ImageMoved block) disk_old disk_new done refuses device same
 rollback_done disk (ImageDamaged refusal) disk_old disk_new done refuses device same low = absurd (touched disk (ImageDamaged refusal) refuses (λ is. cc) (λ is. cc) done)
 rollback_done disk (ReservedUsed block) disk_old disk_new done refuses device same low = absurd (touched disk (ReservedUsed block) refuses (λ is. cc) (λ is. cc) done)
 
-failed_done : (ids : Ids) (now : ℕ) (asked : Option Asked) (disk : Image) (answer : Answer) (disk_old disk_new : ℕ) → (meaning ids now asked).is_done disk → (meaning ids now asked).answers disk answer
+-- what is answered of a disk on which a trial has to be done is no refusal
+trial_done : (number : ℕ) (disk : Image) (answer : Answer) (disk_old disk_new : ℕ) → IsTriable number disk × HasBytes disk → RefusesTrial number disk answer
+    → (answer ≡ Fault → Rose disk_old disk_new) → disk_new ≡ disk_old → disk_old < 2 ^ 64 - 1 → (status (Failed answer) ≡ 0) ⊎ (status (Failed answer) ≡ 4)
+trial_done number disk (Volume refusal) disk_old disk_new due refuses device same low = absurd (⊎_elim (λ short. absurd (omega (arith, short.1, due.0.scratch.long))) (λ damaged. damaged.2 due.1) refuses.1)
+trial_done number disk (Btr refusal) disk_old disk_new due refuses device same low = absurd refuses
+trial_done number disk Fault disk_old disk_new due refuses device same low = absurd (not_risen disk_old disk_new same low (device refl))
+trial_done number disk Memory disk_old disk_new due refuses device same low = inr refl
+trial_done number disk WrongFormat disk_old disk_new due refuses device same low = absurd (refuses due.0.scratch.format)
+trial_done number disk (NoSpace needed free run_needed longest_run) disk_old disk_new due refuses device same low =
+    absurd (⊎_elim (λ full. absurd (omega (arith, full.0, due.0.room))) (λ lacks. lacks_none trial_round.plain (sample_on number disk) needed free run_needed longest_run due.0.convertible lacks.1) refuses.1)
+trial_done number disk ImageMissing disk_old disk_new due refuses device same low = absurd refuses
+trial_done number disk (ImageMoved block) disk_old disk_new due refuses device same low = absurd refuses
+trial_done number disk (ImageDamaged refusal) disk_old disk_new due refuses device same low = absurd refuses
+trial_done number disk (ReservedUsed block) disk_old disk_new due refuses device same low = absurd refuses
+
+failed_done : (ids : Ids) (now : ℕ) (asked : Option Asked) (disk : Image) (answer : Answer) (disk_old disk_new : ℕ) → (meaning ids now asked).is_due disk → (meaning ids now asked).answers disk answer
     → (answer ≡ Fault → Rose disk_old disk_new) → disk_new ≡ disk_old → disk_old < 2 ^ 64 - 1 → (status (Failed answer) ≡ 0) ⊎ (status (Failed answer) ≡ 4)
 failed_done ids now None disk answer disk_old disk_new done right device same low = absurd done
 failed_done ids now (Some (inspect path)) disk answer disk_old disk_new done right device same low = inspect_done disk answer disk_old disk_new done right device same low
@@ -163,21 +183,23 @@ failed_done ids now (Some (list path)) disk answer disk_old disk_new done right 
 failed_done ids now (Some (convert o path)) disk answer disk_old disk_new done right device same low = convert_done o disk answer disk_old disk_new done right device same low
 failed_done ids now (Some (recover path)) disk answer disk_old disk_new done right device same low = recover_done disk answer disk_old disk_new done right device same low
 failed_done ids now (Some (rollback path)) disk answer disk_old disk_new done right device same low = rollback_done disk answer disk_old disk_new done right device same low
+failed_done ids now (Some (trial number path)) disk answer disk_old disk_new done right device same low = trial_done number disk answer disk_old disk_new done right device same low
 failed_done ids now (Some help) disk answer disk_old disk_new done right device same low = absurd right
 failed_done ids now (Some version) disk answer disk_old disk_new done right device same low = absurd right
 
-usage_not_done : (ids : Ids) (now : ℕ) (asked : Option Asked) (disk : Image) → (meaning ids now asked).is_done disk → (meaning ids now asked).is_usage → ⊥
+usage_not_done : (ids : Ids) (now : ℕ) (asked : Option Asked) (disk : Image) → (meaning ids now asked).is_due disk → (meaning ids now asked).is_usage → ⊥
 usage_not_done ids now None disk done usage = done
 usage_not_done ids now (Some (inspect path)) disk done usage = usage
 usage_not_done ids now (Some (list path)) disk done usage = usage
 usage_not_done ids now (Some (convert o path)) disk done usage = usage
 usage_not_done ids now (Some (recover path)) disk done usage = usage
 usage_not_done ids now (Some (rollback path)) disk done usage = usage
+usage_not_done ids now (Some (trial number path)) disk done usage = usage
 usage_not_done ids now (Some help) disk done usage = usage
 usage_not_done ids now (Some version) disk done usage = usage
 
 -- a command that is to be done is done, where no call failed and there was memory
-pub done_or_memory : (ids : Ids) (now : ℕ) (asked : Option Asked) (disk : Image) (ending : Ending) (disk_old disk_new out_old out_new : ℕ) → (meaning ids now asked).is_done disk
+pub done_or_memory : (ids : Ids) (now : ℕ) (asked : Option Asked) (disk : Image) (ending : Ending) (disk_old disk_new out_old out_new : ℕ) → (meaning ids now asked).is_due disk
     → EndsRight (meaning ids now asked) disk ending
     → HasFaults ending disk_old disk_new out_old out_new → disk_new ≡ disk_old → disk_old < 2 ^ 64 - 1 → out_new ≡ out_old → out_old < 2 ^ 64 - 1
     → (status ending ≡ 0) ⊎ (status ending ≡ 4)

@@ -9,7 +9,7 @@ use Rattle.outside.specs.declared.fault.Fault as faults
 use Rattle.outside.proofs.Phases.{left_unwritten}
 use Rattle.volume_app.specs.Command.{Asked}
 use Rattle.volume_app.specs.Ending.{status}
-use Rattle.volume_app.specs.Meaning.{Meaning, no_command, reads_disk, says}
+use Rattle.volume_app.specs.Meaning.{IsSame, Meaning, no_command, reads_disk, says}
 use Rattle.volume_app.specs.Outcome.{EndsRight, HasFaults, IsDoneWith, IsQuiet, Knows, Performs, ending_of}
 use Rattle.volume_app.specs.declared.ending.Ending.{Ending}
 use Rattle.volume_app.specs.declared.ending.Ending.TheVariants.{Done, Usage, Failed, OutputFault}
@@ -98,16 +98,22 @@ ok_kept found before now cause = cause.kept (λ is. ok_no_err found Fault is)
 
 -- how the disk is behind a command
 pub record Leaves (m : Meaning) (tells : Bool) (old new : History) (ending : Ending) : Type 0 where
-  pub unchanged : IsTrue tells → m.keeps (status ending) → new ≡ old
+  pub unchanged : IsTrue tells → m.keeps (reads old) (status ending) → new ≡ old
+  pub lacking : IsTrue tells → status ending ≡ 6 → m.lacking (reads old) (reads new) × (IsSettled old → IsSettled new)
   pub changed : IsTrue tells → IsDoneWith ending → m.becomes (reads old) (reads new)
   pub settled : IsTrue tells → IsSettled old → IsDoneWith ending → IsSettled new
   pub crash : EachCrash tells old new (m.leaves (reads old))
+
+-- a disk that was not written is the same, and settled if it was
+pub unwritten : (old new : History) → new ≡ old → IsSame (reads old) (reads new) × (IsSettled old → IsSettled new)
+unwritten old new same = (ap reads same, λ settled. subst IsSettled (sym same) settled)
 
 -- a command that reads leaves it as it was
 pub reading_leaves : (done : Image → Type 0) (text : Image → List ℕ → Type 0) (refuses : Image → Answer → Type 0) (known : Answer → Type 0) (tells : Bool) (old new : History) (ending : Ending)
     → (IsTrue tells → new ≡ old) → Leaves (reads_disk done text refuses known) tells old new ending
 reading_leaves done text refuses known tells old new ending same = record {
   unchanged = λ told keeps. same told;
+  lacking = λ told is. unwritten old new (same told);
   changed = λ told is. ap reads (same told);
   settled = λ told settled is. subst IsSettled (sym (same told)) settled;
   crash = λ told settled image left. left_unwritten old new settled (same told) image left;
@@ -121,6 +127,10 @@ printed_keeps (Err fault) is = ⊎_elim (λ (e : 5 ≡ 1). absurd (omega (arith,
 pub recovered_keeps : (written : Result (Unit {0}) faults.Fault) → (status (ending_of written) ≡ 1) ⊎ ((status (ending_of written) ≡ 2) ⊎ (status (ending_of written) ≡ 4)) → ⊥
 recovered_keeps (Ok done) is = ⊎_elim (λ (e : 0 ≡ 1). absurd (omega (arith, e))) (λ (or : (0 ≡ 2) ⊎ (0 ≡ 4)). ⊎_elim (λ (e : 0 ≡ 2). absurd (omega (arith, e))) (λ (e : 0 ≡ 4). absurd (omega (arith, e))) or) is
 recovered_keeps (Err fault) is = ⊎_elim (λ (e : 5 ≡ 1). absurd (omega (arith, e))) (λ (or : (5 ≡ 2) ⊎ (5 ≡ 4)). ⊎_elim (λ (e : 5 ≡ 2). absurd (omega (arith, e))) (λ (e : 5 ≡ 4). absurd (omega (arith, e))) or) is
+
+pub printed_lacks : (written : Result (Unit {0}) faults.Fault) → status (ending_of written) ≡ 6 → ⊥
+printed_lacks (Ok done) is = omega (arith, is)
+printed_lacks (Err fault) is = omega (arith, is)
 
 -- ---- the commands
 
@@ -153,6 +163,7 @@ module _ (m : Meaning) (tells : Bool) (old new : History) (disk_old disk_new : �
     quiet = λ told is. absurd (loud written is);
     memory = λ is. absurd (no_memory written is);
     unchanged = leaves.unchanged;
+    lacking = leaves.lacking;
     changed = leaves.changed;
     settled = leaves.settled;
     crash = leaves.crash;
@@ -170,6 +181,7 @@ module _ (m : Meaning) (tells : Bool) (old new : History) (disk_old disk_new : �
     quiet = λ told is. refl;
     memory = λ is. memory (same_answer answer Memory is);
     unchanged = leaves.unchanged;
+    lacking = leaves.lacking;
     changed = leaves.changed;
     settled = leaves.settled;
     crash = leaves.crash;
@@ -185,6 +197,7 @@ no_words tells old disk out_tells taken out = record {
   quiet = λ told is. refl;
   memory = λ is. absurd (usage_no_fault Memory is);
   unchanged = λ told keeps. refl;
+  lacking = λ told is. absurd (omega (arith, is));
   changed = λ told is. absurd is;
   settled = λ told settled is. absurd is;
   crash = λ told settled image left. left_unwritten old old settled refl image left;
@@ -206,6 +219,7 @@ said text tells old disk out_tells taken_old taken_new out_old out_new written t
     performed (says text) tells old old disk disk out_tells taken_old taken_new out_old out_new text written (λ told. tt) (λ told. refl)
     (record {
       unchanged = λ told keeps. refl;
+      lacking = λ told is. unwritten old old refl;
       changed = λ told is. refl;
       settled = λ told settled is. settled;
       crash = λ told settled image left. left_unwritten old old settled refl image left;

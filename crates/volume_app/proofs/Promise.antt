@@ -3,7 +3,7 @@ use Rattle.std.proofs.Common.{◌≡◌, ◌<◌, ◌^◌, ◌-◌, ℕ, Bool, L
 use Rattle.std.specs.Prelude.{IsTrue, Option}
 use Rattle.outside.specs.History.{History, Image, IsSettled, LeftSince, clock, reads}
 use Rattle.vol_block.specs.declared.ids.Ids.{Ids}
-use Rattle.volume_app.specs.Command.{Asked, inspect, list, convert, recover, rollback, help, version}
+use Rattle.volume_app.specs.Command.{Asked, inspect, list, convert, recover, rollback, trial, help, version}
 use Rattle.volume_app.specs.Ending.{status}
 use Rattle.volume_app.specs.Headline.{IsToBeDone, KeepsPromise, LeavesTree, MakesTree}
 use Rattle.volume_app.specs.Outcome.{Performs, meaning}
@@ -11,15 +11,16 @@ use Rattle.volume_app.specs.Trees.{AreBlocks}
 use Rattle.volume_app.specs.declared.ending.Ending.{Ending}
 use Rattle.volume_app.proofs.Outcomes.{done_by, done_or_memory}
 
-to_be_done : (ids : Ids) (now : ℕ) (asked : Option Asked) (disk : Image) → IsToBeDone asked disk → (meaning ids now asked).is_done disk
-to_be_done ids now None disk is = absurd is
-to_be_done ids now (Some (inspect path)) disk is = absurd is
-to_be_done ids now (Some (list path)) disk is = absurd is
-to_be_done ids now (Some (convert o path)) disk is = is
-to_be_done ids now (Some (recover path)) disk is = is
-to_be_done ids now (Some (rollback path)) disk is = is
-to_be_done ids now (Some help) disk is = absurd is
-to_be_done ids now (Some version) disk is = absurd is
+to_be_done : (ids : Ids) (now : ℕ) (asked : Option Asked) (disk : Image) → AreBlocks disk → IsToBeDone asked disk → (meaning ids now asked).is_due disk
+to_be_done ids now None disk blocks is = absurd is
+to_be_done ids now (Some (inspect path)) disk blocks is = absurd is
+to_be_done ids now (Some (list path)) disk blocks is = absurd is
+to_be_done ids now (Some (convert o path)) disk blocks is = is
+to_be_done ids now (Some (recover path)) disk blocks is = is
+to_be_done ids now (Some (rollback path)) disk blocks is = is
+to_be_done ids now (Some (trial number path)) disk blocks is = (is, blocks.bytes)
+to_be_done ids now (Some help) disk blocks is = absurd is
+to_be_done ids now (Some version) disk blocks is = absurd is
 
 makes : (ids : Ids) (now : ℕ) (asked : Option Asked) (disk other : Image) → AreBlocks disk → (meaning ids now asked).becomes disk other → MakesTree asked disk other
 makes ids now None disk other blocks becomes = becomes
@@ -28,6 +29,7 @@ makes ids now (Some (list path)) disk other blocks becomes = becomes
 makes ids now (Some (convert o path)) disk other blocks becomes = becomes.tree blocks
 makes ids now (Some (recover path)) disk other blocks becomes = becomes.tree
 makes ids now (Some (rollback path)) disk other blocks becomes = becomes.tree
+makes ids now (Some (trial number path)) disk other blocks becomes = becomes.sample blocks.bytes
 makes ids now (Some help) disk other blocks becomes = becomes
 makes ids now (Some version) disk other blocks becomes = becomes
 
@@ -38,6 +40,7 @@ leaves ids now (Some (list path)) disk other blocks is = is
 leaves ids now (Some (convert o path)) disk other blocks is = is.tree blocks
 leaves ids now (Some (recover path)) disk other blocks is = is.tree
 leaves ids now (Some (rollback path)) disk other blocks is = is.tree
+leaves ids now (Some (trial number path)) disk other blocks is = tt
 leaves ids now (Some help) disk other blocks is = is
 leaves ids now (Some version) disk other blocks is = is
 
@@ -46,7 +49,7 @@ pub keeps_promise : (ids : Ids) (now : ℕ) (asked : Option Asked) (tells : Bool
     → KeepsPromise asked (reads old) (reads new) (status ending) ((disk_new ≡ disk_old) × (disk_old < 2 ^ 64 - 1) × (out_new ≡ out_old) × (out_old < 2 ^ 64 - 1))
     (λ left. IsSettled old × LeftSince (clock old) new left)
 keeps_promise ids now asked tells old new disk_old disk_new out_tells taken_old taken_new out_old out_new ending told blocks performs = record {
-  succeeds = λ done none. done_or_memory ids now asked (reads old) ending disk_old disk_new out_old out_new (to_be_done ids now asked (reads old) done) (performs.right (λ asks. told)) performs.faults none.0 none.1 none.2 none.3;
+  succeeds = λ done none. done_or_memory ids now asked (reads old) ending disk_old disk_new out_old out_new (to_be_done ids now asked (reads old) blocks done) (performs.right (λ asks. told)) performs.faults none.0 none.1 none.2 none.3;
   makes = λ is. makes ids now asked (reads old) (reads new) blocks (performs.changed told (done_by ending is));
   crash = λ left is. leaves ids now asked (reads old) left blocks (performs.crash told is.0 left is.1);
 }

@@ -1,13 +1,13 @@
 -- What the words of a command line ask for.
-use Rattle.std.specs.Prelude.{ℕ, ◌-◌, List, [], ◌∷◌, codes, bytes_eq, length, take, slice_index_or, Option, Some, None, option_map, if◌then◌else◌}
-use Rattle.app_words.specs.Words.{is_path}
+use Rattle.std.specs.Prelude.{ℕ, ◌≤◌, ◌-◌, List, [], ◌∷◌, codes, bytes_eq, length, take, slice_index_or, Option, Some, None, option_map, if◌then◌else◌}
+use Rattle.app_words.specs.Words.{is_path, plain_number}
 use Rattle.btr_node.specs.NodeSize.{IsNodeSize}
 use Rattle.convert_words.specs.Settings.{options}
 use Rattle.outside.specs.declared.disk.Access.{Access}
 use Rattle.outside.specs.declared.disk.Access.TheVariants.{Read, Write}
 use Rattle.unit_plan.specs.declared.options.Options.{Options}
 use Rattle.volume_app.specs.declared.command.Command.{Command}
-use Rattle.volume_app.specs.declared.command.Command.TheVariants.{Inspect, List as ListRows, Convert, Recover, Rollback, Help, Version}
+use Rattle.volume_app.specs.declared.command.Command.TheVariants.{Inspect, List as ListRows, Convert, Recover, Rollback, Trial, Help, Version}
 
 pub data Asked : Type 0 where
   inspect : List ℕ → Asked
@@ -15,6 +15,7 @@ pub data Asked : Type 0 where
   convert : Options → List ℕ → Asked
   recover : List ℕ → Asked
   rollback : List ℕ → Asked
+  trial : ℕ → List ℕ → Asked
   help : Asked
   version : Asked
 
@@ -25,6 +26,7 @@ opens (list path) = Some (path, Read)
 opens (convert o path) = Some (path, Write)
 opens (recover path) = Some (path, Write)
 opens (rollback path) = Some (path, Write)
+opens (trial number path) = Some (path, Write)
 opens help = None
 opens version = None
 
@@ -50,9 +52,20 @@ with_path name [] = None
 with_path name (path ∷ []) = if is_path path then named name path else None
 with_path name (path ∷ more ∷ rest) = None
 
+-- the number of a sample, at most 4000 and without leading zeros, and behind it a path alone
+abbrev pub numbered : List ℕ → List (List ℕ) → Option Asked
+numbered number [] = None
+numbered number (path ∷ []) = if is_path path then option_map (λ n. trial n path) (plain_number 4000 number) else None
+numbered number (path ∷ more ∷ rest) = None
+
+abbrev pub trying : List (List ℕ) → Option Asked
+trying [] = None
+trying (number ∷ words) = numbered number words
+
 abbrev pub begun_by : List ℕ → List (List ℕ) → Option Asked
 begun_by name words =
-    if bytes_eq name (codes "convert") then converting (take (length words - 1) words) (slice_index_or words (length words - 1) []) else with_path name words
+    if bytes_eq name (codes "trial") then trying words
+    else (if bytes_eq name (codes "convert") then converting (take (length words - 1) words) (slice_index_or words (length words - 1) []) else with_path name words)
 
 -- what the words ask for
 abbrev pub command : List (List ℕ) → Option Asked
@@ -66,15 +79,17 @@ seen (ListRows path) = list path.now
 seen (Convert path o) = convert o path.now
 seen (Recover path) = recover path.now
 seen (Rollback path) = rollback path.now
+seen (Trial number path) = trial number path.now
 seen Help = help
 seen Version = version
 
--- the size of a node that is asked for is one that nodes have
-abbrev pub HasSize : Command → Type 0
-HasSize (Inspect path) = Unit {0}
-HasSize (ListRows path) = Unit {0}
-HasSize (Convert path o) = IsNodeSize o.nodesize
-HasSize (Recover path) = Unit {0}
-HasSize (Rollback path) = Unit {0}
-HasSize Help = Unit {0}
-HasSize Version = Unit {0}
+-- the size of a node that is asked for is one that nodes have, and the number of a sample is one of those that samples have
+abbrev pub IsInRange : Command → Type 0
+IsInRange (Inspect path) = Unit {0}
+IsInRange (ListRows path) = Unit {0}
+IsInRange (Convert path o) = IsNodeSize o.nodesize
+IsInRange (Recover path) = Unit {0}
+IsInRange (Rollback path) = Unit {0}
+IsInRange (Trial number path) = number ≤ 4000
+IsInRange Help = Unit {0}
+IsInRange Version = Unit {0}

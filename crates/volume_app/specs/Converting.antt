@@ -7,7 +7,7 @@ use Rattle.convert_core.specs.declared.summary.ConvertSummary.{ConvertSummary}
 use Rattle.outside.specs.History.{Image}
 use Rattle.unit_plan.specs.declared.options.Options.{Options}
 use Rattle.vol_block.specs.declared.ids.Ids.{Ids}
-use Rattle.volume_app.specs.Meaning.{Meaning}
+use Rattle.volume_app.specs.Meaning.{IsSame, Meaning}
 use Rattle.volume_app.specs.Texts.{text_of_lines}
 use Rattle.volume_app.specs.Trees.{AreBlocks, IsConvertedTree, LeavesConvertedTree}
 
@@ -46,10 +46,12 @@ convert_meaning ids now o = record {
   asks_disk = Unit {0};
   takes_memory = Unit {0};
   is_done = IsConvertible o;
+  is_due = IsConvertible o;
   is_text = IsConvertText o;
   answers = RefusesConvert o;
   knows = IsConvertAnswer;
-  keeps = λ status. (status ≡ 1) ⊎ ((status ≡ 2) ⊎ (status ≡ 6));
+  keeps = λ disk status. (status ≡ 1) ⊎ ((status ≡ 2) ⊎ (status ≡ 6));
+  lacking = IsSame;
   becomes = IsConvertedWhole o ids now;
   leaves = IsEitherWhole o ids now;
 }

@@ -4,11 +4,14 @@ use Rattle.convert_core.specs.Converted.{IsConvertible}
 use Rattle.outside.specs.History.{Image}
 use Rattle.rollback_core.specs.Recovered.{IsRecoverable}
 use Rattle.saved_volume.specs.Untouched.{IsUntouched}
-use Rattle.volume_app.specs.Command.{Asked, inspect, list, convert, recover, rollback, help, version}
+use Rattle.trial_core.specs.Laws.{IsSampleAgain}
+use Rattle.volume_app.specs.Command.{Asked, inspect, list, convert, recover, rollback, trial, help, version}
 use Rattle.volume_app.specs.Trees.{IsConvertedTree, IsRestoredTree, KeepsTree, LeavesConvertedTree, LeavesRestoredTree}
+use Rattle.volume_app.specs.Trying.{IsTriable}
 
 -- A command that writes is to be done on this disk: `convert` where an accepted ReiserFS volume has the stated free space, `rollback` where
--- the saved image is untouched, `recover` where superblock, journal and bitmap, or the superblock of Btrfs, keep their rules.
+-- the saved image is untouched, `recover` where superblock, journal and bitmap, or the superblock of Btrfs, keep their rules, `trial` where
+-- the disk has no volume and blocks enough, and the sample has room and the space for a conversion.
 abbrev pub IsToBeDone : Option Asked → Image → Type 0
 IsToBeDone None disk = ⊥
 IsToBeDone (Some (inspect path)) disk = ⊥
@@ -16,10 +19,11 @@ IsToBeDone (Some (list path)) disk = ⊥
 IsToBeDone (Some (convert o path)) disk = IsConvertible o disk
 IsToBeDone (Some (recover path)) disk = IsRecoverable disk
 IsToBeDone (Some (rollback path)) disk = IsUntouched disk
+IsToBeDone (Some (trial number path)) disk = IsTriable number disk
 IsToBeDone (Some help) disk = ⊥
 IsToBeDone (Some version) disk = ⊥
 
--- what a command that was done makes of the tree of a disk
+-- what a command that was done makes of the tree of a disk; a trial leaves that of its sample
 abbrev pub MakesTree : Option Asked → Image → Image → Type 0
 MakesTree None disk other = other ≡ disk
 MakesTree (Some (inspect path)) disk other = other ≡ disk
@@ -27,10 +31,12 @@ MakesTree (Some (list path)) disk other = other ≡ disk
 MakesTree (Some (convert o path)) disk other = IsConvertedTree disk other
 MakesTree (Some (recover path)) disk other = KeepsTree disk other
 MakesTree (Some (rollback path)) disk other = IsRestoredTree disk other
+MakesTree (Some (trial number path)) disk other = IsSampleAgain number disk other
 MakesTree (Some help) disk other = other ≡ disk
 MakesTree (Some version) disk other = other ≡ disk
 
--- what a crash at any moment of a command leaves of it: one of the two formats, with its tree
+-- what a crash at any moment of a command leaves of it: one of the two formats, with its tree. Of a trial, whose disk had no volume, nothing
+-- is said.
 abbrev pub LeavesTree : Option Asked → Image → Image → Type 0
 LeavesTree None disk other = other ≡ disk
 LeavesTree (Some (inspect path)) disk other = other ≡ disk
@@ -38,6 +44,7 @@ LeavesTree (Some (list path)) disk other = other ≡ disk
 LeavesTree (Some (convert o path)) disk other = LeavesConvertedTree disk other
 LeavesTree (Some (recover path)) disk other = KeepsTree disk other
 LeavesTree (Some (rollback path)) disk other = LeavesRestoredTree disk other
+LeavesTree (Some (trial number path)) disk other = Unit {0}
 LeavesTree (Some help) disk other = other ≡ disk
 LeavesTree (Some version) disk other = other ≡ disk
 

@@ -14,3 +14,4 @@ pub mod Reiser
 pub mod RollingBack
 pub mod Texts
 pub mod Trees
+pub mod Trying

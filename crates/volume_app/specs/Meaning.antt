@@ -11,17 +11,21 @@ pub record Meaning : Type 1 where
   pub asks_disk : Type 0
   -- it takes memory, of which there may be too little
   pub takes_memory : Type 0
-  -- it is done on this disk
+  -- it is done on such a disk alone
   pub is_done : Image → Type 0
+  -- and on such a disk it has to be done, where no call fails and there is memory
+  pub is_due : Image → Type 0
   -- a text that it prints of this disk
   pub is_text : Image → List ℕ → Type 0
   -- it may answer so on this disk, and whatever the disk gives
   pub answers : Image → Answer → Type 0
   pub knows : Answer → Type 0
-  -- with these statuses nothing is written
-  pub keeps : ℕ → Type 0
-  -- what the disk is where the command is done, and what a crash at any moment may leave, by what it was
+  -- with these statuses nothing is written on this disk
+  pub keeps : Image → ℕ → Type 0
+  -- what the disk is where there is too little space, and where the command is done, by what it was
+  pub lacking : Image → Image → Type 0
   pub becomes : Image → Image → Type 0
+  -- what a crash at any moment may leave
   pub leaves : Image → Image → Type 0
 
 -- a disk that is as it was
@@ -35,10 +39,12 @@ reads_disk done text refuses known = record {
   asks_disk = Unit {0};
   takes_memory = Unit {0};
   is_done = done;
+  is_due = done;
   is_text = text;
   answers = refuses;
   knows = known;
-  keeps = λ status. Unit {0};
+  keeps = λ disk status. Unit {0};
+  lacking = IsSame;
   becomes = IsSame;
   leaves = IsSame;
 }
@@ -50,14 +56,16 @@ says text = record {
   asks_disk = ⊥;
   takes_memory = ⊥;
   is_done = λ disk. Unit {0};
+  is_due = λ disk. Unit {0};
   is_text = λ disk given. given ≡ text;
   answers = λ disk answer. ⊥;
   knows = λ answer. ⊥;
-  keeps = λ status. Unit {0};
+  keeps = λ disk status. Unit {0};
+  lacking = IsSame;
   becomes = IsSame;
   leaves = IsSame;
 }
 
 -- words that are no command
 abbrev pub no_command : Meaning
-no_command = record (says []) { is_usage = Unit {0}; is_done = λ disk. ⊥ }
+no_command = record (says []) { is_usage = Unit {0}; is_done = λ disk. ⊥; is_due = λ disk. ⊥ }

@@ -7,7 +7,7 @@ use Rattle.outside.specs.declared.answer.Answer.TheVariants.{Fault, Memory}
 use Rattle.volume_app.specs.declared.ending.Ending.{Ending}
 use Rattle.volume_app.specs.declared.ending.Ending.TheVariants.{Done, Usage, Failed, OutputFault}
 use Rattle.vol_block.specs.declared.ids.Ids.{Ids}
-use Rattle.volume_app.specs.Command.{Asked, command, inspect, list, convert, recover, rollback, help, version}
+use Rattle.volume_app.specs.Command.{Asked, command, inspect, list, convert, recover, rollback, trial, help, version}
 use Rattle.volume_app.specs.Converting.{convert_meaning}
 use Rattle.volume_app.specs.Ending.{status, error_line}
 use Rattle.volume_app.specs.Inspect.{inspect_meaning}
@@ -16,6 +16,7 @@ use Rattle.volume_app.specs.Recovering.{recover_meaning}
 use Rattle.volume_app.specs.RollingBack.{rollback_meaning}
 use Rattle.volume_app.specs.Meaning.{Meaning, says, no_command}
 use Rattle.volume_app.specs.Texts.{help_text, version_text}
+use Rattle.volume_app.specs.Trying.{trial_meaning}
 
 -- what is asked for means, with these identifiers and at this time
 abbrev pub meaning : Ids → ℕ → Option Asked → Meaning
@@ -25,6 +26,7 @@ meaning ids now (Some (list path)) = list_meaning
 meaning ids now (Some (convert o path)) = convert_meaning ids now o
 meaning ids now (Some (recover path)) = recover_meaning
 meaning ids now (Some (rollback path)) = rollback_meaning
+meaning ids now (Some (trial number path)) = trial_meaning ids now number
 meaning ids now (Some help) = says help_text
 meaning ids now (Some version) = says version_text
 
@@ -104,7 +106,8 @@ pub record Performs (m : Meaning) (tells : Bool) (old new : History) (disk_old d
   pub printed : (m.asks_disk → IsTrue tells) → IsTrue out_tells → Prints (m.is_text (reads old)) ending taken_old taken_new
   pub quiet : IsTrue out_tells → IsQuiet ending → taken_new ≡ taken_old
   pub memory : ending ≡ Failed Memory → m.takes_memory
-  pub unchanged : IsTrue tells → m.keeps (status ending) → new ≡ old
+  pub unchanged : IsTrue tells → m.keeps (reads old) (status ending) → new ≡ old
+  pub lacking : IsTrue tells → status ending ≡ 6 → m.lacking (reads old) (reads new) × (IsSettled old → IsSettled new)
   pub changed : IsTrue tells → IsDoneWith ending → m.becomes (reads old) (reads new)
   pub settled : IsTrue tells → IsSettled old → IsDoneWith ending → IsSettled new
   pub crash : EachCrash tells old new (m.leaves (reads old))

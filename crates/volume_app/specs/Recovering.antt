@@ -6,7 +6,7 @@ use Rattle.rollback_core.specs.Recovered.{IsLeft, IsRecoverable, IsRecovered, su
 use Rattle.rollback_core.specs.declared.recovery.RecoverSummary.{RecoverSummary}
 use Rattle.vol_block.specs.declared.format.Format.{Format}
 use Rattle.vol_block.specs.declared.format.Format.TheVariants.{Reiser, Btrfs, Neither}
-use Rattle.volume_app.specs.Meaning.{Meaning}
+use Rattle.volume_app.specs.Meaning.{IsSame, Meaning}
 use Rattle.volume_app.specs.Texts.{text_of_lines}
 use Rattle.volume_app.specs.Trees.{KeepsTree}
 
@@ -46,10 +46,12 @@ recover_meaning = record {
   asks_disk = Unit {0};
   takes_memory = Unit {0};
   is_done = IsRecoverable;
+  is_due = IsRecoverable;
   is_text = IsRecoverText;
   answers = RefusesRecover;
   knows = IsRecoverAnswer;
-  keeps = λ status. (status ≡ 1) ⊎ ((status ≡ 2) ⊎ (status ≡ 4));
+  keeps = λ disk status. (status ≡ 1) ⊎ ((status ≡ 2) ⊎ (status ≡ 4));
+  lacking = IsSame;
   becomes = IsRecoveredWhole;
   leaves = IsLeftWhole;
 }

@@ -4,7 +4,7 @@ use Rattle.outside.specs.History.{Image}
 use Rattle.rollback_steps.specs.Answers.{IsRollbackAnswer, RefusesRollback}
 use Rattle.rollback_steps.specs.RolledBack.{IsLeft, IsRolledBack, summary}
 use Rattle.saved_volume.specs.Untouched.{IsUntouched}
-use Rattle.volume_app.specs.Meaning.{Meaning}
+use Rattle.volume_app.specs.Meaning.{IsSame, Meaning}
 use Rattle.volume_app.specs.Texts.{text_of_lines}
 use Rattle.volume_app.specs.Trees.{IsRestoredTree, LeavesRestoredTree}
 use Rattle.way_back.specs.declared.way.RollbackSummary.{RollbackSummary}
@@ -40,10 +40,12 @@ rollback_meaning = record {
   asks_disk = Unit {0};
   takes_memory = Unit {0};
   is_done = IsUntouched;
+  is_due = IsUntouched;
   is_text = IsRollbackText;
   answers = RefusesRollback;
   knows = IsRollbackAnswer;
-  keeps = λ status. (status ≡ 1) ⊎ ((status ≡ 2) ⊎ (status ≡ 4));
+  keeps = λ disk status. (status ≡ 1) ⊎ ((status ≡ 2) ⊎ (status ≡ 4));
+  lacking = IsSame;
   becomes = IsRolledBackWhole;
   leaves = IsLeftWhole;
 }

@@ -51,7 +51,7 @@ pub fn convert_volume<D: Disk, O: Sink>(
 }
 
 /// Identifiers have 16 bytes each. It does nothing: its caller learns it by the contract.
-fn know_ids(ids: Ids)
+pub fn know_ids(ids: Ids)
     ensures { AreIds ids }
 {
     let _value = ids;

@@ -19,6 +19,7 @@ mod rolling_back;
 mod tests;
 mod texts;
 mod top;
+mod trying;
 
 pub use command::{Command, read_words};
 pub use ending::Ending;

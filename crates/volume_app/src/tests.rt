@@ -4,6 +4,7 @@ ghost use Rattle.std.specs.Prelude.{◌≡◌, ◌≤◌, None, IfOk, length};
 mod converting;
 mod recovering;
 mod sample;
+mod trying;
 
 use crate::run;
 use btr_keys::Stamp;

@@ -14,6 +14,7 @@ use crate::list::list_volume;
 use crate::recovering::recover_volume;
 use crate::rolling_back::roll_back_volume;
 use crate::texts::{HELP, VERSION};
+use crate::trying::try_on_path;
 use outside::{Disk, Sink};
 use std::alloc::Global;
 use vol_block::Ids;
@@ -22,8 +23,9 @@ use vol_block::Ids;
 ///
 /// `words` are those behind the program's name, `ids` and `now` (seconds since 1970) go into what is written. The
 /// status is 0 where the command was done and its text printed, 1 where the volume is refused, 2 where the words are
-/// no command, 3 where a call of the device failed, 4 where there was no memory, and 5 where the text could not be
-/// printed. Every other status than 0 has its line on the error sink; a failed write there changes nothing.
+/// no command, 3 where a call of the device failed, 4 where there was no memory, 5 where the text could not be
+/// printed, and 6 where there is too little space. Every other status than 0 has its line on the error sink; a failed write there changes
+/// nothing.
 pub fn run<D: Disk, O: Sink, E: Sink>(
     alloc: Global,
     words: &[String],
@@ -46,18 +48,20 @@ pub fn run<D: Disk, O: Sink, E: Sink>(
     ensures output_kept { result ≢ 5 → O.faults out.new ≡ O.faults out.old }
     ensures memory { result ≡ 4 → (meant ids now (map string_bytes words.now)).takes_memory }
     // A command that only reads writes nothing, and one that is refused has written nothing.
-    ensures unchanged { IsTrue D.tells → (meant ids now (map string_bytes words.now)).keeps result → D.history disk.new ≡ D.history disk.old }
+    ensures unchanged { IsTrue D.tells → (meant ids now (map string_bytes words.now)).keeps (reads (D.history disk.old)) result → D.history disk.new ≡ D.history disk.old }
+    // So has one that lacks space, but for a trial whose sample does: that sample stays, and has reached the device.
+    ensures lacking { IsTrue D.tells → result ≡ 6 → (meant ids now (map string_bytes words.now)).lacking (reads (D.history disk.old)) (reads (D.history disk.new)) × (IsSettled (D.history disk.old) → IsSettled (D.history disk.new)) }
     // Where the command was done the disk is what it makes of it, whether its text could be printed or not.
     ensures changed { IsTrue D.tells → (result ≡ 0) ⊎ (result ≡ 5) → (meant ids now (map string_bytes words.now)).becomes (reads (D.history disk.old)) (reads (D.history disk.new)) }
     ensures settled { IsTrue D.tells → IsSettled (D.history disk.old) → (result ≡ 0) ⊎ (result ≡ 5) → IsSettled (D.history disk.new) }
-    // A crash at any moment leaves what the command may leave: the disk as it was, where it only reads.
+    // A crash at any moment leaves what the command may leave: the disk as it was, where it only reads. Of a trial nothing is said.
     ensures crash { EachCrash D.tells (D.history disk.old) (D.history disk.new) ((meant ids now (map string_bytes words.now)).leaves (reads (D.history disk.old))) }
     ensures ends { Runs (meant ids now (map string_bytes words.now)) (IsTrue D.tells) (reads (D.history disk.old)) result
         (IsTrue O.tells) (O.taken out.old) (O.taken out.new) (IsTrue E.tells) (E.faults err.old) (E.faults err.new) (E.taken err.old) (E.taken err.new) }
     // Also over a disk that tells nothing, a run that isn't done prints nothing.
     ensures quiet { IsTrue O.tells → result ≢ 0 → result ≢ 5 → O.taken out.new ≡ O.taken out.old }
     // Where no count rose and nothing is to be refused, the command is done, unless memory was short.
-    ensures complete { IsTrue D.tells → (meant ids now (map string_bytes words.now)).is_done (reads (D.history disk.old))
+    ensures complete { IsTrue D.tells → (meant ids now (map string_bytes words.now)).is_due (reads (D.history disk.old))
         → D.faults disk.new ≡ D.faults disk.old → D.faults disk.old < 2 ^ 64 - 1
         → O.faults out.new ≡ O.faults out.old → O.faults out.old < 2 ^ 64 - 1 → (result ≡ 0) ⊎ (result ≡ 4) }
     // The promise of the program: on every accepted volume with the stated free space convert succeeds, unless the device failed or memory
@@ -98,6 +102,9 @@ fn perform<D: Disk, O: Sink>(
         }
         Some(Command::Recover(path)) => recover_volume(alloc, path, disk, out),
         Some(Command::Rollback(path)) => roll_back_volume(alloc, path, disk, out),
+        Some(Command::Trial(number, path)) => {
+            try_on_path(alloc, path, number, ids, now, disk, out)
+        }
         Some(Command::Help) => printed(out.write(HELP)),
         Some(Command::Version) => printed(out.write(VERSION)),
     }

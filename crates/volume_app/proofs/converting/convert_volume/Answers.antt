@@ -1,8 +1,8 @@
-use Rattle.std.proofs.Common.{refl}
+use Rattle.std.proofs.Common.{inr, refl}
 use Rattle.volume_app.specs.Converting.{convert_meaning, convert_text}
 use Rattle.volume_app.proofs.Convertible.{converted_was}
 use Rattle.volume_app.proofs.Outcomes.{refusal_by}
-use Rattle.volume_app.proofs.Performing.{failed, ok_kept, performed, printed_keeps}
+use Rattle.volume_app.proofs.Performing.{failed, ok_kept, performed, printed_keeps, printed_lacks, unwritten}
 use Rattle.volume_app.proofs.Trees.{converted_whole, either_whole}
 use Rattle.volume_app.proofs.converting.convert_volume.Goals as goal
 
@@ -14,6 +14,7 @@ returns-in-Ok g c =
     (λ told. (c.in-Ok.summary, (c.in-Ok.ensures.right (told tt)).1, refl))
     (record {
       unchanged = λ told keeps. absurd (printed_keeps c.print_summary.result keeps);
+      lacking = λ told is. absurd (printed_lacks c.print_summary.result is);
       changed = λ told is. converted_whole _ _ _ _ c.requires.size c.requires.moment c.know_ids.ensures c.know_id.ensures c.converted_volumes_open.ensures c.converted_volumes_go_back.ensures _ (c.in-Ok.ensures.right told).0;
       settled = λ told settled is. c.in-Ok.ensures.settled told;
       crash = λ told settled image left. either_whole _ _ _ _ c.requires.size c.requires.moment c.know_ids.ensures c.know_id.ensures c.crashes_go_back.ensures image (c.convert.ensures.crash told settled image left);
@@ -25,6 +26,7 @@ returns-in-Err g c =
     failed (convert_meaning c.args.ids.now c.args.now c.args.options.now) _ _ _ _ _ _ _ _ _ c.in-Err.answer (λ told. c.in-Err.ensures.right (told tt)) c.in-Err.ensures.known (λ is. tt)
     (record {
       unchanged = λ told keeps. (let no = refusal_by c.in-Err.answer keeps in c.in-Err.ensures.refused told no.0 no.1);
+      lacking = λ told is. (let no = refusal_by c.in-Err.answer (inr (inr is)) in unwritten _ _ (c.in-Err.ensures.refused told no.0 no.1));
       changed = λ told is. absurd is;
       settled = λ told settled is. absurd is;
       crash = λ told settled image left. either_whole _ _ _ _ c.requires.size c.requires.moment c.know_ids.ensures c.know_id.ensures c.crashes_go_back.ensures image (c.convert.ensures.crash told settled image left);

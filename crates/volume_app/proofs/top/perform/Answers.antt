@@ -1,6 +1,6 @@
 use Rattle.std.proofs.Common.{◌≡◌, ◌∙◌, sym, ap, subst, map, string_bytes, Some, None}
 use Rattle.volume_app.specs.declared.command.Command.{Command}
-use Rattle.volume_app.specs.Command.{command, convert, help, inspect, list, recover, rollback, seen, version}
+use Rattle.volume_app.specs.Command.{command, convert, help, inspect, list, recover, rollback, seen, trial, version}
 use Rattle.volume_app.specs.Converting.{convert_meaning}
 use Rattle.volume_app.specs.Inspect.{inspect_meaning}
 use Rattle.volume_app.specs.Listing.{list_meaning}
@@ -8,6 +8,7 @@ use Rattle.volume_app.specs.Outcome.{Knows}
 use Rattle.volume_app.specs.Recovering.{recover_meaning}
 use Rattle.volume_app.specs.RollingBack.{rollback_meaning}
 use Rattle.volume_app.specs.Texts.{help_text, version_text}
+use Rattle.volume_app.specs.Trying.{trial_meaning}
 use Rattle.volume_app.proofs.Performing.{no_words, said, some_is_not}
 use Rattle.volume_app.proofs.top.perform.Goals as goal
 
@@ -45,6 +46,12 @@ returns-in-Some-Rollback-clause-performs g c =
     let asked : command (map string_bytes c.args.words.now) ≡ Some (rollback c.in-Some-Rollback.path.now) =
     sym c.in-Some-Rollback.ensures.read ∙ ap (λ (k : Command). Some (seen k)) c.in-Some-Rollback.field-0-is in
     rw asked c.roll_back_volume.ensures
+
+pub returns-in-Some-Trial-clause-performs : goal.returns-in-Some-Trial-clause-performs
+returns-in-Some-Trial-clause-performs g c =
+    let asked : command (map string_bytes c.args.words.now) ≡ Some (trial c.in-Some-Trial.number c.in-Some-Trial.path.now) =
+    sym c.in-Some-Trial.ensures.read ∙ ap (λ (k : Command). Some (seen k)) c.in-Some-Trial.field-0-is in
+    rw asked c.try_on_path.ensures
 
 pub returns-in-Some-Help-clause-performs : goal.returns-in-Some-Help-clause-performs
 returns-in-Some-Help-clause-performs g c =
@@ -87,3 +94,9 @@ returns-in-Some-Rollback-clause-usage g c =
     let asked : command (map string_bytes c.args.words.now) ≡ Some (rollback c.in-Some-Rollback.path.now) =
     sym c.in-Some-Rollback.ensures.read ∙ ap (λ (k : Command). Some (seen k)) c.in-Some-Rollback.field-0-is in
     (λ is. absurd (subst (Knows rollback_meaning) is c.roll_back_volume.ensures.known), λ none. absurd (some_is_not _ _ asked none))
+
+pub returns-in-Some-Trial-clause-usage : goal.returns-in-Some-Trial-clause-usage
+returns-in-Some-Trial-clause-usage g c =
+    let asked : command (map string_bytes c.args.words.now) ≡ Some (trial c.in-Some-Trial.number c.in-Some-Trial.path.now) =
+    sym c.in-Some-Trial.ensures.read ∙ ap (λ (k : Command). Some (seen k)) c.in-Some-Trial.field-0-is in
+    (λ is. absurd (subst (Knows (trial_meaning c.args.ids.now c.args.now c.in-Some-Trial.number)) is c.try_on_path.ensures.known), λ none. absurd (some_is_not _ _ asked none))

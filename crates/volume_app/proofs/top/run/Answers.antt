@@ -8,7 +8,11 @@ use Rattle.volume_app.proofs.top.run.Goals as goal
 
 pub returns-clause-unchanged : goal.returns-clause-unchanged
 returns-clause-unchanged g c = λ tells keeps.
-    c.perform-ending.ensures.performs.unchanged tells (subst (λ (n : ℕ). (meaning c.args.ids c.args.now (command (map string_bytes c.args.words.now))).keeps n) c.status.ensures keeps)
+    c.perform-ending.ensures.performs.unchanged tells (subst (λ (n : ℕ). (meaning c.args.ids c.args.now (command (map string_bytes c.args.words.now))).keeps (reads (g.D.Disk.history c.args.disk.now)) n) c.status.ensures keeps)
+
+pub returns-clause-lacking : goal.returns-clause-lacking
+returns-clause-lacking g c = λ tells is.
+    c.perform-ending.ensures.performs.lacking tells (subst (λ (n : ℕ). n ≡ 6) c.status.ensures is)
 
 pub returns-clause-changed : goal.returns-clause-changed
 returns-clause-changed g c = λ tells is.

@@ -1,0 +1,4 @@
+pub mod Bytes
+pub mod Refusing
+pub mod Rounds
+pub mod Tried

@@ -1,0 +1,123 @@
+-- The answers of the steps, as those of a round and of a trial.
+use Rattle.std.proofs.Common.{◌≡◌, inl, inr, refl, sym, ◌∙◌, subst, None, Some}
+use Rattle.std.specs.Prelude.{◌≢◌}
+use Rattle.outside.specs.History.{History, Image}
+use Rattle.outside.specs.declared.answer.Answer.{Answer}
+use Rattle.outside.specs.declared.answer.Answer.TheVariants as answer
+use Rattle.outside.specs.declared.answer.BtrAnswer.{BtrAnswer}
+use Rattle.outside.specs.declared.answer.BtrAnswer.TheVariants as of_btr
+use Rattle.outside.specs.declared.answer.VolAnswer.{VolAnswer}
+use Rattle.outside.specs.declared.answer.VolAnswer.TheVariants as of_reiser
+use Rattle.outside.specs.declared.refusal.BtrRefusal.{BtrRefusal}
+use Rattle.vol_block.specs.declared.format.Format.TheVariants.{Btrfs, Reiser}
+use Rattle.btr_reader.specs.Parts.{HasBtrfsRows, IsRowsRefusal, RefusesBtrfsRows, has_log, unreadable}
+use Rattle.convert_core.specs.Answers.{RefusesConvert}
+use Rattle.object_files.specs.Answers.{IsFaultOrMemory}
+use Rattle.reiser_volume.specs.Answers.{RefusesVolume}
+use Rattle.reiser_volume.specs.Front.{RefusesFront}
+use Rattle.reiser_volume.specs.Laws.{FrontsAreJudged, RefusalsBreakRules}
+use Rattle.reiser_volume.specs.Volume.{IsAccepted}
+use Rattle.rollback_core.specs.Laws.{InOrderHasFormat}
+use Rattle.rollback_steps.specs.Answers.{IsRollbackAnswer, RefusesRollback}
+use Rattle.rollback_steps.specs.Laws.{RefusalsAreOfTouched}
+use Rattle.saved_volume.specs.Untouched.{IsUntouched}
+use Rattle.trial_core.specs.Answers.{IsReadAnswer, IsRoundAnswer, IsStop, LeavesRound, RefusesRound, StopsUnless, by_btrfs, by_step, by_volume}
+use Rattle.trial_core.specs.Round.{FreeAreBytes, plain}
+
+-- ---- of a conversion
+
+pub convert_refused : RefusalsBreakRules → InOrderHasFormat → (image : Image) (e : Answer) → IsAccepted image → RefusesConvert plain image e → RefusesRound image (by_step e)
+convert_refused breaks formats image (answer.Volume r) accepted refused = absurd (breaks image r refused.1 accepted)
+convert_refused breaks formats image (answer.NoSpace needed free run_needed longest) accepted refused = refused.1
+convert_refused breaks formats image answer.WrongFormat accepted refused =
+    let both : Reiser ≡ Btrfs = sym (formats.accepted image accepted).0 ∙ refused in
+    absurd (cc both)
+convert_refused breaks formats image answer.Fault accepted refused = tt
+convert_refused breaks formats image answer.Memory accepted refused = tt
+convert_refused breaks formats image _ accepted refused = absurd refused
+
+pub convert_leaves : (old new : History) (e : Answer) → (e ≢ answer.Fault → e ≢ answer.Memory → new ≡ old) → LeavesRound old new (by_step e)
+convert_leaves old new (answer.NoSpace needed free run_needed longest) same = same (λ is. absurd (cc is)) (λ is. absurd (cc is))
+convert_leaves old new _ same = tt
+
+pub step_known : (e : Answer) → IsRoundAnswer (by_step e)
+step_known (answer.NoSpace needed free run_needed longest) = tt
+step_known answer.Fault = tt
+step_known answer.Memory = tt
+step_known _ = refl
+
+-- ---- of a rollback
+
+pub rollback_refused : RefusalsAreOfTouched → (disk : Image) (e : Answer) → RefusesRollback disk e → StopsUnless (IsUntouched disk) (by_step e)
+rollback_refused touched disk (answer.NoSpace needed free run_needed longest) refused = absurd refused
+rollback_refused touched disk answer.Fault refused = inl (inl refl)
+rollback_refused touched disk answer.Memory refused = inl (inr refl)
+rollback_refused touched disk e refused = inr (refl, touched disk e refused (λ is. absurd (cc is)) (λ is. absurd (cc is)))
+
+pub rollback_known : (e : Answer) → IsRollbackAnswer e → IsReadAnswer (by_step e)
+rollback_known (answer.NoSpace needed free run_needed longest) known = absurd known
+rollback_known answer.Fault known = inl (inl refl)
+rollback_known answer.Memory known = inl (inr refl)
+rollback_known _ known = inr refl
+
+-- ---- of what is read
+
+pub front_refused : FrontsAreJudged → (image : Image) (e : VolAnswer) → IsAccepted image → RefusesFront image e → IsStop (by_volume e)
+front_refused judged image (of_reiser.Refused r) accepted refused = absurd (judged.broken image r refused (judged.accepted image accepted))
+front_refused judged image of_reiser.Fault accepted refused = inl refl
+front_refused judged image of_reiser.Memory accepted refused = inr refl
+
+pub volume_refused : RefusalsBreakRules → (image : Image) (e : VolAnswer) → IsAccepted image → RefusesVolume image e → IsStop (by_volume e)
+volume_refused breaks image (of_reiser.Refused r) accepted refused = absurd (breaks image r refused accepted)
+volume_refused breaks image of_reiser.Fault accepted refused = inl refl
+volume_refused breaks image of_reiser.Memory accepted refused = inr refl
+
+pub rows_stopped : (e : VolAnswer) → IsFaultOrMemory e → IsStop (by_volume e)
+rows_stopped (of_reiser.Refused r) stop = absurd stop
+rows_stopped of_reiser.Fault stop = inl refl
+rows_stopped of_reiser.Memory stop = inr refl
+
+pub volume_known : (e : VolAnswer) → IsReadAnswer (by_volume e)
+volume_known (of_reiser.Refused r) = inr refl
+volume_known of_reiser.Fault = inl (inl refl)
+volume_known of_reiser.Memory = inl (inr refl)
+
+rows_refusal : (disk : Image) (r : BtrRefusal) → IsRowsRefusal disk r → ¬ HasBtrfsRows disk
+rows_refusal disk r (has_log at log is) has =
+    let both : None ≡ Some at = sym has.log ∙ log in
+    absurd (cc both)
+rows_refusal disk r (unreadable none bad) has = has.tree r bad
+
+pub btrfs_refused : (disk : Image) (e : BtrAnswer) → RefusesBtrfsRows disk e → StopsUnless (HasBtrfsRows disk) (by_btrfs e)
+btrfs_refused disk (of_btr.Refused r) refused = inr (refl, rows_refusal disk r refused)
+btrfs_refused disk of_btr.Fault refused = inl (inl refl)
+btrfs_refused disk of_btr.Memory refused = inl (inr refl)
+
+pub btrfs_known : (e : BtrAnswer) → IsReadAnswer (by_btrfs e)
+btrfs_known (of_btr.Refused r) = inr refl
+btrfs_known of_btr.Fault = inl (inl refl)
+btrfs_known of_btr.Memory = inl (inr refl)
+
+-- ---- of a round
+
+pub unless_weaker : {H G : Type 0} (e : Answer) → (G → H) → StopsUnless H e → StopsUnless G e
+unless_weaker e turn (inl stop) = inl stop
+unless_weaker e turn (inr both) = inr (both.0, λ is. both.1 (turn is))
+
+pub stop_refuses : (image : Image) (e : Answer) → IsStop e → RefusesRound image e
+stop_refuses image e (inl is) = subst (RefusesRound image) (sym is) tt
+stop_refuses image e (inr is) = subst (RefusesRound image) (sym is) tt
+
+pub unless_refuses : {H : Type 0} (image : Image) (e : Answer) → StopsUnless H e → (FreeAreBytes image → H) → RefusesRound image e
+unless_refuses image e (inl stop) holds = stop_refuses image e stop
+unless_refuses image e (inr both) holds = subst (RefusesRound image) (sym both.0) (refl, λ free. both.1 (holds free))
+
+pub read_known : (e : Answer) → IsReadAnswer e → IsRoundAnswer e
+read_known e (inl (inl is)) = subst IsRoundAnswer (sym is) tt
+read_known e (inl (inr is)) = subst IsRoundAnswer (sym is) tt
+read_known e (inr is) = subst IsRoundAnswer (sym is) refl
+
+pub read_leaves : (old new : History) (e : Answer) → IsReadAnswer e → LeavesRound old new e
+read_leaves old new e (inl (inl is)) = subst (LeavesRound old new) (sym is) tt
+read_leaves old new e (inl (inr is)) = subst (LeavesRound old new) (sym is) tt
+read_leaves old new e (inr is) = subst (LeavesRound old new) (sym is) tt

@@ -1,0 +1,187 @@
+-- A trial, from what is said of its steps.
+use Rattle.std.proofs.Common.{◌≡◌, inl, inr, ⊎_elim, Result, Ok, Err, ℕ, ◌<◌, ◌≤◌, false, ◌&&◌, List, length, map, refl, sym, ◌∙◌, ap, subst, arith, true≢false}
+use Rattle.std.specs.Prelude.{IfErr, IsTrue, nat_lt, slice_index}
+use Rattle.std.specs.Result.{MatchResult}
+use Rattle.std.proofs.lemmas.Bool.{and_parts}
+use Rattle.std.proofs.lemmas.Bool.Decides.{Decides-ltb}
+use Rattle.vol_block.specs.declared.ids.Ids.{Ids}
+use Rattle.back_laws.specs.Back.{ConvertedVolumesGoBack}
+use Rattle.outside.specs.History.{History, Image, IsSettled, WritesOnly, after, block_at, reads, synced}
+use Rattle.outside.specs.declared.answer.Answer.{Answer}
+use Rattle.outside.specs.declared.answer.Answer.TheVariants as answer
+use Rattle.outside.proofs.Crash.{reads_only}
+use Rattle.fs_rows.specs.Rows.{WholeRow, row_of}
+use Rattle.fs_rows.specs.declared.row.Row.{Row}
+use Rattle.reiser_bitmap.specs.Bits.{has}
+use Rattle.reiser_make.specs.Layout.{IsUsed}
+use Rattle.reiser_make.specs.Maker.{IsRight, Keeps, usage_of}
+use Rattle.reiser_make.specs.Places.{is_taken}
+use Rattle.reiser_make.specs.Rows.{sample_rows}
+use Rattle.reiser_make.specs.Shape.{shape}
+use Rattle.reiser_make.specs.declared.maker.MakeAnswer.{MakeAnswer}
+use Rattle.reiser_make.specs.declared.maker.MakeAnswer.TheVariants as maker
+use Rattle.reiser_volume.specs.Laws.{RowsAreOne}
+use Rattle.reiser_volume.specs.Volume.{used_of}
+use Rattle.rollback_steps.specs.Laws.{RollbackKeeps}
+use Rattle.row_laws.specs.Rows.{HasBytes}
+use Rattle.sample_laws.specs.Laws.{SamplesMarkUsed}
+use Rattle.sample_laws.specs.Rows.{IsAsDescribed, SamplesAreAsDescribed}
+use Rattle.trial_parts.specs.Parts.{summary_of}
+use Rattle.trial_parts.specs.declared.summary.TrialSummary.{TrialSummary}
+use Rattle.trial_core.specs.Answers.{IsMakeAnswer, IsRoundAnswer, IsScratchAnswer, IsTrialAnswer, LeavesRefused, LeavesRound, RefusesRound, RefusesScratch, RefusesTrial, by_maker}
+use Rattle.trial_core.specs.Laws.{TriesKeep}
+use Rattle.trial_core.specs.Round.{FreeAreBytes, IsRound, IsSummary}
+use Rattle.trial_core.specs.Trial.{IsMade, IsScratch, IsTried, KeepsFree, needed_by, sample_on, summary}
+use Rattle.trial_core.proofs.Rounds.{gone_back, restored}
+
+-- ---- what was made
+
+-- what the bitmap has as free was not written
+not_used : (needed blocks b : ℕ) → (b < blocks → is_taken needed b ≡ false) → IsTrue (nat_lt b blocks && is_taken needed b) → ⊥
+not_used needed blocks b free is =
+    let both = and_parts (nat_lt b blocks) (is_taken needed b) is in
+    true≢false (sym both.1 ∙ free ((Decides-ltb b blocks).0 both.0))
+
+pub free_kept : SamplesMarkUsed → (number : ℕ) (old new : History) → number ≤ 4000 → needed_by number ≤ 65536 → 65536 ≤ length (reads old) → reads new ≡ sample_on number (reads old)
+    → WritesOnly (λ b _. IsUsed (usage_of (shape number false) 65536) b) old new → (b : ℕ) → has (used_of (reads new)) b ≡ false → block_at (reads new) b ≡ block_at (reads old) b
+free_kept marks number old new few room long written only b free =
+    ⊎_elim (λ same. same)
+    (λ used. absurd (not_used (needed_by number) 65536 b
+    (λ low. sym (marks number false 65536 (reads old) (record { number_low = few; needed_low = room; blocks_low = omega arith; inside = long }) b low) ∙ subst (λ (image : Image). has (used_of image) b ≡ false) written free) used))
+    (reads_only _ old new only b)
+
+synced_settled : (h : History) → IsSettled (after synced h)
+synced_settled h = λ b bytes waits. waits
+
+pub made_whole : SamplesAreAsDescribed → SamplesMarkUsed → (number : ℕ) (old mid new : History) → number ≤ 4000 → needed_by number ≤ 65536 → 65536 ≤ length (reads old) → reads mid ≡ sample_on number (reads old)
+    → WritesOnly (λ b _. IsUsed (usage_of (shape number false) 65536) b) old mid → new ≡ after synced mid → IsMade number old new
+made_whole described marks number old mid new few room long written only settled =
+    let is = described number false 65536 (reads old) (record { number_low = few; needed_low = room; blocks_low = omega arith; inside = long }) in
+    subst (IsMade number old) (sym settled)
+    (record {
+      written = written;
+      settled = synced_settled mid;
+      described = subst (IsAsDescribed number) (sym written) is;
+      free = free_kept marks number old mid few room long written only;
+    })
+
+pub make_right : (number : ℕ) (e : MakeAnswer) → IsRight (needed_by number) 65536 e → IsMakeAnswer number (by_maker e)
+make_right number (maker.Full told of) right = (right.2, right.0, right.1, refl, refl)
+make_right number maker.Fault right = tt
+make_right number maker.Memory right = tt
+
+pub make_kept : (old new : History) (e : MakeAnswer) → Keeps e old new → LeavesRound old new (by_maker e)
+make_kept old new (maker.Full told of) same = same
+make_kept old new maker.Fault same = tt
+make_kept old new maker.Memory same = tt
+
+pub free_bytes : (number : ℕ) (old new : History) → IsMade number old new → HasBytes (reads old) → FreeAreBytes (reads new)
+free_bytes number old new made bytes b free i = subst (λ (block : List ℕ). slice_index block i < 256) (sym (made.free b free)) (bytes b i)
+
+-- ---- what is told
+
+pub told_number : RowsAreOne → (number : ℕ) (old new : History) (told : TrialSummary) → IsMade number old new → IsSummary (reads new) told → told ≡ summary number
+told_number one number old new told made (rows, are, is) =
+    is ∙ ap (λ (rs : List Row). summary_of rs) (are.2 ∙ ap (λ (whole : List WholeRow). map row_of whole) (one (reads new) made.described.accepted are.0 (sample_rows number) are.1 made.described.rows))
+
+-- ---- what is refused
+
+pub scratch_refuses : (number : ℕ) (disk : Image) (e : Answer) → RefusesScratch disk e → RefusesTrial number disk e
+scratch_refuses number disk (answer.Volume r) refused = (refused.0, inl (refused.1, refused.2))
+scratch_refuses number disk answer.WrongFormat refused = refused
+scratch_refuses number disk answer.Fault refused = tt
+scratch_refuses number disk _ refused = absurd refused
+
+pub scratch_leaves : (number : ℕ) (old new : History) (e : Answer) → IsScratchAnswer e → new ≡ old → LeavesRefused number old new e
+scratch_leaves number old new (answer.Volume r) known same = (λ short. same, λ bytes. same)
+scratch_leaves number old new answer.WrongFormat known same = same
+scratch_leaves number old new answer.Fault known same = tt
+scratch_leaves number old new _ known same = absurd known
+
+pub scratch_known : (e : Answer) → IsScratchAnswer e → IsTrialAnswer e
+scratch_known (answer.Volume r) known = inl known
+scratch_known answer.WrongFormat known = tt
+scratch_known answer.Fault known = tt
+scratch_known _ known = absurd known
+
+pub make_refuses : (number : ℕ) (disk : Image) (e : Answer) → IsScratch disk → IsMakeAnswer number e → RefusesTrial number disk e
+make_refuses number disk (answer.NoSpace needed free run_needed longest) scratch known = (scratch, inl known)
+make_refuses number disk answer.Fault scratch known = tt
+make_refuses number disk answer.Memory scratch known = tt
+make_refuses number disk _ scratch known = absurd known
+
+pub make_leaves : (number : ℕ) (old mid new : History) (e : Answer) → mid ≡ old → IsMakeAnswer number e → LeavesRound mid new e → LeavesRefused number old new e
+make_leaves number old mid new (answer.NoSpace needed free run_needed longest) same known leaves = (λ many. leaves ∙ same, λ few. absurd (omega (arith, few, known.0)))
+make_leaves number old mid new answer.Fault same known leaves = tt
+make_leaves number old mid new answer.Memory same known leaves = tt
+make_leaves number old mid new _ same known leaves = absurd known
+
+pub make_known : (number : ℕ) (e : Answer) → IsMakeAnswer number e → IsTrialAnswer e
+make_known number (answer.NoSpace needed free run_needed longest) known = tt
+make_known number answer.Fault known = tt
+make_known number answer.Memory known = tt
+make_known number _ known = absurd known
+
+module _ (number : ℕ) (old mid : History) (scratch : IsScratch (reads old)) (room : needed_by number ≤ 65536) (made : IsMade number old mid) where
+  pub round_refuses : (e : Answer) → RefusesRound (reads mid) e → RefusesTrial number (reads old) e
+  round_refuses (answer.Volume r) refused = (scratch.format, inr (refused.0, scratch.long, λ bytes. refused.1 (free_bytes number old mid made bytes)))
+  round_refuses (answer.NoSpace needed free run_needed longest) refused =
+      (scratch, inr (room, subst (λ (image : Image). RefusesRound image (answer.NoSpace needed free run_needed longest)) made.written refused))
+  round_refuses answer.Fault refused = tt
+  round_refuses answer.Memory refused = tt
+  round_refuses _ refused = absurd refused
+
+  pub round_leaves : (new : History) (e : Answer) → RefusesRound (reads mid) e → LeavesRound mid new e → LeavesRefused number old new e
+  round_leaves new (answer.Volume r) refused leaves = (λ short. absurd (omega (arith, short, scratch.long)), λ bytes. absurd (refused.1 (free_bytes number old mid made bytes)))
+  round_leaves new (answer.NoSpace needed free run_needed longest) refused leaves =
+      (λ many. absurd (omega (arith, many, room)), λ few. (ap reads leaves ∙ made.written, subst IsSettled (sym leaves) made.settled))
+  round_leaves new answer.Fault refused leaves = tt
+  round_leaves new answer.Memory refused leaves = tt
+  round_leaves new _ refused leaves = absurd refused
+
+pub round_known : (e : Answer) → IsRoundAnswer e → IsTrialAnswer e
+round_known (answer.Volume r) known = inr known
+round_known (answer.NoSpace needed free run_needed longest) known = tt
+round_known answer.Fault known = tt
+round_known answer.Memory known = tt
+round_known _ known = absurd known
+
+-- ---- what is left
+
+pub tried : (number : ℕ) (ids : Ids) (now : ℕ) (old mid : History) (other : Image) → IsScratch (reads old) → needed_by number ≤ 65536 → IsMade number old mid → IsRound ids now (reads mid) other → IsTried number ids now (reads old) other
+tried number ids now old mid other scratch room made round = record {
+  scratch = scratch;
+  room = room;
+  free = subst (KeepsFree (reads old)) made.written made.free;
+  round = subst (λ (image : Image). IsRound ids now image other) made.written round;
+}
+
+pub kept : ConvertedVolumesGoBack → RollbackKeeps → SamplesAreAsDescribed → TriesKeep
+kept back keeps described number ids now disk other t few low are bytes =
+    let sample : Image = sample_on number disk in
+    let is = described number false 65536 disk (record { number_low = few; needed_low = t.room; blocks_low = omega arith; inside = t.scratch.long }) in
+    let free : FreeAreBytes sample = λ b free i. subst (λ (block : List ℕ). slice_index block i < 256) (sym (t.free b free)) (bytes b i) in
+    let goes = gone_back ids now sample t.round.between low are t.round.converted t.round.bytes free back in
+    let volume = keeps.back t.round.between other t.round.rolled_back.untouched t.round.rolled_back.back in
+    record {
+      accepted = volume.accepted;
+      rows = (volume.rows (sample_rows number)).0 ((goes.volume.rows (sample_rows number)).0 is.rows);
+      used = restored sample t.round.between other goes t.round.rolled_back;
+    }
+
+-- ---- the end
+
+module _ (number : ℕ) (ids : Ids) (now : ℕ) (old mid new : History) (scratch : IsScratch (reads old)) (room : needed_by number ≤ 65536) (made : IsMade number old mid) where
+  pub tried_result : RowsAreOne → (result : Result TrialSummary Answer) → MatchResult result (λ told. IsRound ids now (reads mid) (reads new) × IsSummary (reads mid) told) (RefusesRound (reads mid))
+      → MatchResult result (λ told. IsTried number ids now (reads old) (reads new) × (told ≡ summary number)) (RefusesTrial number (reads old))
+  tried_result one (Ok told) right = (tried number ids now old mid (reads new) scratch room made right.0, told_number one number old mid told made right.1)
+  tried_result one (Err e) right = round_refuses number old mid scratch room made e right
+
+  pub leaves_result : (result : Result TrialSummary Answer) → MatchResult result (λ told. IsRound ids now (reads mid) (reads new) × IsSummary (reads mid) told) (RefusesRound (reads mid)) → IfErr result (LeavesRound mid new)
+      → IfErr result (LeavesRefused number old new)
+  leaves_result (Ok told) right leaves = tt
+  leaves_result (Err e) right leaves = round_leaves number old mid scratch room made new e right leaves
+
+pub known_result : (result : Result TrialSummary Answer) → IfErr result IsRoundAnswer → IfErr result IsTrialAnswer
+known_result (Ok told) known = tt
+known_result (Err e) known = round_known e known

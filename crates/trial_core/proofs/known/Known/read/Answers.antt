@@ -1,0 +1,26 @@
+use Rattle.std.proofs.Common.{◌≡◌, Bool, true, List, sym, ◌∙◌, ap, subst}
+use Rattle.std.proofs.lemmas.Result.{err_from_is_err_and}
+use Rattle.outside.specs.declared.answer.Answer.{Answer}
+use Rattle.reiser_bitmap.specs.Bits.{has}
+use Rattle.reiser_volume.specs.Volume.{used_of}
+use Rattle.trial_parts.specs.Parts.{used_mark}
+use Rattle.trial_core.specs.Answers.{IsStop}
+use Rattle.trial_core.proofs.known.Known.read.Goals as goal
+
+pub returns-in_err-rows-clause-told : goal.returns-in_err-rows-clause-told
+returns-in_err-rows-clause-told g c = λ tells image is accepted.
+    let here = g.met.S.BlockSource.kept_blocks _ _ tells c.read_used.ensures.kept ∙ is in
+    let err = err_from_is_err_and c.from_residual-in_err-rows.result c.from_residual-in_err-rows.ensures.1 in
+    rw err.1 (subst (λ (e : Answer). IsStop e) (sym err.2) (c.in_err-rows.ensures.told tells image here accepted))
+
+pub returns-in-Ok-clause-told : goal.returns-in-Ok-clause-told
+returns-in-Ok-clause-told g c = λ tells image is accepted.
+    let here = g.met.S.BlockSource.kept_blocks _ _ tells c.read_used.ensures.kept ∙ is in
+    let now = g.met.S.BlockSource.kept_blocks _ _ tells c.read_rows.ensures.kept ∙ here in
+    let used : c.in_ok-used.used ≡ used_of image = c.in_ok-used.ensures.told tells image is accepted in
+    record {
+      rows = c.in_ok-rows.ensures.told tells image here accepted;
+      used = used;
+      mark = c.in-Ok.ensures.mark tells image now ∙ ap (λ (u : List Bool). used_mark u image) used;
+      bytes = λ b marked. c.in-Ok.ensures.bytes tells image now b (subst (λ (u : List Bool). has u b ≡ true) (sym used) marked);
+    }

@@ -1,0 +1,11 @@
+use Rattle.std.proofs.Common.{sym, subst}
+use Rattle.trial_core.specs.Answers.{IsStop}
+use Rattle.trial_core.proofs.Refusing.{front_refused}
+use Rattle.trial_core.proofs.known.read_used.Goals as goal
+
+pub returns-in-Ok-clause-told : goal.returns-in-Ok-clause-told
+returns-in-Ok-clause-told g c = λ tells image is accepted. (c.in-Ok.ensures.found tells image is).bitmap
+
+pub returns-in-Err-clause-told : goal.returns-in-Err-clause-told
+returns-in-Err-clause-told g c = λ tells image is accepted.
+    subst IsStop (sym c.volume_answer.ensures) (front_refused c.fronts_are_judged.ensures image c.in-Err.answer accepted (c.in-Err.ensures.refused tells image is))

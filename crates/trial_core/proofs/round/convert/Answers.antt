@@ -1,0 +1,25 @@
+use Rattle.std.proofs.Common.{sym, subst}
+use Rattle.convert_core.specs.Answers.{RefusesConvert}
+use Rattle.convert_core.specs.Converted.{IsConverted}
+use Rattle.outside.specs.History.{Image, reads}
+use Rattle.outside.specs.declared.answer.Answer.{Answer}
+use Rattle.unit_plan.specs.declared.options.Options.{Options}
+use Rattle.trial_core.specs.Answers.{LeavesRound, RefusesRound}
+use Rattle.trial_core.proofs.Refusing.{convert_leaves, convert_refused}
+use Rattle.trial_core.proofs.round.convert.Goals as goal
+
+pub returns-in-Ok-clause-told : goal.returns-in-Ok-clause-told
+returns-in-Ok-clause-told g c = λ tells image is accepted.
+    let other : Image = reads (g.D.Disk.history c.convert.new.disk) in
+    subst (λ (o : Options). IsConverted o c.args.ids.now c.args.now image other) c.plain.ensures (c.in-Ok.ensures.converted tells image is).0
+
+pub returns-in-Err-clause-told : goal.returns-in-Err-clause-told
+returns-in-Err-clause-told g c = λ tells image is accepted.
+    subst (λ (e : Answer). RefusesRound image e) (sym c.step_answer.ensures)
+    (convert_refused c.refusals_break_rules.ensures c.in_order_has_format.ensures image c.in-Err.answer accepted
+    (subst (λ (o : Options). RefusesConvert o image c.in-Err.answer) c.plain.ensures (c.in-Err.ensures.converted tells image is)))
+
+pub returns-in-Err-clause-leaves : goal.returns-in-Err-clause-leaves
+returns-in-Err-clause-leaves g c = λ tells.
+    subst (λ (e : Answer). LeavesRound (g.D.Disk.history c.args.disk.now) (g.D.Disk.history c.convert.new.disk) e) (sym c.step_answer.ensures)
+    (convert_leaves (g.D.Disk.history c.args.disk.now) (g.D.Disk.history c.convert.new.disk) c.in-Err.answer (c.in-Err.ensures.refused tells))

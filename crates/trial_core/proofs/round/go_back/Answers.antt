@@ -1,0 +1,18 @@
+use Rattle.std.proofs.Common.{◌≡◌, sym, ◌∙◌, subst}
+use Rattle.std.proofs.lemmas.Result.{err_from_is_err_and}
+use Rattle.outside.specs.declared.answer.Answer.{Answer}
+use Rattle.trial_core.specs.Answers.{RefusesRound}
+use Rattle.trial_core.proofs.Refusing.{unless_refuses}
+use Rattle.trial_core.proofs.Rounds.{back}
+use Rattle.trial_core.proofs.round.go_back.Goals as goal
+
+pub returns-in_err-roll_back-clause-told : goal.returns-in_err-roll_back-clause-told
+returns-in_err-roll_back-clause-told g c = λ tells between is image known goes.
+    let err = err_from_is_err_and c.from_residual.result c.from_residual.ensures.1 in
+    rw err.1 (subst (λ (e : Answer). RefusesRound image e) (sym err.2) (unless_refuses image _ (c.in_err-roll_back.ensures.told tells between is) (λ free. (goes free).untouched)))
+
+pub returns-clause-told : goal.returns-clause-told
+returns-clause-told g c = λ tells between is image known goes.
+    let same : g.D.Disk.history c.check_blocks.new.src ≡ g.D.Disk.history c.roll_back.new.disk = g.met.D.Disk.kept_history _ _ tells c.check_blocks.ensures.kept in
+    let blocks = g.met.D.Disk.open_blocks c.roll_back.new.disk _ tells (c.in_ok-roll_back.ensures.«open» ∙ c.requires.«open») in
+    rw same (back image between _ c.args.known.now known goes (c.in_ok-roll_back.ensures.told tells between is) c.check_blocks.result (c.check_blocks.ensures.told tells _ blocks))

@@ -1,0 +1,17 @@
+use Rattle.std.proofs.Common.{sym, subst}
+use Rattle.outside.specs.declared.answer.Answer.{Answer}
+use Rattle.saved_volume.specs.Untouched.{IsUntouched}
+use Rattle.trial_core.specs.Answers.{IsReadAnswer, StopsUnless}
+use Rattle.trial_core.proofs.Refusing.{rollback_known, rollback_refused}
+use Rattle.trial_core.proofs.round.roll_back.Goals as goal
+
+pub returns-in-Ok-clause-told : goal.returns-in-Ok-clause-told
+returns-in-Ok-clause-told g c = λ tells image is. (c.in-Ok.ensures.rolled_back tells image is).0
+
+pub returns-in-Err-clause-told : goal.returns-in-Err-clause-told
+returns-in-Err-clause-told g c = λ tells image is.
+    subst (λ (e : Answer). StopsUnless (IsUntouched image) e) (sym c.step_answer.ensures)
+    (rollback_refused c.refusals_are_of_touched.ensures image c.in-Err.answer (c.in-Err.ensures.rolled_back tells image is))
+
+pub returns-in-Err-clause-answers : goal.returns-in-Err-clause-answers
+returns-in-Err-clause-answers g c = subst IsReadAnswer (sym c.step_answer.ensures) (rollback_known c.in-Err.answer c.in-Err.ensures.answers)

@@ -1,0 +1,71 @@
+-- A ReiserFS volume that is converted and rolled back on its disk.
+use Rattle.std.specs.Prelude.{◌≡◌, ◌<◌, ℕ, true, false, List, map, slice_index}
+use Rattle.csum_kinds.specs.declared.kind.SumKind.TheVariants.{Crc32c}
+use Rattle.convert_core.specs.Converted.{IsConverted}
+use Rattle.fs_rows.specs.Rows.{WholeRow, row_of}
+use Rattle.fs_rows.specs.declared.row.Row.{Row}
+use Rattle.btr_reader.specs.Parts.{ListsBtrfs}
+use Rattle.outside.specs.History.{Image, block_at}
+use Rattle.reiser_bitmap.specs.Bits.{has}
+use Rattle.reiser_volume.specs.Volume.{AreRowsOf, used_of}
+use Rattle.rollback_steps.specs.RolledBack.{IsRolledBack}
+use Rattle.unit_plan.specs.declared.options.Options.{Options}
+use Rattle.unit_plan.specs.declared.options.LabelChoice.TheVariants as LabelChoice
+use Rattle.unit_plan.specs.declared.options.UuidChoice.TheVariants as UuidChoice
+use Rattle.vol_block.specs.declared.ids.Ids.{Ids}
+use Rattle.trial_parts.specs.Parts.{summary_of, used_mark}
+use Rattle.trial_parts.specs.declared.summary.TrialSummary.{TrialSummary}
+use Rattle.trial_core.specs.declared.known.Known.{Known}
+
+-- a conversion for which nothing is asked
+abbrev pub plain : Options
+plain = record { nodesize = 16384; inline = true; datasum = true; label = LabelChoice.Empty; uuid = UuidChoice.New; sums = Crc32c }
+
+-- ---- what is compared
+
+-- these are the rows of a ReiserFS volume, as the program has them
+abbrev pub AreReiser : Image → List Row → Type 0
+AreReiser image rows = (whole : List WholeRow) × AreRowsOf image whole × (rows ≡ map row_of whole)
+
+-- the Btrfs volume has the rows of the ReiserFS volume
+pub record HaveSameRows (image other : Image) : Type 0 where
+  pub rows : List Row
+  pub before : AreReiser image rows
+  pub between : ListsBtrfs other rows
+
+-- ---- the bytes of blocks
+
+-- each used block holds bytes
+abbrev pub UsedAreBytes : Image → Type 0
+UsedAreBytes image = (b : ℕ) → has (used_of image) b ≡ true → (i : ℕ) → slice_index (block_at image b) i < 256
+
+-- each other block does
+abbrev pub FreeAreBytes : Image → Type 0
+FreeAreBytes image = (b : ℕ) → has (used_of image) b ≡ false → (i : ℕ) → slice_index (block_at image b) i < 256
+
+-- ---- the round
+
+-- The disk held a Btrfs volume in between that was converted from the first and rolled back to the last, with the same rows; and the used
+-- blocks of the first have the mark that they have on the last.
+pub record IsRound (ids : Ids) (now : ℕ) (image other : Image) : Type 0 where
+  pub between : Image
+  pub converted : IsConverted plain ids now image between
+  pub rows : HaveSameRows image between
+  pub rolled_back : IsRolledBack between other
+  pub bytes : UsedAreBytes image
+  pub blocks : used_mark (used_of image) other ≡ used_mark (used_of image) image
+
+-- ---- what is known of the volume before
+
+-- its rows, its used blocks and their mark
+pub record IsKnown (image : Image) (known : Known) : Type 0 where
+  pub rows : AreReiser image known.rows
+  pub used : known.used ≡ used_of image
+  pub mark : known.mark ≡ used_mark (used_of image) image
+  pub bytes : UsedAreBytes image
+
+-- ---- what is told
+
+-- what is told of a volume
+abbrev pub IsSummary : Image → TrialSummary → Type 0
+IsSummary image told = (rows : List Row) × AreReiser image rows × (told ≡ summary_of rows)

@@ -1,0 +1,72 @@
+// The answers of the steps as those of a trial.
+ghost use Rattle.std.specs.Prelude.{◌≡◌};
+ghost use Rattle.trial_core.specs.Answers.{by_btrfs, by_maker, by_step, by_volume, changed as change};
+
+use outside::{Answer, BtrAnswer, Fault, Rule, VolAnswer, VolumeRefusal};
+use reiser_make::MakeAnswer;
+
+/// The answer where a call of the device failed.
+pub fn fault_answer(fault: Fault) -> Answer
+    ensures { result ≡ Answer.Fault }
+{
+    let Fault = fault;
+    Answer::Fault
+}
+
+/// The answer where what is read is not what was written: the device doesn't keep its blocks.
+pub fn changed() -> Answer
+    ensures { result ≡ change }
+{
+    Answer::Volume(VolumeRefusal::Damaged {
+        block: 16,
+        rule: Rule::Reread,
+    })
+}
+
+/// The answer where a step was not done. A volume is refused only where a device doesn't keep its blocks.
+pub fn step_answer(answer: Answer) -> Answer
+    ensures { result ≡ by_step answer }
+{
+    match answer {
+        Answer::NoSpace { .. } | Answer::Fault | Answer::Memory => answer,
+        _ => changed(),
+    }
+}
+
+/// The answer by that of a ReiserFS volume that is to be in order.
+pub fn volume_answer(answer: VolAnswer) -> Answer
+    ensures { result ≡ by_volume answer }
+{
+    match answer {
+        VolAnswer::Refused(_) => changed(),
+        VolAnswer::Fault => Answer::Fault,
+        VolAnswer::Memory => Answer::Memory,
+    }
+}
+
+/// The answer by that of a Btrfs volume that is to be in order.
+pub fn btrfs_answer(answer: BtrAnswer) -> Answer
+    ensures { result ≡ by_btrfs answer }
+{
+    match answer {
+        BtrAnswer::Refused(_) => changed(),
+        BtrAnswer::Fault => Answer::Fault,
+        BtrAnswer::Memory => Answer::Memory,
+    }
+}
+
+/// The answer where the sample was not made.
+pub fn make_answer(answer: MakeAnswer) -> Answer
+    ensures { result ≡ by_maker answer }
+{
+    match answer {
+        MakeAnswer::Full { needed, blocks } => Answer::NoSpace {
+            needed,
+            free: blocks,
+            run_needed: 0,
+            longest_run: 0,
+        },
+        MakeAnswer::Fault => Answer::Fault,
+        MakeAnswer::Memory => Answer::Memory,
+    }
+}

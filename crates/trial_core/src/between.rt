@@ -1,0 +1,35 @@
+// The rows of the Btrfs volume in between.
+ghost use Rattle.std.specs.Prelude.{◌<◌, IfErr};
+ghost use Rattle.std.specs.Result.{MatchResult};
+ghost use Rattle.outside.specs.Fault.{HasCauseOf};
+ghost use Rattle.outside.specs.History.{OverTold};
+ghost use Rattle.btr_reader.specs.Parts.{HasBtrfsRows, ListsBtrfs};
+ghost use Rattle.trial_core.specs.Answers.{IsReadAnswer, StopsUnless};
+
+use crate::answers::{btrfs_answer, fault_answer};
+use btr_reader::Btrfs;
+use fs_rows::Rows;
+use outside::{Answer, BlockSource};
+use std::alloc::Global;
+use vol_block::{Block, BlockNo};
+
+/// The block of the superblock.
+const SUPERBLOCK: BlockNo = 16;
+
+/// The rows of the Btrfs volume of a source.
+pub fn read_btrfs_rows<S: BlockSource>(alloc: Global, src: &mut S) -> Result<Rows, Answer>
+    requires inside { 16 < S.size src.old }
+    ensures kept { S.kept src.old src.new }
+    ensures told { OverTold S.tells (S.blocks src.old) (λ image. MatchResult result (ListsBtrfs image) (StopsUnless (HasBtrfsRows image))) }
+    ensures cause { HasCauseOf Answer.Fault (S.faults src.old) (S.faults src.new) result }
+    ensures answers { IfErr result IsReadAnswer }
+{
+    let mut block = Block::zero();
+    if let Err(fault) = src.read(SUPERBLOCK, &mut block) {
+        return Err(fault_answer(fault));
+    }
+    match Btrfs::list(alloc, src, &block) {
+        Ok(rows) => Ok(rows),
+        Err(answer) => Err(btrfs_answer(answer)),
+    }
+}
