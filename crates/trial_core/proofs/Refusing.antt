@@ -21,7 +21,7 @@ use Rattle.rollback_core.specs.Laws.{InOrderHasFormat}
 use Rattle.rollback_steps.specs.Answers.{IsRollbackAnswer, RefusesRollback}
 use Rattle.rollback_steps.specs.Laws.{RefusalsAreOfTouched}
 use Rattle.saved_volume.specs.Untouched.{IsUntouched}
-use Rattle.trial_core.specs.Answers.{IsReadAnswer, IsRoundAnswer, IsStop, LeavesRound, RefusesRound, StopsUnless, by_btrfs, by_step, by_volume}
+use Rattle.trial_core.specs.Answers.{IsReadAnswer, IsStop, LeavesRound, RefusesRound, StopsUnless, by_btrfs, by_step, by_volume}
 use Rattle.trial_core.specs.Round.{FreeAreBytes, plain}
 
 -- ---- of a conversion
@@ -39,12 +39,6 @@ convert_refused breaks formats image _ accepted refused = absurd refused
 pub convert_leaves : (old new : History) (e : Answer) → (e ≢ answer.Fault → e ≢ answer.Memory → new ≡ old) → LeavesRound old new (by_step e)
 convert_leaves old new (answer.NoSpace needed free run_needed longest) same = same (λ is. absurd (cc is)) (λ is. absurd (cc is))
 convert_leaves old new _ same = tt
-
-pub step_known : (e : Answer) → IsRoundAnswer (by_step e)
-step_known (answer.NoSpace needed free run_needed longest) = tt
-step_known answer.Fault = tt
-step_known answer.Memory = tt
-step_known _ = refl
 
 -- ---- of a rollback
 
@@ -77,11 +71,6 @@ rows_stopped (of_reiser.Refused r) stop = absurd stop
 rows_stopped of_reiser.Fault stop = inl refl
 rows_stopped of_reiser.Memory stop = inr refl
 
-pub volume_known : (e : VolAnswer) → IsReadAnswer (by_volume e)
-volume_known (of_reiser.Refused r) = inr refl
-volume_known of_reiser.Fault = inl (inl refl)
-volume_known of_reiser.Memory = inl (inr refl)
-
 rows_refusal : (disk : Image) (r : BtrRefusal) → IsRowsRefusal disk r → ¬ HasBtrfsRows disk
 rows_refusal disk r (has_log at log is) has =
     let both : None ≡ Some at = sym has.log ∙ log in
@@ -93,16 +82,7 @@ btrfs_refused disk (of_btr.Refused r) refused = inr (refl, rows_refusal disk r r
 btrfs_refused disk of_btr.Fault refused = inl (inl refl)
 btrfs_refused disk of_btr.Memory refused = inl (inr refl)
 
-pub btrfs_known : (e : BtrAnswer) → IsReadAnswer (by_btrfs e)
-btrfs_known (of_btr.Refused r) = inr refl
-btrfs_known of_btr.Fault = inl (inl refl)
-btrfs_known of_btr.Memory = inl (inr refl)
-
 -- ---- of a round
-
-pub unless_weaker : {H G : Type 0} (e : Answer) → (G → H) → StopsUnless H e → StopsUnless G e
-unless_weaker e turn (inl stop) = inl stop
-unless_weaker e turn (inr both) = inr (both.0, λ is. both.1 (turn is))
 
 pub stop_refuses : (image : Image) (e : Answer) → IsStop e → RefusesRound image e
 stop_refuses image e (inl is) = subst (RefusesRound image) (sym is) tt
@@ -111,11 +91,6 @@ stop_refuses image e (inr is) = subst (RefusesRound image) (sym is) tt
 pub unless_refuses : {H : Type 0} (image : Image) (e : Answer) → StopsUnless H e → (FreeAreBytes image → H) → RefusesRound image e
 unless_refuses image e (inl stop) holds = stop_refuses image e stop
 unless_refuses image e (inr both) holds = subst (RefusesRound image) (sym both.0) (refl, λ free. both.1 (holds free))
-
-pub read_known : (e : Answer) → IsReadAnswer e → IsRoundAnswer e
-read_known e (inl (inl is)) = subst IsRoundAnswer (sym is) tt
-read_known e (inl (inr is)) = subst IsRoundAnswer (sym is) tt
-read_known e (inr is) = subst IsRoundAnswer (sym is) refl
 
 pub read_leaves : (old new : History) (e : Answer) → IsReadAnswer e → LeavesRound old new e
 read_leaves old new e (inl (inl is)) = subst (LeavesRound old new) (sym is) tt

@@ -1,5 +1,5 @@
 -- A trial, from what is said of its steps.
-use Rattle.std.proofs.Common.{◌≡◌, inl, inr, ⊎_elim, Result, Ok, Err, ℕ, ◌<◌, ◌≤◌, false, ◌&&◌, List, length, map, refl, sym, ◌∙◌, ap, subst, arith, true≢false}
+use Rattle.std.proofs.Common.{◌≡◌, inl, inr, ⊎_elim, Result, Ok, Err, ℕ, ◌<◌, ◌≤◌, false, ◌&&◌, List, length, map, sym, ◌∙◌, ap, subst, arith, true≢false}
 use Rattle.std.specs.Prelude.{IfErr, IsTrue, nat_lt, slice_index}
 use Rattle.std.specs.Result.{MatchResult}
 use Rattle.std.proofs.lemmas.Bool.{and_parts}
@@ -14,12 +14,10 @@ use Rattle.fs_rows.specs.Rows.{WholeRow, row_of}
 use Rattle.fs_rows.specs.declared.row.Row.{Row}
 use Rattle.reiser_bitmap.specs.Bits.{has}
 use Rattle.reiser_make.specs.Layout.{IsUsed}
-use Rattle.reiser_make.specs.Maker.{IsRight, Keeps, usage_of}
+use Rattle.reiser_make.specs.Maker.{usage_of}
 use Rattle.reiser_make.specs.Places.{is_taken}
 use Rattle.reiser_make.specs.Rows.{sample_rows}
 use Rattle.reiser_make.specs.Shape.{shape}
-use Rattle.reiser_make.specs.declared.maker.MakeAnswer.{MakeAnswer}
-use Rattle.reiser_make.specs.declared.maker.MakeAnswer.TheVariants as maker
 use Rattle.reiser_volume.specs.Laws.{RowsAreOne}
 use Rattle.reiser_volume.specs.Volume.{used_of}
 use Rattle.rollback_steps.specs.Laws.{RollbackKeeps}
@@ -28,7 +26,7 @@ use Rattle.sample_laws.specs.Laws.{SamplesMarkUsed}
 use Rattle.sample_laws.specs.Rows.{IsAsDescribed, SamplesAreAsDescribed}
 use Rattle.trial_parts.specs.Parts.{summary_of}
 use Rattle.trial_parts.specs.declared.summary.TrialSummary.{TrialSummary}
-use Rattle.trial_core.specs.Answers.{IsMakeAnswer, IsRoundAnswer, IsScratchAnswer, IsTrialAnswer, LeavesRefused, LeavesRound, RefusesRound, RefusesScratch, RefusesTrial, by_maker}
+use Rattle.trial_core.specs.Answers.{IsMakeAnswer, LeavesRefused, LeavesRound, RefusesRound, RefusesScratch, RefusesTrial}
 use Rattle.trial_core.specs.Laws.{TriesKeep}
 use Rattle.trial_core.specs.Round.{FreeAreBytes, IsRound, IsSummary}
 use Rattle.trial_core.specs.Trial.{IsMade, IsScratch, IsTried, KeepsFree, needed_by, sample_on, summary}
@@ -65,16 +63,6 @@ made_whole described marks number old mid new few room long written only settled
       free = free_kept marks number old mid few room long written only;
     })
 
-pub make_right : (number : ℕ) (e : MakeAnswer) → IsRight (needed_by number) 65536 e → IsMakeAnswer number (by_maker e)
-make_right number (maker.Full told of) right = (right.2, right.0, right.1, refl, refl)
-make_right number maker.Fault right = tt
-make_right number maker.Memory right = tt
-
-pub make_kept : (old new : History) (e : MakeAnswer) → Keeps e old new → LeavesRound old new (by_maker e)
-make_kept old new (maker.Full told of) same = same
-make_kept old new maker.Fault same = tt
-make_kept old new maker.Memory same = tt
-
 pub free_bytes : (number : ℕ) (old new : History) → IsMade number old new → HasBytes (reads old) → FreeAreBytes (reads new)
 free_bytes number old new made bytes b free i = subst (λ (block : List ℕ). slice_index block i < 256) (sym (made.free b free)) (bytes b i)
 
@@ -92,35 +80,11 @@ scratch_refuses number disk answer.WrongFormat refused = refused
 scratch_refuses number disk answer.Fault refused = tt
 scratch_refuses number disk _ refused = absurd refused
 
-pub scratch_leaves : (number : ℕ) (old new : History) (e : Answer) → IsScratchAnswer e → new ≡ old → LeavesRefused number old new e
-scratch_leaves number old new (answer.Volume r) known same = (λ short. same, λ bytes. same)
-scratch_leaves number old new answer.WrongFormat known same = same
-scratch_leaves number old new answer.Fault known same = tt
-scratch_leaves number old new _ known same = absurd known
-
-pub scratch_known : (e : Answer) → IsScratchAnswer e → IsTrialAnswer e
-scratch_known (answer.Volume r) known = inl known
-scratch_known answer.WrongFormat known = tt
-scratch_known answer.Fault known = tt
-scratch_known _ known = absurd known
-
 pub make_refuses : (number : ℕ) (disk : Image) (e : Answer) → IsScratch disk → IsMakeAnswer number e → RefusesTrial number disk e
 make_refuses number disk (answer.NoSpace needed free run_needed longest) scratch known = (scratch, inl known)
 make_refuses number disk answer.Fault scratch known = tt
 make_refuses number disk answer.Memory scratch known = tt
 make_refuses number disk _ scratch known = absurd known
-
-pub make_leaves : (number : ℕ) (old mid new : History) (e : Answer) → mid ≡ old → IsMakeAnswer number e → LeavesRound mid new e → LeavesRefused number old new e
-make_leaves number old mid new (answer.NoSpace needed free run_needed longest) same known leaves = (λ many. leaves ∙ same, λ few. absurd (omega (arith, few, known.0)))
-make_leaves number old mid new answer.Fault same known leaves = tt
-make_leaves number old mid new answer.Memory same known leaves = tt
-make_leaves number old mid new _ same known leaves = absurd known
-
-pub make_known : (number : ℕ) (e : Answer) → IsMakeAnswer number e → IsTrialAnswer e
-make_known number (answer.NoSpace needed free run_needed longest) known = tt
-make_known number answer.Fault known = tt
-make_known number answer.Memory known = tt
-make_known number _ known = absurd known
 
 module _ (number : ℕ) (old mid : History) (scratch : IsScratch (reads old)) (room : needed_by number ≤ 65536) (made : IsMade number old mid) where
   pub round_refuses : (e : Answer) → RefusesRound (reads mid) e → RefusesTrial number (reads old) e
@@ -138,13 +102,6 @@ module _ (number : ℕ) (old mid : History) (scratch : IsScratch (reads old)) (r
   round_leaves new answer.Fault refused leaves = tt
   round_leaves new answer.Memory refused leaves = tt
   round_leaves new _ refused leaves = absurd refused
-
-pub round_known : (e : Answer) → IsRoundAnswer e → IsTrialAnswer e
-round_known (answer.Volume r) known = inr known
-round_known (answer.NoSpace needed free run_needed longest) known = tt
-round_known answer.Fault known = tt
-round_known answer.Memory known = tt
-round_known _ known = absurd known
 
 -- ---- what is left
 
@@ -181,7 +138,3 @@ module _ (number : ℕ) (ids : Ids) (now : ℕ) (old mid new : History) (scratch
       → IfErr result (LeavesRefused number old new)
   leaves_result (Ok told) right leaves = tt
   leaves_result (Err e) right leaves = round_leaves number old mid scratch room made new e right leaves
-
-pub known_result : (result : Result TrialSummary Answer) → IfErr result IsRoundAnswer → IfErr result IsTrialAnswer
-known_result (Ok told) known = tt
-known_result (Err e) known = round_known e known

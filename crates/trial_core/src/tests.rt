@@ -31,17 +31,10 @@ fn tried(
 
 #[test]
 fn samples_go_there_and_back(rt: HostRuntime) -> Result<(), Fail> {
-    for (number, rows, bytes) in [(0, 1, 0), (1, 3, 0)] {
+    for (number, rows, bytes) in [(0, 1, 0), (1, 3, 20_480), (100, 102, 1_650_882)] {
         let told = tried(&rt, number, 65_536)?;
         assert!(rt; told == Ok(TrialSummary { rows, bytes }));
     }
-    Ok(())
-}
-
-#[test]
-fn a_sample_of_some_files(rt: HostRuntime) -> Result<(), Fail> {
-    let told = tried(&rt, 100, 65_536)?;
-    assert!(rt; told.is_ok_and(|told| told.rows == 102));
     Ok(())
 }
 

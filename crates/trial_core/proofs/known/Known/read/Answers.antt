@@ -7,11 +7,25 @@ use Rattle.trial_parts.specs.Parts.{used_mark}
 use Rattle.trial_core.specs.Answers.{IsStop}
 use Rattle.trial_core.proofs.known.Known.read.Goals as goal
 
+pub returns-in_err-used-clause-told : goal.returns-in_err-used-clause-told
+returns-in_err-used-clause-told g c = λ tells image is accepted.
+    let err = err_from_is_err_and c.from_residual.result c.from_residual.ensures.1 in
+    rw err.1 (subst (λ (e : Answer). IsStop e) (sym err.2) (c.in_err-used.ensures.told tells image is accepted))
+
+pub returns-in_err-rows-clause-kept : goal.returns-in_err-rows-clause-kept
+returns-in_err-rows-clause-kept g c = g.met.S.BlockSource.kept_trans _ _ _ c.read_used.ensures.kept c.read_rows.ensures.kept
+
 pub returns-in_err-rows-clause-told : goal.returns-in_err-rows-clause-told
 returns-in_err-rows-clause-told g c = λ tells image is accepted.
     let here = g.met.S.BlockSource.kept_blocks _ _ tells c.read_used.ensures.kept ∙ is in
     let err = err_from_is_err_and c.from_residual-in_err-rows.result c.from_residual-in_err-rows.ensures.1 in
     rw err.1 (subst (λ (e : Answer). IsStop e) (sym err.2) (c.in_err-rows.ensures.told tells image here accepted))
+
+pub returns-in-Ok-clause-kept : goal.returns-in-Ok-clause-kept
+returns-in-Ok-clause-kept g c = g.met.S.BlockSource.kept_trans _ _ _ (g.met.S.BlockSource.kept_trans _ _ _ c.read_used.ensures.kept c.read_rows.ensures.kept) c.read_mark.ensures.kept
+
+pub returns-in-Err-clause-kept : goal.returns-in-Err-clause-kept
+returns-in-Err-clause-kept g c = g.met.S.BlockSource.kept_trans _ _ _ (g.met.S.BlockSource.kept_trans _ _ _ c.read_used.ensures.kept c.read_rows.ensures.kept) c.read_mark.ensures.kept
 
 pub returns-in-Ok-clause-told : goal.returns-in-Ok-clause-told
 returns-in-Ok-clause-told g c = λ tells image is accepted.
