@@ -13,7 +13,8 @@ turn (with all after it, as where a disk is gone), and each write of the output 
 - Where a device call fails the status is 3. Then `recover` and `list` print the rows from before, both where all that was written is there
   and where all is lost that was written since the last sync.
 - Where a write of the output fails the status is 5, and the volume is as after status 0.
-- A trial is made on a new file; nothing is looked for there where it was not done. Of its many device calls some are taken.
+- A trial is made on a new file; nothing is looked for there where it was not done. Of its many allocations and device
+  calls some are taken.
 
 The program is that of the environment's RECONV, or else release/reiserconv. It needs a C compiler and the sample program of release/. The last
 line is `N passed, M failed`; each failure has a line."""
@@ -37,7 +38,7 @@ PROGRAM = os.environ.get("RECONV", str(TOP / "release/reiserconv"))
 Ended = collections.namedtuple("Ended", "status out err counts")
 # Its words but the path, and what the volume is before, None for a new file.
 Command = collections.namedtuple("Command", "word base")
-# The blocks of a file for a trial, and how many of its device calls are refused.
+# The blocks of a file for a trial, and how many of its allocations and of its device calls are refused.
 SCRATCH, SOME = 65536, 60
 
 
@@ -180,7 +181,7 @@ class Trial:
     def all(self, with_calls=True):
         """The checks, each with its name."""
         allocations, calls, outputs = self.whole.counts
-        for number in range(1, allocations + 1):
+        for number in range(1, allocations + 1, max(1, allocations // SOME)):
             yield f"allocation {number}", self.memory, (number,)
         for number in range(1, calls + 1, max(1, calls // SOME)) if with_calls else ():
             yield f"call {number}", self.call, (number,)
