@@ -1,5 +1,5 @@
 -- Whether two lists are the same, element by element.
-use Rattle.std.proofs.Common.{◌≡◌, ℕ, zero, suc, ◌+◌, ◌<◌, ◌≤◌, Bool, true, false, ◌&&◌, List, [], ◌∷◌, get_or, slice_get, Some, drop, length, refl, sym, ap, ◌∙◌, arith}
+use Rattle.std.proofs.Common.{◌≡◌, ℕ, ◌+◌, Bool, true, false, ◌&&◌, List, ◌∷◌, slice_get, Some, drop, sym, ap, ◌∙◌}
 use Rattle.std.specs.Cmp.Lexicographic.{pointwise}
 use Rattle.std.proofs.lemmas.List.{drop_more}
 use Rattle.std.proofs.lemmas.Option.{slice_get_within, get_or_from_slice_get}
@@ -23,23 +23,3 @@ module _ {X : Type 0} (E : X → X → Bool) where
       → pointwise E (drop i xs) (drop i ys) ≡ pointwise E xs ys → false ≡ pointwise E xs ys
   differ xs ys i x y at_x at_y other so_far =
       sym (ap (λ (b : Bool). b && pointwise E (drop (i + 1) xs) (drop (i + 1) ys)) other) ∙ (sym (step xs ys i x y at_x at_y) ∙ so_far)
-
-  -- there are no more elements
-  pub same_end : (xs ys : List X) (i : ℕ) → length xs ≡ length ys → length xs ≤ i → pointwise E (drop i xs) (drop i ys) ≡ true
-  same_end [] [] zero long end = refl
-  same_end [] [] (suc i) long end = refl
-  same_end [] (y ∷ ys) i long end = absurd (omega arith)
-  same_end (x ∷ xs) [] i long end = absurd (omega arith)
-  same_end (x ∷ xs) (y ∷ ys) zero long end = absurd (omega arith)
-  same_end (x ∷ xs) (y ∷ ys) (suc i) long end = same_end xs ys i (omega arith) (omega arith)
-
-  -- lists of two lengths
-  pub other_lengths : (xs ys : List X) → (length xs ≡ length ys → ⊥) → false ≡ pointwise E xs ys
-  other_lengths [] [] other = absurd (other refl)
-  other_lengths [] (y ∷ ys) other = refl
-  other_lengths (x ∷ xs) [] other = refl
-  other_lengths (x ∷ xs) (y ∷ ys) other = after (E x y)
-    where
-      after : (b : Bool) → false ≡ (b && pointwise E xs ys)
-      after true = other_lengths xs ys (λ same. other (omega (arith, same)))
-      after false = refl

@@ -40,7 +40,7 @@ pub name_in_part : (parts : List Names) (rest : Names) (i : ℕ) (part : Names) 
 name_in_part parts rest i part name cut within at_part at_name =
     let long : length (get_or parts (i / 64) part) ≡ 64 = All-get_or (λ (p : Names). length p ≡ 64) parts (i / 64) part within cut.whole in
     let before : length (names_in (take (i / 64) parts)) ≡ 64 * length (take (i / 64) parts) =
-        names_count (take (i / 64) parts) (All-take (λ (p : Names). length p ≡ 64) (i / 64) parts cut.whole) in
+    names_count (take (i / 64) parts) (All-take (λ (p : Names). length p ≡ 64) (i / 64) parts cut.whole) in
     let taken = length-take (i / 64) parts in
     let count = names_count parts cut.whole in
     let all = length-append (names_in parts) rest in
