@@ -3,7 +3,7 @@ ghost use Rattle.path_list.specs.declared.found.Found.{Found as FoundOf};
 ghost use Rattle.path_list.specs.Spread.{AscendByDirectory, IsTree, Reaches, children};
 
 use crate::entries::links_of;
-use crate::found::{Found, join};
+use crate::found::Found;
 use crate::{Link, NodeId};
 use fs_rows::Path;
 use outside::Memory;
@@ -19,7 +19,7 @@ pub fn spread(alloc: Global, links: &[Link], root: NodeId) -> Result<Vec<Found>,
 {
     let mut found = Vec::new(alloc);
     found.push(Found {
-        path: Path::new(alloc),
+        path: Path::new(),
         target: root,
     })?;
     let mut i = 0;
@@ -38,7 +38,7 @@ fn follow(alloc: Global, links: &[Link], found: &mut Vec<Found>, i: usize) -> Re
 {
     let dir = found[i].target;
     for link in links_of(links, dir) {
-        let path = join(alloc, &found[i].path, &link.name)?;
+        let path = found[i].path.joined(alloc, &link.name)?;
         found.push(Found {
             path,
             target: link.target,
