@@ -1,4 +1,4 @@
-ghost use Rattle.std.specs.Prelude.{◌≡◌, ◌<◌, ◌==◌, ◌++◌, ◌∷◌, [], length, slice_get, Some, IfOk, nat_eq};
+ghost use Rattle.std.specs.Prelude.{◌≡◌, ◌<◌, ◌==◌, ◌++◌, ◌∷◌, [], length, slice_get, Some, IfOk, OnOk, OnErr, nat_eq};
 ghost use Rattle.std.specs.Cmp as Cmp;
 ghost use Rattle.std.specs.Cmp.Lexicographic.{pointwise, lists_per, nat_list_eq_equiv};
 
@@ -20,6 +20,8 @@ const PARTS: usize = 1 << 32;
 /// list of them but for fewer than 64, so that even the paths of a very deep tree take little memory each.
 #[derive(Drop, Debug)]
 pub struct Path {
+    /// What gives the memory for names that are added.
+    alloc: Global,
     /// The first names, in parts of 64.
     parts: Shared<Shared<Name>>,
     /// The names behind these, fewer than 64.
@@ -39,22 +41,40 @@ impl Model for Path {
 
 impl Path {
     /// The root.
-    pub fn new() -> Path
+    pub fn new(alloc: Global) -> Path
         ensures { result ≡ [] }
     {
         Path {
+            alloc,
             parts: Shared::empty(),
             rest: Shared::empty(),
         }
     }
 
-    /// The path with one name more. Without memory there is none.
-    pub fn joined(&self, alloc: Global, name: &Name) -> Result<Path, Memory>
+    /// Appends a name. Without memory the path is unchanged.
+    pub fn add(&mut self, name: Name) -> Result<(), Memory>
+        ensures ok { OnOk result (self.new ≡ self.old ++ name ∷ []) }
+        ensures err { OnErr result (self.new ≡ self.old) }
+    {
+        *self = self.with(name)?;
+        Ok(())
+    }
+
+    /// The path with one name more, beside this one. Without memory there is none.
+    pub fn joined(&self, name: &Name) -> Result<Path, Memory>
         ensures { IfOk result (λ joined. joined ≡ self.now ++ name.now ∷ []) }
     {
-        let rest = self.rest.with(alloc, name.clone()?)?;
+        self.with(name.clone()?)
+    }
+
+    /// A path of these names and one more, which shares its memory with this one.
+    fn with(&self, name: Name) -> Result<Path, Memory>
+        ensures { IfOk result (λ longer. longer ≡ self.now ++ name ∷ []) }
+    {
+        let rest = self.rest.with(self.alloc, name)?;
         if rest.as_slice().len() < PART {
             return Ok(Path {
+                alloc: self.alloc,
                 parts: self.parts.clone()?,
                 rest,
             });
@@ -63,7 +83,8 @@ impl Path {
             return Err(Memory);
         }
         Ok(Path {
-            parts: self.parts.with(alloc, rest)?,
+            alloc: self.alloc,
+            parts: self.parts.with(self.alloc, rest)?,
             rest: Shared::empty(),
         })
     }
@@ -100,6 +121,7 @@ impl Clone for Path {
 
     fn clone(&self) -> Result<Path, AllocError> {
         Ok(Path {
+            alloc: self.alloc,
             parts: self.parts.clone()?,
             rest: self.rest.clone()?,
         })

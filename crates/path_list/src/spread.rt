@@ -19,26 +19,26 @@ pub fn spread(alloc: Global, links: &[Link], root: NodeId) -> Result<Vec<Found>,
 {
     let mut found = Vec::new(alloc);
     found.push(Found {
-        path: Path::new(),
+        path: Path::new(alloc),
         target: root,
     })?;
     let mut i = 0;
     while i < found.len() && found.len() <= links.len() + 1 {
-        follow(alloc, links, &mut found, i)?;
+        follow(links, &mut found, i)?;
         i += 1;
     }
     Ok(found)
 }
 
 /// Appends a path for each link of the directory that path number `i` leads to.
-fn follow(alloc: Global, links: &[Link], found: &mut Vec<Found>, i: usize) -> Result<(), Memory>
+fn follow(links: &[Link], found: &mut Vec<Found>, i: usize) -> Result<(), Memory>
     requires within { i < length found.old.items }
     requires ascend { AscendByDirectory links.now }
     ensures { OnOk result ((d : FoundOf) → found.new.items ≡ found.old.items ++ children links.now (slice_index_or found.old.items i d)) }
 {
     let dir = found[i].target;
     for link in links_of(links, dir) {
-        let path = found[i].path.joined(alloc, &link.name)?;
+        let path = found[i].path.joined(&link.name)?;
         found.push(Found {
             path,
             target: link.target,
