@@ -5,8 +5,8 @@
 # cache, and the most memory that the program held; a little below 14 MiB is what python3 itself holds. The table's last column says how many times as long the second volume
 # takes. It needs python3, 10 GB of disk that keeps files sparse, and 2 GB of memory for the page cache.
 #
-# `list` prints each path whole, so the text of a chain of directories grows by the square of its length, and with it time and memory; the
-# text of 30,000 would be 2 GB. So `list` is measured on a chain of a tenth, and the longest ones are seen by `inspect` and `convert` alone.
+# `list` prints each path whole, so the text of a chain of directories grows by the square of its length, and with it the time; the text of
+# 30,000 would be 2 GB. So `list` is measured on a chain of a tenth, and the longest ones are seen by `inspect` and `convert` alone.
 # shellcheck source=bench/begin.sh
 . "$(dirname "$(readlink -f "${BASH_SOURCE[0]}")")/begin.sh"
 

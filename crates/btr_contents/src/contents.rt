@@ -9,7 +9,7 @@ ghost use Rattle.btr_contents.specs.declared.wanted.Wanted.{Wanted as WantedOf};
 
 use crate::hand::Hand;
 use crate::wanted::Wanted;
-use fs_rows::{Content, Name};
+use fs_rows::Content;
 use indexmap::IndexMap;
 use outside::Memory;
 use std::alloc::Global;
@@ -28,18 +28,18 @@ impl Contents {
             IfOk result (λ c. c ≡ content_in image ranges items ino wanted) }
     {
         match self.known.get(&ino) {
-            Some(content) => copy(alloc, content),
+            Some(content) => copy(content),
             None => Hand::new(ino, wanted).finish(alloc),
         }
     }
 }
 
-fn copy(alloc: Global, content: &Content) -> Result<Content, Memory>
+fn copy(content: &Content) -> Result<Content, Memory>
     ensures { IfOk result (λ c. c ≡ content.now) }
 {
     Ok(Content {
         length: content.length,
         mark: content.mark,
-        target: Name::new(alloc, content.target.bytes())?,
+        target: content.target.clone()?,
     })
 }

@@ -5,7 +5,7 @@ use Rattle.std.proofs.lemmas.Option.{slice_get-get_or, slice_get-map}
 use Rattle.std.proofs.lemmas.Bool.{ltb-false, eqb-true}
 use Rattle.std.specs.Option.{option_map, option_and_then}
 use Rattle.vol_block.specs.Volume.{field}
-use Rattle.btr_keys.specs.Repeated.{behind_named, starts_within, starts, records, at_least_one}
+use Rattle.btr_keys.specs.Repeated.{behind_named, starts_within, starts, at_least_one}
 
 -- a record has bytes
 abbrev pub Shrinks : (List ℕ → Option (List ℕ)) → Type 0
@@ -193,37 +193,19 @@ named_whole head at bytes some =
     let last = some_of_cond (ltb (length bytes) size) (Some (drop size bytes)) inner.1 in
     ltb-false _ _ last.0
 
-some_list : {R : Type 0} (xs ys : List R) → at_least_one (Some xs) ≡ Some ys → xs ≡ ys
-some_list [] ys e = absurd cc
-some_list (x ∷ xs) ys e = cc
-
--- the records of a body are those at the starts
-pub records_there : {R : Type 0} (behind : List ℕ → Option (List ℕ)) (front : List ℕ → R) (body : List ℕ) (all : List R) → at_least_one (records behind front body) ≡ Some all
-    → (begins : List (List ℕ)) × (starts behind body ≡ Some begins) × (map front begins ≡ all)
-records_there {R} behind front body all e =
-    let step : (o : Option (List (List ℕ))) → starts behind body ≡ o → at_least_one (option_map (map front) o) ≡ Some all → (begins : List (List ℕ)) × (starts behind body ≡ Some begins) × (map front begins ≡ all)
-    = λ o. elim o as (λ o. starts behind body ≡ o → at_least_one (option_map (map front) o) ≡ Some all → (begins : List (List ℕ)) × (starts behind body ≡ Some begins) × (map front begins ≡ all)) [
-      | None ↦ λ s h. absurd cc
-      | Some begins ↦ λ s h. (begins, s, some_list (map front begins) all h)
-    ] in
-    step (starts behind body) refl e
+-- where there is a record, it is among those that are read
+pub start_within : {R : Type 0} (front : List ℕ → R) (begins : List (List ℕ)) (all : List R) (i : ℕ) → map front begins ≡ all → i < length all → i < length begins
+start_within front begins all i is lt = omega (arith, ap length is, length-map begins front)
 
 -- record i is what stands at start i
-pub record_at : {R : Type 0} (behind : List ℕ → Option (List ℕ)) (front : List ℕ → R) (body start : List ℕ) (all : List R) (i : ℕ)
-    → at_least_one (records behind front body) ≡ Some all → i < length all
-    → ((begins : List (List ℕ)) → starts behind body ≡ Some begins → i < length begins → slice_get begins i ≡ Some start)
-    → slice_get all i ≡ Some (front start)
-record_at behind front body start all i e lt there =
-    let r = records_there behind front body all e in
-    let within : i < length r.0 = omega (arith, ap length r.2, length-map r.0 front) in
-    ap (λ xs. slice_get xs i) (sym r.2) ∙ slice_get-map front r.0 i ∙ ap (option_map front) (there r.0 r.1 within)
+pub record_at : {R : Type 0} (front : List ℕ → R) (begins : List (List ℕ)) (start : List ℕ) (all : List R) (i : ℕ) → map front begins ≡ all → slice_get begins i ≡ Some start → slice_get all i ≡ Some (front start)
+record_at front begins start all i is there = ap (λ xs. slice_get xs i) (sym is) ∙ slice_get-map front begins i ∙ ap (option_map front) there
 
--- and is whole
-pub record_is_whole : {R : Type 0} (behind : List ℕ → Option (List ℕ)) (front : List ℕ → R) (body start : List ℕ) (all : List R) (i : ℕ)
-    → at_least_one (records behind front body) ≡ Some all → i < length all
-    → ((begins : List (List ℕ)) → starts behind body ≡ Some begins → i < length begins → IsSome (behind start))
-    → IsSome (behind start)
-record_is_whole behind front body start all i e lt whole =
-    let r = records_there behind front body all e in
-    let within : i < length r.0 = omega (arith, ap length r.2, length-map r.0 front) in
-    whole r.0 r.1 within
+at_least_one-map : {A B : Type 0} (f : A → B) (o : Option (List A)) → at_least_one (option_map (map f) o) ≡ option_map (map f) (at_least_one o)
+at_least_one-map f None = refl
+at_least_one-map f (Some []) = refl
+at_least_one-map f (Some (x ∷ xs)) = refl
+
+-- the records that a body is, of the bytes from the begin of each on
+pub records_read : {R : Type 0} (front : List ℕ → R) (begins read : Option (List (List ℕ))) → read ≡ at_least_one begins → option_map (map front) read ≡ at_least_one (option_map (map front) begins)
+records_read front begins read is = ap (option_map (map front)) is ∙ sym (at_least_one-map front begins)

@@ -3,7 +3,7 @@ ghost use Rattle.vol_block.specs.Volume.{field};
 ghost use Rattle.btr_keys.specs.DirEntry.{dir_entry_value, dir_entry_bytes, dir_entry_front, dir_items_of};
 
 use crate::key::Key;
-use crate::named::{NamedForm, record_count, record_start};
+use crate::named::Records;
 use std::marker::Model;
 use vol_block::{Field, put_fields, u16_at, u64_at};
 
@@ -65,27 +65,17 @@ impl<'a> DirEntry<'a> {
     }
 }
 
-const FORM: NamedForm = NamedForm {
-    head: 30,
-    length_at: 27,
-};
-
 /// The entries of a directory whose names have one hash: the whole body of a dir item. A dir index has one.
 #[derive(Debug, Drop)]
-pub struct DirItems<'a> {
-    body: &'a [u8],
-    count: usize,
-}
+pub struct DirItems<'a>(Records<'a, 30, 27>);
 
 impl<'a> Model for DirItems<'a> {
-    ghost use Rattle.std.specs.Prelude.{◌≡◌, List, Some, length, unwrap_or, []};
-    ghost use Rattle.btr_keys.specs.DirEntry.{DirEntryValue, dir_items_of};
+    ghost use Rattle.std.specs.Prelude.{List, map};
+    ghost use Rattle.btr_keys.specs.DirEntry.{DirEntryValue, dir_entry_front};
 
     ghost Value = { List DirEntryValue };
 
-    ghost view = { λ v. unwrap_or (dir_items_of v.body.now) [] };
-
-    ghost invariant = { λ v. (dir_items_of v.body.now ≡ Some (unwrap_or (dir_items_of v.body.now) [])) × (v.count ≡ length (unwrap_or (dir_items_of v.body.now) [])) };
+    ghost view = { λ v. map dir_entry_front v.0 };
 }
 
 impl<'a> DirItems<'a> {
@@ -93,19 +83,14 @@ impl<'a> DirItems<'a> {
     pub fn read(body: &'a [u8]) -> Option<DirItems<'a>>
         ensures { result ≡ dir_items_of body.now }
     {
-        let count = record_count(FORM, body)?;
-        if count == 0 {
-            None
-        } else {
-            Some(DirItems { body, count })
-        }
+        Some(DirItems(Records::read(body)?))
     }
 
     /// How many entries there are.
     pub fn len(&self) -> usize
         ensures { result ≡ length self.now }
     {
-        self.count
+        self.0.len()
     }
 
     /// Entry `i`, in the order of the body. It goes over the entries before it.
@@ -113,6 +98,6 @@ impl<'a> DirItems<'a> {
         requires { i < length self.now }
         ensures { slice_get self.now i ≡ Some (dir_entry_value result) }
     {
-        DirEntry::front(record_start(FORM, self.body, i))
+        DirEntry::front(self.0.start(i))
     }
 }

@@ -2,7 +2,7 @@ ghost use Rattle.std.specs.Prelude.{◌≡◌, ◌<◌, ◌+◌, ◌≤◌, leng
 ghost use Rattle.vol_block.specs.Volume.{field};
 ghost use Rattle.btr_keys.specs.Extref.{extref_value, extref_bytes, extref_front, extrefs_of};
 
-use crate::named::{NamedForm, record_count, record_start};
+use crate::named::Records;
 use std::marker::Model;
 use vol_block::{Field, put_fields, u16_at, u64_at};
 
@@ -52,27 +52,17 @@ impl<'a> Extref<'a> {
     }
 }
 
-const FORM: NamedForm = NamedForm {
-    head: 18,
-    length_at: 16,
-};
-
 /// The names of an inode whose hashes are equal: the whole body of an extref.
 #[derive(Debug, Drop)]
-pub struct Extrefs<'a> {
-    body: &'a [u8],
-    count: usize,
-}
+pub struct Extrefs<'a>(Records<'a, 18, 16>);
 
 impl<'a> Model for Extrefs<'a> {
-    ghost use Rattle.std.specs.Prelude.{◌≡◌, List, Some, length, unwrap_or, []};
-    ghost use Rattle.btr_keys.specs.Extref.{ExtrefValue, extrefs_of};
+    ghost use Rattle.std.specs.Prelude.{List, map};
+    ghost use Rattle.btr_keys.specs.Extref.{ExtrefValue, extref_front};
 
     ghost Value = { List ExtrefValue };
 
-    ghost view = { λ v. unwrap_or (extrefs_of v.body.now) [] };
-
-    ghost invariant = { λ v. (extrefs_of v.body.now ≡ Some (unwrap_or (extrefs_of v.body.now) [])) × (v.count ≡ length (unwrap_or (extrefs_of v.body.now) [])) };
+    ghost view = { λ v. map extref_front v.0 };
 }
 
 impl<'a> Extrefs<'a> {
@@ -80,19 +70,14 @@ impl<'a> Extrefs<'a> {
     pub fn read(body: &'a [u8]) -> Option<Extrefs<'a>>
         ensures { result ≡ extrefs_of body.now }
     {
-        let count = record_count(FORM, body)?;
-        if count == 0 {
-            None
-        } else {
-            Some(Extrefs { body, count })
-        }
+        Some(Extrefs(Records::read(body)?))
     }
 
     /// How many names there are.
     pub fn len(&self) -> usize
         ensures { result ≡ length self.now }
     {
-        self.count
+        self.0.len()
     }
 
     /// Name `i`, in the order of the body. It goes over the names before it.
@@ -100,6 +85,6 @@ impl<'a> Extrefs<'a> {
         requires { i < length self.now }
         ensures { slice_get self.now i ≡ Some (extref_value result) }
     {
-        Extref::front(record_start(FORM, self.body, i))
+        Extref::front(self.0.start(i))
     }
 }

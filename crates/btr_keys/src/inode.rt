@@ -1,6 +1,7 @@
 ghost use Rattle.std.specs.Prelude.{◌≡◌, ◌+◌, ◌≤◌, length};
 ghost use Rattle.btr_keys.specs.Inode.{inode_layout, inode_at, inode_of, inode_bytes};
 
+use crate::body::exactly;
 use crate::stamp::Stamp;
 use vol_block::{Field, put_fields, u32_at, u64_at};
 
@@ -81,11 +82,7 @@ impl Inode {
     pub fn read(body: &[u8]) -> Option<Inode>
         ensures { result ≡ inode_of body.now }
     {
-        if body.len() == Inode::SIZE {
-            Some(Inode::first(body))
-        } else {
-            None
-        }
+        Some(Inode::first(exactly(body, Inode::SIZE)?))
     }
 
     /// Writes the inode into the 160 bytes of a slice. The bytes that the format keeps for later become zeros.

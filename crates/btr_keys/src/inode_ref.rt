@@ -2,7 +2,7 @@ ghost use Rattle.std.specs.Prelude.{◌≡◌, ◌<◌, ◌+◌, ◌≤◌, leng
 ghost use Rattle.vol_block.specs.Volume.{field};
 ghost use Rattle.btr_keys.specs.InodeRef.{inode_ref_value, inode_ref_bytes, inode_ref_front, inode_refs_of};
 
-use crate::named::{NamedForm, record_count, record_start};
+use crate::named::Records;
 use std::marker::Model;
 use vol_block::{Field, put_fields, u16_at, u64_at};
 
@@ -48,27 +48,17 @@ impl<'a> InodeRef<'a> {
     }
 }
 
-const FORM: NamedForm = NamedForm {
-    head: 10,
-    length_at: 8,
-};
-
 /// The names that an inode has in one directory: the whole body of an inode ref.
 #[derive(Debug, Drop)]
-pub struct InodeRefs<'a> {
-    body: &'a [u8],
-    count: usize,
-}
+pub struct InodeRefs<'a>(Records<'a, 10, 8>);
 
 impl<'a> Model for InodeRefs<'a> {
-    ghost use Rattle.std.specs.Prelude.{◌≡◌, List, Some, length, unwrap_or, []};
-    ghost use Rattle.btr_keys.specs.InodeRef.{InodeRefValue, inode_refs_of};
+    ghost use Rattle.std.specs.Prelude.{List, map};
+    ghost use Rattle.btr_keys.specs.InodeRef.{InodeRefValue, inode_ref_front};
 
     ghost Value = { List InodeRefValue };
 
-    ghost view = { λ v. unwrap_or (inode_refs_of v.body.now) [] };
-
-    ghost invariant = { λ v. (inode_refs_of v.body.now ≡ Some (unwrap_or (inode_refs_of v.body.now) [])) × (v.count ≡ length (unwrap_or (inode_refs_of v.body.now) [])) };
+    ghost view = { λ v. map inode_ref_front v.0 };
 }
 
 impl<'a> InodeRefs<'a> {
@@ -76,19 +66,14 @@ impl<'a> InodeRefs<'a> {
     pub fn read(body: &'a [u8]) -> Option<InodeRefs<'a>>
         ensures { result ≡ inode_refs_of body.now }
     {
-        let count = record_count(FORM, body)?;
-        if count == 0 {
-            None
-        } else {
-            Some(InodeRefs { body, count })
-        }
+        Some(InodeRefs(Records::read(body)?))
     }
 
     /// How many names there are.
     pub fn len(&self) -> usize
         ensures { result ≡ length self.now }
     {
-        self.count
+        self.0.len()
     }
 
     /// Name `i`, in the order of the body. It goes over the names before it.
@@ -96,6 +81,6 @@ impl<'a> InodeRefs<'a> {
         requires { i < length self.now }
         ensures { slice_get self.now i ≡ Some (inode_ref_value result) }
     {
-        InodeRef::front(record_start(FORM, self.body, i))
+        InodeRef::front(self.0.start(i))
     }
 }

@@ -1,6 +1,7 @@
 ghost use Rattle.std.specs.Prelude.{◌≡◌, ◌+◌, ◌≤◌, ◌↔◌, length, IsTrue};
 ghost use Rattle.btr_keys.specs.Key.{key_at, key_of, key_bytes, IsBefore};
 
+use crate::body::exactly;
 use vol_block::{Field, put_fields, u64_at};
 
 /// The key of an item in a Btrfs tree: 17 bytes, as the Btrfs on-disk format documentation has it.
@@ -37,11 +38,7 @@ impl Key {
     pub fn read(body: &[u8]) -> Option<Key>
         ensures { result ≡ key_of body.now }
     {
-        if body.len() == Key::SIZE {
-            Some(Key::at(body, 0))
-        } else {
-            None
-        }
+        Some(Key::at(exactly(body, Key::SIZE)?, 0))
     }
 
     /// Writes the key into the 17 bytes of a slice.

@@ -5,6 +5,7 @@
 //! the body. Nothing here allocates or fails otherwise.
 #![tactic(auto)]
 
+mod body;
 mod dir_entry;
 mod extref;
 mod file_extent;

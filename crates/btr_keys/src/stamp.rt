@@ -1,6 +1,7 @@
 ghost use Rattle.std.specs.Prelude.{◌≡◌, ◌+◌, ◌≤◌, length};
 ghost use Rattle.btr_keys.specs.Stamp.{stamp_at, stamp_of, stamp_bytes};
 
+use crate::body::exactly;
 use vol_block::{Field, put_fields, u32_at, u64_at};
 
 /// A time of an inode or a tree: 12 bytes, as the Btrfs on-disk format documentation has it.
@@ -32,11 +33,7 @@ impl Stamp {
     pub fn read(bytes: &[u8]) -> Option<Stamp>
         ensures { result ≡ stamp_of bytes.now }
     {
-        if bytes.len() == Stamp::SIZE {
-            Some(Stamp::at(bytes, 0))
-        } else {
-            None
-        }
+        Some(Stamp::at(exactly(bytes, Stamp::SIZE)?, 0))
     }
 
     /// Writes the time into the 12 bytes of a slice.

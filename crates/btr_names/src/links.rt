@@ -90,7 +90,7 @@ impl Names {
     {
         let mut links = Vec::new(alloc);
         for naming in &self.namings {
-            add_link(&mut links, alloc, self, named, naming)?;
+            add_link(&mut links, self, named, naming)?;
         }
         Ok(links)
     }
@@ -109,7 +109,6 @@ impl Names {
 
 fn add_link(
     links: &mut Vec<Link>,
-    alloc: Global,
     names: &Names,
     named: &IndexSet<NodeId>,
     naming: &Naming,
@@ -122,7 +121,7 @@ fn add_link(
     links.push(Link {
         dir: inode_node(naming.dir),
         target: target_node(naming),
-        name: Name::new(alloc, naming.name.bytes())?,
+        name: naming.name.clone()?,
     })?;
     Ok(())
 }

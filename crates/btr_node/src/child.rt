@@ -1,9 +1,8 @@
 ghost use Rattle.std.specs.Prelude.{◌≡◌, ◌≤◌, ◌+◌, length, drop};
-ghost use Rattle.btr_keys.specs.Layout.{spelling};
 ghost use Rattle.btr_node.specs.Inner.{child_layout};
 
 use btr_keys::Key;
-use vol_block::{Field, put_fields, u64_at};
+use vol_block::u64_at;
 
 /// A child of an inner node, 33 bytes, as the Btrfs on-disk format documentation has it.
 #[derive(Clone, Copy, Debug, PartialEq, Eq)]
@@ -37,23 +36,5 @@ impl Child {
             address: u64_at(bytes, 17),
             generation: u64_at(bytes, 25),
         }
-    }
-
-    /// Writes the child into 33 bytes.
-    #[tactic(auto, unfolding(crate::specs::Inner::child_layout))]
-    pub fn write(&self, into: &mut [u8])
-        requires { length into.old ≡ 33 }
-        ensures { into.new ≡ spelling child_layout self.now }
-    {
-        let mut key = [0; 17];
-        self.key.write(&mut key);
-        put_fields(
-            into,
-            &[
-                Field::Bytes(&key),
-                Field::U64(self.address),
-                Field::U64(self.generation),
-            ],
-        );
     }
 }

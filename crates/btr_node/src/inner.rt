@@ -59,14 +59,6 @@ impl<'a> InnerView<'a> {
         Ok(InnerView { bytes })
     }
 
-    /// The children of an inner node whose layout is known to be right.
-    pub fn of(bytes: &'a [u8]) -> InnerView<'a>
-        requires { HasInnerLayout bytes.now }
-        ensures { result ≡ children_in bytes.now }
-    {
-        InnerView { bytes }
-    }
-
     /// How many children there are.
     pub fn count(&self) -> usize
         ensures { result ≡ length self.now }

@@ -1,9 +1,8 @@
 ghost use Rattle.std.specs.Prelude.{◌≡◌, ◌≤◌, ◌+◌, length, drop};
-ghost use Rattle.btr_keys.specs.Layout.{spelling};
 ghost use Rattle.btr_node.specs.Leaf.{item_layout};
 
 use btr_keys::Key;
-use vol_block::{Field, put_fields, u32_at};
+use vol_block::u32_at;
 
 /// The head of a leaf's item, 25 bytes, as the Btrfs on-disk format documentation has it.
 #[derive(Clone, Copy, Debug, PartialEq, Eq)]
@@ -37,23 +36,5 @@ impl ItemHead {
             offset: u32_at(bytes, 17),
             size: u32_at(bytes, 21),
         }
-    }
-
-    /// Writes the head into 25 bytes.
-    #[tactic(auto, unfolding(crate::specs::Leaf::item_layout))]
-    pub fn write(&self, into: &mut [u8])
-        requires { length into.old ≡ 25 }
-        ensures { into.new ≡ spelling item_layout self.now }
-    {
-        let mut key = [0; 17];
-        self.key.write(&mut key);
-        put_fields(
-            into,
-            &[
-                Field::Bytes(&key),
-                Field::U32(self.offset),
-                Field::U32(self.size),
-            ],
-        );
     }
 }

@@ -11,6 +11,7 @@ use crate::item::ItemHead;
 use crate::sum::SUM_SIZE;
 use btr_keys::Key;
 use csum_kinds::{SumKind, kind_sum};
+use vol_block::{Field, put_fields};
 
 /// Puts an item behind the `count` items that a leaf has. `behind` is what stands behind the leaf's head, and the data
 /// of the leaf begins at byte `low` of it.
@@ -24,13 +25,15 @@ pub fn put_item(behind: &mut [u8], count: usize, low: usize, key: Key, body: &[u
 {
     let begin = low - body.len();
     behind[begin..low].copy_from_slice(body);
-    let head = ItemHead {
-        key,
-        offset: begin as u32,
-        size: body.len() as u32,
-    };
     let at = ItemHead::SIZE * count;
-    head.write(&mut behind[at..at + ItemHead::SIZE]);
+    put_fields(
+        &mut behind[at..at + ItemHead::SIZE],
+        &[
+            Field::Bytes(&key.to_bytes()),
+            Field::U32(begin as u32),
+            Field::U32(body.len() as u32),
+        ],
+    );
 }
 
 /// Puts a child behind the `count` children that an inner node has. `behind` is what stands behind the node's head.
@@ -41,7 +44,14 @@ pub fn put_child(behind: &mut [u8], count: usize, child: &Child)
         → behind.new ≡ contents (length behind.old) [] (children ++ child.now ∷ []) }
 {
     let at = Child::SIZE * count;
-    child.write(&mut behind[at..at + Child::SIZE]);
+    put_fields(
+        &mut behind[at..at + Child::SIZE],
+        &[
+            Field::Bytes(&child.key.to_bytes()),
+            Field::U64(child.address),
+            Field::U64(child.generation),
+        ],
+    );
 }
 
 /// Writes the head of a node, and its checksum before it.

@@ -24,7 +24,7 @@ use crate::row::{inode_row, tree_row};
 use btr_contents::{Contents, wanted_inode};
 use btr_keys::Inode;
 use btr_names::{Names, ROOT, kind_of_mode};
-use fs_rows::{Content, Row, Rows, Spot, copy_path, no_content};
+use fs_rows::{Content, Row, Rows, Spot, no_content};
 use outside::{BtrAnswer, BtrRule, Memory};
 use path_list::PathTo;
 use std::alloc::Global;
@@ -54,7 +54,7 @@ pub fn row_at(
         return Err(refused(ROOT, BtrRule::Body));
     };
     let content = content(alloc, contents, ino, &own)?;
-    let spot = spot(alloc, path, rows)?;
+    let spot = spot(path, rows)?;
     Ok(inode_row(spot, &own, kind, content))
 }
 
@@ -70,19 +70,19 @@ fn content(alloc: Global, contents: &Contents, ino: u64, own: &Inode) -> Result<
 }
 
 /// Where a row stands, behind those of the paths before it.
-fn spot(alloc: Global, path: &PathTo, rows: &Rows) -> Result<Spot, Memory>
+fn spot(path: &PathTo, rows: &Rows) -> Result<Spot, Memory>
     ensures path { IfOk result (λ spot. spot.path ≡ path.now.path) }
     ensures names { IfOk result (λ spot. spot.names ≡ path.now.names) }
     ensures earlier { path.now.least < length rows.now → IfOk result (λ spot. (row : RowOf) → slice_get rows.now path.now.least ≡ Some row → spot.least ≡ row.path) }
     ensures first { length rows.now ≤ path.now.least → IfOk result (λ spot. spot.least ≡ path.now.path) }
 {
     let least = if path.least < rows.len() {
-        copy_path(alloc, &rows.get(path.least).path)?
+        rows.get(path.least).path.clone()?
     } else {
-        copy_path(alloc, &path.path)?
+        path.path.clone()?
     };
     Ok(Spot {
-        path: copy_path(alloc, &path.path)?,
+        path: path.path.clone()?,
         least,
         names: path.names,
     })

@@ -6,7 +6,7 @@ ghost use Rattle.fs_rows.specs.Content.{IsContent};
 ghost use Rattle.btr_reader.specs.Rows.{has_flag, time_of, subvolume_row};
 
 use btr_keys::{Inode, Stamp};
-use fs_rows::{Content, Kind, Name, Path, Row, Spot, Time, copy_path};
+use fs_rows::{Content, Kind, Name, Path, Row, Spot, Time};
 use outside::Memory;
 use std::alloc::Global;
 
@@ -44,7 +44,7 @@ pub fn tree_row(alloc: Global, path: &Path) -> Result<Row, Memory>
 {
     let start = Time { sec: 0, nsec: 0 };
     Ok(Row {
-        path: copy_path(alloc, path)?,
+        path: path.clone()?,
         kind: Kind::Subvolume,
         mode: 0,
         uid: 0,
@@ -59,7 +59,7 @@ pub fn tree_row(alloc: Global, path: &Path) -> Result<Row, Memory>
         noatime: false,
         major: 0,
         minor: 0,
-        least: copy_path(alloc, path)?,
+        least: path.clone()?,
         names: 0,
         length: 0,
         mark: [0; 32],

@@ -1,5 +1,5 @@
-ghost use Rattle.std.specs.Prelude.{◌≡◌, ◌+◌, ◌≤◌, length};
-ghost use Rattle.btr_space_items.specs.BlockGroup.{block_group_layout, block_group_at, block_group_of, block_group_bytes};
+ghost use Rattle.std.specs.Prelude.{◌≡◌, length};
+ghost use Rattle.btr_space_items.specs.BlockGroup.{block_group_of, block_group_bytes};
 
 use vol_block::{Field, put_fields, u64_at};
 
@@ -19,34 +19,19 @@ impl BlockGroup {
     /// The bytes of a value.
     pub const SIZE: usize = 24;
 
-    /// The value in the 24 bytes from byte `at` on.
-    pub fn at(bytes: &[u8], at: usize) -> BlockGroup
-        requires { at + 24 ≤ length bytes.now }
-        ensures { result ≡ block_group_at bytes.now at }
-    {
-        BlockGroup::first(&bytes[at..])
-    }
-
-    fn first(bytes: &[u8]) -> BlockGroup
-        requires { 24 ≤ length bytes.now }
-        ensures { result ≡ block_group_layout.read bytes.now }
-    {
-        BlockGroup {
-            used: u64_at(bytes, 0),
-            chunk_objectid: u64_at(bytes, 8),
-            flags: u64_at(bytes, 16),
-        }
-    }
-
     /// The value that is the whole body; None exactly where the body has another length than 24 bytes.
+    #[tactic(auto, unfolding(crate::specs::BlockGroup::block_group_layout))]
     pub fn read(body: &[u8]) -> Option<BlockGroup>
         ensures { result ≡ block_group_of body.now }
     {
-        if body.len() == BlockGroup::SIZE {
-            Some(BlockGroup::first(body))
-        } else {
-            None
+        if body.len() != BlockGroup::SIZE {
+            return None;
         }
+        Some(BlockGroup {
+            used: u64_at(body, 0),
+            chunk_objectid: u64_at(body, 8),
+            flags: u64_at(body, 16),
+        })
     }
 
     /// Writes the value into the 24 bytes of a slice.

@@ -1,5 +1,5 @@
-ghost use Rattle.std.specs.Prelude.{◌≡◌, ◌+◌, ◌≤◌, length};
-ghost use Rattle.btr_space_items.specs.DevExtent.{dev_extent_layout, dev_extent_at, dev_extent_of, dev_extent_bytes};
+ghost use Rattle.std.specs.Prelude.{◌≡◌, length};
+ghost use Rattle.btr_space_items.specs.DevExtent.{dev_extent_of, dev_extent_bytes};
 
 use vol_block::{Field, array_at, put_fields, u64_at};
 
@@ -23,36 +23,21 @@ impl DevExtent {
     /// The bytes of a value.
     pub const SIZE: usize = 48;
 
-    /// The value in the 48 bytes from byte `at` on.
-    pub fn at(bytes: &[u8], at: usize) -> DevExtent
-        requires { at + 48 ≤ length bytes.now }
-        ensures { result ≡ dev_extent_at bytes.now at }
-    {
-        DevExtent::first(&bytes[at..])
-    }
-
-    fn first(bytes: &[u8]) -> DevExtent
-        requires { 48 ≤ length bytes.now }
-        ensures { result ≡ dev_extent_layout.read bytes.now }
-    {
-        DevExtent {
-            chunk_tree: u64_at(bytes, 0),
-            chunk_objectid: u64_at(bytes, 8),
-            chunk_offset: u64_at(bytes, 16),
-            length: u64_at(bytes, 24),
-            chunk_tree_uuid: array_at(bytes, 32),
-        }
-    }
-
     /// The value that is the whole body; None exactly where the body has another length than 48 bytes.
+    #[tactic(auto, unfolding(crate::specs::DevExtent::dev_extent_layout))]
     pub fn read(body: &[u8]) -> Option<DevExtent>
         ensures { result ≡ dev_extent_of body.now }
     {
-        if body.len() == DevExtent::SIZE {
-            Some(DevExtent::first(body))
-        } else {
-            None
+        if body.len() != DevExtent::SIZE {
+            return None;
         }
+        Some(DevExtent {
+            chunk_tree: u64_at(body, 0),
+            chunk_objectid: u64_at(body, 8),
+            chunk_offset: u64_at(body, 16),
+            length: u64_at(body, 24),
+            chunk_tree_uuid: array_at(body, 32),
+        })
     }
 
     /// Writes the value into the 48 bytes of a slice.

@@ -1,5 +1,5 @@
-ghost use Rattle.std.specs.Prelude.{◌≡◌, ◌+◌, ◌≤◌, length};
-ghost use Rattle.btr_space_items.specs.ExtentHead.{extent_head_layout, extent_head_at, extent_head_of, extent_head_bytes};
+ghost use Rattle.std.specs.Prelude.{◌≡◌, length};
+ghost use Rattle.btr_space_items.specs.ExtentHead.{extent_head_of, extent_head_bytes};
 
 use vol_block::{Field, put_fields, u64_at};
 
@@ -19,34 +19,19 @@ impl ExtentHead {
     /// The bytes of a value.
     pub const SIZE: usize = 24;
 
-    /// The value in the 24 bytes from byte `at` on.
-    pub fn at(bytes: &[u8], at: usize) -> ExtentHead
-        requires { at + 24 ≤ length bytes.now }
-        ensures { result ≡ extent_head_at bytes.now at }
-    {
-        ExtentHead::first(&bytes[at..])
-    }
-
-    fn first(bytes: &[u8]) -> ExtentHead
-        requires { 24 ≤ length bytes.now }
-        ensures { result ≡ extent_head_layout.read bytes.now }
-    {
-        ExtentHead {
-            refs: u64_at(bytes, 0),
-            generation: u64_at(bytes, 8),
-            flags: u64_at(bytes, 16),
-        }
-    }
-
     /// What a body begins with; None exactly where the body has fewer than 24 bytes.
+    #[tactic(auto, unfolding(crate::specs::ExtentHead::extent_head_layout))]
     pub fn read(body: &[u8]) -> Option<ExtentHead>
         ensures { result ≡ extent_head_of body.now }
     {
         if body.len() < ExtentHead::SIZE {
-            None
-        } else {
-            Some(ExtentHead::first(body))
+            return None;
         }
+        Some(ExtentHead {
+            refs: u64_at(body, 0),
+            generation: u64_at(body, 8),
+            flags: u64_at(body, 16),
+        })
     }
 
     /// Writes the value into the 24 bytes of a slice.

@@ -6,3 +6,5 @@ pub mod Joined
 pub mod Copies
 pub mod Holding
 pub mod FileMarks
+pub mod Comparing
+pub mod PathParts

@@ -7,3 +7,5 @@ pub mod Text
 pub mod Bytes
 pub mod Pieces
 pub mod Held
+pub mod Parts
+pub mod Shared

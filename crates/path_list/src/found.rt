@@ -1,10 +1,8 @@
-ghost use Rattle.std.specs.Prelude.{◌≡◌, ◌++◌, ◌∷◌, [], IfOk};
+ghost use Rattle.std.specs.Prelude.{◌≡◌};
 ghost use Rattle.fs_rows.specs.Rows.{path_cmp};
 
 use crate::NodeId;
-use fs_rows::{Name, Path};
-use outside::Memory;
-use std::alloc::Global;
+use fs_rows::Path;
 use std::cmp::Ordering;
 
 /// A path from the root, and the object that it leads to.
@@ -14,18 +12,6 @@ pub struct Found {
     pub path: Path,
     /// The object.
     pub target: NodeId,
-}
-
-/// A copy of the path, with one name more.
-pub fn join(alloc: Global, path: &Path, name: &Name) -> Result<Path, Memory>
-    ensures { IfOk result (λ joined. joined ≡ path.now ++ name.now ∷ []) }
-{
-    let mut joined = Path::new(alloc);
-    for i in 0..path.len() {
-        joined.add(Name::new(alloc, path.get(i).bytes())?)?;
-    }
-    joined.add(Name::new(alloc, name.bytes())?)?;
-    Ok(joined)
 }
 
 /// The order of two paths: that of the first names that differ, by their bytes, and a path before those that begin with it.

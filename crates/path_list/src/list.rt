@@ -20,6 +20,7 @@ pub fn paths(alloc: Global, links: Vec<Link>, root: NodeId) -> Result<Vec<PathTo
     let mut links = links;
     links.sort_by_key(|link| link.dir)?;
     let mut found = spread(alloc, &links, root)?;
+    drop(links);
     found.sort_by(|a, b| compare(&a.path, &b.path))?;
     number(alloc, found)
 }

@@ -3,7 +3,7 @@ ghost use Rattle.path_list.specs.declared.found.Found.{Found as FoundOf};
 ghost use Rattle.path_list.specs.Spread.{AscendByDirectory, IsTree, Reaches, children};
 
 use crate::entries::links_of;
-use crate::found::{Found, join};
+use crate::found::Found;
 use crate::{Link, NodeId};
 use fs_rows::Path;
 use outside::Memory;
@@ -24,21 +24,21 @@ pub fn spread(alloc: Global, links: &[Link], root: NodeId) -> Result<Vec<Found>,
     })?;
     let mut i = 0;
     while i < found.len() && found.len() <= links.len() + 1 {
-        follow(alloc, links, &mut found, i)?;
+        follow(links, &mut found, i)?;
         i += 1;
     }
     Ok(found)
 }
 
 /// Appends a path for each link of the directory that path number `i` leads to.
-fn follow(alloc: Global, links: &[Link], found: &mut Vec<Found>, i: usize) -> Result<(), Memory>
+fn follow(links: &[Link], found: &mut Vec<Found>, i: usize) -> Result<(), Memory>
     requires within { i < length found.old.items }
     requires ascend { AscendByDirectory links.now }
     ensures { OnOk result ((d : FoundOf) → found.new.items ≡ found.old.items ++ children links.now (slice_index_or found.old.items i d)) }
 {
     let dir = found[i].target;
     for link in links_of(links, dir) {
-        let path = join(alloc, &found[i].path, &link.name)?;
+        let path = found[i].path.joined(&link.name)?;
         found.push(Found {
             path,
             target: link.target,

@@ -4,10 +4,10 @@ use Rattle.std.proofs.lemmas.List.{length-set}
 use Rattle.outside.specs.History.{Image, History, block_at, reads, clock, IsSettled, IsBlock, LeftSince, WritesOnly}
 use Rattle.outside.proofs.Crash.{left_each, writes_length, writes_then, writes_weaker, reads_only}
 use Rattle.outside.proofs.Phases.{left_outside, left_then, only_not, reads_outside}
+use Rattle.outside.proofs.Placing.{has_place}
 use Rattle.phases_example.specs.declared.pieces.Placed.{Placed}
 use Rattle.phases_example.specs.Pieces.{IsPlace, HasPieces}
 use Rattle.phases_example.specs.Switch.{IsPart, IsBefore, IsAfter}
-use Rattle.phases_example.proofs.PieceLemmas.{is_place}
 
 abbrev WritesPieces : List Placed → History → History → Type 0
 WritesPieces pieces = WritesOnly (λ b _. IsPlace pieces b)
@@ -20,7 +20,7 @@ module _ (pieces : List Placed) (superblock : List ℕ) (old : Image) where
     size = size ∙ is.size;
     superblock_is = same 16 (λ eq. omega arith) ∙ is.superblock_is;
     pieces_stand = λ k d below.
-        same (get_or pieces k d).at (λ eq. apart (subst (IsPlace pieces) eq (is_place pieces k d below))) ∙ is.pieces_stand k d below;
+        same (get_or pieces k d).at (λ eq. apart (subst (IsPlace pieces) eq (has_place (λ (x : Placed). x.at) (λ (x : Placed). x.block.bytes) pieces k d below))) ∙ is.pieces_stand k d below;
     others = λ b outside not_superblock not_mirror. same b not_mirror ∙ is.others b outside not_superblock not_mirror;
   }
 
@@ -31,7 +31,7 @@ module _ (pieces : List Placed) (superblock : List ℕ) (old : Image) where
     size = size ∙ before.size;
     superblock_is = is;
     pieces_stand = λ k d below.
-        same (get_or pieces k d).at (λ eq. apart (subst (IsPlace pieces) eq (is_place pieces k d below))) ∙ stand k d below;
+        same (get_or pieces k d).at (λ eq. apart (subst (IsPlace pieces) eq (has_place (λ (x : Placed). x.at) (λ (x : Placed). x.block.bytes) pieces k d below))) ∙ stand k d below;
     others = λ b outside not_superblock not_mirror. same b not_superblock ∙ before.others b outside;
   }
 

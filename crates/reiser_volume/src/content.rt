@@ -36,7 +36,7 @@ pub fn content<S: BlockSource>(
 {
     match first {
         Some(row) => {
-            let content = same_content(alloc, row)?;
+            let content = same_content(row)?;
             Ok(content)
         }
         None => read_content(alloc, src, volume, key, known),

@@ -5,11 +5,10 @@ ghost use Rattle.fs_rows.specs.Kinds.{is_device};
 ghost use Rattle.reiser_volume.specs.Made.{row_by};
 ghost use Rattle.reiser_volume.specs.Rows.{flag, major_of, minor_of, time_of};
 
-use fs_rows::{Content, Kind, Name, Row, Spot, Time};
+use fs_rows::{Content, Kind, Row, Spot, Time};
 use outside::Memory;
 use reiser_objects::ObjectStat;
 use reiser_super::ATTRS_CLEARED;
-use std::alloc::Global;
 
 /// Bits of the attributes of stat data. The names are those of the kernel: `REISERFS_SYNC_FL` is 8.
 const SYNC_BIT: u32 = 3;
@@ -99,7 +98,7 @@ fn minor_of(kind: Kind, rdev: u32) -> u64
 }
 
 /// What a row of the same object has.
-pub fn same_content(alloc: Global, row: &Row) -> Result<Content, Memory>
+pub fn same_content(row: &Row) -> Result<Content, Memory>
     ensures length { IfOk result (λ content. content.length ≡ row.now.length) }
     ensures mark { IfOk result (λ content. content.mark ≡ row.now.mark) }
     ensures target { IfOk result (λ content. content.target ≡ row.now.target) }
@@ -107,6 +106,6 @@ pub fn same_content(alloc: Global, row: &Row) -> Result<Content, Memory>
     Ok(Content {
         length: row.length,
         mark: row.mark,
-        target: Name::new(alloc, row.target.bytes())?,
+        target: row.target.clone()?,
     })
 }

@@ -19,7 +19,7 @@ use crate::Volume;
 use crate::content::content;
 use crate::row::{Known, make_row};
 use crate::ways::paths_of;
-use fs_rows::{Row, Rows, Spot, copy_path};
+use fs_rows::{Row, Rows, Spot};
 use outside::{BlockSource, Memory, Rule, VolAnswer, VolumeRefusal};
 use path_list::PathTo;
 use reiser_objects::{ObjectKey, key_at, kind_of_mode};
@@ -83,7 +83,7 @@ fn row_at<S: BlockSource>(
     let known = known(volume, key)?;
     let first = first_row(rows, path);
     let content = content(alloc, src, volume, key, &known, first)?;
-    let spot = spot(alloc, path, first)?;
+    let spot = spot(path, first)?;
     Ok(make_row(spot, volume.sup.flags, &known, content))
 }
 
@@ -99,17 +99,17 @@ fn first_row<'a>(rows: &'a Rows, path: &PathTo) -> Option<&'a Row>
 }
 
 /// Where a row stands, with the row of the first path to the same object if that is an earlier one.
-fn spot(alloc: Global, path: &PathTo, first: Option<&Row>) -> Result<Spot, Memory>
+fn spot(path: &PathTo, first: Option<&Row>) -> Result<Spot, Memory>
     ensures path { IfOk result (λ spot. spot.path ≡ path.now.path) }
     ensures names { IfOk result (λ spot. spot.names ≡ path.now.names) }
     ensures least { IfOk result (λ spot. MatchOption first.entry (spot.least ≡ path.now.path) (λ row. spot.least ≡ row.now.path)) }
 {
     let least = match first {
-        Some(row) => copy_path(alloc, &row.path)?,
-        None => copy_path(alloc, &path.path)?,
+        Some(row) => row.path.clone()?,
+        None => path.path.clone()?,
     };
     Ok(Spot {
-        path: copy_path(alloc, &path.path)?,
+        path: path.path.clone()?,
         least,
         names: path.names,
     })

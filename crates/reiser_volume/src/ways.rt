@@ -9,7 +9,6 @@ ghost use Rattle.reiser_objects.specs.Nodes.{Fits};
 ghost use Rattle.reiser_volume.specs.Ways.{link_of, HasPaths};
 
 use crate::Volume;
-use fs_rows::Name;
 use outside::Memory;
 use path_list::{Link, PathTo, paths};
 use reiser_objects::{Naming, ROOT, node_of};
@@ -30,34 +29,29 @@ fn links_of(alloc: Global, volume: &Volume) -> Result<Vec<Link>, Memory>
 {
     let mut links = Vec::new(alloc);
     for naming in &volume.objects.namings {
-        add_link(&mut links, alloc, volume, naming)?;
+        add_link(&mut links, volume, naming)?;
     }
     Ok(links)
 }
 
 /// Adds an entry, if it is a link.
-fn add_link(
-    links: &mut Vec<Link>,
-    alloc: Global,
-    volume: &Volume,
-    naming: &Naming,
-) -> Result<(), Memory>
+fn add_link(links: &mut Vec<Link>, volume: &Volume, naming: &Naming) -> Result<(), Memory>
     ensures links { OnOk result (links.new.items ≡ links.old.items ++ (if is_link (is_known volume.now.named) naming.now then link_of naming.now ∷ [] else [])) }
     ensures fit { OnOk result (All (λ l. Fits l.target) links.old.items → All (λ l. Fits l.target) links.new.items) }
 {
     if volume.is_link(naming) {
-        links.push(link_of(alloc, naming)?)?;
+        links.push(link_of(naming)?)?;
     }
     Ok(())
 }
 
-fn link_of(alloc: Global, naming: &Naming) -> Result<Link, Memory>
+fn link_of(naming: &Naming) -> Result<Link, Memory>
     ensures link { IfOk result (λ link. link ≡ link_of naming.now) }
     ensures fits { IfOk result (λ link. Fits link.target) }
 {
     Ok(Link {
         dir: node_of(naming.dir),
         target: node_of(naming.target),
-        name: Name::new(alloc, naming.name.bytes())?,
+        name: naming.name.clone()?,
     })
 }

@@ -120,10 +120,13 @@ module _ (image : Image) (m : Making) (made : IsMaking image m) where
       let bound : MatchOption p.owner (Unit {0}) (λ w. w.1 + p.count ≤ 2 ^ 32) = all_at (λ (r : Piece). MatchOption r.owner (Unit {0}) (λ w. w.1 + r.count ≤ 2 ^ 32)) m.pieces p (well m.volume image m.options m.plan m.pieces of).apart.owners h in
       subst (λ (w : Option (ℕ × ℕ)). MatchOption w (Unit {0}) (λ x. x.1 + p.count ≤ 2 ^ 32)) own bound
 
-  -- what the extents of one object tell
-  object_use : (key : ObjectKey) (i : Item) (u : DataUse) → Contains s.keys key → Contains (extent_items s key) i → Contains (use_in 5 i (file_extent_of i.1)) u → IsUse m u
+  -- a file extent that tells a use is that of a piece, by a file that owns it
+  abbrev pub IsOfPiece : Item → Type 0
+  IsOfPiece i = (p : Piece) × (inode : ℕ) × Contains m.pieces p × (p.owner ≡ Some (inode, file_block p)) × (extent_item inode (file_block p) (regular_extent p.place p.count) ≡ i)
+
+  object_piece : (key : ObjectKey) (i : Item) (u : DataUse) → Contains s.keys key → Contains (extent_items s key) i → Contains (use_in 5 i (file_extent_of i.1)) u → IsOfPiece i
   unfolding extent_items
-  object_use key i u among h k = by (inline_in s key) refl h
+  object_piece key i u among h k = by (inline_in s key) refl h
     where
       is_named : IsNamed (volume_items image) key
       is_named = (of.opened.are_keys.exact key).0 among
@@ -132,7 +135,7 @@ module _ (image : Image) (m : Making) (made : IsMaking image m) where
       bytes = target_bytes (items_of key s.items) (size_in s key)
 
       by : (b : Bool) → inline_in s key ≡ b
-          → Contains (if b then extent_item (number_of s key) 0 (inline_extent (target_bytes (items_of key s.items) (size_in s key))) ∷ [] else extents_at (number_of s key) file_block (pieces_of s.pieces (number_of s key))) i → IsUse m u
+          → Contains (if b then extent_item (number_of s key) 0 (inline_extent (target_bytes (items_of key s.items) (size_in s key))) ∷ [] else extents_at (number_of s key) file_block (pieces_of s.pieces (number_of s key))) i → IsOfPiece i
       by true is there =
           let st : StaysInTree image of.accepted key is_named = stays image of.accepted key is_named m.options.inline is in
           let short = st.short in
@@ -145,22 +148,27 @@ module _ (image : Image) (m : Making) (made : IsMaking image m) where
           absurd (omega (arith, none.1))
       by false is there =
           let at = from_map (λ (p : Piece). extent_item (number_of s key) (file_block p) (regular_extent p.place p.count)) (pieces_of m.pieces (number_of s key)) i there in
-          let p : Piece = at.0 in
-          let owned = is_owned (number_of s key) p at.1 in
-          let own : p.owner ≡ Some (number_of s key, file_block p) = owner_is (number_of s key) p owned.1 in
-          let low = owner_low p (number_of s key) owned.0 own in
-          let told = piece_use 5 (number_of s key) (file_block p) p owned.0 (omega (arith, low)) in
-          let one : Contains (use_at 5 (number_of s key) (file_block p) p ∷ []) u =
-          subst (λ (l : List DataUse). Contains l u) told (subst (λ (j : Item). Contains (use_in 5 j (file_extent_of j.1)) u) (sym at.2) k) in
-          ⊎_elim (λ (e : use_at 5 (number_of s key) (file_block p) p ≡ u). by_file p (number_of s key) (file_block p) owned.0 own (sym e))
-          (λ (none : Contains [] u). absurd (omega (arith, none.1))) (contains_cases u (use_at 5 (number_of s key) (file_block p) p) [] one)
+          let owned = is_owned (number_of s key) at.0 at.1 in
+          (at.0, number_of s key, owned.0, owner_is (number_of s key) at.0 owned.1, at.2)
 
-  pub file_uses : (i : Item) (u : DataUse) → Contains (file_tree_items image m) i → eqb i.0.kind 108 ≡ true → Contains (use_in 5 i (file_extent_of i.1)) u → IsUse m u
-  file_uses i u h is k =
+  pub file_piece : (i : Item) (u : DataUse) → Contains (file_tree_items image m) i → eqb i.0.kind 108 ≡ true → Contains (use_in 5 i (file_extent_of i.1)) u → IsOfPiece i
+  file_piece i u h is k =
       let at = numbered image (keys m.volume.named) (record { accepted = of.accepted; are_keys = of.opened.are_keys; ascend = of.opened.ascends }) in
       let ino : ℕ = i.0.objectid in
       let there : Contains (filter (is_extent ino) (tree_items s)) i = in_filter (is_extent ino) (tree_items s) i h (and_from (eqb ino ino) (eqb i.0.kind 108) (eq-eqb ino ino refl) is) in
       ⊎_elim
-      (λ of_key. object_use of_key.0 i u of_key.1 (subst (λ (l : List Item). Contains l i) of_key.3 there) k)
+      (λ of_key. object_piece of_key.0 i u of_key.1 (subst (λ (l : List Item). Contains l i) of_key.3 there) k)
       (λ (none : filter (is_extent ino) (tree_items s) ≡ []). let empty : Contains [] i = subst (λ (l : List Item). Contains l i) none there in absurd (omega (arith, empty.1)))
       (any_extents s at.0 at.1 ino)
+
+  pub file_uses : (i : Item) (u : DataUse) → Contains (file_tree_items image m) i → eqb i.0.kind 108 ≡ true → Contains (use_in 5 i (file_extent_of i.1)) u → IsUse m u
+  file_uses i u h is k =
+      let at = file_piece i u h is k in
+      let p : Piece = at.0 in
+      let inode : ℕ = at.1 in
+      let low = owner_low p inode at.2 at.3 in
+      let told = piece_use 5 inode (file_block p) p at.2 (omega (arith, low)) in
+      let one : Contains (use_at 5 inode (file_block p) p ∷ []) u =
+      subst (λ (l : List DataUse). Contains l u) told (subst (λ (j : Item). Contains (use_in 5 j (file_extent_of j.1)) u) (sym at.4) k) in
+      ⊎_elim (λ (e : use_at 5 inode (file_block p) p ≡ u). by_file p inode (file_block p) at.2 at.3 (sym e))
+      (λ (none : Contains [] u). absurd (omega (arith, none.1))) (contains_cases u (use_at 5 inode (file_block p) p) [] one)

@@ -1,49 +1,33 @@
 -- A use of data has the key of the file extent that tells it, so no use is told twice.
-use Rattle.std.proofs.Common.{◌≡◌, ◌≢◌, ◌<◌, ℕ, ◌-◌, ◌*◌, ◌^◌, eqb, Bool, true, false, List, [], ◌∷◌, length, filter, get_or, Option, Some, None, refl, sym, ap, subst, ◌∙◌, ⊎_elim, arith}
+use Rattle.std.proofs.Common.{◌≡◌, ◌≢◌, ◌<◌, ℕ, ◌-◌, ◌*◌, ◌^◌, eqb, Bool, true, false, List, [], ◌∷◌, filter, get_or, Option, Some, None, refl, sym, ap, subst, ◌∙◌, ⊎_elim, arith}
 use Rattle.std.specs.Prelude.{All, AllPairs, Contains, if◌then◌else◌}
-use Rattle.std.specs.List.{AllByRecursion}
 use Rattle.std.specs.Ordering.{ordering_reverse}
 use Rattle.std.specs.declared.cmp.Ordering.{Ordering}
 use Rattle.std.specs.declared.cmp.Ordering.TheVariants.{Less, Equal, Greater}
-use Rattle.std.proofs.lemmas.Bool.{and_from, eq-eqb}
 use Rattle.std.proofs.lemmas.List.Elements.{All-cons, All-contains, Contains-append_cases, Contains-get_or}
 use Rattle.std.proofs.lemmas.List.Kept.{AllPairs-cons}
 use Rattle.path_list.proofs.Lists.{from_map, in_filter, in_flat_map}
-use Rattle.indexmap.specs.IndexMap.{keys}
 use Rattle.outside.specs.History.{Image}
 use Rattle.vol_block.specs.declared.ids.Ids.{Ids}
 use Rattle.btr_files.specs.Extents.{is_hole}
-use Rattle.btr_keys.specs.FileExtent.{ContentValue, FileExtentValue, Inline, Prealloc, Regular, file_extent_bytes, file_extent_of}
+use Rattle.btr_keys.specs.FileExtent.{ContentValue, FileExtentValue, Inline, Prealloc, Regular, file_extent_of}
 use Rattle.btr_keys.specs.Key.{make_key}
 use Rattle.btr_keys.specs.declared.key.Key.{Key}
 use Rattle.btr_node.specs.Leaf.{Item}
 use Rattle.btr_node.specs.NodeSize.{IsNodeSize}
 use Rattle.btr_sound.specs.Recount.{DataUse, Recount, TreeOn, all_trees, data_uses, use_by, use_in, use_of, uses_in}
-use Rattle.byte_laws.proofs.Holding.{StaysInTree, stays}
-use Rattle.byte_laws.proofs.Owned.{any_extents}
-use Rattle.byte_laws.proofs.Pieces.{all_of_inode}
-use Rattle.byte_laws.proofs.Reading.{inline_read, is_extent}
-use Rattle.byte_laws.proofs.Sound.{owner_is}
 use Rattle.conversion.specs.Making.{IsMaking, Making, new_ids}
-use Rattle.conversion.specs.Source.{HasPieces, made_from}
+use Rattle.conversion.specs.Source.{HasPieces}
 use Rattle.conversion.specs.Standing.{file_tree_items, image_tree_items, sum_tree_items}
 use Rattle.conversion.specs.declared.trees.VolumeTrees.{VolumeTrees}
 use Rattle.converted_laws.specs.Opened.{IsNewVolume, super_for}
 use Rattle.converted_laws.proofs.SavedPieces.{member}
-use Rattle.extent_pieces.proofs.Named.{numbered}
-use Rattle.file_items.specs.Extents.{extents_at, file_block, is_owned_by, piece_bytes, pieces_of, pieces_of_volume, source_block}
+use Rattle.file_items.specs.Extents.{extents_at, file_block, piece_bytes, pieces_of_volume, source_block}
 use Rattle.file_items.specs.Small.{image_head, image_items, relocation_items}
-use Rattle.file_items.specs.Tree.{Source, extent_items, inline_in, number_of, size_in, tree_items}
 use Rattle.file_laws.specs.Keys.{ImageKeysAscend}
 use Rattle.file_laws.proofs.Keys.{file_keys_ascend}
-use Rattle.fs_rows.proofs.Functions.{length_bytes}
-use Rattle.item_list.specs.Extents.{extent_item, inline_extent, regular_extent}
+use Rattle.item_list.specs.Extents.{extent_item, regular_extent}
 use Rattle.reiser_bitmap.proofs.Ranges.{contains_cases}
-use Rattle.reiser_files.specs.Bytes.{file_byte, target_bytes}
-use Rattle.reiser_objects.specs.Keys.{items_of}
-use Rattle.reiser_objects.specs.Names.{IsNamed}
-use Rattle.reiser_objects.specs.declared.key.ObjectKey.{ObjectKey}
-use Rattle.reiser_volume.specs.Volume.{volume_items}
 use Rattle.space_items.specs.Chunks.{device_items}
 use Rattle.space_items.specs.Extents.{extent_items as extent_tree_items}
 use Rattle.space_items.specs.Merging.{item_cmp}
@@ -55,7 +39,7 @@ use Rattle.sound_laws.specs.Recounted.{recount_for, tree_for}
 use Rattle.sound_laws.proofs.AllUses.{from_is, source_low, uses_are}
 use Rattle.sound_laws.proofs.Trees.{six_all, trees}
 use Rattle.sound_laws.proofs.Unreserved.{fit_size}
-use Rattle.sound_laws.proofs.Uses.{IsUse, by_file, by_image, owner_low, piece_use, use_at, uses_from}
+use Rattle.sound_laws.proofs.Uses.{IsUse, by_file, by_image, file_piece, owner_low, piece_use, use_at, uses_from}
 use Rattle.sound_parts.proofs.Distinct.{AreDistinct, distinct_flat, distinct_nil, distinct_one}
 
 -- ---- one item tells at most one use, of its tree
@@ -147,9 +131,6 @@ module _ (image : Image) (m : Making) (made : IsMaking image m) (size : IsNodeSi
   abbrev of : HasPieces m.volume image m.options m.plan m.pieces
   of = made.has_pieces
 
-  abbrev s : Source
-  s = made_from m.volume image m.options m.pieces
-
   piece_key : (tree inode block : ℕ) (p : Piece) → Contains m.pieces p → 4096 * block < 2 ^ 64 → (i : Item) → extent_item inode block (regular_extent p.place p.count) ≡ i → (u : DataUse) → Contains (use_in tree i (file_extent_of i.1)) u → HasKeyOf i u
   piece_key tree inode block p h low i is u k =
       let told = piece_use image m made tree inode block p h low in
@@ -168,55 +149,11 @@ module _ (image : Image) (m : Making) (made : IsMaking image m) (size : IsNodeSi
 
   -- ---- the file tree
 
-  -- a piece of an inode is one of all pieces, and the inode's
-  pub is_owned : (inode : ℕ) (p : Piece) → Contains (pieces_of m.pieces inode) p → Contains m.pieces p × (is_owned_by inode p ≡ true)
-  is_owned inode p h =
-      each_of (pieces_of m.pieces inode) p (all_of_inode (λ q. Contains m.pieces q × (is_owned_by inode q ≡ true)) m.pieces inode (λ q k t. (k, t))) h
-    where
-      each_of : (xs : List Piece) (q : Piece) → AllByRecursion (λ y. Contains m.pieces y × (is_owned_by inode y ≡ true)) xs → Contains xs q → Contains m.pieces q × (is_owned_by inode q ≡ true)
-      each_of [] q all k = absurd (omega (arith, k.1))
-      each_of (x ∷ xs) q all k =
-          ⊎_elim (λ (same : x ≡ q). subst (λ (y : Piece). Contains m.pieces y × (is_owned_by inode y ≡ true)) same all.0) (λ (later : Contains xs q). each_of xs q all.1 later) (contains_cases q x xs k)
-
-  object_key : (key : ObjectKey) (i : Item) (u : DataUse) → Contains s.keys key → Contains (extent_items s key) i → Contains (use_in 5 i (file_extent_of i.1)) u → HasKeyOf i u
-  unfolding extent_items
-  object_key key i u among h k = by (inline_in s key) refl h
-    where
-      is_named : IsNamed (volume_items image) key
-      is_named = (of.opened.are_keys.exact key).0 among
-
-      bytes : List ℕ
-      bytes = target_bytes (items_of key s.items) (size_in s key)
-
-      by : (b : Bool) → inline_in s key ≡ b
-          → Contains (if b then extent_item (number_of s key) 0 (inline_extent (target_bytes (items_of key s.items) (size_in s key))) ∷ [] else extents_at (number_of s key) file_block (pieces_of s.pieces (number_of s key))) i → HasKeyOf i u
-      by true is there =
-          let st : StaysInTree image of.accepted key is_named = stays image of.accepted key is_named m.options.inline is in
-          let short = st.short in
-          let long : length bytes ≡ size_in s key = ap length st.bytes ∙ length_bytes (size_in s key) (file_byte image (items_of key s.items)) 0 in
-          let same : extent_item (number_of s key) 0 (inline_extent bytes) ≡ i =
-          ⊎_elim (λ (e : extent_item (number_of s key) 0 (inline_extent bytes) ≡ i). e) (λ (none : Contains [] i). absurd (omega (arith, none.1))) (contains_cases i (extent_item (number_of s key) 0 (inline_extent bytes)) [] there) in
-          let told : use_in 5 (extent_item (number_of s key) 0 (inline_extent bytes)) (file_extent_of (file_extent_bytes (inline_extent bytes))) ≡ [] =
-          ap (use_in 5 (extent_item (number_of s key) 0 (inline_extent bytes))) (inline_read bytes (omega (arith, long, short))) in
-          let none : Contains [] u = subst (λ (l : List DataUse). Contains l u) told (subst (λ (j : Item). Contains (use_in 5 j (file_extent_of j.1)) u) (sym same) k) in
-          absurd (omega (arith, none.1))
-      by false is there =
-          let at = from_map (λ (p : Piece). extent_item (number_of s key) (file_block p) (regular_extent p.place p.count)) (pieces_of m.pieces (number_of s key)) i there in
-          let p : Piece = at.0 in
-          let owned = is_owned (number_of s key) p at.1 in
-          let own : p.owner ≡ Some (number_of s key, file_block p) = owner_is (number_of s key) p owned.1 in
-          let low = owner_low image m made p (number_of s key) owned.0 own in
-          piece_key 5 (number_of s key) (file_block p) p owned.0 (omega (arith, low)) i at.2 u k
-
   file_key : (i : Item) (u : DataUse) → Contains (file_tree_items image m) i → eqb i.0.kind 108 ≡ true → Contains (use_in 5 i (file_extent_of i.1)) u → HasKeyOf i u
   file_key i u h is k =
-      let at = numbered image (keys m.volume.named) (record { accepted = of.accepted; are_keys = of.opened.are_keys; ascend = of.opened.ascends }) in
-      let ino : ℕ = i.0.objectid in
-      let there : Contains (filter (is_extent ino) (tree_items s)) i = in_filter (is_extent ino) (tree_items s) i h (and_from (eqb ino ino) (eqb i.0.kind 108) (eq-eqb ino ino refl) is) in
-      ⊎_elim
-      (λ of_key. object_key of_key.0 i u of_key.1 (subst (λ (l : List Item). Contains l i) of_key.3 there) k)
-      (λ (none : filter (is_extent ino) (tree_items s) ≡ []). let empty : Contains [] i = subst (λ (l : List Item). Contains l i) none there in absurd (omega (arith, empty.1)))
-      (any_extents s at.0 at.1 ino)
+      let at = file_piece image m made i u h is k in
+      let low = owner_low image m made at.0 at.1 at.2 at.3 in
+      piece_key 5 at.1 (file_block at.0) at.0 at.2 (omega (arith, low)) i at.4 u k
 
   -- the items of both trees ascend
   pub files_rise : Rise (file_tree_items image m)

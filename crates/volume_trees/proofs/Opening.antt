@@ -2,7 +2,7 @@
 use Rattle.std.proofs.Common.{◌≡◌, ◌∙◌, ℕ, ◌+◌, ◌-◌, ◌^◌, ◌≤◌, ◌++◌, Bool, List, [], if◌then◌else◌, drop, length, append_assoc, refl, sym, ap, subst, arith}
 use Rattle.std.proofs.lemmas.List.{length-drop}
 use Rattle.indexmap.specs.IndexMap.{keys}
-use Rattle.outside.specs.History.{Image, History, reads}
+use Rattle.outside.specs.History.{Image, History, WritesOnly, reads}
 use Rattle.outside.proofs.Crash.{writes_none}
 use Rattle.btr_node.specs.Leaf.{Item}
 use Rattle.btr_node.specs.NodeSize.{IsNodeSize}
@@ -37,7 +37,7 @@ use Rattle.volume_trees.specs.Sources.{HasVolume, IsInPieces, IsUsed}
 use Rattle.volume_trees.specs.Staying.{volume_stays}
 use Rattle.volume_trees.specs.declared.roots.FirstRoots.{FirstRoots}
 use Rattle.volume_trees.proofs.Behind.{IsInRest}
-use Rattle.volume_trees.proofs.Going.{Goes, Stood, rest_is, same_where, still_apart}
+use Rattle.volume_trees.proofs.Going.{Goes, Stood, goes_by, goes_then, rest_is, same_where, still_apart}
 use Rattle.volume_trees.proofs.Sums.{sum_items_same}
 
 -- nothing was written yet
@@ -125,6 +125,35 @@ writable row mid n h₀ h items is goes fit few =
 pub counted : (row old new : Trees) (n : ℕ) (h₀ h : History) (image : Image) (owner : ℕ) (items : List Item) (root : Root) → Goes row old n h₀ h → Adds image old new owner items root
     → root.nodes ≡ tree_nodes row.form.nodesize (lengths_of items)
 counted row old new n h₀ h image owner items root goes adds = adds.stands.count ∙ ap (λ (f : NodeForm). tree_nodes f.nodesize (lengths_of items)) goes.form
+
+-- One tree more was written, and what the next ones need is still there: from number n of the slots on it takes those up to
+-- number m.
+pub record Step (volume : Volume) (pieces : List Piece) (row : Trees) (image : Image) (h₀ : History) (old new : Trees) (m owner : ℕ) (items : List Item) (root : Root) (h₁ h₂ : History) : Type 0 where
+  pub one : Goes old new root.nodes h₁ h₂
+  pub to : Goes row new m h₀ h₂
+  pub adds : Adds (reads h₂) old new owner items root
+  pub count : root.nodes ≡ tree_nodes row.form.nodesize (lengths_of items)
+  pub there : HasVolume volume pieces (reads h₂)
+  pub used : LieApart (IsUsed volume) new.form.nodesize new.slots
+  pub placed : LieApart (IsInPieces pieces) new.form.nodesize new.slots
+  pub sums : (o : Options) → (if o.datasum then sum_items o.sums (reads h₂) pieces else []) ≡ (if o.datasum then sum_items o.sums image pieces else [])
+
+pub stepped : (volume : Volume) (pieces : List Piece) (row : Trees) (image : Image) (h₀ : History) (begins : Begins volume pieces row image h₀) (old new : Trees) (n m owner : ℕ) (items : List Item) (root : Root) (h₁ h₂ : History)
+    → Goes row old n h₀ h₁ → m ≡ n + root.nodes → (new.form ≡ old.form) × (new.slots ≡ old.slots) → new.taken ≡ old.taken + root.nodes → WritesOnly (λ b _. IsInRest old b) h₁ h₂ → Adds (reads h₂) old new owner items root
+    → Step volume pieces row image h₀ old new m owner items root h₁ h₂
+stepped volume pieces row image h₀ begins old new n m owner items root h₁ h₂ goes total same taken only adds =
+    let one : Goes old new root.nodes h₁ h₂ = goes_by old new root.nodes h₁ h₂ same taken only in
+    let to : Goes row new m h₀ h₂ = subst (λ (k : ℕ). Goes row new k h₀ h₂) (sym total) (goes_then row old new n root.nodes h₀ h₁ h₂ goes one) in
+    record {
+      one = one;
+      to = to;
+      adds = adds;
+      count = counted row old new n h₀ h₁ (reads h₂) owner items root goes adds;
+      there = has_still volume pieces row image h₀ begins new m h₂ to;
+      used = used_still volume pieces row image h₀ begins new m h₂ to;
+      placed = placed_still volume pieces row image h₀ begins new m h₂ to;
+      sums = λ o. sums_still volume pieces row image h₀ begins new m h₂ to o;
+    }
 
 -- the nodes of one tree more
 more : (a b c x y : List TreeNode) → b ≡ a ++ x → c ≡ b ++ y → c ≡ a ++ (x ++ y)

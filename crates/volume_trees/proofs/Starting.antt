@@ -24,17 +24,19 @@ use Rattle.tree_writer.specs.Source.{LieApart}
 use Rattle.tree_writer.specs.Trees.{AreWritable}
 use Rattle.tree_writer.specs.declared.form.NodeForm.{NodeForm}
 use Rattle.tree_writer.specs.declared.trees.Trees.{Trees}
-use Rattle.unit_plan.specs.Laws.{AreApart}
+use Rattle.unit_plan.specs.Laws.{AreApart, IsSoundPlan}
 use Rattle.unit_plan.specs.Places.{node_places}
 use Rattle.unit_plan.specs.declared.chunk.Chunk.{Chunk}
+use Rattle.unit_plan.specs.declared.need.Need.{Need}
 use Rattle.unit_plan.specs.declared.options.Options.{Options}
 use Rattle.unit_plan.specs.declared.piece.Piece.{Piece}
 use Rattle.unit_plan.specs.declared.plan.Plan.{Plan}
 use Rattle.vol_block.specs.declared.ids.Ids.{Ids}
-use Rattle.volume_trees.specs.First.{FitFirst, first_items}
-use Rattle.volume_trees.specs.Sources.{IsInPieces, IsUsed}
+use Rattle.volume_trees.specs.First.{FirstItems, FitFirst, first_items}
+use Rattle.volume_trees.specs.Sources.{HasVolume, IsInPieces, IsUsed}
 use Rattle.volume_trees.proofs.Ending.{row_with}
-use Rattle.volume_trees.proofs.Opening.{Begins}
+use Rattle.volume_trees.proofs.Going.{Goes}
+use Rattle.volume_trees.proofs.Opening.{Begins, has_still, items_still}
 use Rattle.volume_trees.proofs.Given.{Given, node_form}
 use Rattle.volume_trees.proofs.Untouched.{pieces_apart, units_unused}
 
@@ -80,3 +82,26 @@ module _ (volume : Volume) (o : Options) (ids : Ids) (now : ℕ) (plan : Plan) (
         device = loose _ (chunk_items_fit plan volume.sup.blocks ids chunks are_ids given.are).1;
         few = omega (arith, given.few);
       })
+
+  -- What the trees that are written first need is there, where only the chunk tree was written before.
+  pub record Ready (row : Trees) (h : History) : Type 0 where
+    pub there : HasVolume volume pieces (reads h)
+    pub used : LieApart (IsUsed volume) row.form.nodesize row.slots
+    pub placed : LieApart (IsInPieces pieces) row.form.nodesize row.slots
+    pub same : first_items volume pieces o ids now chunks (reads h) ≡ first_items volume pieces o ids now chunks other
+    pub fit : FitFirst row (first_items volume pieces o ids now chunks (reads h))
+
+  pub ready : (need : Need) (chunk_row chunk_end row : Trees) (n : ℕ) (start h : History) → IsSoundPlan volume.bitmap need plan → reads start ≡ other
+      → chunk_row ≡ row_with (node_form o ids) (node_places o.nodesize plan.system) 0 [] → IsRow chunk_row → Goes chunk_row chunk_end n start h
+      → row ≡ row_with (node_form o ids) (node_places o.nodesize plan.metadata) 0 [] → IsRow row → ArePieces pieces → AreIds ids → Ready row h
+  ready need chunk_row chunk_end row n start h sound is chunk_fresh chunk_is goes fresh row_is are_pieces are_ids =
+      let chunk_begins = begins plan.system chunk_row start sound.system.free sound.system_data chunk_fresh chunk_is is in
+      let starts = begins plan.metadata row start sound.metadata.free sound.metadata_data fresh row_is is in
+      let same = items_still volume pieces chunk_row other start chunk_begins chunk_end n h goes o ids now chunks in
+      record {
+        there = has_still volume pieces chunk_row other start chunk_begins chunk_end n h goes;
+        used = starts.used;
+        placed = starts.placed;
+        same = same;
+        fit = subst (λ (x : FirstItems). FitFirst row x) (sym same) (first_fit row fresh are_pieces are_ids);
+      }

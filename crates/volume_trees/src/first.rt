@@ -6,6 +6,7 @@ ghost use Rattle.outside.specs.History.{Image, reads, OverTold, WritesOnly};
 ghost use Rattle.btr_node.specs.Leaf.{Item};
 ghost use Rattle.btr_tree.specs.Writing.{IsInSlots};
 ghost use Rattle.file_items.specs.Small.{image_items, relocation_items};
+ghost use Rattle.file_items.specs.Stream.{ahead};
 ghost use Rattle.file_items.specs.Tree.{source_of, tree_items};
 ghost use Rattle.space_items.specs.Chunks.{chunk_items, device_items};
 ghost use Rattle.space_items.specs.Stream.{ArePieces};
@@ -17,7 +18,7 @@ ghost use Rattle.tree_writer.specs.Trees.{AreWritable, form_of};
 ghost use Rattle.unit_plan.specs.Chunks.{AreChunks, FitsVolume};
 ghost use Rattle.unit_plan.specs.Pieces.{ArePlaced};
 ghost use Rattle.unit_plan.specs.declared.chunk.Chunk.{Chunk as ChunkOf};
-ghost use Rattle.volume_trees.specs.Sources.{HasVolume, IsInPieces, IsUsed, end_of};
+ghost use Rattle.volume_trees.specs.Sources.{FitsFiles, HasVolume, IsInPieces, IsLiveFiles, IsUsed, end_of};
 ghost use Rattle.volume_trees.specs.Adding.{Adds};
 
 use crate::sources::{FileItems, SumItems};
@@ -63,12 +64,8 @@ pub fn write_files<D: Disk, P: PieceList>(
     ensures only { IsTrue D.tells → WritesOnly (λ b _. IsInSlots row.old.form.nodesize (drop row.old.taken row.old.slots) b) (D.history disk.old) (D.history disk.new) }
     ensures cause { HasCauseOf WriteAnswer.Fault (D.faults disk.old) (D.faults disk.new) result }
 {
-    let mut items = FileItems {
-        items: Items::tree5(w.alloc, w.volume, w.pieces, w.options, w.time)?,
-        volume: w.volume,
-        pieces: w.pieces,
-    };
-    row.write(w.alloc, disk, FILE_TREE, &mut items)
+    let items = Items::tree5(w.alloc, w.volume, w.pieces, w.options, w.time)?;
+    write_file_tree(row, disk, w, FILE_TREE, items)
 }
 
 /// Writes the tree of the saved image.
@@ -92,12 +89,8 @@ pub fn write_image<D: Disk, P: PieceList>(
     ensures only { IsTrue D.tells → WritesOnly (λ b _. IsInSlots row.old.form.nodesize (drop row.old.taken row.old.slots) b) (D.history disk.old) (D.history disk.new) }
     ensures cause { HasCauseOf WriteAnswer.Fault (D.faults disk.old) (D.faults disk.new) result }
 {
-    let mut items = FileItems {
-        items: Items::image(w.alloc, w.volume, w.pieces, w.options, w.time)?,
-        volume: w.volume,
-        pieces: w.pieces,
-    };
-    row.write(w.alloc, disk, IMAGE_TREE, &mut items)
+    let items = Items::image(w.alloc, w.volume, w.pieces, w.options, w.time)?;
+    write_file_tree(row, disk, w, IMAGE_TREE, items)
 }
 
 /// Writes the relocation tree.
@@ -121,12 +114,39 @@ pub fn write_relocation<D: Disk, P: PieceList>(
     ensures only { IsTrue D.tells → WritesOnly (λ b _. IsInSlots row.old.form.nodesize (drop row.old.taken row.old.slots) b) (D.history disk.old) (D.history disk.new) }
     ensures cause { HasCauseOf WriteAnswer.Fault (D.faults disk.old) (D.faults disk.new) result }
 {
+    let items = Items::relocation(w.alloc, w.time)?;
+    write_file_tree(row, disk, w, RELOCATION_TREE, items)
+}
+
+/// Writes the tree of this number, of the items that come of a file tree.
+fn write_file_tree<D: Disk, P: PieceList>(
+    row: &mut Trees,
+    disk: &mut D,
+    w: &Writing<'_, P>,
+    number: u64,
+    items: Items,
+) -> Result<Root, WriteAnswer>
+    requires row { IsRow row.old }
+    requires open { D.opened disk.old ≡ Some Access.Write }
+    requires in_range { All (λ a. a + row.old.form.nodesize ≤ 4096 * D.size disk.old) row.old.slots }
+    requires live { IsLiveFiles items w.now.volume.now (P.pieces w.now.pieces.now) }
+    ensures row { OnOk result (IsRow row.new) }
+    ensures same { (row.new.form ≡ row.old.form) × (row.new.slots ≡ row.old.slots) }
+    ensures taken { IfOk result (λ root. row.new.taken ≡ row.old.taken + root.nodes) }
+    ensures tree { OverTold D.tells (D.blocks disk.old) (λ other. FitsFiles items w.now.volume.now (P.pieces w.now.pieces.now) other → LieApart (IsUsed w.now.volume.now) row.old.form.nodesize row.old.slots → (all : List Item) → ahead items w.now.volume.now (P.pieces w.now.pieces.now) other ≡ all → AreWritable row.old.form.nodesize (drop row.old.taken row.old.slots) all
+        → MatchResult result (λ root. Adds (reads (D.history disk.new)) row.old row.new number all root) IsFailure) }
+    ensures open { D.opened disk.new ≡ D.opened disk.old }
+    ensures size { D.size disk.new ≡ D.size disk.old }
+    ensures borrow { D.borrow disk.new ≡ D.borrow disk.old }
+    ensures only { IsTrue D.tells → WritesOnly (λ b _. IsInSlots row.old.form.nodesize (drop row.old.taken row.old.slots) b) (D.history disk.old) (D.history disk.new) }
+    ensures cause { HasCauseOf WriteAnswer.Fault (D.faults disk.old) (D.faults disk.new) result }
+{
     let mut items = FileItems {
-        items: Items::relocation(w.alloc, w.time)?,
+        items,
         volume: w.volume,
         pieces: w.pieces,
     };
-    row.write(w.alloc, disk, RELOCATION_TREE, &mut items)
+    row.write(w.alloc, disk, number, &mut items)
 }
 
 /// Writes the tree of checksums. Where files have none, it is empty.

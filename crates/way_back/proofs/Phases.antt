@@ -5,10 +5,10 @@ use Rattle.vol_block.specs.Volume.{zeros}
 use Rattle.outside.specs.History.{Image, History, block_at, reads, clock, IsSettled, IsBlock, LeftSince, WritesBlock, WritesOnly}
 use Rattle.outside.proofs.Crash.{left_each, write_only, writes_length, writes_then, writes_weaker, reads_only}
 use Rattle.outside.proofs.Phases.{left_outside, left_then, only_not, reads_outside, set_stands, write_reads}
+use Rattle.outside.proofs.Placing.{has_place}
 use Rattle.way_back.specs.declared.way.Saved.{Saved}
 use Rattle.way_back.specs.declared.way.WayBack.{WayBack}
 use Rattle.way_back.specs.Writing.{AreApart, AreWiped, AreWrittenBack, IsPart, IsPlace, IsTurned, IsUnturned, IsWiped, IsWiping}
-use Rattle.way_back.proofs.Places.{is_place}
 
 abbrev WritesSaved : List Saved → History → History → Type 0
 WritesSaved saved = WritesOnly (λ b _. IsPlace saved b)
@@ -28,7 +28,7 @@ module _ (way : WayBack) (apart : AreApart way) (old : Image) where
     size = size ∙ is.size;
     superblock = ⊎_elim (λ same. same) (λ wiping. absurd (not_wiped way wiping.0)) (each 16) ∙ is.superblock;
     written = λ k d below.
-        ⊎_elim (λ same. same) (λ wiping. absurd (apart.wiped (get_or saved k d).at wiping.0 (is_place saved k d below))) (each (get_or saved k d).at) ∙ is.written k d below;
+        ⊎_elim (λ same. same) (λ wiping. absurd (apart.wiped (get_or saved k d).at wiping.0 (has_place (λ (x : Saved). x.at) (λ (x : Saved). x.block.bytes) saved k d below))) (each (get_or saved k d).at) ∙ is.written k d below;
     others = λ b not_superblock outside.
         ⊎_elim
         (λ same. subst (λ (bytes : List ℕ). (bytes ≡ block_at old b) ⊎ IsWiping way b bytes) (sym same) (is.others b not_superblock outside))
@@ -42,7 +42,7 @@ module _ (way : WayBack) (apart : AreApart way) (old : Image) where
     size = size ∙ before.size;
     superblock = is;
     written = λ k d below.
-        same (get_or saved k d).at (λ eq. apart.superblock (subst (IsPlace saved) eq (is_place saved k d below))) ∙ stand k d below;
+        same (get_or saved k d).at (λ eq. apart.superblock (subst (IsPlace saved) eq (has_place (λ (x : Saved). x.at) (λ (x : Saved). x.block.bytes) saved k d below))) ∙ stand k d below;
     others = λ b not_superblock outside. inl (same b not_superblock ∙ before.others b outside);
   }
 

@@ -1,5 +1,15 @@
+use Rattle.std.proofs.Common.{◌≡◌, ℕ, List, [], ◌∷◌, ◌++◌, ap, ◌∙◌}
+use Rattle.vol_block.specs.Field.{fields_bytes}
+use Rattle.vol_block.specs.declared.field.Field.TheVariants.{U64}
+use Rattle.btr_keys.specs.Layout.{spelling}
+use Rattle.btr_node.specs.Inner.{child_layout}
 use Rattle.btr_node.proofs.Putting.{put_child_is}
 use Rattle.btr_node.proofs.put.put_child.Goals as goal
 
 pub returns : goal.returns
-returns c = λ children counted is. put_child_is _ c.args.count _ _ _ children c.requires counted is c.write.ensures
+unfolding child_layout
+returns c = λ children counted is.
+    let child = c.args.child.now in
+    let spelled : c.put_fields.new.into ≡ spelling child_layout child =
+    c.put_fields.ensures ∙ ap (λ (key : List ℕ). key ++ fields_bytes (U64 child.address ∷ U64 child.generation ∷ [])) c.to_bytes.ensures in
+    put_child_is _ c.args.count _ _ child children c.requires counted is spelled

@@ -12,14 +12,13 @@ use Rattle.tree_writer.specs.declared.form.NodeForm.{NodeForm}
 use Rattle.tree_writer.specs.declared.trees.Trees.{Trees}
 use Rattle.unit_plan.specs.Places.{node_places}
 use Rattle.volume_trees.proofs.Adding.{failed}
-use Rattle.volume_trees.specs.First.{AddsFirst, FirstItems, FitFirst, first_count, first_items}
+use Rattle.volume_trees.specs.First.{AddsFirst, FirstItems, first_count, first_items}
 use Rattle.volume_trees.specs.RootTree.{AddsLast, saved_in}
 use Rattle.volume_trees.proofs.Ending.{ends_for, first_counted, first_is, first_nodes, last_fits, row_is, trees_stand}
 use Rattle.volume_trees.proofs.Few.{row_few}
 use Rattle.volume_trees.proofs.Given.{given_for, node_form}
-use Rattle.volume_trees.proofs.Opening.{has_still, items_still}
 use Rattle.volume_trees.proofs.Going.{goes_by}
-use Rattle.volume_trees.proofs.Starting.{begins, first_fit, fresh_writable}
+use Rattle.volume_trees.proofs.Starting.{fresh_writable, ready}
 use Rattle.volume_trees.proofs.Whole.{chunk_only, first_only, whole}
 use Rattle.volume_trees.proofs.write.write_trees.Goals as goal
 
@@ -142,24 +141,17 @@ returns-in_err-first-clause-trees g c = λ tells other is image m making for sam
     let chunk_fields = c.in_ok-chunk_row.ensures.fields in
     let chunk_fresh = row_is chunk_row (node_form o ids) (node_places o.nodesize plan.system) 0 [] chunk_fields.0 chunk_fields.1 chunk_fields.2 chunk_fields.3 in
     let are_ids : AreIds ids = c.know_ids.ensures in
-    let chunk_writable = fresh_writable chunk_row (node_form o ids) (node_places o.nodesize plan.system) (chunk_items ids volume.sup.blocks m.chunks) chunk_fresh c.requires.size (chunk_items_fit plan volume.sup.blocks ids m.chunks are_ids given.are).0 given.chunk_few in
-    let sound = c.requires.sound.1 in
     let start = g.D.Disk.history c.args.disk.now in
     let h₁ = g.D.Disk.history c.write_chunks.new.disk in
     let chunk_end = c.write_chunks.new.row in
-    let chunk_begins = begins volume o ids c.args.now plan pieces m.chunks image other given c.requires.size plan.system chunk_row start sound.system.free sound.system_data chunk_fresh c.in_ok-chunk_row.ensures.row
-    (sym (g.met.D.Disk.open_blocks c.args.disk.now _ tells c.requires.«open») ∙ is) in
     let chunk_goes = goes_by chunk_row chunk_end _ start h₁ c.in_ok-chunk.ensures.same c.in_ok-chunk.ensures.taken (c.write_chunks.ensures.only tells) in
     let row = c.in_ok-row.row in
     let fields = c.in_ok-row.ensures.fields in
     let fresh = row_is row (node_form o ids) (node_places o.nodesize plan.metadata) 0 [] fields.0 fields.1 fields.2 fields.3 in
-    let starts = begins volume o ids c.args.now plan pieces m.chunks image other given c.requires.size plan.metadata row start sound.metadata.free sound.metadata_data fresh c.in_ok-row.ensures.row
-    (sym (g.met.D.Disk.open_blocks c.args.disk.now _ tells c.requires.«open») ∙ is) in
-    let items_same = items_still volume pieces chunk_row other start chunk_begins chunk_end _ h₁ chunk_goes o ids c.args.now m.chunks in
+    let found = ready volume o ids c.args.now plan pieces m.chunks image other given c.requires.size c.requires.sound.0 chunk_row chunk_end row _ start h₁ c.requires.sound.1
+    (sym (g.met.D.Disk.open_blocks c.args.disk.now _ tells c.requires.«open») ∙ is) chunk_fresh c.in_ok-chunk_row.ensures.row chunk_goes fresh c.in_ok-row.ensures.row c.requires.pieces are_ids in
     failed _ _ _ c.from_residual-in_err-first.ensures.1
-    (c.in_err-first.ensures.tree tells _ (g.met.D.Disk.open_blocks c.write_chunks.new.disk _ tells (c.write_chunks.ensures.«open» ∙ c.requires.«open»)) m.chunks given.are
-    (has_still volume pieces chunk_row other start chunk_begins chunk_end _ h₁ chunk_goes) starts.used starts.placed
-    (subst (λ (x : FirstItems). FitFirst row x) (sym items_same) (first_fit volume o ids c.args.now plan pieces m.chunks image other given c.requires.size row fresh c.requires.pieces are_ids)))
+    (c.in_err-first.ensures.tree tells _ (g.met.D.Disk.open_blocks c.write_chunks.new.disk _ tells (c.write_chunks.ensures.«open» ∙ c.requires.«open»)) m.chunks given.are found.there found.used found.placed found.fit)
 
 pub returns-clause-trees : goal.returns-clause-trees
 returns-clause-trees g c = λ tells other is image m making for same fit.
@@ -173,20 +165,16 @@ returns-clause-trees g c = λ tells other is image m making for same fit.
     let chunk_fields = c.in_ok-chunk_row.ensures.fields in
     let chunk_fresh = row_is chunk_row (node_form o ids) (node_places o.nodesize plan.system) 0 [] chunk_fields.0 chunk_fields.1 chunk_fields.2 chunk_fields.3 in
     let are_ids : AreIds ids = c.know_ids.ensures in
-    let chunk_writable = fresh_writable chunk_row (node_form o ids) (node_places o.nodesize plan.system) (chunk_items ids volume.sup.blocks m.chunks) chunk_fresh c.requires.size (chunk_items_fit plan volume.sup.blocks ids m.chunks are_ids given.are).0 given.chunk_few in
-    let sound = c.requires.sound.1 in
     let start = g.D.Disk.history c.args.disk.now in
     let h₁ = g.D.Disk.history c.write_chunks.new.disk in
     let chunk_end = c.write_chunks.new.row in
-    let chunk_begins = begins volume o ids c.args.now plan pieces m.chunks image other given c.requires.size plan.system chunk_row start sound.system.free sound.system_data chunk_fresh c.in_ok-chunk_row.ensures.row
-    (sym (g.met.D.Disk.open_blocks c.args.disk.now _ tells c.requires.«open») ∙ is) in
     let chunk_goes = goes_by chunk_row chunk_end _ start h₁ c.in_ok-chunk.ensures.same c.in_ok-chunk.ensures.taken (c.write_chunks.ensures.only tells) in
     let row = c.in_ok-row.row in
     let fields = c.in_ok-row.ensures.fields in
     let fresh = row_is row (node_form o ids) (node_places o.nodesize plan.metadata) 0 [] fields.0 fields.1 fields.2 fields.3 in
-    let starts = begins volume o ids c.args.now plan pieces m.chunks image other given c.requires.size plan.metadata row start sound.metadata.free sound.metadata_data fresh c.in_ok-row.ensures.row
-    (sym (g.met.D.Disk.open_blocks c.args.disk.now _ tells c.requires.«open») ∙ is) in
-    let items_same = items_still volume pieces chunk_row other start chunk_begins chunk_end _ h₁ chunk_goes o ids c.args.now m.chunks in
+    let found = ready volume o ids c.args.now plan pieces m.chunks image other given c.requires.size c.requires.sound.0 chunk_row chunk_end row _ start h₁ c.requires.sound.1
+    (sym (g.met.D.Disk.open_blocks c.args.disk.now _ tells c.requires.«open») ∙ is) chunk_fresh c.in_ok-chunk_row.ensures.row chunk_goes fresh c.in_ok-row.ensures.row c.requires.pieces are_ids in
+    let chunk_writable = fresh_writable chunk_row (node_form o ids) (node_places o.nodesize plan.system) (chunk_items ids volume.sup.blocks m.chunks) chunk_fresh c.requires.size (chunk_items_fit plan volume.sup.blocks ids m.chunks are_ids given.are).0 given.chunk_few in
     let h₂ = g.D.Disk.history c.write_first.new.disk in
     let h₃ = g.D.Disk.history c.write_last.new.disk in
     let end = c.write_first.new.row in
@@ -194,10 +182,8 @@ returns-clause-trees g c = λ tells other is image m making for same fit.
     let chunk = c.in_ok-chunk.chunk in
     let chunk_added = c.in_ok-chunk.ensures.tree tells other is m.chunks given.are chunk_writable in
     let first_added : AddsFirst (reads h₂) row end (first_items volume pieces o ids c.args.now m.chunks other) first =
-    subst (λ (x : FirstItems). AddsFirst (reads h₂) row end x first) items_same
-    (c.in_ok-first.ensures.tree tells _ (g.met.D.Disk.open_blocks c.write_chunks.new.disk _ tells (c.write_chunks.ensures.«open» ∙ c.requires.«open»)) m.chunks given.are
-    (has_still volume pieces chunk_row other start chunk_begins chunk_end _ h₁ chunk_goes) starts.used starts.placed
-    (subst (λ (x : FirstItems). FitFirst row x) (sym items_same) (first_fit volume o ids c.args.now plan pieces m.chunks image other given c.requires.size row fresh c.requires.pieces are_ids))) in
+    subst (λ (x : FirstItems). AddsFirst (reads h₂) row end x first) found.same
+    (c.in_ok-first.ensures.tree tells _ (g.met.D.Disk.open_blocks c.write_chunks.new.disk _ tells (c.write_chunks.ensures.«open» ∙ c.requires.«open»)) m.chunks given.are found.there found.used found.placed found.fit) in
     let goes = goes_by row end (first_nodes first) h₁ h₂ c.in_ok-first.ensures.same (omega (arith, c.in_ok-first.ensures.taken)) (c.write_first.ensures.only tells) in
     let counted = first_counted (reads h₂) row end (first_items volume pieces o ids c.args.now m.chunks other) first first_added in
     let enough = last_fits end (node_form o ids) (node_places o.nodesize plan.metadata) _ (saved_in volume) c.args.now (length pieces) (length m.chunks) _ (length c.nodes.result.now) (goes.form ∙ fields.0) (goes.slots ∙ fields.1)
@@ -208,7 +194,7 @@ returns-clause-trees g c = λ tells other is image m making for same fit.
     trees_stand image other m chunk_row chunk_end row end chunk first h₁ h₂ h₃ t
     (ends_for m volume o ids c.args.now plan pieces image other chunk_row chunk_end row end chunk first h₁ h₂ h₃ t for (record {
       size = c.requires.size;
-      apart = sound.system_metadata;
+      apart = c.requires.sound.1.system_metadata;
       serve = subst (λ (x : Trees). AreSlots x.form.nodesize x.slots) fresh c.in_ok-row.ensures.row.slots;
       chunk_fresh = chunk_fresh;
       row_fresh = fresh;

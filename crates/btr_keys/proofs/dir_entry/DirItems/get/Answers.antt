@@ -1,22 +1,10 @@
-use Rattle.std.proofs.Common.{◌≤◌, ◌+◌, length, ap, sym, ◌∙◌, Some, arith}
-use Rattle.vol_block.specs.Volume.{field}
-use Rattle.btr_keys.specs.Repeated.{behind_named}
+use Rattle.std.proofs.Common.{Some, ap, sym, ◌∙◌, lit<}
 use Rattle.btr_keys.specs.DirEntry.{dir_entry_front}
-use Rattle.btr_keys.proofs.Starts.{named_whole, record_at, record_is_whole}
+use Rattle.btr_keys.proofs.Starts.{start_within, record_at}
 use Rattle.btr_keys.proofs.dir_entry.DirItems.get.Goals as goal
 
-pub front-requires-clause-head : goal.front-requires-clause-head
-front-requires-clause-head c =
-    let bytes = c.record_start.result.now in
-    let size : 30 + field 2 bytes 27 ≤ length bytes = named_whole 30 27 bytes (record_is_whole (behind_named 30 27) dir_entry_front c.self.inside.body.now bytes c.args.self.now c.args.i (c.self.invariant.0 ∙ ap Some c.self.view_is) c.requires c.record_start.ensures.whole) in
-    omega (arith, size)
-
-pub front-requires-clause-name : goal.front-requires-clause-name
-front-requires-clause-name c =
-    let bytes = c.record_start.result.now in
-    named_whole 30 27 bytes (record_is_whole (behind_named 30 27) dir_entry_front c.self.inside.body.now bytes c.args.self.now c.args.i (c.self.invariant.0 ∙ ap Some c.self.view_is) c.requires c.record_start.ensures.whole)
+pub start-requires : goal.start-requires
+start-requires c = (lit< tt, start_within dir_entry_front c.self.inside.0 c.args.self.now c.args.i c.self.view_is c.requires)
 
 pub returns : goal.returns
-returns c =
-    record_at (behind_named 30 27) dir_entry_front c.self.inside.body.now c.record_start.result.now c.args.self.now c.args.i (c.self.invariant.0 ∙ ap Some c.self.view_is) c.requires c.record_start.ensures.there
-    ∙ ap Some (sym c.front.ensures)
+returns c = record_at dir_entry_front c.self.inside.0 c.start.result.now c.args.self.now c.args.i c.self.view_is c.start.ensures.there ∙ ap Some (sym c.front.ensures)
