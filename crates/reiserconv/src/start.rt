@@ -7,6 +7,7 @@ use std::time::{Clock, SystemTime};
 use std::{env, io};
 use uuid::Builder;
 use vol_block::Ids;
+use volume_app::{Command, read_words};
 
 /// What a run starts with, beside the disk and the sinks.
 #[derive(Drop)]
@@ -37,10 +38,7 @@ impl Start {
 
     /// Whether the words ask for a trial.
     pub fn is_trial(&self) -> bool {
-        match self.words.as_slice() {
-            [word, ..] => word.as_str() == "trial",
-            [] => false,
-        }
+        matches!(read_words(&self.words), Some(Command::Trial(..)))
     }
 }
 

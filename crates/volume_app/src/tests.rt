@@ -32,32 +32,33 @@ struct Run {
     err: MemSink,
 }
 
-/// Runs the words over a disk, with an output sink whose call of this number fails, if one is to.
+/// Runs a command, whose words stand with a space between each two, over a disk, with an output sink whose call of this number fails, if
+/// one is to.
 fn run_on(
     alloc: Global,
-    words: &[&str],
+    command: &str,
     disk: &mut MemDisk,
     failing: Option<u64>,
 ) -> Result<Run, Memory>
     requires { disk.old.opened ≡ None }
 {
-    let mut owned = Vec::new(alloc);
-    for word in words {
-        owned.push(String::from_str(alloc, word)?)?;
+    let mut words = Vec::new(alloc);
+    for word in command.split(' ') {
+        words.push(String::from_str(alloc, word)?)?;
     }
     let mut out = MemSink::new(alloc);
     let mut err = MemSink::new(alloc);
     if let Some(call) = failing {
         out.fail_call(call)?;
     }
-    let status = run(alloc, &owned, IDS, 1, disk, &mut out, &mut err);
+    let status = run(alloc, &words, IDS, 1, disk, &mut out, &mut err);
     Ok(Run { status, out, err })
 }
 
 /// A run over a disk ends so.
 fn ends(
     rt: &(impl Abort + AllocGlobal),
-    words: &[&str],
+    command: &str,
     disk: &mut MemDisk,
     status: u8,
     out: &str,
@@ -65,7 +66,7 @@ fn ends(
 ) -> Result<(), Fail>
     requires { disk.old.opened ≡ None }
 {
-    let ended = run_on(rt.alloc(), words, disk, None)?;
+    let ended = run_on(rt.alloc(), command, disk, None)?;
     assert!(rt; ended.out.bytes() == out.as_bytes());
     assert!(rt; ended.err.bytes() == err.as_bytes());
     assert_eq!(rt; ended.status, status);
@@ -74,33 +75,38 @@ fn ends(
 
 const USAGE: &str = "usage: reiserconv COMMAND [OPTIONS] PATH\n";
 
-/// The words are no command.
-fn is_usage(rt: &(impl Abort + AllocGlobal), words: &[&str]) -> Result<(), Fail> {
+/// These words are no command, whatever the disk.
+fn is_usage(rt: &(impl Abort + AllocGlobal), words: &str) -> Result<(), Fail> {
     let mut disk = MemDisk::new(rt.alloc(), 0)?;
     ends(rt, words, &mut disk, 2, "", USAGE)
 }
 
 #[test]
 fn words_that_ask_for_nothing(rt: HostRuntime) -> Result<(), Fail> {
-    is_usage(&rt, &[])?;
-    is_usage(&rt, &["inspect"])?;
-    is_usage(&rt, &["inspect", "-x"])?;
-    is_usage(&rt, &["inspect", ""])?;
-    is_usage(&rt, &["inspect", "a", "b"])?;
-    is_usage(&rt, &["list"])?;
-    is_usage(&rt, &["list", "-"])?;
-    is_usage(&rt, &["mount", "a"])?;
-    is_usage(&rt, &["--help", "a"])
+    for words in [
+        "",
+        "inspect",
+        "inspect -x",
+        "inspect ",
+        "inspect a b",
+        "list",
+        "list -",
+        "mount a",
+        "--help a",
+    ] {
+        is_usage(&rt, words)?;
+    }
+    Ok(())
 }
 
 #[test]
 fn help_and_version_open_nothing(rt: HostRuntime) -> Result<(), Fail> {
     let mut disk = MemDisk::new(rt.alloc(), 0)?;
     disk.fail_call(0)?;
-    ends(&rt, &["--version"], &mut disk, 0, "reiserconv 0.1.0\n", "")?;
+    ends(&rt, "--version", &mut disk, 0, "reiserconv 0.1.0\n", "")?;
     let mut disk = MemDisk::new(rt.alloc(), 0)?;
     disk.fail_call(0)?;
-    let ended = run_on(rt.alloc(), &["--help"], &mut disk, None)?;
+    let ended = run_on(rt.alloc(), "--help", &mut disk, None)?;
     assert_eq!(rt; ended.status, 0);
     assert!(rt; ended.out.bytes().starts_with(USAGE.as_bytes()));
     Ok(())
@@ -112,7 +118,7 @@ const SAMPLE: &str =
 #[test]
 fn inspect_prints_the_superblock(rt: HostRuntime) -> Result<(), Fail> {
     let mut disk = sample(rt.alloc(), 2048)?;
-    ends(&rt, &["inspect", "x"], &mut disk, 0, SAMPLE, "")
+    ends(&rt, "inspect x", &mut disk, 0, SAMPLE, "")
 }
 
 #[test]
@@ -128,7 +134,7 @@ fn a_label_is_escaped_and_cut(rt: HostRuntime) -> Result<(), Fail> {
         ),
     ] {
         let mut disk = changed(rt.alloc(), 16, 100, label)?;
-        let ended = run_on(rt.alloc(), &["inspect", "x"], &mut disk, None)?;
+        let ended = run_on(rt.alloc(), "inspect x", &mut disk, None)?;
         assert!(rt; ended.out.bytes().ends_with(line.as_bytes()));
     }
     Ok(())
@@ -138,7 +144,7 @@ fn a_label_is_escaped_and_cut(rt: HostRuntime) -> Result<(), Fail> {
 fn refused(rt: &(impl Abort + AllocGlobal), disk: &mut MemDisk, line: &str) -> Result<(), Fail>
     requires { disk.old.opened ≡ None }
 {
-    ends(rt, &["inspect", "x"], disk, 1, "", line)
+    ends(rt, "inspect x", disk, 1, "", line)
 }
 
 #[test]
@@ -248,14 +254,16 @@ fn a_journal_waits_only_with_a_whole_transaction(rt: HostRuntime) -> Result<(), 
 #[test]
 fn a_journal_without_a_whole_newer_transaction_is_empty(rt: HostRuntime) -> Result<(), Fail> {
     // No commit block, one of another transaction, one of another length, and a transaction that was flushed.
-    let mut disk = with_journal(rt.alloc(), 7, 8, &[])?;
-    ends(&rt, &["inspect", "x"], &mut disk, 0, SAMPLE, "")?;
-    let mut disk = with_journal(rt.alloc(), 7, 8, &[9, 0, 0, 0, 3])?;
-    ends(&rt, &["inspect", "x"], &mut disk, 0, SAMPLE, "")?;
-    let mut disk = with_journal(rt.alloc(), 7, 8, &[8, 0, 0, 0, 4])?;
-    ends(&rt, &["inspect", "x"], &mut disk, 0, SAMPLE, "")?;
-    let mut disk = with_journal(rt.alloc(), 7, 7, &[7, 0, 0, 0, 3])?;
-    ends(&rt, &["inspect", "x"], &mut disk, 0, SAMPLE, "")
+    for (trans, commit) in [
+        (8, [0; 5]),
+        (8, [9, 0, 0, 0, 3]),
+        (8, [8, 0, 0, 0, 4]),
+        (7, [7, 0, 0, 0, 3]),
+    ] {
+        let mut disk = with_journal(rt.alloc(), 7, trans, &commit)?;
+        ends(&rt, "inspect x", &mut disk, 0, SAMPLE, "")?;
+    }
+    Ok(())
 }
 
 #[test]
@@ -289,7 +297,7 @@ fn the_tree_is_walked(rt: HostRuntime) -> Result<(), Fail> {
     let mut disk = pointing_to(rt.alloc(), 51)?;
     refused(&rt, &mut disk, "refused 6 damaged 51 8\n")?;
     let mut disk = pointing_to(rt.alloc(), 0)?;
-    ends(&rt, &["inspect", "x"], &mut disk, 0, SAMPLE, "")
+    ends(&rt, "inspect x", &mut disk, 0, SAMPLE, "")
 }
 
 #[test]
@@ -311,10 +319,10 @@ fn failed_calls_end_the_run(rt: HostRuntime) -> Result<(), Fail> {
     for call in 0..7 {
         let mut disk = sample(rt.alloc(), 2048)?;
         disk.fail_call(call)?;
-        ends(&rt, &["inspect", "x"], &mut disk, 3, "", "device fault\n")?;
+        ends(&rt, "inspect x", &mut disk, 3, "", "device fault\n")?;
     }
     let mut disk = sample(rt.alloc(), 2048)?;
-    let ended = run_on(rt.alloc(), &["inspect", "x"], &mut disk, Some(0))?;
+    let ended = run_on(rt.alloc(), "inspect x", &mut disk, Some(0))?;
     assert_eq!(rt; ended.status, 5);
     assert!(rt; SAMPLE.as_bytes().starts_with(ended.out.bytes()));
     assert!(rt; ended.err.bytes() == b"output fault\n".as_slice());
@@ -326,7 +334,7 @@ const ROOT: &str = "d 0755 0 0 1000000000 1000000000 1000000000 - - - - - /\n";
 #[test]
 fn list_prints_the_rows(rt: HostRuntime) -> Result<(), Fail> {
     let mut disk = sample(rt.alloc(), 2048)?;
-    ends(&rt, &["list", "x"], &mut disk, 0, ROOT, "")?;
+    ends(&rt, "list x", &mut disk, 0, ROOT, "")?;
     for (n, at, bytes, line) in [
         (
             16,
@@ -338,7 +346,7 @@ fn list_prints_the_rows(rt: HostRuntime) -> Result<(), Fail> {
         (51, 4053, b"\x81".as_slice(), "refused 6 damaged 51 11\n"),
     ] {
         let mut disk = changed(rt.alloc(), n, at, bytes)?;
-        ends(&rt, &["list", "x"], &mut disk, 1, "", line)?;
+        ends(&rt, "list x", &mut disk, 1, "", line)?;
     }
     Ok(())
 }
@@ -348,10 +356,10 @@ fn failed_calls_end_a_list(rt: HostRuntime) -> Result<(), Fail> {
     for call in 0..7 {
         let mut disk = sample(rt.alloc(), 2048)?;
         disk.fail_call(call)?;
-        ends(&rt, &["list", "x"], &mut disk, 3, "", "device fault\n")?;
+        ends(&rt, "list x", &mut disk, 3, "", "device fault\n")?;
     }
     let mut disk = sample(rt.alloc(), 2048)?;
-    let ended = run_on(rt.alloc(), &["list", "x"], &mut disk, Some(0))?;
+    let ended = run_on(rt.alloc(), "list x", &mut disk, Some(0))?;
     assert_eq!(rt; ended.status, 5);
     assert!(rt; ROOT.as_bytes().starts_with(ended.out.bytes()));
     assert!(rt; ended.err.bytes() == b"output fault\n".as_slice());

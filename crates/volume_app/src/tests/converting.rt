@@ -17,45 +17,43 @@ const CONVERTED: &str =
 /// The next command, over the disk that the last one closed, ends so.
 pub fn then(
     rt: &(impl Abort + AllocGlobal),
-    words: &[&str],
+    command: &str,
     disk: &mut MemDisk,
     status: u8,
     out: &str,
     err: &str,
 ) -> Result<(), Fail> {
     disk.settle();
-    ends(rt, words, disk, status, out, err)
+    ends(rt, command, disk, status, out, err)
 }
 
 #[test]
 fn a_converted_volume_has_the_same_rows(rt: HostRuntime) -> Result<(), Fail> {
     let mut disk = sample(rt.alloc(), 2048)?;
-    ends(&rt, &["convert", "x"], &mut disk, 0, DONE, "")?;
-    then(&rt, &["inspect", "x"], &mut disk, 0, CONVERTED, "")?;
-    then(&rt, &["list", "x"], &mut disk, 0, ROOT, "")?;
-    then(
-        &rt,
-        &["convert", "x"],
-        &mut disk,
-        1,
-        "",
-        "refused 16 format\n",
-    )?;
+    ends(&rt, "convert x", &mut disk, 0, DONE, "")?;
+    then(&rt, "inspect x", &mut disk, 0, CONVERTED, "")?;
+    then(&rt, "list x", &mut disk, 0, ROOT, "")?;
+    then(&rt, "convert x", &mut disk, 1, "", "refused 16 format\n")?;
     assert_eq!(rt; disk.writes(), 0);
     Ok(())
 }
 
 #[test]
 fn words_that_are_no_options(rt: HostRuntime) -> Result<(), Fail> {
-    is_usage(&rt, &["convert"])?;
-    is_usage(&rt, &["convert", "-x"])?;
-    is_usage(&rt, &["convert", "x", "y"])?;
-    is_usage(&rt, &["convert", "--nodesize", "16383", "x"])?;
-    is_usage(&rt, &["convert", "--label", "a", "--copy-label", "x"])?;
-    is_usage(&rt, &["convert", "--no-inline", "--no-inline", "x"])?;
-    is_usage(&rt, &["convert", "--uuid", "12", "x"])?;
-    is_usage(&rt, &["convert", "--label", "x"])?;
-    is_usage(&rt, &["list", "--no-inline", "x"])
+    for words in [
+        "convert",
+        "convert -x",
+        "convert x y",
+        "convert --nodesize 16383 x",
+        "convert --label a --copy-label x",
+        "convert --no-inline --no-inline x",
+        "convert --uuid 12 x",
+        "convert --label x",
+        "list --no-inline x",
+    ] {
+        is_usage(&rt, words)?;
+    }
+    Ok(())
 }
 
 /// The volume is refused, and nothing was written.
@@ -67,7 +65,7 @@ fn refused(
 ) -> Result<(), Fail>
     requires { disk.old.opened ≡ None }
 {
-    ends(rt, &["convert", "x"], disk, status, "", line)?;
+    ends(rt, "convert x", disk, status, "", line)?;
     assert_eq!(rt; disk.writes(), 0);
     Ok(())
 }
@@ -92,7 +90,7 @@ fn what_is_refused_is_not_written(rt: HostRuntime) -> Result<(), Fail> {
 #[test]
 fn an_output_that_fails_leaves_the_volume_converted(rt: HostRuntime) -> Result<(), Fail> {
     let mut disk = sample(rt.alloc(), 2048)?;
-    let ended = run_on(rt.alloc(), &["convert", "x"], &mut disk, Some(0))?;
+    let ended = run_on(rt.alloc(), "convert x", &mut disk, Some(0))?;
     assert_eq!(rt; ended.status, 5);
-    then(&rt, &["inspect", "x"], &mut disk, 0, CONVERTED, "")
+    then(&rt, "inspect x", &mut disk, 0, CONVERTED, "")
 }
