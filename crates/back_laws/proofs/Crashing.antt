@@ -26,7 +26,7 @@ module _ (decide : UsedBlocksDecide) (o : Options) (image other : Image) (other_
   same_format =
       ap (λ (n : ℕ). if nat_le n 16 then Neither else format (block_at other 16)) before.size ∙ ap (λ (block : List ℕ). if nat_le (length image) 16 then Neither else format block) same_block
 
-  stands : StandsAsBefore image other
+  pub stands : StandsAsBefore image other
   stands = record {
     format = λ is. other_format (sym same_format ∙ is);
     same = decide image other accepted before.used (let fits = accepted.clean.superblock.fits in let size = before.size in omega (arith, fits, size));

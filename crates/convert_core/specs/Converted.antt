@@ -52,6 +52,11 @@ pub record IsBefore (image other : Image) : Type 0 where
 abbrev pub IsFree : Image → ℕ → Type 0
 IsFree image b = IsFreeUnit (used_of image) (b / 256)
 
+-- All else is as it was: only blocks in units that the old volume has free may differ.
+pub record DiffersInFree (image other : Image) : Type 0 where
+  pub size : length other ≡ length image
+  pub others : (b : ℕ) → ¬ IsFree image b → block_at other b ≡ block_at image b
+
 -- ---- the new volume
 
 -- the conversion of the volume in these blocks, with these options and identifiers and at this time
@@ -90,12 +95,14 @@ pub record IsPutDown (o : Options) (ids : Ids) (now : ℕ) (image other : Image)
   pub blocks : w.blocks ≡ m.volume.sup.blocks
   pub summary : IsSummary o image w.summary
 
--- The new volume: block 16 is its superblock. The blocks of the superblock's copies may hold anything.
+-- The new volume: block 16 is its superblock. The blocks of the superblock's copies may hold anything, where the volume has them.
 pub record IsNew (o : Options) (ids : Ids) (now : ℕ) (image other : Image) (m : Making) (r : VolumeTrees) (nodes : List TreeNode) : Type 0 where
   pub conversion : IsConversion o ids now image m
   pub stands : StandsOn image other m r nodes
   pub superblock : block_at other 16 ≡ superblock_of m r nodes
   pub others : (b : ℕ) → b ≢ 16 → ¬ IsMirror b → ¬ IsTaken m.plan b → block_at other b ≡ block_at image b
+  -- what lies behind the volume is as it was
+  pub behind : (b : ℕ) → m.volume.sup.blocks ≤ b → block_at other b ≡ block_at image b
 
 -- The volume is converted: the copies of the superblock stand too.
 pub record IsConverted (o : Options) (ids : Ids) (now : ℕ) (image other : Image) : Type 0 where

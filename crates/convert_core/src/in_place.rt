@@ -7,7 +7,7 @@ ghost use Rattle.outside.specs.Format.{format_in};
 ghost use Rattle.outside.specs.History.{EachCrash, IsSettled, OverTold, reads};
 ghost use Rattle.vol_block.specs.declared.format.Format.TheVariants as formats;
 ghost use Rattle.convert_core.specs.Answers.{IsConvertAnswer, RefusesConvert};
-ghost use Rattle.convert_core.specs.Converted.{IsConverted, IsEither};
+ghost use Rattle.convert_core.specs.Converted.{DiffersInFree, IsConverted, IsEither};
 ghost use Rattle.convert_core.specs.Surveyed.{IsSummary};
 
 use crate::answers::fault_answer;
@@ -29,7 +29,8 @@ const SUPERBLOCK: BlockNo = 16;
 /// the disk before the superblock is. A crash at any moment leaves the old volume or the new one.
 ///
 /// A refusal names what is wrong with the volume, or the space that it has not; then no block was written. Only over a
-/// disk that reads a block otherwise the second time, which is then refused as damaged, may free blocks have been written.
+/// disk that reads a block otherwise the second time, which is then refused as damaged, may free blocks have been written. Where
+/// memory ran out, only blocks in free units may have been.
 pub fn convert<D: Disk>(
     alloc: Global,
     disk: &mut D,
@@ -47,6 +48,7 @@ pub fn convert<D: Disk>(
         MatchResult result (λ s. IsConverted options.now ids.now now image (reads (D.history disk.new)) × IsSummary options.now image s) (RefusesConvert options.now image)) }
     ensures settled { IsTrue D.tells → OnOk result (IsSettled (D.history disk.new)) }
     ensures refused { IsTrue D.tells → IfErr result (λ e. e ≢ Answer.Fault → e ≢ Answer.Memory → D.history disk.new ≡ D.history disk.old) }
+    ensures memory { IsTrue D.tells → IfErr result (λ e. e ≡ Answer.Memory → DiffersInFree (reads (D.history disk.old)) (reads (D.history disk.new))) }
     ensures cause { HasCauseOf Answer.Fault (D.faults disk.old) (D.faults disk.new) result }
     ensures answers { IfErr result IsConvertAnswer }
 {

@@ -1,11 +1,19 @@
 -- What the switch to a Btrfs superblock leaves.
-use Rattle.std.specs.Prelude.{◌≡◌, ◌≢◌, ◌⊎◌, ℕ, ◌<◌, List, length}
+use Rattle.std.specs.Prelude.{◌≡◌, ◌≢◌, ◌⊎◌, ℕ, ◌<◌, nat_lt, if◌then◌else◌, Option, Some, None, List, [], ◌∷◌, length}
 use Rattle.outside.specs.History.{Image, block_at, IsBlock}
 use Rattle.btr_super.specs.Super.{mirror_bytes}
 
 -- the blocks of the copies of a superblock, at 64 MiB and at 256 GiB, as the Btrfs on-disk format documentation has them
 abbrev pub IsMirror : ℕ → Type 0
 IsMirror b = (b ≡ 16384) ⊎ (b ≡ 67108864)
+
+-- a block, where a volume of so many blocks has it
+abbrev pub on_volume : ℕ → ℕ → Option ℕ
+on_volume blocks b = if nat_lt b blocks then Some b else None
+
+-- those of a volume of so many blocks
+abbrev pub mirror_places : ℕ → List (Option ℕ)
+mirror_places blocks = on_volume blocks 16384 ∷ on_volume blocks 67108864 ∷ []
 
 -- a copy of the superblock, on a volume of so many blocks
 pub record IsCopy (superblock : List ℕ) (blocks b : ℕ) (bytes : List ℕ) : Type 0 where

@@ -14,4 +14,4 @@ pub use fields::{NewRoots, superblock};
 pub use form::{ids_of, label_of};
 pub use pieces::write_moved;
 pub use prepared::{Prepared, prepare, volume_answer};
-pub use switch::switch_to;
+pub use switch::{mirror_places, switch_to};

@@ -3,7 +3,7 @@ ghost use Rattle.std.specs.Prelude.{◌≡◌, ◌≤◌, ◌<◌, ◌⊎◌, sl
 ghost use Rattle.outside.specs.Fault.{HasCause};
 ghost use Rattle.outside.specs.History.{block_at, reads, IsSettled, IsBlock, EachCrash, WritesOnly};
 ghost use Rattle.btr_super.specs.Super.{mirror_bytes};
-ghost use Rattle.convert_steps.specs.Switch.{IsMirror, IsPart, IsCopy, IsCopyAt, IsSwitched, HasCopies};
+ghost use Rattle.convert_steps.specs.Switch.{IsMirror, IsPart, IsCopy, IsCopyAt, IsSwitched, HasCopies, mirror_places, on_volume};
 
 use btr_super::mirror;
 use outside::{Access, Disk, Fault};
@@ -17,6 +17,23 @@ const FIRST_COPY: BlockNo = 16384;
 
 /// The block of its second copy: at 256 GiB.
 const SECOND_COPY: BlockNo = 67_108_864;
+
+/// The blocks of the copies of a Btrfs superblock, each where a volume of so many blocks has it.
+pub fn mirror_places(blocks: u64) -> [Option<BlockNo>; 2]
+    ensures { result ≡ mirror_places blocks }
+{
+    [
+        on_volume(FIRST_COPY, blocks),
+        on_volume(SECOND_COPY, blocks),
+    ]
+}
+
+/// A block, where a volume of so many blocks has it.
+fn on_volume(block: BlockNo, blocks: u64) -> Option<BlockNo>
+    ensures { result ≡ on_volume blocks block }
+{
+    if block < blocks { Some(block) } else { None }
+}
 
 /// Writes a Btrfs superblock to block 16, and then its copies, on a volume of so many blocks. Each of the two steps is on
 /// the disk before the next begins.

@@ -244,6 +244,19 @@ refusal_by answer is = (
   λ e. no_other 4 (subst (λ (a : Answer). (status (Failed a) ≡ 1) ⊎ ((status (Failed a) ≡ 2) ⊎ (status (Failed a) ≡ 6))) e is) (omega arith, omega arith),
 )
 
+-- status 4 is that of want of memory alone
+pub memory_by : (answer : Answer) → status (Failed answer) ≡ 4 → answer ≡ Memory
+memory_by (Volume refusal) is = absurd (omega (arith, is))
+memory_by (Btr refusal) is = absurd (omega (arith, is))
+memory_by (NoSpace needed free run_needed longest_run) is = absurd (omega (arith, is))
+memory_by WrongFormat is = absurd (omega (arith, is))
+memory_by ImageMissing is = absurd (omega (arith, is))
+memory_by (ImageMoved block) is = absurd (omega (arith, is))
+memory_by (ImageDamaged refusal) is = absurd (omega (arith, is))
+memory_by (ReservedUsed block) is = absurd (omega (arith, is))
+memory_by Fault is = absurd (omega (arith, is))
+memory_by Memory is = refl
+
 no_low : (n : ℕ) → (n ≡ 1) ⊎ ((n ≡ 2) ⊎ (n ≡ 4)) → n ≡ 3 → ⊥
 no_low n is three = ⊎_elim (λ (e : n ≡ 1). absurd (omega (arith, three, e))) (λ (or : (n ≡ 2) ⊎ (n ≡ 4)). ⊎_elim (λ (e : n ≡ 2). absurd (omega (arith, three, e))) (λ (e : n ≡ 4). absurd (omega (arith, three, e))) or) is
 

@@ -100,6 +100,7 @@ ok_kept found before now cause = cause.kept (λ is. ok_no_err found Fault is)
 pub record Leaves (m : Meaning) (tells : Bool) (old new : History) (ending : Ending) : Type 0 where
   pub unchanged : IsTrue tells → m.keeps (reads old) (status ending) → new ≡ old
   pub lacking : IsTrue tells → status ending ≡ 6 → m.lacking (reads old) (reads new) × (IsSettled old → IsSettled new)
+  pub starved : IsTrue tells → status ending ≡ 4 → m.starved (reads old) (reads new)
   pub changed : IsTrue tells → IsDoneWith ending → m.becomes (reads old) (reads new)
   pub settled : IsTrue tells → IsSettled old → IsDoneWith ending → IsSettled new
   pub crash : EachCrash tells old new (m.leaves (reads old))
@@ -114,6 +115,7 @@ pub reading_leaves : (done : Image → Type 0) (text : Image → List ℕ → Ty
 reading_leaves done text refuses known tells old new ending same = record {
   unchanged = λ told keeps. same told;
   lacking = λ told is. unwritten old new (same told);
+  starved = λ told is. ap reads (same told);
   changed = λ told is. ap reads (same told);
   settled = λ told settled is. subst IsSettled (sym (same told)) settled;
   crash = λ told settled image left. left_unwritten old new settled (same told) image left;
@@ -131,6 +133,10 @@ recovered_keeps (Err fault) is = ⊎_elim (λ (e : 5 ≡ 1). absurd (omega (arit
 pub printed_lacks : (written : Result (Unit {0}) faults.Fault) → status (ending_of written) ≡ 6 → ⊥
 printed_lacks (Ok done) is = omega (arith, is)
 printed_lacks (Err fault) is = omega (arith, is)
+
+pub printed_starves : (written : Result (Unit {0}) faults.Fault) → status (ending_of written) ≡ 4 → ⊥
+printed_starves (Ok done) is = omega (arith, is)
+printed_starves (Err fault) is = omega (arith, is)
 
 -- ---- the commands
 
@@ -164,6 +170,7 @@ module _ (m : Meaning) (tells : Bool) (old new : History) (disk_old disk_new : �
     memory = λ is. absurd (no_memory written is);
     unchanged = leaves.unchanged;
     lacking = leaves.lacking;
+    starved = leaves.starved;
     changed = leaves.changed;
     settled = leaves.settled;
     crash = leaves.crash;
@@ -182,6 +189,7 @@ module _ (m : Meaning) (tells : Bool) (old new : History) (disk_old disk_new : �
     memory = λ is. memory (same_answer answer Memory is);
     unchanged = leaves.unchanged;
     lacking = leaves.lacking;
+    starved = leaves.starved;
     changed = leaves.changed;
     settled = leaves.settled;
     crash = leaves.crash;
@@ -198,6 +206,7 @@ no_words tells old disk out_tells taken out = record {
   memory = λ is. absurd (usage_no_fault Memory is);
   unchanged = λ told keeps. refl;
   lacking = λ told is. absurd (omega (arith, is));
+  starved = λ told is. absurd (omega (arith, is));
   changed = λ told is. absurd is;
   settled = λ told settled is. absurd is;
   crash = λ told settled image left. left_unwritten old old settled refl image left;
@@ -220,6 +229,7 @@ said text tells old disk out_tells taken_old taken_new out_old out_new written t
     (record {
       unchanged = λ told keeps. refl;
       lacking = λ told is. unwritten old old refl;
+      starved = λ told is. refl;
       changed = λ told is. refl;
       settled = λ told settled is. settled;
       crash = λ told settled image left. left_unwritten old old settled refl image left;

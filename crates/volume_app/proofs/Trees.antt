@@ -3,18 +3,21 @@ use Rattle.std.proofs.Common.{◌≡◌, inl, inr, ⊎_elim, ◌<◌, ◌^◌, �
 use Rattle.std.specs.Prelude.{length}
 use Rattle.outside.specs.History.{Image}
 use Rattle.vol_block.specs.declared.ids.Ids.{Ids}
-use Rattle.back_laws.specs.Back.{ConvertedVolumesGoBack, CrashesGoBack}
+use Rattle.back_laws.specs.Back.{ConvertedVolumesGoBack}
+use Rattle.back_laws.proofs.Crashing.{stands}
 use Rattle.btr_node.specs.NodeSize.{IsNodeSize}
-use Rattle.convert_core.specs.Converted.{IsConverted, IsConvertible, IsEither}
+use Rattle.convert_core.specs.Converted.{IsConverted, IsConvertible, IsEither, IsSomeNew}
 use Rattle.convert_steps.specs.Switch.{IsMirror}
 use Rattle.converted_laws.specs.Identifiers.{HasFsid}
 use Rattle.image_source.specs.Laws.{SpareBlocksDecideNothing, is_spare}
 use Rattle.open_laws.specs.Opens.{ConvertedVolumesOpen}
+use Rattle.reiser_volume.specs.Laws.{UsedBlocksDecide}
 use Rattle.rollback_core.specs.Laws.{RecoveryKeeps, RecoveryOpens}
 use Rattle.rollback_core.specs.Recovered.{IsRecovered}
 use Rattle.rollback_core.specs.Recovered as recovery
 use Rattle.rollback_steps.specs.Laws.{RollbackKeeps}
 use Rattle.rollback_steps.specs.RolledBack.{IsLeft, IsRolledBack}
+use Rattle.sound_names.specs.Laws.{ConvertedVolumesAreSound}
 use Rattle.space_items.specs.Laws.{AreIds}
 use Rattle.unit_plan.specs.declared.options.Options.{Options}
 use Rattle.unit_plan.specs.declared.options.UuidChoice.{UuidChoice}
@@ -22,7 +25,7 @@ use Rattle.unit_plan.specs.declared.options.UuidChoice.TheVariants.{New, Copy, G
 use Rattle.volume_app.specs.Converting.{IsConvertedWhole, IsEitherWhole}
 use Rattle.volume_app.specs.Recovering as recovering
 use Rattle.volume_app.specs.RollingBack as rolling
-use Rattle.volume_app.specs.Trees.{AreBlocks, HasId, KeepsTree, LeavesConvertedTree, LeavesRestoredTree}
+use Rattle.volume_app.specs.Trees.{AreBlocks, HasId, IsConvertedTree, KeepsTree, LeavesConvertedTree, LeavesRestoredTree}
 use Rattle.volume_app.proofs.Convertible.{converted_was}
 
 -- ---- convert
@@ -37,24 +40,26 @@ module _ (o : Options) (ids : Ids) (now : ℕ) (disk : Image) (size : IsNodeSize
   fsid_of : IsConvertible o disk → AreBlocks disk → HasFsid disk o.uuid
   fsid_of can blocks = fsid disk o.uuid has blocks can.sorted.accepted.clean.superblock.there
 
-  pub converted_whole : ConvertedVolumesOpen → ConvertedVolumesGoBack → (other : Image) → IsConverted o ids now disk other → IsConvertedWhole o ids now disk other
-  converted_whole opens back other c = record {
-    converted = c;
-    tree = λ blocks. (let id = fsid_of (converted_was o ids now disk other c) blocks in record {
-      opens = opens o ids now disk other (c.m, c.r, c.nodes, c.new) size low are id blocks.bytes;
-      back = back o ids now disk other (c.m, c.r, c.nodes, c.new) size low are id blocks.bytes;
-    });
-  }
+  module _ (opens : ConvertedVolumesOpen) (sounds : ConvertedVolumesAreSound) (back : ConvertedVolumesGoBack) where
+    converted_tree : (other : Image) → IsConvertible o disk → IsSomeNew o ids now disk other → AreBlocks disk → IsConvertedTree disk other
+    converted_tree other can new blocks =
+        let id = fsid_of can blocks in
+        record {
+          opens = opens o ids now disk other new size low are id blocks.bytes;
+          sound = sounds o ids now disk other new.0 new.1 new.2 new.3 size low are id blocks.bytes;
+          back = back o ids now disk other new size low are id blocks.bytes;
+        }
 
-  left_tree : CrashesGoBack → (other : Image) → AreBlocks disk → IsEither o ids now disk other → LeavesConvertedTree disk other
-  left_tree crashes other blocks (inl same) = inl same
-  left_tree crashes other blocks (inr rest) =
-      ⊎_elim (λ same. inl same)
-      (λ one. inr (⊎_elim (λ stands. inl stands) (λ new. inr (record { opens = new.0; back = new.1 })) one))
-      (crashes o ids now disk other (inr rest) size low are (fsid_of rest.1 blocks) blocks.bytes)
+    pub converted_whole : (other : Image) → IsConverted o ids now disk other → IsConvertedWhole o ids now disk other
+    converted_whole other c = record { converted = c; tree = converted_tree other (converted_was o ids now disk other c) (c.m, c.r, c.nodes, c.new) }
 
-  pub either_whole : CrashesGoBack → (other : Image) → IsEither o ids now disk other → IsEitherWhole o ids now disk other
-  either_whole crashes other either = record { either = either; tree = λ blocks. left_tree crashes other blocks either }
+    left_tree : UsedBlocksDecide → (other : Image) → AreBlocks disk → IsEither o ids now disk other → LeavesConvertedTree disk other
+    left_tree decide other blocks (inl same) = inl same
+    left_tree decide other blocks (inr rest) =
+        inr (⊎_elim (λ before. inl (stands decide o disk other rest.0 rest.1 before)) (λ new. inr (converted_tree other rest.1 new blocks)) rest.2)
+
+    pub either_whole : UsedBlocksDecide → (other : Image) → IsEither o ids now disk other → IsEitherWhole o ids now disk other
+    either_whole decide other either = record { either = either; tree = λ blocks. left_tree decide other blocks either }
 
 -- ---- rollback
 

@@ -1,7 +1,7 @@
 -- What `convert` answers, prints and writes.
 use Rattle.std.specs.Prelude.{◌≡◌, ◌⊎◌, ℕ, List, [], ◌∷◌, codes, decimal}
 use Rattle.convert_core.specs.Answers.{IsConvertAnswer, RefusesConvert}
-use Rattle.convert_core.specs.Converted.{IsConverted, IsConvertible, IsEither}
+use Rattle.convert_core.specs.Converted.{DiffersInFree, IsConverted, IsConvertible, IsEither}
 use Rattle.convert_core.specs.Surveyed.{IsSummary}
 use Rattle.convert_core.specs.declared.summary.ConvertSummary.{ConvertSummary}
 use Rattle.outside.specs.History.{Image}
@@ -39,7 +39,7 @@ pub record IsEitherWhole (o : Options) (ids : Ids) (now : ℕ) (disk other : Ima
   pub tree : AreBlocks disk → LeavesConvertedTree disk other
 
 -- What `convert` with these options means, for these identifiers and at this time. Nothing is written where the volume is refused,
--- has too little space, or the words are no command.
+-- has too little space, or the words are no command, and only free units of the volume where memory ran out.
 abbrev pub convert_meaning : Ids → ℕ → Options → Meaning
 convert_meaning ids now o = record {
   is_usage = ⊥;
@@ -52,6 +52,7 @@ convert_meaning ids now o = record {
   knows = IsConvertAnswer;
   keeps = λ disk status. (status ≡ 1) ⊎ ((status ≡ 2) ⊎ (status ≡ 6));
   lacking = IsSame;
+  starved = DiffersInFree;
   becomes = IsConvertedWhole o ids now;
   leaves = IsEitherWhole o ids now;
 }

@@ -22,8 +22,9 @@ pub record Meaning : Type 1 where
   pub knows : Answer → Type 0
   -- with these statuses nothing is written on this disk
   pub keeps : Image → ℕ → Type 0
-  -- what the disk is where there is too little space, and where the command is done, by what it was
+  -- what the disk is where there is too little space, where memory ran out, and where the command is done, by what it was
   pub lacking : Image → Image → Type 0
+  pub starved : Image → Image → Type 0
   pub becomes : Image → Image → Type 0
   -- what a crash at any moment may leave
   pub leaves : Image → Image → Type 0
@@ -45,6 +46,7 @@ reads_disk done text refuses known = record {
   knows = known;
   keeps = λ disk status. Unit {0};
   lacking = IsSame;
+  starved = IsSame;
   becomes = IsSame;
   leaves = IsSame;
 }
@@ -62,6 +64,7 @@ says text = record {
   knows = λ answer. ⊥;
   keeps = λ disk status. Unit {0};
   lacking = IsSame;
+  starved = IsSame;
   becomes = IsSame;
   leaves = IsSame;
 }

@@ -108,6 +108,7 @@ pub record Performs (m : Meaning) (tells : Bool) (old new : History) (disk_old d
   pub memory : ending ≡ Failed Memory → m.takes_memory
   pub unchanged : IsTrue tells → m.keeps (reads old) (status ending) → new ≡ old
   pub lacking : IsTrue tells → status ending ≡ 6 → m.lacking (reads old) (reads new) × (IsSettled old → IsSettled new)
+  pub starved : IsTrue tells → status ending ≡ 4 → m.starved (reads old) (reads new)
   pub changed : IsTrue tells → IsDoneWith ending → m.becomes (reads old) (reads new)
   pub settled : IsTrue tells → IsSettled old → IsDoneWith ending → IsSettled new
   pub crash : EachCrash tells old new (m.leaves (reads old))

@@ -52,6 +52,7 @@ recover_meaning = record {
   knows = IsRecoverAnswer;
   keeps = λ disk status. (status ≡ 1) ⊎ ((status ≡ 2) ⊎ (status ≡ 4));
   lacking = IsSame;
+  starved = IsSame;
   becomes = IsRecoveredWhole;
   leaves = IsLeftWhole;
 }

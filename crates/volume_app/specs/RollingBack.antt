@@ -46,6 +46,7 @@ rollback_meaning = record {
   knows = IsRollbackAnswer;
   keeps = λ disk status. (status ≡ 1) ⊎ ((status ≡ 2) ⊎ (status ≡ 4));
   lacking = IsSame;
+  starved = IsSame;
   becomes = IsRolledBackWhole;
   leaves = IsLeftWhole;
 }

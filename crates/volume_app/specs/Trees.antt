@@ -3,6 +3,7 @@ use Rattle.std.specs.Prelude.{◌≡◌, ◌⊎◌, ◌<◌, ℕ, List, length}
 use Rattle.outside.specs.History.{Image, block_at}
 use Rattle.fs_rows.specs.Rows.{WholeRow}
 use Rattle.back_laws.specs.Back.{GoesBack}
+use Rattle.btr_sound.specs.Sound.{IsSound}
 use Rattle.image_source.specs.Laws.{IsSameUntouched}
 use Rattle.object_files.specs.Laws.{SameUsed}
 use Rattle.open_laws.specs.Opens.{OpensAsBefore, StandsAsBefore}
@@ -28,9 +29,10 @@ HasId (Given id) = length id ≡ 16
 
 -- ---- convert
 
--- The Btrfs volume has exactly the tree of the ReiserFS volume, and that volume can be had back from it.
+-- The Btrfs volume has exactly the tree of the ReiserFS volume, it is sound, and the old volume can be had back from it.
 pub record IsConvertedTree (disk other : Image) : Type 0 where
   pub opens : OpensAsBefore disk other
+  pub sound : IsSound other
   pub back : GoesBack disk other
 
 -- The disk is as it was, or the ReiserFS volume stands with its tree, or the Btrfs volume does with the same.

@@ -63,6 +63,7 @@ trial_meaning ids now number = record {
   knows = IsTrialAnswer;
   keeps = KeepsScratch number;
   lacking = LeavesSample number;
+  starved = λ disk other. Unit {0};
   becomes = IsTriedWhole number ids now;
   leaves = λ disk other. Unit {0};
 }

@@ -2,7 +2,7 @@ ghost use Rattle.std.specs.Prelude.{◌≡◌, ◌≢◌, ◌<◌, ◌^◌, None
 ghost use Rattle.std.specs.Result.{MatchResult};
 ghost use Rattle.btr_node.specs.NodeSize.{IsNodeSize};
 ghost use Rattle.convert_core.specs.Answers.{IsConvertAnswer, RefusesConvert};
-ghost use Rattle.convert_core.specs.Converted.{IsConverted, IsEither};
+ghost use Rattle.convert_core.specs.Converted.{DiffersInFree, IsConverted, IsEither};
 ghost use Rattle.convert_core.specs.Surveyed.{IsSummary};
 ghost use Rattle.outside.specs.Fault.{HasCause, HasCauseOf, Takes};
 ghost use Rattle.outside.specs.History.{EachCrash, IsSettled, reads};
@@ -12,12 +12,14 @@ ghost use Rattle.volume_app.specs.Trees.{HasId};
 ghost use Rattle.space_items.specs.Laws.{AreIds};
 
 use crate::ending::{Ending, printed};
-use back_laws::{converted_volumes_go_back, crashes_go_back};
+use back_laws::converted_volumes_go_back;
 use convert_core::ConvertSummary;
 use open_laws::converted_volumes_open;
 use outside::{Access, Answer, Disk, Fault, Sink};
+use reiser_volume::used_blocks_decide;
 use sink_text::Piece::{Decimal, Plain};
 use sink_text::write_pieces;
+use sound_names::converted_volumes_are_sound;
 use std::alloc::Global;
 use unit_plan::{Options, UuidChoice};
 use vol_block::Ids;
@@ -41,7 +43,8 @@ pub fn convert_volume<D: Disk, O: Sink>(
 {
     converted_volumes_open();
     converted_volumes_go_back();
-    crashes_go_back();
+    converted_volumes_are_sound();
+    used_blocks_decide();
     know_ids(*ids);
     know_id(options.uuid);
     match convert(alloc, path, ids, now, options, disk) {
@@ -82,6 +85,7 @@ fn convert<D: Disk>(
         (RefusesConvert options.now (reads (D.history disk.old))) }
     ensures settled { IsTrue D.tells → OnOk result (IsSettled (D.history disk.new)) }
     ensures refused { IsTrue D.tells → IfErr result (λ e. e ≢ Answer.Fault → e ≢ Answer.Memory → D.history disk.new ≡ D.history disk.old) }
+    ensures memory { IsTrue D.tells → IfErr result (λ e. e ≡ Answer.Memory → DiffersInFree (reads (D.history disk.old)) (reads (D.history disk.new))) }
     ensures cause { HasCauseOf Answer.Fault (D.faults disk.old) (D.faults disk.new) result }
     ensures known { IfErr result IsConvertAnswer }
 {

@@ -51,6 +51,8 @@ pub fn run<D: Disk, O: Sink, E: Sink>(
     ensures unchanged { IsTrue D.tells → (meant ids now (map string_bytes words.now)).keeps (reads (D.history disk.old)) result → D.history disk.new ≡ D.history disk.old }
     // So has one that lacks space, but for a trial whose sample does: that sample stays, and has reached the device.
     ensures lacking { IsTrue D.tells → result ≡ 6 → (meant ids now (map string_bytes words.now)).lacking (reads (D.history disk.old)) (reads (D.history disk.new)) × (IsSettled (D.history disk.old) → IsSettled (D.history disk.new)) }
+    // Where memory ran out nothing was written, but by `convert`, which may have written to free units of the volume, and by a trial.
+    ensures starved { IsTrue D.tells → result ≡ 4 → (meant ids now (map string_bytes words.now)).starved (reads (D.history disk.old)) (reads (D.history disk.new)) }
     // Where the command was done the disk is what it makes of it, whether its text could be printed or not.
     ensures changed { IsTrue D.tells → (result ≡ 0) ⊎ (result ≡ 5) → (meant ids now (map string_bytes words.now)).becomes (reads (D.history disk.old)) (reads (D.history disk.new)) }
     ensures settled { IsTrue D.tells → IsSettled (D.history disk.old) → (result ≡ 0) ⊎ (result ≡ 5) → IsSettled (D.history disk.new) }

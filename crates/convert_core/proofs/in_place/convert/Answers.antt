@@ -4,9 +4,11 @@ use Rattle.std.proofs.lemmas.Result.{err_from_is_err_and}
 use Rattle.vol_block.specs.declared.format.Format.TheVariants.{Btrfs}
 use Rattle.outside.specs.Format.{format_in}
 use Rattle.outside.specs.History.{History, reads}
+use Rattle.outside.proofs.Crash.{reads_only}
 use Rattle.outside.proofs.Phases.{left_unwritten}
+use Rattle.convert_steps.specs.Switch.{IsPart}
 use Rattle.convert_core.specs.Answers.{RefusesConvert}
-use Rattle.convert_core.proofs.Crashing.{MayWrite, converted, early_crash, switch_crash}
+use Rattle.convert_core.proofs.Crashing.{MayWrite, behind_for, converted, early_crash, keeps_behind, may_keep, switch_crash}
 use Rattle.convert_core.proofs.Ending.{refuses}
 use Rattle.convert_core.proofs.in_place.convert.Goals as goal
 
@@ -46,7 +48,8 @@ returns-in-Ok-clause-crash g c = λ tells settled.
     let blocks = g.met.D.Disk.open_blocks c.args.disk.now _ tells c.requires.«open» in
     let may = subst (λ (h : History). MayWrite c.args.options.now h (g.D.Disk.history c.write_volume.new.disk)) same (c.write_volume.ensures.only tells _ refl) in
     let reiser : format_in (reads (g.D.Disk.history c.args.disk.now)) ≢ Btrfs = λ format. both_ways _ c.if-branch.false ((c.in_ok-is_btrfs.ensures.found tells _ blocks).1 format) in
-    switch_crash c.args.options.now c.args.ids.now c.args.now _ _ settled reiser may _ _ _ c.requires.size (c.in_ok-written.ensures.written tells _ (ap reads same)) (c.switch_to.ensures.only tells)
+    switch_crash c.args.options.now c.args.ids.now c.args.now _ _ settled reiser may _ _ c.requires.size (c.in_ok-written.ensures.written tells _ (ap reads same)) (c.in_ok-written.ensures.settled tells) c.in_ok-written.ensures.room.0
+    (c.switch_to.ensures.only tells)
     (c.switch_to.ensures.crash tells (c.in_ok-written.ensures.settled tells))
 
 pub returns-in-Err-clause-crash : goal.returns-in-Err-clause-crash
@@ -55,11 +58,30 @@ returns-in-Err-clause-crash g c = λ tells settled.
     let blocks = g.met.D.Disk.open_blocks c.args.disk.now _ tells c.requires.«open» in
     let may = subst (λ (h : History). MayWrite c.args.options.now h (g.D.Disk.history c.write_volume.new.disk)) same (c.write_volume.ensures.only tells _ refl) in
     let reiser : format_in (reads (g.D.Disk.history c.args.disk.now)) ≢ Btrfs = λ format. both_ways _ c.if-branch.false ((c.in_ok-is_btrfs.ensures.found tells _ blocks).1 format) in
-    switch_crash c.args.options.now c.args.ids.now c.args.now _ _ settled reiser may _ _ _ c.requires.size (c.in_ok-written.ensures.written tells _ (ap reads same)) (c.switch_to.ensures.only tells)
+    switch_crash c.args.options.now c.args.ids.now c.args.now _ _ settled reiser may _ _ c.requires.size (c.in_ok-written.ensures.written tells _ (ap reads same)) (c.in_ok-written.ensures.settled tells) c.in_ok-written.ensures.room.0
+    (c.switch_to.ensures.only tells)
     (c.switch_to.ensures.crash tells (c.in_ok-written.ensures.settled tells))
 
 pub returns-in-Ok-clause-converted : goal.returns-in-Ok-clause-converted
 returns-in-Ok-clause-converted g c = λ tells image is.
     let same : g.D.Disk.history c.is_btrfs.new.src ≡ g.D.Disk.history c.args.disk.now = g.met.D.Disk.kept_history _ _ tells c.is_btrfs.ensures.kept in
+    let may = subst (λ (h : History). MayWrite c.args.options.now h (g.D.Disk.history c.write_volume.new.disk)) same (c.write_volume.ensures.only tells _ refl) in
+    let behind =
+    keeps_behind c.args.options.now c.args.ids.now c.args.now _ _ may _ (c.in_ok-written.ensures.written tells _ (ap reads same)) c.in_ok-written.ensures.room.0 _
+    (reads_only (IsPart c.in_ok-written.written.superblock.bytes c.in_ok-written.written.blocks) _ _ (c.switch_to.ensures.only tells)) in
     let down = c.in_ok-written.ensures.written tells image (ap reads same ∙ is) in
-    (converted c.args.options.now c.args.ids.now c.args.now image _ _ down c.requires.size _ (c.in-Ok.ensures.written tells) (c.in-Ok.ensures.copies tells), down.summary)
+    (converted c.args.options.now c.args.ids.now c.args.now image _ _ down c.requires.size _ (c.in-Ok.ensures.written tells) (behind_for image _ _ is behind) (c.in-Ok.ensures.copies tells), down.summary)
+
+pub returns-in_err-is_btrfs-clause-memory : goal.returns-in_err-is_btrfs-clause-memory
+returns-in_err-is_btrfs-clause-memory g c = λ tells.
+    let err = err_from_is_err_and c.from_residual-in_err-is_btrfs.result c.from_residual-in_err-is_btrfs.ensures.1 in
+    rw err.1
+    (λ memory. may_keep c.args.options.now _ _ (inl (g.met.D.Disk.kept_history _ _ tells c.is_btrfs.ensures.kept)))
+
+pub returns-in_err-written-clause-memory : goal.returns-in_err-written-clause-memory
+returns-in_err-written-clause-memory g c = λ tells.
+    let same : g.D.Disk.history c.is_btrfs.new.src ≡ g.D.Disk.history c.args.disk.now = g.met.D.Disk.kept_history _ _ tells c.is_btrfs.ensures.kept in
+    let may = subst (λ (h : History). MayWrite c.args.options.now h (g.D.Disk.history c.write_volume.new.disk)) same (c.write_volume.ensures.only tells _ refl) in
+    let err = err_from_is_err_and c.from_residual-in_err-written.result c.from_residual-in_err-written.ensures.1 in
+    rw err.1
+    (λ memory. may_keep c.args.options.now _ _ may)

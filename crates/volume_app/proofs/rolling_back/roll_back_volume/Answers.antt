@@ -1,7 +1,7 @@
 use Rattle.std.proofs.Common.{ap, inr}
 use Rattle.volume_app.specs.RollingBack.{rollback_meaning, rollback_text}
 use Rattle.volume_app.proofs.Outcomes.{no_fault_by, refusal_by}
-use Rattle.volume_app.proofs.Performing.{failed, ok_kept, performed, printed_lacks, recovered_keeps, unwritten}
+use Rattle.volume_app.proofs.Performing.{failed, ok_kept, performed, printed_lacks, printed_starves, recovered_keeps, unwritten}
 use Rattle.volume_app.proofs.Trees.{rollback_left_whole, rolled_back_whole}
 use Rattle.volume_app.proofs.rolling_back.roll_back_volume.Goals as goal
 
@@ -14,6 +14,7 @@ returns-in-Ok g c =
     (record {
       unchanged = λ told keeps. absurd (recovered_keeps c.print_rolled_back.result keeps);
       lacking = λ told is. absurd (printed_lacks c.print_rolled_back.result is);
+      starved = λ told is. absurd (printed_starves c.print_rolled_back.result is);
       changed = λ told is. rolled_back_whole c.rollback_keeps.ensures _ _ (c.in-Ok.ensures.right told).0;
       settled = λ told settled is. c.in-Ok.ensures.settled told;
       crash = λ told settled image left. rollback_left_whole c.rollback_keeps.ensures _ image (c.roll_back.ensures.crash told settled image left);
@@ -26,6 +27,7 @@ returns-in-Err g c =
     (record {
       unchanged = λ told keeps. c.in-Err.ensures.refused told (no_fault_by c.in-Err.answer keeps);
       lacking = λ told is. unwritten _ _ (c.in-Err.ensures.refused told (refusal_by c.in-Err.answer (inr (inr is))).0);
+      starved = λ told is. (unwritten _ _ (c.in-Err.ensures.refused told (no_fault_by c.in-Err.answer (inr (inr is))))).0;
       changed = λ told is. absurd is;
       settled = λ told settled is. absurd is;
       crash = λ told settled image left. rollback_left_whole c.rollback_keeps.ensures _ image (c.roll_back.ensures.crash told settled image left);

@@ -14,6 +14,10 @@ pub returns-clause-lacking : goal.returns-clause-lacking
 returns-clause-lacking g c = λ tells is.
     c.perform-ending.ensures.performs.lacking tells (subst (λ (n : ℕ). n ≡ 6) c.status.ensures is)
 
+pub returns-clause-starved : goal.returns-clause-starved
+returns-clause-starved g c = λ tells is.
+    c.perform-ending.ensures.performs.starved tells (subst (λ (n : ℕ). n ≡ 4) c.status.ensures is)
+
 pub returns-clause-changed : goal.returns-clause-changed
 returns-clause-changed g c = λ tells is.
     c.perform-ending.ensures.performs.changed tells (done_by c.perform-ending.result (subst (λ (n : ℕ). (n ≡ 0) ⊎ (n ≡ 5)) c.status.ensures is))

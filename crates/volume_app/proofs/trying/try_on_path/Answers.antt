@@ -14,6 +14,7 @@ returns-in-Ok g c =
     (record {
       unchanged = λ told keeps. absurd (tried_keeps _ _ c.print_tried.result keeps);
       lacking = λ told is. absurd (printed_lacks c.print_tried.result is);
+      starved = λ told is. tt;
       changed = λ told is. tried_whole c.tries_keep.ensures _ _ _ _ _ c.requires.number c.requires.moment c.know_ids.ensures (c.in-Ok.ensures.right told).0;
       settled = λ told settled is. c.in-Ok.ensures.settled told;
       crash = λ told settled image left. tt;
@@ -26,6 +27,7 @@ returns-in-Err g c =
     (record {
       unchanged = λ told keeps. refused_keeps _ _ _ c.in-Err.answer (c.in-Err.ensures.leaves told) keeps;
       lacking = λ told is. refused_lacks _ _ _ c.in-Err.answer (c.in-Err.ensures.right told) (c.in-Err.ensures.leaves told) is;
+      starved = λ told is. tt;
       changed = λ told is. absurd is;
       settled = λ told settled is. absurd is;
       crash = λ told settled image left. tt;
