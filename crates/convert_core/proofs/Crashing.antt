@@ -129,7 +129,15 @@ module _ (o : Options) (ids : Ids) (now : ℕ) (h₀ h₁ : History) (settled : 
       ⊎_elim (λ early. early_crash other early)
       (λ late. ⊎_elim
       (λ same. inr (reiser, can, inl (subst (IsBefore (reads h₀)) (sym same) before)))
-      (λ is. inr (reiser, can, inr (down.m, down.r, down.nodes,
-      switched_new o ids now (reads h₀) (reads h₁) w down size other is (keeps_behind o ids now h₀ h₁ may w down some other (left_each P h₁ h₂ put only other late).1))))
+      (λ is. inr (
+        reiser,
+        can,
+        inr (
+          down.m,
+          down.r,
+          down.nodes,
+          switched_new o ids now (reads h₀) (reads h₁) w down size other is (keeps_behind o ids now h₀ h₁ may w down some other (left_each P h₁ h₂ put only other late).1),
+        ),
+      ))
       (each other late))
       (left_then (λ b _. IsFree (reads h₀) b) P h₀ h₁ h₂ (may_only o h₀ h₁ may) only other left)

@@ -3,5 +3,6 @@ mod empty_volume;
 mod faults;
 mod home_volume;
 mod refusals;
+mod stops;
 mod ten_files;
 mod trials;

@@ -1,3 +1,5 @@
+// Conversions and rollbacks whose power fails: each is stopped behind each of its writes, and what crashes leave then is recovered, listed
+// and rolled back. The contract of `run` says what a crash may leave at any moment; these tests show it of volumes as they come.
 ghost use Rattle.std.specs.Prelude.{◌≤◌};
 
 mod empty_volume;
