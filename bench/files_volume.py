@@ -33,7 +33,9 @@ def r5(name):
     """The offset of a name's entry in its directory."""
     value = 0
     for byte in name:
-        value = (value + (byte << 4) + (byte >> 4)) * 11 & 0xFFFFFFFF
+        # a byte from 128 on counts as a negative one
+        signed = byte - 256 if byte > 127 else byte
+        value = (value + (signed << 4) + (signed >> 4)) * 11 & 0xFFFFFFFF
     value &= 0x7FFFFF80
     return value or 128
 

@@ -1,3 +1,21 @@
+# The options of convert that may still be given. --label and --copy-label exclude each other.
+_reiserconv_options() {
+    local left=' --nodesize --no-inline --no-datasum --label --copy-label --uuid ' i
+    for ((i = 2; i < ${#COMP_WORDS[@]}; i++)); do
+        [ "$i" = "$COMP_CWORD" ] && continue
+        left=${left/" ${COMP_WORDS[i]} "/ }
+        case ${COMP_WORDS[i]} in
+            --label) left=${left/ --copy-label / } ;;
+            --copy-label) left=${left/ --label / } ;;
+        esac
+        case ${COMP_WORDS[i]} in
+            # the next word is its value
+            --nodesize | --label | --uuid) i=$((i + 1)) ;;
+        esac
+    done
+    echo "$left"
+}
+
 # What bash suggests for the arguments of reiserconv.
 _reiserconv() {
     local word=${COMP_WORDS[COMP_CWORD]} before=${COMP_WORDS[COMP_CWORD - 1]} words
@@ -13,7 +31,7 @@ _reiserconv() {
     elif [ "$before" = --label ]; then
         return
     elif [ "${COMP_WORDS[1]}" = convert ] && [ "${word:0:1}" = - ]; then
-        words='--nodesize --no-inline --no-datasum --label --copy-label --uuid'
+        words=$(_reiserconv_options)
     elif [ "${COMP_WORDS[1]:0:1}" != - ]; then
         mapfile -t COMPREPLY < <(compgen -f -- "$word")
         compopt -o filenames

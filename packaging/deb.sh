@@ -30,7 +30,9 @@ put 644 "$top/packaging/copyright" usr/share/doc/reiserconv/copyright
 
 {
     printf 'reiserconv (%s) unstable; urgency=medium\n\n' "$version"
-    printf '  * See the history of the repository.\n\n'
+    printf '  * %s\n    %s\n' 'It has the commands inspect, list, convert, recover, rollback and trial:' 'reiserconv(8) describes them.'
+    printf '  * %s\n    %s\n    %s\n\n' 'HOWTO.md beside this file is a guide for the conversion of a volume,' \
+        'REFUSALS.md says what each line on standard error means and what to do,' 'and PROVED.md what is proved.'
     printf ' -- %s  %s\n' "$maintainer" "$(date -Ru -d "@$SOURCE_DATE_EPOCH")"
 } >"$docs/changelog"
 gzip -9n "$docs/changelog"

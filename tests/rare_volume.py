@@ -1,14 +1,16 @@
 #!/usr/bin/env python3
 """Writes a ReiserFS 3.6 volume with something that is rare: rare_volume.py KIND FILE.
 
-links   a file with 65,536 names in one directory
-names   a directory with 100,000 empty files
-sparse  a file of 2^44 bytes of which only the last block is there
-large   a file of 2 GiB, whose blocks are holes of FILE
-removed a file that was removed and is still to be cleaned up
-taken   a directory of the root whose name a conversion needs
-long    a file whose name has 256 bytes
-crowd   32 files whose names have one hash of Btrfs
+links    a file with 65,536 names in one directory
+names    a directory with 100,000 empty files
+sparse   a file of 2^44 bytes of which only the last block is there
+terabyte the same of 2^40 bytes
+large    a file of 2 GiB, whose blocks are holes of FILE
+removed  a file that was removed and is still to be cleaned up
+taken    a directory of the root whose name a conversion needs
+long     a file whose name has 256 bytes
+crowd    32 files whose names have one hash of Btrfs, which are too many for it
+alike    9 files whose names have one hash of Btrfs
 """
 import struct
 import sys
@@ -54,15 +56,23 @@ def names(leaves):
     return len(targets)
 
 
-def sparse(leaves):
-    """One pointer, to the last of 2^32 blocks."""
+def last_block(leaves, name, size):
+    """One pointer, to the last of the file's blocks."""
     target = (FOLDER[1], FIRST_FILE)
-    add_directory(leaves, FOLDER, ROOT, 2, [(target, b"sparse")])
+    add_directory(leaves, FOLDER, ROOT, 2, [(target, name)])
     place = next(leaves.numbers)
     leaves.write(place, b"\x5a" * BLOCK)
-    leaves.add(target, STAT, 0, 0xFFFF, stat(0o100644, 1, 1 << 44, 8))
-    leaves.add(target, INDIRECT, (1 << 44) - BLOCK + 1, 0, struct.pack("<I", place))
+    leaves.add(target, STAT, 0, 0xFFFF, stat(0o100644, 1, size, 8))
+    leaves.add(target, INDIRECT, size - BLOCK + 1, 0, struct.pack("<I", place))
     return 1
+
+
+def sparse(leaves):
+    return last_block(leaves, b"sparse", 1 << 44)
+
+
+def terabyte(leaves):
+    return last_block(leaves, b"terabyte", 1 << 40)
 
 
 def large(leaves):
@@ -106,7 +116,11 @@ def crowd(leaves):
     return files(leaves, names_of_one_hash(7, 32, length=250))
 
 
-KINDS = {it.__name__: it for it in (links, names, sparse, large, removed, taken, long, crowd)}
+def alike(leaves):
+    return files(leaves, names_of_one_hash(7, 9))
+
+
+KINDS = {it.__name__: it for it in (links, names, sparse, terabyte, large, removed, taken, long, crowd, alike)}
 
 
 def main():

@@ -96,7 +96,13 @@ converted_samples() {
     same 'what lies behind the volume is left as it was' "$(cat rest)" "$(tail -c +$((12299 * 4096 + 1)) made | sha256sum)"
 }
 
-# options by what btrfs says of the new volume
+# names_in NAME UUID LABEL FILE: what inspect prints of a converted volume
+names_in() {
+    run inspect "$4"
+    same "inspect of $1" "0||$2|$3" "$status|$err|$(sed -n 's/^\(fsid\|label\) //p' "$work/.out" | paste -sd '|')"
+}
+
+# options by what btrfs and inspect say of the new volume
 converted_options() {
     local size
     makes 12288 7 12288
@@ -111,15 +117,18 @@ converted_options() {
     run convert --no-datasum --label 'a new one' --uuid copy made
     same 'a label and the uuid of the old volume' '0|07000000-0000-0000-0000-000000000000|a new one' \
         "$status|$(btrfs inspect-internal dump-super made | awk '$1 == "fsid" { print $2 } $1 == "label" { sub(/^label[ \t]*/, ""); print }' | paste -sd '|')"
+    names_in 'a label and the uuid of the old volume' 07000000-0000-0000-0000-000000000000 'a\x20new\x20one' made
     judged 'a volume without checksums' made
     kept btrfs inspect-internal dump-tree -t 7 made
     same 'a volume without checksums has none' 0 "$(grep -c EXTENT_CSUM "$work/.out")"
     cp sample made
     run convert --uuid 12345678-9abc-4def-8123-456789abcdef made
     same 'a given uuid' '0|12345678-9abc-4def-8123-456789abcdef' "$status|$(btrfs inspect-internal dump-super made | awk '$1 == "fsid" { print $2 }')"
+    names_in 'a given uuid' 12345678-9abc-4def-8123-456789abcdef - made
     volume labelled 20000 -l 'My label'
     run convert --copy-label labelled
     same 'the label of the old volume' '0|My label' "$status|$(btrfs inspect-internal dump-super labelled | awk '$1 == "label" { sub(/^label[ \t]*/, ""); print }')"
+    names_in 'the label of the old volume' "$(btrfs inspect-internal dump-super labelled | awk '$1 == "fsid" { print $2 }')" 'My\x20label' labelled
     # the copy of the superblock at 64 MiB
     same 'the first copy of a superblock' "$(btrfs inspect-internal dump-super labelled | awk '$1 == "root" || $1 == "fsid"')" \
         "$(btrfs inspect-internal dump-super -s 1 labelled | awk '$1 == "root" || $1 == "fsid"')"
@@ -145,6 +154,9 @@ convert_refusals() {
     refuses 'convert without the space' made 6 'refused 15 space 4 3 1 3'
     run convert --nodesize 4096 made
     same 'convert with small nodes in that space' "0||units 3" "$status|$err|$(tail -1 "$work/.out")"
+    # and one unit more for the default, but not for the largest
+    makes 9472 0 9472
+    refuses 'convert to the largest nodes without the space' made 6 'refused 15 space 9 4 1 4' --nodesize 65536
     truncate -s 1048576 zeros
     refuses 'convert of zeros' zeros 1 'refused 1 novolume'
 }

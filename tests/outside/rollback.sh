@@ -27,8 +27,8 @@ kept = [b for b in used if b < 256 or 16384 <= b < 16400 or 67108864 <= b < 6710
 print(len(used), len(kept))'
 }
 
-# rolls_back NAME OLD FILE: the converted volume in FILE goes back to what OLD is
-rolls_back() {
+# returns NAME OLD FILE: the converted volume in FILE goes back to what OLD is, by its used blocks and its rows
+returns() {
     local name=$1 old=$2 file=$3 used restored rows
     run list "$old"
     rows=$(sha256sum <"$work/.out")
@@ -38,22 +38,37 @@ rolls_back() {
     same "the used blocks of $name behind a rollback" "$(used_sum "$old" "$old")" "$(used_sum "$file" "$old")"
     run list "$file"
     same "the rows of $name behind a rollback" "0|$rows" "$status|$(sha256sum <"$work/.out")"
-    kept reiserfsck --check -y "$file"
-    same "reiserfsck of $name behind a rollback" '0|1' "$status|$(cat "$work/.out" "$work/.err" | grep -c 'No corruptions found')"
     ends "a second rollback of $name" 1 'refused 16 format' rollback "$file"
 }
 
-# there_and_back NAME FILE WORDS..: the volume is converted with these options and rolled back, by us and on a copy by Debian's program
-there_and_back() {
-    local name=$1 file=$2
+# rolls_back NAME OLD FILE: the same, and reiserfsck finds nothing wrong behind it
+rolls_back() {
+    returns "$@"
+    kept reiserfsck --check -y "$3"
+    same "reiserfsck of $1 behind a rollback" '0|1' "$status|$(cat "$work/.out" "$work/.err" | grep -c 'No corruptions found')"
+}
+
+# there NAME FILE WORDS..: the volume is converted with these options and judged, and a copy rolled back by Debian's program; `reiserfs` is what it was
+there() {
+    local name=$1 file=$2 rows
     shift 2
     cp --sparse=always "$file" reiserfs
+    run list "$file"
+    rows=$(sha256sum <"$work/.out")
     run convert "$@" "$file"
     same "convert of $name to be rolled back" '0|' "$status|$err"
+    judged "$name, to be rolled back" "$file"
+    run list "$file"
+    same "the rows of $name, to be rolled back" "0|$rows" "$status|$(sha256sum <"$work/.out")"
     cp --sparse=always "$file" copied
     kept btrfs-convert -r copied
     same "Debian's way back of $name" "0|$(used_sum reiserfs reiserfs)" "$status|$(used_sum copied reiserfs)"
-    rolls_back "$name" reiserfs "$file"
+}
+
+# there_and_back NAME FILE WORDS..: the same, and it is rolled back by us
+there_and_back() {
+    there "$@"
+    rolls_back "$1" reiserfs "$2"
 }
 
 rollback_words() {
@@ -70,13 +85,20 @@ rollback_words() {
 }
 
 rolled_back_samples() {
-    local number
-    for number in 0 100 1000; do
+    local number rows
+    for number in 0 100 200 1000; do
         makes 24576 "$number" 24576
         there_and_back "sample $number" made
         # once more, since nothing is left of the first time
         there_and_back "sample $number for the second time" made --nodesize 4096 --no-inline
     done
+    makes 24576 200 24576
+    run list made
+    rows=$(sha256sum <"$work/.out")
+    makes 24576 --old 200 24576
+    run list made
+    same 'the rows of sample 200 with old items' "0||$rows" "$status|$err|$(sha256sum <"$work/.out")"
+    there_and_back 'sample 200 with old items' made
     makes 12400 --old 7 12299
     there_and_back 'a volume of an odd length with old items' made --no-datasum
 }
@@ -87,6 +109,20 @@ rolled_back_linux_volumes() {
         zstd -dqf "$top/tests/volumes/$name.img.zst" -o packed
         there_and_back "the volume $name" packed
     done
+}
+
+# files of 2^40 and of 2^44 bytes with one block, of which reiserfsck wants a pointer for each hole, and names of one hash
+rolled_back_rare_volumes() {
+    local kind
+    need python3 python3 || { lacks 'rare volumes that are converted' python3; return; }
+    for kind in terabyte sparse; do
+        "$top/tests/rare_volume.py" "$kind" rare
+        there "a volume of $kind" rare
+        same "the bytes of the file of $kind" 'nbytes 4096' "$(btrfs inspect-internal dump-tree -t 5 rare | grep -A 1 '(258 INODE_ITEM 0)' | grep -o 'nbytes .*')"
+        returns "a volume of $kind" reiserfs rare
+    done
+    "$top/tests/rare_volume.py" alike rare
+    there_and_back 'a volume of alike' rare
 }
 
 # a saved image that was changed is refused, and the volume stays as it was
@@ -107,4 +143,5 @@ rolled_back_volumes() {
     rollback_refusals
     rolled_back_samples
     rolled_back_linux_volumes
+    rolled_back_rare_volumes
 }

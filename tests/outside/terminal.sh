@@ -99,7 +99,7 @@ told_btrfs_refusals() {
 # a conversion without the space, and refusals of going back
 told_ways_back() {
     makes 9216 0 9216
-    tells 'too little space' 6 'refused 15 space 4 3 1 3' 'that are needed: 4, and that are free: 3. Of those' convert made
+    tells 'too little space' 6 'refused 15 space 4 3 1 3' 'needs 4 free units of 1 MiB, and 3 are free. 1 of them have to lie in one row, and the longest free row has 3. Nothing' convert made
     makes 12288 7 12288
     run convert made
     local place

@@ -187,6 +187,20 @@ manual_page() {
 
 # ---- the package -----------------------------------------------------------------------------------------------------
 
+# suggests NAME SUGGESTIONS WORDS..: what bash suggests for the last one of these words of a command line
+suggests() {
+    local name=$1 wanted=$2
+    shift 2
+    same "bash suggests $name" "$wanted" "$(
+        # shellcheck source=packaging/completion.bash
+        . "$work/installed/usr/share/bash-completion/completions/reiserconv"
+        COMP_WORDS=(reiserconv "$@")
+        COMP_CWORD=$#
+        _reiserconv
+        echo "${COMPREPLY[*]}"
+    )"
+}
+
 package() {
     local made root=$work/installed
     need dpkg-deb dpkg || { lacks 'the package' dpkg-deb; return; }
@@ -207,14 +221,12 @@ package() {
     same 'the program of the package' same "$(cmp -s "$program" "$root/usr/sbin/reiserconv" && echo same)"
     kept "$root/usr/sbin/reiserconv" inspect "$top/samples/tiny.img"
     same 'the installed program runs' '0|format reiserfs' "$status|${out%%$'\n'*}"
-    same 'the completion of commands' convert "$(
-        # shellcheck source=packaging/completion.bash
-        . "$root/usr/share/bash-completion/completions/reiserconv"
-        COMP_WORDS=(reiserconv con)
-        COMP_CWORD=1
-        _reiserconv
-        echo "${COMPREPLY[*]}"
-    )"
+    suggests 'a command' convert con
+    suggests 'all options' '--nodesize --no-inline --no-datasum --label --copy-label --uuid' convert -
+    suggests 'no option twice, and one of two that exclude each other' '--nodesize --no-datasum --uuid' convert --no-inline --label text -
+    suggests 'the value of an option' copy convert --copy-label --uuid c
+    same 'the log of changes has this version' "reiserconv ($("$program" --version | cut -d ' ' -f 2)) unstable; urgency=medium" \
+        "$(zcat "$root/usr/share/doc/reiserconv/changelog.gz" | head -1)"
     kept dpkg "--root=$root" --force-not-root --force-script-chrootless --log=/dev/null --purge reiserconv
     same 'the package is removed without a rest' '0|' "$status|$(find "$root/usr" -type f 2>/dev/null)"
 }

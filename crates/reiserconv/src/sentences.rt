@@ -38,7 +38,7 @@ pub fn of_refusal(number: u64) -> Sentence {
         },
         6 => Sentence {
             means: "At block {1} a rule of the format is broken, rule {2}.",
-            next: "Run 'reiserfsck --check', and do what it says. With '--rebuild-tree' it writes a lot: have a copy before. Where it finds nothing and the line stays, keep the volume as it is, and report the line.",
+            next: "Run 'reiserfsck --check', and do what it says. With '--rebuild-tree' it writes a lot: have a copy before. Where it finds nothing and the line stays, mount the volume read-only in Linux, and copy its files to a new one.",
         },
         7 => Sentence {
             means: "There are extended attributes or access control lists, which the program does not carry over: those of {1} {2}.",
@@ -69,7 +69,7 @@ pub fn of_refusal(number: u64) -> Sentence {
             next: "Mount it in Linux and unmount it.",
         },
         15 => Sentence {
-            means: "There is too little free space. Units of 1 MiB that are needed: {1}, and that are free: {2}. Of those that are needed, so many have to lie one behind the other: {3}, and the longest row of free ones has {4}.",
+            means: "A conversion needs {1} free units of 1 MiB, and {2} are free. {3} of them have to lie in one row, and the longest free row has {4}.",
             next: "Remove or move away large files, take smaller nodes ('--nodesize 4096'), or make the volume larger: see HOWTO.md.",
         },
         16 => Sentence {
@@ -105,7 +105,7 @@ pub fn of_trial(number: u64) -> Sentence {
         },
         15 => Sentence {
             means: "The sample is too large for its volume of 256 MiB, or leaves too little space for a conversion.",
-            next: "Take a smaller number, and report the line: no number is known that is refused so.",
+            next: "Take a smaller number.",
         },
         16 => Sentence {
             means: "There is a volume of ReiserFS or Btrfs, which the trial would overwrite.",

@@ -26,7 +26,7 @@ help_text =
     ++ codes "  --nodesize N   bytes of a tree's node: 4096, 8192, 16384 (the default), 32768 or 65536" ++ 10 ∷ []
     ++ codes "  --no-inline    keep no small file in the tree" ++ 10 ∷ []
     ++ codes "  --no-datasum   make no checksums of data" ++ 10 ∷ []
-    ++ codes "  --label TEXT   give the new volume this label" ++ 10 ∷ []
+    ++ codes "  --label TEXT   give the new volume this label, of at most 255 bytes" ++ 10 ∷ []
     ++ codes "  --copy-label   keep the label of the volume" ++ 10 ∷ []
     ++ codes "  --uuid SPEC    new (the default), copy for that of the volume, or the one to give" ++ 10 ∷ []
 
