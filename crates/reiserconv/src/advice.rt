@@ -141,7 +141,8 @@ fn tell_line(
     }
     text.end()?;
     match key {
-        "device fault" | "out of memory" => { tell_safety(text, written(outcome, "cut"))? }
+        "device fault" => tell_safety(text, written(outcome, "cut"))?,
+        "out of memory" => tell_safety(text, written(outcome, "free"))?,
         "output fault" => tell_safety(text, "done")?,
         _ => {}
     }
