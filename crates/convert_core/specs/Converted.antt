@@ -1,5 +1,5 @@
 -- The disk before, while and after a volume is converted.
-use Rattle.std.specs.Prelude.{◌≡◌, ◌≢◌, ◌⊎◌, ℕ, ◌/◌, true, List, length}
+use Rattle.std.specs.Prelude.{◌≡◌, ◌≢◌, ◌≤◌, ◌⊎◌, ℕ, ◌/◌, true, List, length}
 use Rattle.outside.specs.Format.{format_in}
 use Rattle.outside.specs.History.{Image, block_at}
 use Rattle.vol_block.specs.declared.format.Format.TheVariants.{Btrfs}

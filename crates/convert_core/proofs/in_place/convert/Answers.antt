@@ -68,13 +68,13 @@ returns-in-Ok-clause-converted g c = λ tells image is.
     let may = subst (λ (h : History). MayWrite c.args.options.now h (g.D.Disk.history c.write_volume.new.disk)) same (c.write_volume.ensures.only tells _ refl) in
     let behind =
     keeps_behind c.args.options.now c.args.ids.now c.args.now _ _ may _ (c.in_ok-written.ensures.written tells _ (ap reads same)) c.in_ok-written.ensures.room.0 _
-    (reads_only (IsPart c.in_ok-written.written.superblock.bytes c.in_ok-written.written.blocks) _ _ (c.switch_to.ensures.only tells)) in
+    (reads_only (IsPart _ _) _ _ (c.switch_to.ensures.only tells)) in
     let down = c.in_ok-written.ensures.written tells image (ap reads same ∙ is) in
     (converted c.args.options.now c.args.ids.now c.args.now image _ _ down c.requires.size _ (c.in-Ok.ensures.written tells) (behind_for image _ _ is behind) (c.in-Ok.ensures.copies tells), down.summary)
 
 pub returns-in_err-is_btrfs-clause-memory : goal.returns-in_err-is_btrfs-clause-memory
 returns-in_err-is_btrfs-clause-memory g c = λ tells.
-    let err = err_from_is_err_and c.from_residual-in_err-is_btrfs.result c.from_residual-in_err-is_btrfs.ensures.1 in
+    let err = err_from_is_err_and c.from_residual.result c.from_residual.ensures.1 in
     rw err.1
     (λ memory. may_keep c.args.options.now _ _ (inl (g.met.D.Disk.kept_history _ _ tells c.is_btrfs.ensures.kept)))
 
