@@ -1,0 +1,4 @@
+pub mod Apart
+pub mod Staying
+pub mod Trees
+pub mod Using

@@ -1,0 +1,36 @@
+ghost use Rattle.saved_laws.specs.Laws.{PartsDecideSaved, SamePartsStayUntouched, UnusedBlocksDecideNothing, UnusedBlocksLieApart, UsedBlocksDecideUse};
+
+use metadata_laws::metadata_decides;
+
+/// Where no part of a Btrfs volume lies in one of some blocks, a disk that differs in these alone holds the same volume with the same
+/// saved image and the same blocks in use, and the volume before can be had back from both or from neither.
+pub fn parts_decide_saved()
+    ensures { PartsDecideSaved }
+{
+    metadata_decides();
+}
+
+/// The volume before can be had back from each disk that is as long, and on which no part of the volume lies in a block that differs.
+pub fn same_parts_stay_untouched()
+    ensures { SamePartsStayUntouched }
+{
+    parts_decide_saved();
+}
+
+/// The volume before can be had back from each disk that has the same in the block of the superblock and in each block in use.
+pub fn unused_blocks_decide_nothing()
+    ensures { UnusedBlocksDecideNothing }
+{
+    unused_blocks_lie_apart();
+    same_parts_stay_untouched();
+}
+
+/// Which blocks are in use depends on the block of the superblock and on the blocks in use alone.
+pub fn used_blocks_decide_use()
+    ensures { UsedBlocksDecideUse }
+{}
+
+/// Where the way to the saved image is readable, each part of a volume lies in the block of the superblock or in a block in use.
+pub fn unused_blocks_lie_apart()
+    ensures { UnusedBlocksLieApart }
+{}
