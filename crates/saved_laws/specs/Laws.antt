@@ -5,6 +5,7 @@ use Rattle.btr_reader.specs.Parts.{IsReadable, SavedImage, own_super}
 use Rattle.image_source.specs.Laws.{IsSameUntouched}
 use Rattle.metadata_laws.specs.Apart.{IsReservedFree as IsSpareFree, IsSameOutside, IsVolumeApart, differs}
 use Rattle.metadata_laws.specs.Laws.{IsSameBtrfs}
+use Rattle.rollback_core.specs.Recovered.{IsLeft}
 use Rattle.saved_volume.specs.Saved.{image_blocks}
 use Rattle.saved_volume.specs.Untouched.{IsUntouched}
 use Rattle.saved_volume.specs.Using.{IsInUse, IsReservedFree}
@@ -49,3 +50,9 @@ UsedBlocksDecideUse = (disk other : Image) → IsSameInUse disk other → (b : �
 pub record UnusedBlocksLieApart : Type 0 where
   pub apart : (test : ℕ → Bool) (disk : Image) → IsReadable disk SavedImage → test 16 ≡ false → ((b : ℕ) → IsInUse disk b → test b ≡ false) → IsVolumeApart test disk
   pub reserved : (disk : Image) → IsReadable disk SavedImage → IsReservedFree disk ((own_super disk).total_bytes / 4096) → IsSpareFree disk
+
+-- Where none of the reserved blocks of a disk is in use, for a volume of any number of blocks, what a recovery makes of the disk, or a crash
+-- of one leaves, has the same blocks in use, and so none that is reserved.
+pub record RecoveryKeepsUse : Type 0 where
+  pub used : (disk other : Image) (blocks : ℕ) → IsReservedFree disk blocks → IsLeft disk other → (b : ℕ) → IsInUse disk b ↔ IsInUse other b
+  pub reserved : (disk other : Image) (blocks : ℕ) → IsReservedFree disk blocks → IsLeft disk other → IsReservedFree other blocks

@@ -1,6 +1,7 @@
-ghost use Rattle.saved_laws.specs.Laws.{PartsDecideSaved, SamePartsStayUntouched, UnusedBlocksDecideNothing, UnusedBlocksLieApart, UsedBlocksDecideUse};
+ghost use Rattle.saved_laws.specs.Laws.{PartsDecideSaved, RecoveryKeepsUse, SamePartsStayUntouched, UnusedBlocksDecideNothing, UnusedBlocksLieApart, UsedBlocksDecideUse};
 
 use metadata_laws::metadata_decides;
+use rollback_core::recovery_keeps;
 
 /// Where no part of a Btrfs volume lies in one of some blocks, a disk that differs in these alone holds the same volume with the same
 /// saved image and the same blocks in use, and the volume before can be had back from both or from neither.
@@ -34,3 +35,10 @@ pub fn used_blocks_decide_use()
 pub fn unused_blocks_lie_apart()
     ensures { UnusedBlocksLieApart }
 {}
+
+/// What a recovery makes of a disk, or a crash of one leaves, has the same blocks in use where no reserved block is.
+pub fn recovery_keeps_use()
+    ensures { RecoveryKeepsUse }
+{
+    recovery_keeps();
+}
