@@ -161,14 +161,14 @@ fn what_is_no_volume(rt: HostRuntime) -> Result<(), Fail> {
 /// A command over a Btrfs volume ends so.
 fn btrfs_ends(
     rt: &(impl Abort + AllocGlobal),
-    word: &str,
+    command: &str,
     sample: &Sample,
     status: u8,
     out: &str,
     err: &str,
 ) -> Result<(), Fail> {
     let mut disk = sample.disk(rt.alloc())?;
-    ends(rt, &[word, "x"], &mut disk, status, out, err)
+    ends(rt, command, &mut disk, status, out, err)
 }
 
 const BTRFS: &str =
@@ -187,11 +187,11 @@ const FOREIGN: Sample = Sample {
 
 #[test]
 fn inspect_looks_at_no_log_tree(rt: HostRuntime) -> Result<(), Fail> {
-    btrfs_ends(&rt, "inspect", &Sample::PLAIN, 0, BTRFS, "")?;
-    btrfs_ends(&rt, "inspect", &LOGGED, 0, BTRFS, "")?;
+    btrfs_ends(&rt, "inspect x", &Sample::PLAIN, 0, BTRFS, "")?;
+    btrfs_ends(&rt, "inspect x", &LOGGED, 0, BTRFS, "")?;
     btrfs_ends(
         &rt,
-        "inspect",
+        "inspect x",
         &FOREIGN,
         1,
         "",
@@ -381,12 +381,12 @@ fn list_prints_the_rows_of_btrfs(rt: HostRuntime) -> Result<(), Fail> {
         },
         ..Sample::PLAIN
     };
-    btrfs_ends(&rt, "list", &Sample::PLAIN, 0, BTRFS_ROWS, "")?;
-    btrfs_ends(&rt, "list", &later, 0, READ_LATER, "")?;
-    btrfs_ends(&rt, "list", &LOGGED, 1, "", "refused 14 log 35651584\n")?;
+    btrfs_ends(&rt, "list x", &Sample::PLAIN, 0, BTRFS_ROWS, "")?;
+    btrfs_ends(&rt, "list x", &later, 0, READ_LATER, "")?;
+    btrfs_ends(&rt, "list x", &LOGGED, 1, "", "refused 14 log 35651584\n")?;
     btrfs_ends(
         &rt,
-        "list",
+        "list x",
         &FOREIGN,
         1,
         "",
