@@ -1,12 +1,35 @@
 pub mod AllUses
 pub mod Apart
+mod Assembling
 pub mod BlockGroups
+mod Bodies
+mod Checksums
 pub mod ChunkList
+mod DataItems
+mod Distinct
+mod Entered
+mod Fits
+pub mod Flags
+mod HavingNames
+pub mod InMerged
+mod Inodes
+mod Keyed
 pub mod Lists
+mod NameLists
+mod Names
 pub mod Nodes
+pub mod Numbers
+mod Objects
 pub mod Recounting
+mod References
 pub mod Row
+mod Runs
+mod Saved
+mod Small
 pub mod Stripes
+mod SumItems
+mod Telling
+mod Told
 pub mod Totals
 pub mod Trees
 pub mod Unreserved

@@ -1,11 +1,15 @@
--- A converted volume is sound, part by part.
+-- A converted volume is sound, part by part and as a whole.
 use Rattle.std.specs.Prelude.{◌<◌, ℕ, ◌^◌, List}
 use Rattle.outside.specs.History.{Image}
 use Rattle.vol_block.specs.declared.ids.Ids.{Ids}
 use Rattle.btr_node.specs.NodeSize.{IsNodeSize}
 use Rattle.btr_sound.specs.Groups.{AreGroups, AreStripes, AreTotals}
+use Rattle.btr_sound.specs.Names.{HaveNames}
 use Rattle.btr_sound.specs.Places.{AreApart, AreUnreserved}
 use Rattle.btr_sound.specs.Recount.{Recount}
+use Rattle.btr_sound.specs.References.{AreReferences}
+use Rattle.btr_sound.specs.Sound.{IsSound}
+use Rattle.btr_sound.specs.Sums.{AreSums}
 use Rattle.btr_sound.specs.Trees.{AreTrees}
 use Rattle.conversion.specs.Making.{Making}
 use Rattle.conversion.specs.declared.trees.VolumeTrees.{VolumeTrees}
@@ -48,3 +52,19 @@ ConvertedReservedAreSound = OfConverted (λ other k. AreUnreserved k)
 -- The totals are the sums.
 abbrev pub ConvertedTotalsAreSound : Type 0
 ConvertedTotalsAreSound = OfConverted (λ other k. AreTotals k)
+
+-- The extent tree tells of each node and of each range of data, with all that refers to it, and of nothing else.
+abbrev pub ConvertedReferencesAreSound : Type 0
+ConvertedReferencesAreSound = OfConverted (λ other k. AreReferences k)
+
+-- Exactly the blocks of data whose inode has checksums have one, and each is right.
+abbrev pub ConvertedChecksumsAreSound : Type 0
+ConvertedChecksumsAreSound = OfConverted AreSums
+
+-- In each file tree the directory indexes, the dir items and the references of inodes tell the same names, and inodes their counts.
+abbrev pub ConvertedNamesAreSound : Type 0
+ConvertedNamesAreSound = OfConverted (λ other k. HaveNames k)
+
+-- It is sound in all nine parts.
+abbrev pub ConvertedVolumesAreSound : Type 0
+ConvertedVolumesAreSound = OfConverted (λ other k. IsSound other)

@@ -1,15 +1,19 @@
 // Laws of the definitions, each the contract of a function that does nothing.
 ghost use Rattle.sound_laws.specs.Laws.{
   ConvertedBlockGroupsAreSound,
+  ConvertedChecksumsAreSound,
   ConvertedChunksAreSound,
+  ConvertedNamesAreSound,
   ConvertedPlacementIsSound,
+  ConvertedReferencesAreSound,
   ConvertedReservedAreSound,
   ConvertedTotalsAreSound,
   ConvertedTreesAreSound,
+  ConvertedVolumesAreSound,
 };
 
 use converted_laws::new_ids_fit;
-use file_laws::files_are_held;
+use file_laws::{files_are_held, image_keys_ascend, inodes_are_there};
 
 /// Each tree of a converted volume is there with its items, and the bootstrap array holds the system chunks.
 pub fn converted_trees_are_sound()
@@ -52,4 +56,49 @@ pub fn converted_totals_are_sound()
     ensures { ConvertedTotalsAreSound }
 {
     new_ids_fit();
+}
+
+/// The extent tree of a converted volume tells of each node and of each range of data, with all references to it.
+pub fn converted_references_are_sound()
+    ensures { ConvertedReferencesAreSound }
+{
+    new_ids_fit();
+    files_are_held();
+    image_keys_ascend();
+}
+
+/// Exactly the blocks of data whose inode has checksums have one, and each is right.
+pub fn converted_checksums_are_sound()
+    ensures { ConvertedChecksumsAreSound }
+{
+    new_ids_fit();
+    files_are_held();
+    image_keys_ascend();
+    inodes_are_there();
+}
+
+/// In each file tree of a converted volume the directory indexes, the dir items and the references of inodes tell the same
+/// names, and each inode tells its count of names, its size and the bytes of its extents.
+pub fn converted_names_are_sound()
+    ensures { ConvertedNamesAreSound }
+{
+    new_ids_fit();
+    files_are_held();
+    image_keys_ascend();
+    inodes_are_there();
+}
+
+/// A converted volume is sound: what a recount of its bytes finds agrees with all that it tells of itself.
+pub fn converted_volumes_are_sound()
+    ensures { ConvertedVolumesAreSound }
+{
+    converted_trees_are_sound();
+    converted_names_are_sound();
+    converted_references_are_sound();
+    converted_placement_is_sound();
+    converted_checksums_are_sound();
+    converted_block_groups_are_sound();
+    converted_chunks_are_sound();
+    converted_reserved_are_sound();
+    converted_totals_are_sound();
 }

@@ -17,7 +17,7 @@ use Rattle.rollback_core.specs.Recovered.{IsRecovered}
 use Rattle.rollback_core.specs.Recovered as recovery
 use Rattle.rollback_steps.specs.Laws.{RollbackKeeps}
 use Rattle.rollback_steps.specs.RolledBack.{IsLeft, IsRolledBack}
-use Rattle.sound_names.specs.Laws.{ConvertedVolumesAreSound}
+use Rattle.sound_laws.specs.Laws.{ConvertedVolumesAreSound}
 use Rattle.space_items.specs.Laws.{AreIds}
 use Rattle.unit_plan.specs.declared.options.Options.{Options}
 use Rattle.unit_plan.specs.declared.options.UuidChoice.{UuidChoice}

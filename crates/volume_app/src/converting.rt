@@ -19,7 +19,7 @@ use outside::{Access, Answer, Disk, Fault, Sink};
 use reiser_volume::used_blocks_decide;
 use sink_text::Piece::{Decimal, Plain};
 use sink_text::write_pieces;
-use sound_names::converted_volumes_are_sound;
+use sound_laws::converted_volumes_are_sound;
 use std::alloc::Global;
 use unit_plan::{Options, UuidChoice};
 use vol_block::Ids;
