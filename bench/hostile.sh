@@ -6,7 +6,7 @@
 # takes. It needs python3, 10 GB of disk that keeps files sparse, and 2 GB of memory for the page cache.
 #
 # `list` prints each path whole, so the text of a chain of directories grows by the square of its length, and with it the time; the text of
-# 30,000 would be 2 GB. So `list` is measured on a chain of a tenth, and the longest ones are seen by `inspect` and `convert` alone.
+# 30,000 has 0.9 GB. So `list` is measured on a chain of a tenth, and the longest ones are seen by `inspect` and `convert` alone.
 # shellcheck source=bench/begin.sh
 . "$(dirname "$(readlink -f "${BASH_SOURCE[0]}")")/begin.sh"
 
