@@ -27,5 +27,3 @@ pub use counter::Counter;
 pub use laws::{maps_agree, nodes_never_fall, packing_is_full, stands_by_slots};
 pub use slots::Slots;
 
-#[cfg(test)]
-mod tests;

@@ -7,8 +7,6 @@ mod form;
 mod pieces;
 mod prepared;
 mod switch;
-#[cfg(test)]
-mod tests;
 
 pub use fields::{NewRoots, superblock};
 pub use form::{ids_of, label_of};

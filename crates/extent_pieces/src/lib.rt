@@ -23,5 +23,3 @@ pub use laws::{
 };
 pub use pieces::Pieces;
 
-#[cfg(test)]
-mod tests;

@@ -18,5 +18,3 @@ mod small;
 
 pub use items::Items;
 
-#[cfg(test)]
-mod tests;

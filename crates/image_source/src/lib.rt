@@ -19,5 +19,3 @@ pub use moved::image_moved;
 pub use source::ImageSource;
 pub use using::reserved_used;
 
-#[cfg(test)]
-mod tests;

@@ -26,5 +26,3 @@ mod superblock;
 
 pub use maker::{MakeAnswer, make, make_old};
 
-#[cfg(test)]
-mod tests;

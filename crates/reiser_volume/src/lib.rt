@@ -26,5 +26,3 @@ pub use links::Link;
 pub use numbers::Numbers;
 pub use volume::Volume;
 
-#[cfg(test)]
-mod tests;

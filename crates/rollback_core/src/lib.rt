@@ -16,5 +16,3 @@ pub use laws::{
 };
 pub use recovery::{RecoverSummary, recover};
 
-#[cfg(test)]
-mod tests;

@@ -7,8 +7,6 @@
 
 mod ending;
 mod order;
-#[cfg(test)]
-mod tests;
 mod top;
 mod words;
 

@@ -27,9 +27,3 @@ pub use root_list::roots;
 pub use stream_laws::{extent_items_fit, sum_items_fit};
 pub use sum_stream::{SumStream, checksums};
 
-#[cfg(test)]
-mod own_tests;
-#[cfg(test)]
-mod stream_tests;
-#[cfg(test)]
-mod tests;

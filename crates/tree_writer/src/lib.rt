@@ -21,5 +21,3 @@ pub use source::ItemSource;
 pub use trees::Trees;
 pub use write::{WrittenTree, write_tree};
 
-#[cfg(test)]
-mod tests;

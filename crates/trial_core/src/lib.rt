@@ -17,5 +17,3 @@ pub use laws::tries_keep;
 pub use round::go_round;
 pub use whole::trial;
 
-#[cfg(test)]
-mod tests;

@@ -35,5 +35,3 @@ pub use plan::{Plan, PlanAnswer};
 pub use sums::sums_in_item;
 pub use units::Units;
 
-#[cfg(test)]
-mod tests;

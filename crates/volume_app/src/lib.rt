@@ -15,8 +15,6 @@ mod list;
 mod recovering;
 mod reiser;
 mod rolling_back;
-#[cfg(test)]
-mod tests;
 mod texts;
 mod top;
 mod trying;

@@ -1,5 +1,0 @@
-use Rattle.std.proofs.Common.{◌≡◌, ◌*◌, ◌≤◌}
-use Rattle.btr_tree.proofs.tests.counted.Given as goal
-
-abbrev pub invariant-loop : goal.invariant-loop
-invariant-loop l = (l.tree.nodesize ≡ l.nodesize) × (l.tree.bytes ≤ 65536 * l.counter)

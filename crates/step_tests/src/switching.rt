@@ -1,0 +1,57 @@
+use btr_super::mirror;
+use convert_steps::switch_to;
+use outside::{Access, BlockSource, Disk};
+use outside_mem::MemDisk;
+use std::alloc::Global;
+use std::test::Fail;
+use vol_block::{Block, BlockNo};
+
+fn filled(byte: u8) -> Block {
+    Block {
+        bytes: [byte; 4096],
+    }
+}
+
+/// What a crash by this choice leaves of a switch whose disk stops after so many writes, opened for reading; and
+/// whether the switch succeeded.
+///
+/// The old volume has ones in block 16 and zeros elsewhere, and the superblock is fours.
+fn crashed(alloc: Global, writes: u64, choice: &[u32]) -> Result<(MemDisk, bool), Fail> {
+    let mut disk = MemDisk::new(alloc, 16400)?;
+    disk.set_block(16, &filled(1))?;
+    disk.open("", Access::Write)?;
+    disk.stop_at_write(writes);
+    let done = switch_to(&mut disk, &filled(4), 16400).is_ok();
+    let mut left = disk.after_crash(choice)?;
+    left.open("", Access::Read)?;
+    Ok((left, done))
+}
+
+fn has(disk: &mut MemDisk, n: BlockNo, wanted: &Block) -> Result<bool, Fail> {
+    let mut block = Block::zero();
+    if n >= disk.len() {
+        return Ok(false);
+    }
+    disk.read(n, &mut block)?;
+    Ok(block == *wanted)
+}
+
+#[test]
+fn a_crash_of_a_switch_leaves_the_old_superblock_or_the_new_one(
+    rt: HostRuntime,
+) -> Result<(), Fail> {
+    let mut copy = Block::zero();
+    mirror(&filled(4), 16384, &mut copy);
+    for writes in 0..4 {
+        for choice in [[0, 0], [1, 0], [0, 1], [1, 1]] {
+            let (mut left, done) = crashed(rt.alloc(), writes, &choice)?;
+            assert_eq!(rt; done, writes == 3);
+            let new = has(&mut left, 16, &filled(4))?;
+            let copied = has(&mut left, 16384, &copy)?;
+            assert!(rt; new || has(&mut left, 16, &filled(1))? && !copied);
+            assert!(rt; !done || new && copied);
+            assert!(rt; has(&mut left, 5, &filled(0))?);
+        }
+    }
+    Ok(())
+}
