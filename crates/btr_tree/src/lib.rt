@@ -26,4 +26,3 @@ pub use climb::Root;
 pub use counter::Counter;
 pub use laws::{maps_agree, nodes_never_fall, packing_is_full, stands_by_slots};
 pub use slots::Slots;
-

@@ -1,4 +1,5 @@
-pub mod Identifiers
-pub mod Laws
-pub mod Opened
-pub mod Saved
+pub mod going_back
+pub mod opening
+pub mod placement
+pub mod reading
+pub mod soundness

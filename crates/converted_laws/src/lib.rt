@@ -1,11 +1,32 @@
-//! Laws on converted volumes: such a volume opens as a Btrfs volume, and its trees are read with the items that were written.
+//! Laws on converted volumes: what such a volume holds, by its definition alone, whoever wrote it.
 //!
-//! Each is the contract of a function that does nothing. A proof that cites one calls it.
+//! - [`reading`]: it opens as a Btrfs volume, and its trees are read with the items that were written;
+//! - [`opening`]: its rows are those of the volume before, which is its saved image; so it is after a crash;
+//! - [`soundness`]: it is sound, part by part and as a whole;
+//! - [`going_back`]: the volume before can be had back from it;
+//! - [`placement`]: data lies where it lay.
+//!
+//! Each law is the contract of a function that does nothing. A proof that cites one calls it.
 #![tactic(auto)]
 
-mod laws;
+pub mod going_back;
+pub mod opening;
+pub mod placement;
+pub mod reading;
+pub mod soundness;
 
-pub use laws::{
+pub use going_back::{
+    converted_volumes_go_back, converted_volumes_lie_apart, saved_images_are_whole,
+};
+pub use opening::{converted_volumes_open, crashes_leave_volumes};
+pub use placement::converted_data_stays;
+pub use reading::{
     chunks_map, converted_is_readable, new_ids_fit, saved_image_is_readable, saved_image_reads,
     superblock_reads, trees_read,
+};
+pub use soundness::{
+    converted_block_groups_are_sound, converted_checksums_are_sound, converted_chunks_are_sound,
+    converted_names_are_sound, converted_placement_is_sound, converted_references_are_sound,
+    converted_reserved_are_sound, converted_totals_are_sound, converted_trees_are_sound,
+    converted_volumes_are_sound,
 };

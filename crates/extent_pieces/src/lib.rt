@@ -22,4 +22,3 @@ pub use laws::{
     pieces_cover_used, places_are_apart, plans_have_room,
 };
 pub use pieces::Pieces;
-

@@ -17,4 +17,3 @@ mod order;
 mod small;
 
 pub use items::Items;
-

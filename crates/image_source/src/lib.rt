@@ -18,4 +18,3 @@ pub use laws::spare_blocks_decide_nothing;
 pub use moved::image_moved;
 pub use source::ImageSource;
 pub use using::reserved_used;
-

@@ -25,4 +25,3 @@ mod sample;
 mod superblock;
 
 pub use maker::{MakeAnswer, make, make_old};
-

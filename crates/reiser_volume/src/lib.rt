@@ -25,4 +25,3 @@ pub use laws::{
 pub use links::Link;
 pub use numbers::Numbers;
 pub use volume::Volume;
-

@@ -15,4 +15,3 @@ pub use laws::{
     recovery_mends, recovery_opens, recovery_stays,
 };
 pub use recovery::{RecoverSummary, recover};
-

@@ -26,4 +26,3 @@ pub use own_laws::{own_nodes_are_needed, own_nodes_stay};
 pub use root_list::roots;
 pub use stream_laws::{extent_items_fit, sum_items_fit};
 pub use sum_stream::{SumStream, checksums};
-

@@ -20,4 +20,3 @@ pub use list::ListItems;
 pub use source::ItemSource;
 pub use trees::Trees;
 pub use write::{WrittenTree, write_tree};
-

@@ -3,7 +3,7 @@ use Rattle.std.proofs.Common.{◌≡◌, inl, inr, Result, Ok, Err, ℕ, ◌<◌
 use Rattle.std.specs.Prelude.{IfErr}
 use Rattle.std.specs.Result.{MatchResult}
 use Rattle.vol_block.specs.declared.ids.Ids.{Ids}
-use Rattle.back_laws.specs.Back.{ConvertedVolumesGoBack, GoesBack}
+use Rattle.converted_laws.specs.going_back.Back.{ConvertedVolumesGoBack, GoesBack}
 use Rattle.btr_node.specs.NodeSize.{IsNodeSize}
 use Rattle.btr_reader.specs.Laws.{BtrfsRowsAreOne}
 use Rattle.btr_reader.specs.Parts.{ListsBtrfs}
@@ -11,7 +11,7 @@ use Rattle.convert_core.specs.Converted.{IsConverted}
 use Rattle.fs_rows.specs.Rows.{WholeRow, row_of}
 use Rattle.fs_rows.specs.declared.row.Row.{Row}
 use Rattle.object_files.specs.Laws.{SameUsed}
-use Rattle.open_laws.specs.Opens.{ConvertedVolumesOpen, OpensAsBefore}
+use Rattle.converted_laws.specs.opening.Opens.{ConvertedVolumesOpen, OpensAsBefore}
 use Rattle.outside.specs.History.{History, Image}
 use Rattle.outside.specs.declared.answer.Answer.{Answer}
 use Rattle.reiser_bitmap.specs.Bits.{has}

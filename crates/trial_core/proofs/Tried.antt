@@ -5,7 +5,7 @@ use Rattle.std.specs.Result.{MatchResult}
 use Rattle.std.proofs.lemmas.Bool.{and_parts}
 use Rattle.std.proofs.lemmas.Bool.Decides.{Decides-ltb}
 use Rattle.vol_block.specs.declared.ids.Ids.{Ids}
-use Rattle.back_laws.specs.Back.{ConvertedVolumesGoBack}
+use Rattle.converted_laws.specs.going_back.Back.{ConvertedVolumesGoBack}
 use Rattle.outside.specs.History.{History, Image, IsSettled, WritesOnly, after, block_at, reads, synced}
 use Rattle.outside.specs.declared.answer.Answer.{Answer}
 use Rattle.outside.specs.declared.answer.Answer.TheVariants as answer

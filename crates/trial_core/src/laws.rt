@@ -1,7 +1,7 @@
 // Laws of the definitions, each the contract of a function that does nothing.
 ghost use Rattle.trial_core.specs.Laws.{TriesKeep};
 
-use back_laws::converted_volumes_go_back;
+use converted_laws::converted_volumes_go_back;
 use rollback_steps::rollback_keeps;
 use sample_laws::samples_are_as_described;
 

@@ -16,4 +16,3 @@ mod whole;
 pub use laws::tries_keep;
 pub use round::go_round;
 pub use whole::trial;
-

@@ -1,7 +1,7 @@
 // A volume that is converted and rolled back.
 ghost use Rattle.std.specs.Prelude.{◌≡◌, ◌≤◌, ◌<◌, ◌^◌, Some, IfErr, IsTrue, OnOk, length};
 ghost use Rattle.std.specs.Result.{MatchResult};
-ghost use Rattle.back_laws.specs.Back.{GoesBack};
+ghost use Rattle.converted_laws.specs.going_back.Back.{GoesBack};
 ghost use Rattle.btr_reader.specs.Parts.{ListsBtrfs};
 ghost use Rattle.convert_core.specs.Converted.{IsConverted};
 ghost use Rattle.outside.specs.Fault.{HasCauseOf};
@@ -17,9 +17,8 @@ ghost use Rattle.trial_parts.specs.Parts.{used_mark};
 use crate::answers::{changed, step_answer};
 use crate::between::read_btrfs_rows;
 use crate::known::Known;
-use back_laws::converted_volumes_go_back;
 use btr_reader::btrfs_rows_are_one;
-use open_laws::converted_volumes_open;
+use converted_laws::{converted_volumes_go_back, converted_volumes_open};
 use outside::{Access, Answer, BlockSource, Disk};
 use reiser_volume::refusals_break_rules;
 use rollback_core::in_order_has_format;

@@ -34,4 +34,3 @@ pub use places::slots_of;
 pub use plan::{Plan, PlanAnswer};
 pub use sums::sums_in_item;
 pub use units::Units;
-

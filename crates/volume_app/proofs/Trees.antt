@@ -3,21 +3,21 @@ use Rattle.std.proofs.Common.{◌≡◌, inl, inr, ⊎_elim, ◌<◌, ◌^◌, �
 use Rattle.std.specs.Prelude.{length}
 use Rattle.outside.specs.History.{Image}
 use Rattle.vol_block.specs.declared.ids.Ids.{Ids}
-use Rattle.back_laws.specs.Back.{ConvertedVolumesGoBack}
-use Rattle.back_laws.proofs.Crashing.{stands}
+use Rattle.converted_laws.specs.going_back.Back.{ConvertedVolumesGoBack}
+use Rattle.converted_laws.proofs.going_back.Crashing.{stands}
 use Rattle.btr_node.specs.NodeSize.{IsNodeSize}
 use Rattle.convert_core.specs.Converted.{IsConverted, IsConvertible, IsEither, IsSomeNew}
 use Rattle.convert_steps.specs.Switch.{IsMirror}
-use Rattle.converted_laws.specs.Identifiers.{HasFsid}
+use Rattle.converted_laws.specs.reading.Identifiers.{HasFsid}
 use Rattle.image_source.specs.Laws.{SpareBlocksDecideNothing, is_spare}
-use Rattle.open_laws.specs.Opens.{ConvertedVolumesOpen}
+use Rattle.converted_laws.specs.opening.Opens.{ConvertedVolumesOpen}
 use Rattle.reiser_volume.specs.Laws.{UsedBlocksDecide}
 use Rattle.rollback_core.specs.Laws.{RecoveryKeeps, RecoveryOpens}
 use Rattle.rollback_core.specs.Recovered.{IsRecovered}
 use Rattle.rollback_core.specs.Recovered as recovery
 use Rattle.rollback_steps.specs.Laws.{RollbackKeeps}
 use Rattle.rollback_steps.specs.RolledBack.{IsLeft, IsRolledBack}
-use Rattle.sound_laws.specs.Laws.{ConvertedVolumesAreSound}
+use Rattle.converted_laws.specs.soundness.Laws.{ConvertedVolumesAreSound}
 use Rattle.space_items.specs.Laws.{AreIds}
 use Rattle.unit_plan.specs.declared.options.Options.{Options}
 use Rattle.unit_plan.specs.declared.options.UuidChoice.{UuidChoice}

@@ -2,11 +2,11 @@
 use Rattle.std.specs.Prelude.{◌≡◌, ◌⊎◌, ◌<◌, ℕ, List, length}
 use Rattle.outside.specs.History.{Image, block_at}
 use Rattle.fs_rows.specs.Rows.{WholeRow}
-use Rattle.back_laws.specs.Back.{GoesBack}
+use Rattle.converted_laws.specs.going_back.Back.{GoesBack}
 use Rattle.btr_sound.specs.Sound.{IsSound}
 use Rattle.image_source.specs.Laws.{IsSameUntouched}
 use Rattle.object_files.specs.Laws.{SameUsed}
-use Rattle.open_laws.specs.Opens.{OpensAsBefore, StandsAsBefore}
+use Rattle.converted_laws.specs.opening.Opens.{OpensAsBefore, StandsAsBefore}
 use Rattle.reiser_volume.specs.Laws.{IsSameVolume}
 use Rattle.rollback_core.specs.Opens.{OpensAs}
 use Rattle.row_laws.specs.Rows.{HasBytes}

@@ -12,14 +12,14 @@ ghost use Rattle.volume_app.specs.Trees.{HasId};
 ghost use Rattle.space_items.specs.Laws.{AreIds};
 
 use crate::ending::{Ending, printed};
-use back_laws::converted_volumes_go_back;
 use convert_core::ConvertSummary;
-use open_laws::converted_volumes_open;
+use converted_laws::{
+    converted_volumes_are_sound, converted_volumes_go_back, converted_volumes_open,
+};
 use outside::{Access, Answer, Disk, Fault, Sink};
 use reiser_volume::used_blocks_decide;
 use sink_text::Piece::{Decimal, Plain};
 use sink_text::write_pieces;
-use sound_laws::converted_volumes_are_sound;
 use std::alloc::Global;
 use unit_plan::{Options, UuidChoice};
 use vol_block::Ids;

@@ -1,0 +1,28 @@
+-- The identifiers of a converted volume have their bytes.
+use Rattle.std.proofs.Common.{◌≡◌, ◌≤◌, ℕ, List, length, drop, take, ap, ◌∙◌, arith, length-drop}
+use Rattle.std.proofs.lemmas.List.{length-take}
+use Rattle.outside.specs.History.{Image, block_at}
+use Rattle.vol_block.specs.declared.ids.Ids.{Ids}
+use Rattle.conversion.specs.Making.{fsid_by}
+use Rattle.reiser_super.specs.declared.superblock.Super.{Super}
+use Rattle.space_items.specs.Laws.{AreIds}
+use Rattle.unit_plan.specs.declared.options.UuidChoice.{UuidChoice}
+use Rattle.unit_plan.specs.declared.options.UuidChoice.TheVariants.{New, Copy, Given}
+use Rattle.converted_laws.specs.reading.Identifiers.{HasFsid, NewIdsFit}
+
+-- the identifier that is in a superblock
+own_long : (block : List ℕ) → 100 ≤ length block → length (take 16 (drop 84 block)) ≡ 16
+own_long block long = omega (arith, long, length-take 16 (drop 84 block), length-drop 84 block)
+
+fsid_long : (image : Image) (ids : Ids) (sup : Super) (choice : UuidChoice) → AreIds ids → sup.uuid ≡ take 16 (drop 84 (block_at image 16)) → HasFsid image choice → length (fsid_by ids sup choice) ≡ 16
+fsid_long image ids sup New are is has = are.fsid
+fsid_long image ids sup Copy are is has = ap (λ (l : List ℕ). length l) is ∙ own_long (block_at image 16) has
+fsid_long image ids sup (Given id) are is has = has
+
+pub new_ids_fit : NewIdsFit
+new_ids_fit = λ image m made are has. record {
+  fsid = fsid_long image m.ids m.volume.sup m.options.uuid are (ap (λ (s : Super). s.uuid) made.has_pieces.opened.sup) has;
+  device = are.device;
+  chunk_tree = are.chunk_tree;
+  subvolume = are.subvolume;
+}

@@ -1,0 +1,4 @@
+pub mod Identifiers
+pub mod Laws
+pub mod Opened
+pub mod Saved

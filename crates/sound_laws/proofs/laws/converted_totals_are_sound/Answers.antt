@@ -1,5 +1,0 @@
-use Rattle.sound_laws.proofs.Totals.{converted_totals_are_sound}
-use Rattle.sound_laws.proofs.laws.converted_totals_are_sound.Goals as goal
-
-pub returns : goal.returns
-returns c = converted_totals_are_sound c.new_ids_fit.ensures
