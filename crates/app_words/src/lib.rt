@@ -5,8 +5,6 @@
 #![tactic(auto)]
 
 mod answer_line;
-#[cfg(test)]
-mod tests;
 mod words;
 
 pub use answer_line::{answer_status, write_answer};

@@ -27,6 +27,3 @@ pub use laws::{
     inode_refs_read_back, inodes_read_back, keys_read_back, stamps_read_back,
 };
 pub use stamp::Stamp;
-
-#[cfg(test)]
-mod tests;

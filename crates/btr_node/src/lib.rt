@@ -30,6 +30,3 @@ pub use laws::{
 };
 pub use leaf::LeafView;
 pub use writer::{Full, NodeWriter};
-
-#[cfg(test)]
-mod tests;

@@ -11,6 +11,3 @@ mod sample;
 mod superblock;
 
 pub use sample::{FILE_LEAF, Sample, SampleAnswer};
-
-#[cfg(test)]
-mod tests;

@@ -31,6 +31,3 @@ pub use laws::{
 pub use root_item::RootItem;
 pub use root_ref::RootRef;
 pub use stripe::Stripe;
-
-#[cfg(test)]
-mod tests;

@@ -12,6 +12,3 @@ mod superblock;
 pub use laws::{mirrors_read, supers_read_back};
 pub use sums::{csum_type, sum_kind};
 pub use superblock::{Super, mirror};
-
-#[cfg(test)]
-mod tests;

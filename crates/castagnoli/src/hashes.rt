@@ -41,6 +41,3 @@ pub fn data_ref_hash(root: u64, objectid: u64, offset: u64) -> u64
     );
     (u64::from(high) << 31) ^ u64::from(low)
 }
-
-#[cfg(test)]
-mod tests;

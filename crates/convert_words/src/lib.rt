@@ -6,8 +6,6 @@
 mod given;
 mod read;
 mod setting;
-#[cfg(test)]
-mod tests;
 mod values;
 
 pub use read::read_options;

@@ -3,12 +3,11 @@ ghost use Rattle.outside.specs.Fault.{Rose};
 ghost use Rattle.outside.specs.History.{nothing};
 ghost use Rattle.host_edge.specs.FileDisk.{Kept, opened_for, length_of, kept_refl, kept_trans, closed_length, tells_nothing};
 
-use crate::in_use::Use;
 use crate::opened::Opened;
-use crate::place::Place;
 use crate::status_line::StatusLine;
 use crate::trouble::{Call, Cause, Trouble};
 use crate::watch::Watch;
+use device_use::{Place, Use};
 use outside::{Access, BlockSource, Disk, Fault};
 use std::fs;
 use std::fs::{File, Files, OpenOptions};

@@ -8,24 +8,16 @@
 //! [`Trouble`] why its last call failed; a [`LineSink`] keeps the line that it passes on.
 #![tactic(auto)]
 
-mod btrfs;
-mod devices;
 mod file_disk;
-mod in_use;
 mod line_sink;
-mod loops;
-mod mounts;
 mod opened;
-mod place;
 mod status_line;
 mod std_sink;
-#[cfg(test)]
-mod tests;
 mod trouble;
 mod watch;
 
+pub use device_use::Use;
 pub use file_disk::FileDisk;
-pub use in_use::Use;
 pub use line_sink::LineSink;
 pub use status_line::StatusLine;
 pub use std_sink::StdSink;

@@ -1,4 +1,4 @@
-use crate::in_use::Use;
+use device_use::Use;
 use std::io;
 use thiserror::Error;
 use vol_block::BlockNo;

@@ -14,6 +14,3 @@ pub use entries::{Entries, Entry};
 pub use order::key_order;
 pub use pointers::Pointers;
 pub use stat::StatData;
-
-#[cfg(test)]
-mod tests;

@@ -14,6 +14,3 @@ mod leaf;
 pub use head::{ItemHead, ItemKind};
 pub use inner::InnerView;
 pub use leaf::LeafView;
-
-#[cfg(test)]
-mod tests;
