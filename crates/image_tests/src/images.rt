@@ -182,18 +182,23 @@ fn a_fault_is_no_reserved_block(rt: HostRuntime) -> Result<(), Fail> {
 }
 
 #[test]
-fn a_log_tree_and_another_device_are_told(rt: HostRuntime) -> Result<(), Fail> {
+fn a_log_tree_is_told(rt: HostRuntime) -> Result<(), Fail> {
     let sample = Sample {
         log_root: 0x230_0000,
         ..Sample::PLAIN
     };
-    let mut logged = btrfs(rt.alloc(), &sample)?;
-    let volume = Btrfs::open(rt.alloc(), &mut logged)?;
-    let told = reserved_used(rt.alloc(), &volume, &mut logged, 8448);
+    let mut disk = btrfs(rt.alloc(), &sample)?;
+    let volume = Btrfs::open(rt.alloc(), &mut disk)?;
+    let told = reserved_used(rt.alloc(), &volume, &mut disk, 8448);
     let log = BtrRefusal::LogPending {
         address: 0x230_0000,
     };
     assert_eq!(rt; told, Err(BtrAnswer::Refused(log)));
+    Ok(())
+}
+
+#[test]
+fn another_device_is_told(rt: HostRuntime) -> Result<(), Fail> {
     let mut disk = btrfs(rt.alloc(), &Sample::PLAIN)?;
     let volume = Btrfs::open(rt.alloc(), &mut disk)?;
     let told = reserved_used(rt.alloc(), &volume, &mut device(rt.alloc())?, 8448);

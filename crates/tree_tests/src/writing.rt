@@ -202,6 +202,32 @@ fn misfits(rt: HostRuntime) -> Result<(), Fail> {
     Ok(())
 }
 
+/// Two trees of the items of one list, and how many slots and nodes they took together.
+#[derive(Clone, Copy, Debug, PartialEq, Eq)]
+struct Twice {
+    roots: (Root, Root),
+    taken: usize,
+    nodes: usize,
+}
+
+impl Twice {
+    /// Writes both to six slots.
+    fn written<D: Disk>(alloc: Global, disk: &mut D, list: &ItemList) -> Result<Twice, WriteAnswer>
+        requires open { D.opened disk.old ≡ Some Access.Write }
+        requires size { 32 ≤ D.size disk.old }
+        ensures size { D.size disk.new ≡ D.size disk.old }
+    {
+        let mut trees = Trees::new(alloc, FORM, slots_in_a_row(alloc, 6)?);
+        let first = trees.write(alloc, disk, OWNER, &mut ListItems::new(list))?;
+        let second = trees.write(alloc, disk, OWNER, &mut ListItems::new(list))?;
+        Ok(Twice {
+            roots: (first, second),
+            taken: trees.taken(),
+            nodes: trees.nodes().len(),
+        })
+    }
+}
+
 #[test]
 fn two_trees(rt: HostRuntime) -> Result<(), Fail> {
     let mut list = ItemList::new(rt.alloc());
@@ -209,13 +235,10 @@ fn two_trees(rt: HostRuntime) -> Result<(), Fail> {
     list.add(key(257), &[8; 3970])?;
     let mut disk = MemDisk::new(rt.alloc(), 32)?;
     disk.open("", Access::Write)?;
-    let mut trees = Trees::new(rt.alloc(), FORM, slots_in_a_row(rt.alloc(), 6)?);
-    let first = trees.write(rt.alloc(), &mut disk, OWNER, &mut ListItems::new(&list))?;
-    let second = trees.write(rt.alloc(), &mut disk, OWNER, &mut ListItems::new(&list))?;
-    assert_eq!(rt; first.address, 73728);
-    assert_eq!(rt; second.address, 86016);
-    assert_eq!(rt; trees.taken(), 6);
-    assert_eq!(rt; trees.nodes().len(), 6);
+    let twice = Twice::written(rt.alloc(), &mut disk, &list)?;
+    let (first, second) = twice.roots;
+    assert_eq!(rt; (first.address, second.address), (73728, 86016));
+    assert_eq!(rt; (twice.taken, twice.nodes), (6, 6));
     let first_back = has_items(rt.alloc(), &mut disk, &first, &list)?;
     let second_back = has_items(rt.alloc(), &mut disk, &second, &list)?;
     assert!(rt; first_back && second_back);

@@ -350,14 +350,14 @@ fn names_and_sizes(rt: HostRuntime) -> Result<(), Fail> {
     Ok(())
 }
 
-/// What is read of the files of a volume: the map of the large one, and the block of the small one.
+/// The map of the large file.
 #[test]
-fn maps_and_tails(rt: HostRuntime) -> Result<(), Fail> {
+fn maps_of_files(rt: HostRuntime) -> Result<(), Fail> {
     let alloc = rt.alloc();
     let mut disk = linked_sample(alloc)?;
     disk.open("x", Access::Read)?;
     let volume = Volume::open(alloc, &mut disk)?;
-    let (large, small) = (4, 3);
+    let large = 4;
     assert!(rt; large < volume.count());
     let map = volume.file_map(alloc, &mut disk, large)?;
     let run = FileRun {
@@ -367,6 +367,17 @@ fn maps_and_tails(rt: HostRuntime) -> Result<(), Fail> {
     };
     assert_eq!(rt; map.len(), 1);
     assert_eq!(rt; map.get(0), run);
+    Ok(())
+}
+
+/// The block of the small file.
+#[test]
+fn tails_of_files(rt: HostRuntime) -> Result<(), Fail> {
+    let alloc = rt.alloc();
+    let mut disk = linked_sample(alloc)?;
+    disk.open("x", Access::Read)?;
+    let volume = Volume::open(alloc, &mut disk)?;
+    let small = 3;
     assert!(rt; small < volume.count());
     let mut block = Block::zero();
     volume.tail(&mut disk, small, 0, &mut block)?;
