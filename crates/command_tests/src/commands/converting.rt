@@ -1,9 +1,11 @@
 // Runs of `convert`.
-ghost use Rattle.std.specs.Prelude.{◌≡◌, None};
+ghost use Rattle.std.specs.Prelude.{◌≡◌, None, IfOk};
 
 use super::sample::{change, changed, sample};
 use super::{ROOT, ends, is_usage, run_on};
+use outside::Memory;
 use outside_mem::MemDisk;
+use std::alloc::Global;
 use std::process::Abort;
 use std::test::Fail;
 
@@ -72,18 +74,32 @@ fn refused(
 
 #[test]
 fn what_is_refused_is_not_written(rt: HostRuntime) -> Result<(), Fail> {
+    for (at, bytes, line) in [
+        (50, b"\x02".as_slice(), "refused 2 unclean 2\n"),
+        (64, b"_BHRfS_M".as_slice(), "refused 16 format\n"),
+    ] {
+        let mut disk = changed(rt.alloc(), 16, at, bytes)?;
+        refused(&rt, &mut disk, 1, line)?;
+    }
     let mut disk = MemDisk::new(rt.alloc(), 2048)?;
-    refused(&rt, &mut disk, 1, "refused 1 novolume\n")?;
-    let mut disk = changed(rt.alloc(), 16, 50, &[2])?;
-    refused(&rt, &mut disk, 1, "refused 2 unclean 2\n")?;
-    let mut disk = changed(rt.alloc(), 16, 64, b"_BHRfS_M")?;
-    refused(&rt, &mut disk, 1, "refused 16 format\n")?;
-    // A block is used in each of four units, so that three are free.
-    let mut disk = sample(rt.alloc(), 2048)?;
+    refused(&rt, &mut disk, 1, "refused 1 novolume\n")
+}
+
+/// The sample with a used block in each of four units, so that three are free.
+fn with_three_free_units(alloc: Global) -> Result<MemDisk, Memory>
+    ensures { IfOk result (λ d. d.opened ≡ None) }
+{
+    let mut disk = sample(alloc, 2048)?;
     change(&mut disk, 17, 32, &[1])?;
     change(&mut disk, 17, 64, &[1])?;
     change(&mut disk, 17, 96, &[1])?;
     change(&mut disk, 17, 128, &[1])?;
+    Ok(disk)
+}
+
+#[test]
+fn without_free_units_nothing_is_written(rt: HostRuntime) -> Result<(), Fail> {
+    let mut disk = with_three_free_units(rt.alloc())?;
     refused(&rt, &mut disk, 6, "refused 15 space 4 3 1 3\n")
 }
 
