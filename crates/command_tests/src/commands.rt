@@ -10,7 +10,8 @@ use btr_keys::Stamp;
 use btr_samples::Sample;
 use outside::Memory;
 use outside_mem::{MemDisk, MemSink};
-use sample::{change, changed, pointing_to, sample};
+use reiser_samples::change;
+use sample::{changed, pointing_to, sample};
 use std::alloc::Global;
 use std::process::Abort;
 use std::test::Fail;
@@ -121,7 +122,7 @@ const SAMPLE: &str =
 
 #[test]
 fn inspect_prints_the_superblock(rt: HostRuntime) -> Result<(), Fail> {
-    let mut disk = sample(rt.alloc(), 2048)?;
+    let mut disk = sample(rt.alloc())?;
     ends(&rt, "inspect x", &mut disk, 0, SAMPLE, "")
 }
 
@@ -237,7 +238,7 @@ fn with_journal(alloc: Global, flushed: u8, trans: u8, commit: &[u8]) -> Result<
     requires { length commit.now ≤ 4096 }
     ensures { IfOk result (λ d. d.opened ≡ None) }
 {
-    let mut disk = sample(alloc, 2048)?;
+    let mut disk = sample(alloc)?;
     change(&mut disk, 50, 0, &[flushed])?;
     change(&mut disk, 18, 0, &[trans, 0, 0, 0, 3])?;
     change(&mut disk, 18, 4084, b"ReIsErLB")?;
@@ -327,11 +328,11 @@ fn objects_and_names_are_checked(rt: HostRuntime) -> Result<(), Fail> {
 #[test]
 fn failed_calls_end_the_run(rt: HostRuntime) -> Result<(), Fail> {
     for call in 0..7 {
-        let mut disk = sample(rt.alloc(), 2048)?;
+        let mut disk = sample(rt.alloc())?;
         disk.fail_call(call)?;
         ends(&rt, "inspect x", &mut disk, 3, "", "device fault\n")?;
     }
-    let mut disk = sample(rt.alloc(), 2048)?;
+    let mut disk = sample(rt.alloc())?;
     let ended = run_on(rt.alloc(), "inspect x", &mut disk, Some(0))?;
     assert_eq!(rt; ended.status, 5);
     assert!(rt; SAMPLE.as_bytes().starts_with(ended.out.bytes()));
@@ -343,7 +344,7 @@ const ROOT: &str = "d 0755 0 0 1000000000 1000000000 1000000000 - - - - - /\n";
 
 #[test]
 fn list_prints_the_rows(rt: HostRuntime) -> Result<(), Fail> {
-    let mut disk = sample(rt.alloc(), 2048)?;
+    let mut disk = sample(rt.alloc())?;
     ends(&rt, "list x", &mut disk, 0, ROOT, "")?;
     for (n, at, bytes, line) in [
         (
@@ -364,11 +365,11 @@ fn list_prints_the_rows(rt: HostRuntime) -> Result<(), Fail> {
 #[test]
 fn failed_calls_end_a_list(rt: HostRuntime) -> Result<(), Fail> {
     for call in 0..7 {
-        let mut disk = sample(rt.alloc(), 2048)?;
+        let mut disk = sample(rt.alloc())?;
         disk.fail_call(call)?;
         ends(&rt, "list x", &mut disk, 3, "", "device fault\n")?;
     }
-    let mut disk = sample(rt.alloc(), 2048)?;
+    let mut disk = sample(rt.alloc())?;
     let ended = run_on(rt.alloc(), "list x", &mut disk, Some(0))?;
     assert_eq!(rt; ended.status, 5);
     assert!(rt; ROOT.as_bytes().starts_with(ended.out.bytes()));

@@ -3,13 +3,12 @@ ghost use Rattle.std.specs.Prelude.{◌≡◌, None, IfOk};
 ghost use Rattle.unit_plan.specs.Needed.{AreSmall};
 
 mod items;
-mod sample;
 
 use extent_pieces::Pieces;
 use outside::{Access, Disk, Memory, VolAnswer};
 use outside_mem::MemDisk;
+use reiser_samples::{Content, Object, Thing, leaf_of, with_leaf};
 use reiser_volume::Volume;
-use sample::{Part, Thing, volume};
 use std::alloc::Global;
 use std::process::Abort;
 use std::test::*;
@@ -21,26 +20,31 @@ const DIRECTORY: u16 = 0o40755;
 
 const SYMLINK: u16 = 0o120777;
 
-const fn thing<'a>(object: u32, mode: u16, size: u64, parts: &'a [Part<'a>]) -> Thing<'a> {
+const fn thing<'a>(object: u32, mode: u16, size: u64, content: &'a [Content<'a>]) -> Thing<'a> {
     Thing {
-        dir: 2,
-        object,
+        object: Object(2, object),
         mode,
         size,
         old: false,
-        parts,
+        content,
     }
 }
 
-const fn root<'a>(parts: &'a [Part<'a>]) -> Thing<'a> {
+const fn root<'a>(content: &'a [Content<'a>]) -> Thing<'a> {
     Thing {
-        dir: 1,
-        object: 2,
+        object: Object(1, 2),
         mode: DIRECTORY,
         size: 48,
         old: false,
-        parts,
+        content,
     }
+}
+
+/// A volume of 2,048 blocks with these objects, of which the first 52 are used.
+fn small(alloc: Global, things: &[Thing<'_>]) -> Result<MemDisk, Memory>
+    ensures { IfOk result (λ d. d.opened ≡ None) }
+{
+    with_leaf(alloc, 2048, &[(0, 52)], &leaf_of(alloc, things)?)
 }
 
 /// The pieces of a volume, with or without small files that stay in the tree.
@@ -108,7 +112,7 @@ const fn tail(inode: u64, at: u64) -> Piece {
 
 #[test]
 fn empty_volume(rt: HostRuntime) -> Result<(), VolAnswer> {
-    let mut disk = volume(rt.alloc(), 2048, &[(0, 52)], &[root(&[])])?;
+    let mut disk = small(rt.alloc(), &[root(&[])])?;
     let (_, pieces) = found(rt.alloc(), &mut disk, true)?;
     assert_eq!(rt; pieces.len(), 52);
     assert!(rt; is_piece(&pieces, 51, copy(51, None)));
@@ -134,15 +138,15 @@ fn empty_volume(rt: HostRuntime) -> Result<(), VolAnswer> {
     Ok(())
 }
 
-const NAMES: [Part<'static>; 1] = [Part::Names(&[
-    (4, "a"),
-    (5, "b"),
-    (6, "c"),
-    (7, "d"),
-    (8, "e"),
-    (9, "link"),
-    (10, "sparse"),
-    (11, "old"),
+const NAMES: [Content<'static>; 1] = [Content::Names(&[
+    (2, 4, "a"),
+    (2, 5, "b"),
+    (2, 6, "c"),
+    (2, 7, "d"),
+    (2, 8, "e"),
+    (2, 9, "link"),
+    (2, 10, "sparse"),
+    (2, 11, "old"),
 ])];
 
 /// Files with blocks side by side, in reserved blocks, behind holes, and in the tree.
@@ -151,38 +155,52 @@ fn divided(alloc: Global) -> Result<MemDisk, Memory>
 {
     let things = [
         root(&NAMES),
-        thing(4, FILE, 3 * 4096, &[Part::Blocks(0, &[2000, 2001, 2002])]),
+        thing(
+            4,
+            FILE,
+            3 * 4096,
+            &[Content::Blocks(0, &[2000, 2001, 2002])],
+        ),
         thing(
             5,
             FILE,
             4 * 4096,
-            &[Part::Blocks(0, &[2003, 2004, 0, 2005])],
+            &[Content::Blocks(0, &[2003, 2004, 0, 2005])],
         ),
         thing(
             6,
             FILE,
             4 * 4096,
-            &[Part::Blocks(0, &[16383, 16384, 16399, 16400])],
+            &[Content::Blocks(0, &[16383, 16384, 16399, 16400])],
         ),
         thing(
             7,
             FILE,
             3 * 4096 + 10,
-            &[Part::Blocks(0, &[0]), Part::Bytes(3 * 4096, 16)],
+            &[Content::Blocks(0, &[0]), Content::Bytes(3 * 4096, 16)],
         ),
-        thing(8, FILE, 2048, &[Part::Bytes(0, 2048)]),
-        thing(9, SYMLINK, 13, &[Part::Bytes(0, 8), Part::Bytes(8, 5)]),
-        thing(10, FILE, 1 << 44, &[Part::Blocks((1 << 32) - 1, &[3000])]),
+        thing(8, FILE, 2048, &[Content::Bytes(0, 2048)]),
+        thing(
+            9,
+            SYMLINK,
+            13,
+            &[Content::Bytes(0, 8), Content::Bytes(8, 5)],
+        ),
+        thing(
+            10,
+            FILE,
+            1 << 44,
+            &[Content::Blocks((1 << 32) - 1, &[3000])],
+        ),
         Thing {
-            dir: 2,
-            object: 11,
+            object: Object(2, 11),
             mode: FILE,
             size: 4196,
             old: true,
-            parts: &[Part::Blocks(0, &[3001]), Part::Bytes(4096, 100)],
+            content: &[Content::Blocks(0, &[3001]), Content::Bytes(4096, 100)],
         },
     ];
-    volume(alloc, 40003, &USED, &things)
+    with_leaf(alloc, 40003, &USED, &leaf_of(alloc, &things)?)
 }
 
 const USED: [(u64, u64); 8] = [
@@ -260,10 +278,10 @@ fn small_files_not_in_the_tree(rt: HostRuntime) -> Result<(), VolAnswer> {
 #[test]
 fn file_one_byte_too_long(rt: HostRuntime) -> Result<(), VolAnswer> {
     let things = [
-        root(&[Part::Names(&[(4, "a")])]),
-        thing(4, FILE, 2049, &[Part::Bytes(0, 2049)]),
+        root(&[Content::Names(&[(2, 4, "a")])]),
+        thing(4, FILE, 2049, &[Content::Bytes(0, 2049)]),
     ];
-    let mut disk = volume(rt.alloc(), 2048, &[(0, 52)], &things)?;
+    let mut disk = small(rt.alloc(), &things)?;
     let (_, pieces) = found(rt.alloc(), &mut disk, true)?;
     assert!(rt; is_piece(&pieces, 52, tail(257, 0)));
     assert_eq!(rt; pieces.counts().tails, 1);

@@ -1,8 +1,9 @@
 // A home volume of 65,536 blocks: one directory with 300 files, each of two blocks and a tail.
 use crate::block_access::put_block;
 use crate::broken::Broken;
-use crate::leaf::{Entry, Leaf, Object, Part, Stat, Super, TOP, directory, mark, node, r5};
+use crate::layout::{Entry, Stat, Super, TOP, directory, mark, node, r5};
 use outside_mem::MemDisk;
+use reiser_samples::{Item, Leaf, Object, Part};
 use std::alloc::Global;
 use vol_block::Block;
 
@@ -63,7 +64,7 @@ struct Tree {
 impl Tree {
     /// Adds a leaf, behind the others.
     fn push(&mut self, leaf: &Leaf) -> Result<(), Broken> {
-        let block = leaf.finish()?;
+        let block = leaf.finish();
         if self.leaves > 0 {
             self.keys.extend_from_slice(&block.bytes[24..40])?;
         }
@@ -83,10 +84,16 @@ impl Tree {
         };
         let entries = [Entry::dot(TOP), Entry::up(Object(0, 1)), home];
         let body = directory(self.alloc, &entries)?;
-        let mut leaf = Leaf::new(self.alloc);
-        leaf.add(TOP, Part::Stat, 0, &folder(3, 72, 1).body(self.alloc)?)?;
-        leaf.add(TOP, Part::Directory(1), 3, &body)?;
-        leaf.add(HOME, Part::Stat, 0, &folder(2, 7248, 15).body(self.alloc)?)?;
+        let mut leaf = Leaf::new();
+        leaf.add(
+            Item::of(TOP, Part::Stat),
+            &folder(3, 72, 1).body(self.alloc)?,
+        );
+        leaf.add(Item::of(TOP, Part::Entries(1, 3)), &body);
+        leaf.add(
+            Item::of(HOME, Part::Stat),
+            &folder(2, 7248, 15).body(self.alloc)?,
+        );
         self.push(&leaf)
     }
 
@@ -103,8 +110,8 @@ impl Tree {
         let first = if from == 0 { 1 } else { entry_of(from).place };
         let count = u16::try_from(entries.len()).unwrap_or(0);
         let body = directory(self.alloc, &entries)?;
-        let mut leaf = Leaf::new(self.alloc);
-        leaf.add(HOME, Part::Directory(first), count, &body)?;
+        let mut leaf = Leaf::new();
+        leaf.add(Item::of(HOME, Part::Entries(first, count)), &body);
         self.push(&leaf)
     }
 
@@ -130,15 +137,15 @@ impl Tree {
         let mut pointers = Vec::new(self.alloc);
         pointers.extend_from_slice(&block.to_le_bytes())?;
         pointers.extend_from_slice(&block.wrapping_add(1).to_le_bytes())?;
-        leaf.add(file(i), Part::Stat, 0, &stat.body(self.alloc)?)?;
-        leaf.add(file(i), Part::Pointers, 0, &pointers)?;
-        leaf.add(file(i), Part::Direct(8193), 0, &[b't'; 1808])?;
+        leaf.add(Item::of(file(i), Part::Stat), &stat.body(self.alloc)?);
+        leaf.add(Item::of(file(i), Part::Pointers(1)), &pointers);
+        leaf.add(Item::of(file(i), Part::Bytes(8193)), &[b't'; 1808]);
         self.put_data(block)
     }
 
     /// A leaf with a file and the next one, and their blocks.
     fn push_files(&mut self, first: u32) -> Result<(), Broken> {
-        let mut leaf = Leaf::new(self.alloc);
+        let mut leaf = Leaf::new();
         self.add_file(&mut leaf, first)?;
         self.add_file(&mut leaf, first.wrapping_add(1))?;
         self.push(&leaf)

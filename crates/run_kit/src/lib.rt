@@ -13,7 +13,7 @@ mod broken;
 mod choice;
 mod converted;
 mod home_volume;
-mod leaf;
+mod layout;
 mod old;
 mod run;
 mod sample;

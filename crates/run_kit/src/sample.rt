@@ -3,10 +3,11 @@ ghost use Rattle.std.specs.Prelude.{◌≤◌};
 
 use crate::block_access::{block, put_block};
 use crate::broken::Broken;
-use crate::leaf::{Entry, Leaf, Object, Part, Stat, Super, TOP, directory, mark, r5};
+use crate::layout::{Entry, Stat, Super, TOP, directory, mark, r5};
 use outside::{Access, BlockSource, Disk};
 use outside_mem::MemDisk;
 use reiser_make::make;
+use reiser_samples::{Item, Leaf, Object, Part};
 use std::alloc::Global;
 use vol_block::Block;
 
@@ -38,7 +39,7 @@ fn volume(
     let mut disk = MemDisk::new(alloc, u64::from(blocks))?;
     put_block(&mut disk, 16, &volume.block()?)?;
     put_block(&mut disk, 17, &bitmap)?;
-    put_block(&mut disk, u64::from(ROOT), &tree.finish()?)?;
+    put_block(&mut disk, u64::from(ROOT), &tree.finish())?;
     Ok(disk)
 }
 
@@ -56,9 +57,9 @@ fn root_leaf(alloc: Global, named: &[Entry]) -> Result<Leaf, Broken> {
         sectors: 1,
     };
     let count = u16::try_from(entries.len()).unwrap_or(0);
-    let mut leaf = Leaf::new(alloc);
-    leaf.add(TOP, Part::Stat, 0, &stat.body(alloc)?)?;
-    leaf.add(TOP, Part::Directory(1), count, &body)?;
+    let mut leaf = Leaf::new();
+    leaf.add(Item::of(TOP, Part::Stat), &stat.body(alloc)?);
+    leaf.add(Item::of(TOP, Part::Entries(1, count)), &body);
     Ok(leaf)
 }
 
@@ -95,8 +96,8 @@ pub fn one_file(alloc: Global, pointer: u32) -> Result<MemDisk, Broken> {
         sectors: 8,
     };
     let mut leaf = root_leaf(alloc, &[entry])?;
-    leaf.add(object, Part::Stat, 0, &stat.body(alloc)?)?;
-    leaf.add(object, Part::Pointers, 0, &pointer.to_le_bytes())?;
+    leaf.add(Item::of(object, Part::Stat), &stat.body(alloc)?);
+    leaf.add(Item::of(object, Part::Pointers(1)), &pointer.to_le_bytes());
     let mut disk = volume(alloc, 20000, &leaf, (16384, 16385))?;
     let mut bytes = Block::zero();
     bytes.bytes.fill(MARKED);

@@ -2,12 +2,11 @@
 ghost use Rattle.std.specs.Prelude.{◌≡◌, None, IfOk, length};
 
 mod rows;
-mod sample;
 
 use outside::{Access, Disk, Memory, Rule, VolAnswer, VolumeRefusal};
 use outside_mem::MemDisk;
+use reiser_samples::{Content, Entry, Object, Thing, leaf_of, with_leaf};
 use reiser_volume::Volume;
-use sample::{Entry, Thing, volume};
 use std::alloc::Global;
 use std::test::*;
 
@@ -17,13 +16,13 @@ const DIRECTORY: u16 = 0o40755;
 
 const SYMLINK: u16 = 0o120777;
 
-const fn thing(object: u32, mode: u16, entries: &'static [Entry]) -> Thing {
+const fn thing<'a>(object: Object, mode: u16, size: u64, content: &'a [Content<'a>]) -> Thing<'a> {
     Thing {
-        dir: 2,
         object,
         mode,
-        size: 1,
-        entries,
+        size,
+        old: false,
+        content,
     }
 }
 
@@ -38,29 +37,18 @@ fn with_root(
     ensures size { IfOk result (λ d. length d.history.start ≡ 2048) }
     ensures closed { IfOk result (λ d. d.opened ≡ None) }
 {
-    volume(
-        alloc,
-        &[
-            Thing {
-                dir: 1,
-                object: 2,
-                mode: DIRECTORY,
-                size: 48,
-                entries: root,
-            },
-            thing(4, FILE, &[]),
-            thing(5, DIRECTORY, fifth),
-            thing(6, DIRECTORY, sixth),
-            thing(7, DIRECTORY, &[]),
-            Thing {
-                dir: 2,
-                object: 8,
-                mode: SYMLINK,
-                size: target,
-                entries: &[],
-            },
-        ],
-    )
+    let root = [Content::Names(root)];
+    let fifth = [Content::Names(fifth)];
+    let sixth = [Content::Names(sixth)];
+    let things = [
+        thing(Object(1, 2), DIRECTORY, 48, &root),
+        thing(Object(2, 4), FILE, 1, &[]),
+        thing(Object(2, 5), DIRECTORY, 1, &fifth),
+        thing(Object(2, 6), DIRECTORY, 1, &sixth),
+        thing(Object(2, 7), DIRECTORY, 1, &[]),
+        thing(Object(2, 8), SYMLINK, target, &[]),
+    ];
+    with_leaf(alloc, 2048, &[(0, 52)], &leaf_of(alloc, &things)?)
 }
 
 /// How many objects are named in the volume on a disk.

@@ -1,10 +1,11 @@
 // Runs of `convert`.
 ghost use Rattle.std.specs.Prelude.{◌≡◌, None, IfOk};
 
-use super::sample::{change, changed, sample};
+use super::sample::{changed, sample};
 use super::{ROOT, ends, is_usage, run_on};
 use outside::Memory;
 use outside_mem::MemDisk;
+use reiser_samples::change;
 use std::alloc::Global;
 use std::process::Abort;
 use std::test::Fail;
@@ -31,7 +32,7 @@ pub fn then(
 
 #[test]
 fn a_converted_volume_has_the_same_rows(rt: HostRuntime) -> Result<(), Fail> {
-    let mut disk = sample(rt.alloc(), 2048)?;
+    let mut disk = sample(rt.alloc())?;
     ends(&rt, "convert x", &mut disk, 0, DONE, "")?;
     then(&rt, "inspect x", &mut disk, 0, CONVERTED, "")?;
     then(&rt, "list x", &mut disk, 0, ROOT, "")?;
@@ -89,7 +90,7 @@ fn what_is_refused_is_not_written(rt: HostRuntime) -> Result<(), Fail> {
 fn with_three_free_units(alloc: Global) -> Result<MemDisk, Memory>
     ensures { IfOk result (λ d. d.opened ≡ None) }
 {
-    let mut disk = sample(alloc, 2048)?;
+    let mut disk = sample(alloc)?;
     change(&mut disk, 17, 32, &[1])?;
     change(&mut disk, 17, 64, &[1])?;
     change(&mut disk, 17, 96, &[1])?;
@@ -105,7 +106,7 @@ fn without_free_units_nothing_is_written(rt: HostRuntime) -> Result<(), Fail> {
 
 #[test]
 fn an_output_that_fails_leaves_the_volume_converted(rt: HostRuntime) -> Result<(), Fail> {
-    let mut disk = sample(rt.alloc(), 2048)?;
+    let mut disk = sample(rt.alloc())?;
     let ended = run_on(rt.alloc(), "convert x", &mut disk, Some(0))?;
     assert_eq!(rt; ended.status, 5);
     then(&rt, "inspect x", &mut disk, 0, CONVERTED, "")

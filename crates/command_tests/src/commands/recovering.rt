@@ -12,7 +12,7 @@ const BTRFS: &str = "volume is btrfs\nmirrors 0\n";
 
 #[test]
 fn a_volume_without_a_crash_is_left_as_it_is(rt: HostRuntime) -> Result<(), Fail> {
-    let mut disk = sample(rt.alloc(), 2048)?;
+    let mut disk = sample(rt.alloc())?;
     ends(&rt, "recover x", &mut disk, 0, REISERFS, "")?;
     assert_eq!(rt; disk.writes(), 0);
     then(&rt, "list x", &mut disk, 0, ROOT, "")?;

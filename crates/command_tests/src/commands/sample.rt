@@ -1,27 +1,11 @@
-// A volume of 2,048 blocks in memory: a superblock, a bitmap that marks blocks 0 to 51, an empty journal of 32 blocks
-// with its header in block 50, and a tree that is one leaf, block 51, with an empty root directory.
+// A volume of 2,048 blocks in memory, of which the first 52 are used, with an empty root directory.
 ghost use Rattle.std.specs.Prelude.{◌≡◌, ◌+◌, ◌<◌, ◌≤◌, None, IfOk, length};
 
 use outside::Memory;
 use outside_mem::MemDisk;
+use reiser_samples::{change, with_leaf};
 use std::alloc::Global;
 use vol_block::{Block, BlockNo, put_u16, put_u32, put_u64};
-
-/// The superblock of the sample.
-fn superblock() -> Block {
-    let mut block = Block::zero();
-    let bytes = &mut block.bytes;
-    put_u32(bytes, 0, 2048);
-    put_u32(bytes, 4, 1996);
-    put_u32(bytes, 8, 51);
-    put_u32(bytes, 12, 18);
-    put_u32(bytes, 20, 32);
-    put_u16(bytes, 44, 4096);
-    put_u16(bytes, 50, 1);
-    bytes[52..61].copy_from_slice(b"ReIsEr3Fs");
-    put_u16(bytes, 68, 2);
-    block
-}
 
 /// The heads of the root directory's stat item and of its directory item, as mkfs.reiserfs writes them.
 const HEADS: [u8; 48] = [
@@ -59,20 +43,12 @@ fn root_leaf() -> Block {
     block
 }
 
-/// The sample on a disk of so many blocks.
-pub fn sample(alloc: Global, blocks: u64) -> Result<MemDisk, Memory>
-    requires { 2048 ≤ blocks }
-    ensures size { IfOk result (λ d. length d.history.start ≡ blocks) }
+/// The sample.
+pub fn sample(alloc: Global) -> Result<MemDisk, Memory>
+    ensures size { IfOk result (λ d. length d.history.start ≡ 2048) }
     ensures closed { IfOk result (λ d. d.opened ≡ None) }
 {
-    let mut disk = MemDisk::new(alloc, blocks)?;
-    disk.set_block(16, &superblock())?;
-    let mut bitmap = Block::zero();
-    bitmap.bytes[..6].copy_from_slice(&[0xff; 6]);
-    bitmap.bytes[6] = 0x0f;
-    disk.set_block(17, &bitmap)?;
-    disk.set_block(51, &root_leaf())?;
-    Ok(disk)
+    with_leaf(alloc, 2048, &[(0, 52)], &root_leaf())
 }
 
 /// The sample with other bytes at a place of one of its blocks.
@@ -81,22 +57,9 @@ pub fn changed(alloc: Global, n: BlockNo, at: usize, bytes: &[u8]) -> Result<Mem
     requires inside { at + length bytes.now ≤ 4096 }
     ensures { IfOk result (λ d. d.opened ≡ None) }
 {
-    let mut disk = sample(alloc, 2048)?;
+    let mut disk = sample(alloc)?;
     change(&mut disk, n, at, bytes)?;
     Ok(disk)
-}
-
-/// Puts other bytes at a place of a block.
-pub fn change(disk: &mut MemDisk, n: BlockNo, at: usize, bytes: &[u8]) -> Result<(), Memory>
-    requires block { n < length disk.old.history.start }
-    requires inside { at + length bytes.now ≤ 4096 }
-    ensures closed { disk.new.opened ≡ disk.old.opened }
-    ensures size { length disk.new.history.start ≡ length disk.old.history.start }
-{
-    let mut block = Block::zero();
-    disk.block(n, &mut block);
-    block.bytes[at..at + bytes.len()].copy_from_slice(bytes);
-    disk.set_block(n, &block)
 }
 
 /// The sample with a further item in its leaf: a pointer of the object (2, 4) to a block.
@@ -113,7 +76,5 @@ pub fn pointing_to(alloc: Global, block: u16) -> Result<MemDisk, Memory>
     put_u16(bytes, 92, 4000);
     put_u16(bytes, 94, 1);
     put_u16(bytes, 4000, block);
-    let mut disk = sample(alloc, 2048)?;
-    disk.set_block(51, &leaf)?;
-    Ok(disk)
+    with_leaf(alloc, 2048, &[(0, 52)], &leaf)
 }

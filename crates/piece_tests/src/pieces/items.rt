@@ -2,7 +2,6 @@
 // hash, and more names of a file than an inode ref holds. Lengths and checksums are those of an independent program.
 ghost use Rattle.std.specs.Prelude.{◌≡◌, None, IfOk};
 
-use super::sample::{Part, wide_volume};
 use super::{FILE, SYMLINK, placed, root, thing};
 use btr_keys::Key;
 use castagnoli::raw_crc;
@@ -10,6 +9,7 @@ use extent_pieces::Pieces;
 use file_items::Items;
 use outside::{Memory, VolAnswer};
 use outside_mem::MemDisk;
+use reiser_samples::{Content, leaf_of, with_leaves};
 use reiser_volume::Volume;
 use std::alloc::Global;
 use std::test::*;
@@ -21,31 +21,34 @@ const FIRST: &str = "jofsdkozio";
 const SECOND: &str = "yipaolackd";
 
 /// Names of the file 4: fifteen fill an inode ref, and the last two, which are extended, have one hash.
-const NAMES: [Part<'static>; 2] = [
-    Part::Names(&[(5, FIRST), (6, SECOND)]),
-    Part::LongNames(
+const NAMES: [Content<'static>; 2] = [
+    Content::Names(&[(2, 5, FIRST), (2, 6, SECOND)]),
+    Content::LongNames(
         4096,
         &[
-            (4, "number0000"),
-            (4, "number0001"),
-            (4, "number0002"),
-            (4, "number0003"),
-            (4, "number0004"),
-            (4, "number0005"),
-            (4, "number0006"),
-            (4, "number0007"),
-            (4, "number0008"),
-            (4, "number0009"),
-            (4, "number0010"),
-            (4, "number0011"),
-            (4, "number0012"),
-            (4, "number0013"),
-            (4, "number0014"),
+            (2, 4, "number0000"),
+            (2, 4, "number0001"),
+            (2, 4, "number0002"),
+            (2, 4, "number0003"),
+            (2, 4, "number0004"),
+            (2, 4, "number0005"),
+            (2, 4, "number0006"),
+            (2, 4, "number0007"),
+            (2, 4, "number0008"),
+            (2, 4, "number0009"),
+            (2, 4, "number0010"),
+            (2, 4, "number0011"),
+            (2, 4, "number0012"),
+            (2, 4, "number0013"),
+            (2, 4, "number0014"),
         ],
     ),
 ];
 
-const MORE_NAMES: [Part<'static>; 1] = [Part::LongNames(65536, &[(4, FIRST), (4, SECOND)])];
+const MORE_NAMES: [Content<'static>; 1] = [Content::LongNames(
+    65536,
+    &[(2, 4, FIRST), (2, 4, SECOND)],
+)];
 
 fn crowded(alloc: Global) -> Result<MemDisk, Memory>
     ensures { IfOk result (λ d. d.opened ≡ None) }
@@ -54,16 +57,22 @@ fn crowded(alloc: Global) -> Result<MemDisk, Memory>
     rest.mode = 0;
     let second = [
         rest,
-        thing(4, FILE, 5, &[Part::Bytes(0, 8)]),
+        thing(4, FILE, 5, &[Content::Bytes(0, 8)]),
         thing(
             5,
             FILE,
             3 * 4096 + 10,
-            &[Part::Blocks(0, &[0]), Part::Bytes(3 * 4096, 16)],
+            &[Content::Blocks(0, &[0]), Content::Bytes(3 * 4096, 16)],
         ),
-        thing(6, SYMLINK, 13, &[Part::Bytes(0, 8), Part::Bytes(8, 5)]),
+        thing(
+            6,
+            SYMLINK,
+            13,
+            &[Content::Bytes(0, 8), Content::Bytes(8, 5)],
+        ),
     ];
-    wide_volume(alloc, 2048, &[(0, 54)], &[root(&NAMES)], &second)
+    let first = leaf_of(alloc, &[root(&NAMES)])?;
+    with_leaves(alloc, 2048, &[(0, 54)], &first, &leaf_of(alloc, &second)?)
 }
 
 /// The length and the checksum of the body of the item with this key.

@@ -1,11 +1,11 @@
 // The rows of a small volume, by their text.
 ghost use Rattle.std.specs.Prelude.{◌≡◌, None, IfOk, length};
 
-use super::sample::{Entry, Head, Leaf, add, change, disk_with, entries_body};
 use fs_rows::write_rows;
 use outside::{Access, Disk, Memory, VolAnswer};
 use outside_mem::{MemDisk, MemSink};
 use reiser_files::{FileRun, RunFrom};
+use reiser_samples::{Entry, Item, Leaf, Object, Part, change, entries_body, with_leaf};
 use reiser_volume::Volume;
 use std::alloc::Global;
 use std::test::*;
@@ -22,11 +22,6 @@ struct StatData {
     times: [u32; 3],
     rdev: u32,
 }
-
-/// The types of items of bytes and of pointers, as the key has them.
-const DIRECT: u32 = 0x2000_0000;
-
-const INDIRECT: u32 = 0x1000_0000;
 
 /// The attributes that rows have.
 const ALL: u16 = 0xF8;
@@ -64,7 +59,7 @@ fn device(mode: u16, rdev: u32) -> StatData {
 }
 
 /// Adds the stat data of an object.
-fn add_stat(leaf: &mut Leaf, dir: u32, object: u32, stat: &StatData) {
+fn add_stat(leaf: &mut Leaf, object: Object, stat: &StatData) {
     let mut body = Block::zero();
     let bytes = &mut body.bytes;
     put_u16(bytes, 0, stat.mode);
@@ -77,58 +72,24 @@ fn add_stat(leaf: &mut Leaf, dir: u32, object: u32, stat: &StatData) {
     put_u32(bytes, 28, stat.times[1]);
     put_u32(bytes, 32, stat.times[2]);
     put_u32(bytes, 40, stat.rdev);
-    let head = Head {
-        dir,
-        object,
-        offset: 0,
-        kind: 0,
-        count: 0,
-        version: 1,
-    };
-    add(leaf, &head, &body.bytes[..44]);
-}
-
-/// Adds the first item of the bytes of a file.
-fn add_body(leaf: &mut Leaf, object: u32, kind: u32, body: &[u8]) {
-    add_bytes(leaf, object, 1, kind, body);
-}
-
-/// Adds an item of the bytes of a file, with the two halves of its offset and kind in the key.
-fn add_bytes(leaf: &mut Leaf, object: u32, offset: u32, kind: u32, body: &[u8]) {
-    let head = Head {
-        dir: 2,
-        object,
-        offset,
-        kind,
-        count: 0,
-        version: 1,
-    };
-    add(leaf, &head, body);
+    leaf.add(Item::of(object, Part::Stat), &body.bytes[..44]);
 }
 
 /// Adds the entries of a directory.
 fn add_entries(
     alloc: Global,
     leaf: &mut Leaf,
-    dir: u32,
-    object: u32,
+    object: Object,
     entries: &[Entry],
 ) -> Result<(), Memory> {
-    let head = Head {
-        dir,
-        object,
-        offset: 1,
-        kind: 500,
-        count: (entries.len() % 256) as u16,
-        version: 0,
-    };
-    let body = entries_body(alloc, entries)?;
-    add(leaf, &head, &body);
+    let body = entries_body(alloc, 128, 0, entries)?;
+    let part = Part::Entries(128, (entries.len() % 256) as u16);
+    leaf.add(Item::of(object, part), &body);
     Ok(())
 }
 
 /// A file with two names, of 5 bytes in an item of 11.
-fn add_file(leaf: &mut Leaf) {
+fn add_file(leaf: &mut Leaf, object: Object) {
     let file = StatData {
         mode: 0o104755,
         attrs: ALL,
@@ -138,8 +99,8 @@ fn add_file(leaf: &mut Leaf) {
         times: [1, 2, 3],
         rdev: 7,
     };
-    add_stat(leaf, 2, 4, &file);
-    add_body(leaf, 4, DIRECT, b"hello, more");
+    add_stat(leaf, object, &file);
+    leaf.add(Item::of(object, Part::Bytes(1)), b"hello, more");
 }
 
 /// The volume with this file, devices, a symlink, a file of a hole, a block and a byte more, a pipe, and an empty private
@@ -149,26 +110,28 @@ fn sample(alloc: Global, super_flags: &[u8; 4]) -> Result<MemDisk, Memory>
     ensures closed { IfOk result (λ d. d.opened ≡ None) }
 {
     let mut leaf = Leaf::new();
-    add_stat(&mut leaf, 1, 2, &stat(0o40755, 48));
-    add_entries(alloc, &mut leaf, 1, 2, ROOT_ENTRIES)?;
-    add_file(&mut leaf);
-    add_stat(&mut leaf, 2, 5, &stat(0o40700, 48));
-    add_entries(alloc, &mut leaf, 2, 5, BELOW)?;
-    add_stat(&mut leaf, 2, 6, &device(0o60660, 0x0010_082C));
+    add_stat(&mut leaf, Object(1, 2), &stat(0o40755, 48));
+    add_entries(alloc, &mut leaf, Object(1, 2), ROOT_ENTRIES)?;
+    add_file(&mut leaf, Object(2, 4));
+    add_stat(&mut leaf, Object(2, 5), &stat(0o40700, 48));
+    add_entries(alloc, &mut leaf, Object(2, 5), BELOW)?;
+    add_stat(&mut leaf, Object(2, 6), &device(0o60660, 0x0010_082C));
     let mut link = stat(0o120777, 3);
     link.attrs = ALL;
-    add_stat(&mut leaf, 2, 7, &link);
-    add_body(&mut leaf, 7, DIRECT, b"d/x\0\0\0\0\0");
-    add_stat(&mut leaf, 2, 8, &stat(0o100600, 8193));
-    add_body(&mut leaf, 8, INDIRECT, b"\0\0\0\0\x34\0\0\0\0\0\0\0");
-    add_stat(&mut leaf, 2, 9, &stat(0o40700, 48));
+    add_stat(&mut leaf, Object(2, 7), &link);
+    leaf.add(Item::of(Object(2, 7), Part::Bytes(1)), b"d/x\0\0\0\0\0");
+    add_stat(&mut leaf, Object(2, 8), &stat(0o100600, 8193));
+    leaf.add(
+        Item::of(Object(2, 8), Part::Pointers(1)),
+        b"\0\0\0\0\x34\0\0\0\0\0\0\0",
+    );
+    add_stat(&mut leaf, Object(2, 9), &stat(0o40700, 48));
     let mut pipe = stat(0o10644, 0);
     pipe.times[0] = 0xFFFF_FFFF;
-    add_stat(&mut leaf, 2, 10, &pipe);
-    add_stat(&mut leaf, 2, 11, &device(0o20620, 0x0501));
-    let mut disk = disk_with(alloc, &leaf)?;
+    add_stat(&mut leaf, Object(2, 10), &pipe);
+    add_stat(&mut leaf, Object(2, 11), &device(0o20620, 0x0501));
+    let mut disk = with_leaf(alloc, 2048, &[(0, 53)], &leaf.finish())?;
     change(&mut disk, 16, 80, super_flags)?;
-    change(&mut disk, 17, 6, b"\x1f")?;
     change(&mut disk, 52, 0, &[b'x'; 4096])?;
     Ok(disk)
 }
@@ -250,7 +213,7 @@ fn owned(size: u64) -> StatData {
 }
 
 /// Adds the stat data of version 0 of an empty file of user 7 and group 8, with all times 5.
-fn add_old_file(leaf: &mut Leaf, object: u32) {
+fn add_old_file(leaf: &mut Leaf, object: Object) {
     let mut body = Block::zero();
     let bytes = &mut body.bytes;
     put_u16(bytes, 0, 0o100600);
@@ -260,15 +223,12 @@ fn add_old_file(leaf: &mut Leaf, object: u32) {
     put_u32(bytes, 12, 5);
     put_u32(bytes, 16, 5);
     put_u32(bytes, 20, 5);
-    let head = Head {
-        dir: 2,
+    let item = Item {
         object,
-        offset: 0,
-        kind: 0,
-        count: 0,
-        version: 0,
+        part: Part::Stat,
+        old: true,
     };
-    add(leaf, &head, &body.bytes[..32]);
+    leaf.add(item, &body.bytes[..32]);
 }
 
 /// A volume with an empty file, one of version 0, a symlink whose target is filled up with zeros, and a pipe with a space in
@@ -278,20 +238,22 @@ fn plain_sample(alloc: Global) -> Result<MemDisk, Memory>
     ensures closed { IfOk result (λ d. d.opened ≡ None) }
 {
     let mut leaf = Leaf::new();
-    add_stat(&mut leaf, 1, 2, &stat(0o40755, 48));
+    add_stat(&mut leaf, Object(1, 2), &stat(0o40755, 48));
     add_entries(
         alloc,
         &mut leaf,
-        1,
-        2,
+        Object(1, 2),
         &[(2, 4, "a"), (2, 6, "a b"), (2, 5, "ln"), (2, 7, "old")],
     )?;
-    add_stat(&mut leaf, 2, 4, &owned(0));
-    add_stat(&mut leaf, 2, 5, &stat(0o120777, 13));
-    add_body(&mut leaf, 5, DIRECT, b"../some/place\0\0\0");
-    add_stat(&mut leaf, 2, 6, &stat(0o10644, 0));
-    add_old_file(&mut leaf, 7);
-    let mut disk = disk_with(alloc, &leaf)?;
+    add_stat(&mut leaf, Object(2, 4), &owned(0));
+    add_stat(&mut leaf, Object(2, 5), &stat(0o120777, 13));
+    leaf.add(
+        Item::of(Object(2, 5), Part::Bytes(1)),
+        b"../some/place\0\0\0",
+    );
+    add_stat(&mut leaf, Object(2, 6), &stat(0o10644, 0));
+    add_old_file(&mut leaf, Object(2, 7));
+    let mut disk = with_leaf(alloc, 2048, &[(0, 52)], &leaf.finish())?;
     change(&mut disk, 16, 80, b"\x01\0\0\0")?;
     Ok(disk)
 }
@@ -302,24 +264,25 @@ fn linked_sample(alloc: Global) -> Result<MemDisk, Memory>
     ensures closed { IfOk result (λ d. d.opened ≡ None) }
 {
     let mut leaf = Leaf::new();
-    add_stat(&mut leaf, 1, 2, &stat(0o40755, 48));
+    add_stat(&mut leaf, Object(1, 2), &stat(0o40755, 48));
     add_entries(
         alloc,
         &mut leaf,
-        1,
-        2,
+        Object(1, 2),
         &[(2, 4, "a"), (2, 5, "b"), (2, 7, "end")],
     )?;
-    add_stat(&mut leaf, 2, 4, &stat(0o40700, 48));
-    add_entries(alloc, &mut leaf, 2, 4, &[(2, 6, "x"), (2, 6, "y")])?;
-    add_stat(&mut leaf, 2, 5, &stat(0o40700, 48));
-    add_entries(alloc, &mut leaf, 2, 5, &[(2, 6, "z")])?;
-    add_stat(&mut leaf, 2, 6, &owned(4));
-    add_body(&mut leaf, 6, DIRECT, b"same");
-    add_stat(&mut leaf, 2, 7, &owned(1 << 40));
-    add_bytes(&mut leaf, 7, 0xFFFF_F001, INDIRECT + 0xFF, b"\x34\0\0\0");
-    let mut disk = disk_with(alloc, &leaf)?;
-    change(&mut disk, 17, 6, b"\x1f")?;
+    add_stat(&mut leaf, Object(2, 4), &stat(0o40700, 48));
+    add_entries(alloc, &mut leaf, Object(2, 4), &[(2, 6, "x"), (2, 6, "y")])?;
+    add_stat(&mut leaf, Object(2, 5), &stat(0o40700, 48));
+    add_entries(alloc, &mut leaf, Object(2, 5), &[(2, 6, "z")])?;
+    add_stat(&mut leaf, Object(2, 6), &owned(4));
+    leaf.add(Item::of(Object(2, 6), Part::Bytes(1)), b"same");
+    add_stat(&mut leaf, Object(2, 7), &owned(1 << 40));
+    leaf.add(
+        Item::of(Object(2, 7), Part::Pointers((1 << 40) - 4095)),
+        b"\x34\0\0\0",
+    );
+    let mut disk = with_leaf(alloc, 2048, &[(0, 53)], &leaf.finish())?;
     change(&mut disk, 52, 0, &[b'x'; 4096])?;
     Ok(disk)
 }

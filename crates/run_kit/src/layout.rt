@@ -1,43 +1,11 @@
-// Nodes of ReiserFS trees, and what else a test writes on a volume.
+// What a test writes on a ReiserFS volume: nodes, bodies of items, bitmaps and the superblock.
 use crate::broken::Broken;
+use reiser_samples::Object;
 use std::alloc::Global;
 use vol_block::Block;
 
-/// An object: the number of its directory, and its own.
-#[derive(Clone, Copy)]
-pub struct Object(pub u32, pub u32);
-
 /// The root directory.
 pub const TOP: Object = Object(1, 2);
-
-/// What kind of item a key names, and from which byte or entry on.
-#[derive(Clone, Copy)]
-pub enum Part {
-    Stat,
-    Directory(u32),
-    Pointers,
-    Direct(u64),
-}
-
-impl Part {
-    /// The version of the item's key: only directories still have the old form.
-    fn version(self) -> u16 {
-        match self {
-            Part::Directory(_) => 0,
-            _ => 1,
-        }
-    }
-
-    /// The second half of the key: of version 0 an offset and a mark of the kind, of version 1 both in one number.
-    fn place(self) -> u64 {
-        match self {
-            Part::Stat => 0,
-            Part::Directory(first) => u64::from(first) | 500 << 32,
-            Part::Pointers => 1 | 1 << 60,
-            Part::Direct(first) => first | 2 << 60,
-        }
-    }
-}
 
 /// A number of at most 16 bits, as it stands on the disk.
 fn short(x: usize) -> Result<[u8; 2], Broken> {
@@ -54,66 +22,6 @@ pub fn put_bytes(block: &mut Block, at: usize, bytes: &[u8]) -> Result<(), Broke
     }
     block.bytes[at..at + bytes.len()].copy_from_slice(bytes);
     Ok(())
-}
-
-/// A leaf while items are added: the heads in order, and the bodies from the last one on.
-#[derive(Drop)]
-pub struct Leaf {
-    alloc: Global,
-    heads: Vec<u8>,
-    bodies: Vec<u8>,
-    count: u16,
-}
-
-impl Leaf {
-    pub fn new(alloc: Global) -> Leaf {
-        Leaf {
-            alloc,
-            heads: Vec::new(alloc),
-            bodies: Vec::new(alloc),
-            count: 0,
-        }
-    }
-
-    /// Puts a body before those that are there.
-    fn add_body(&mut self, body: &[u8]) -> Result<(), Broken> {
-        let mut bodies = Vec::new(self.alloc);
-        bodies.extend_from_slice(body)?;
-        bodies.extend_from_slice(&self.bodies)?;
-        self.bodies = bodies;
-        Ok(())
-    }
-
-    fn add_key(&mut self, object: Object, part: Part) -> Result<(), Broken> {
-        self.heads.extend_from_slice(&object.0.to_le_bytes())?;
-        self.heads.extend_from_slice(&object.1.to_le_bytes())?;
-        self.heads.extend_from_slice(&part.place().to_le_bytes())?;
-        Ok(())
-    }
-
-    /// Adds an item: `count` is how many entries a directory item has, and 0 of any other.
-    pub fn add(
-        &mut self,
-        object: Object,
-        part: Part,
-        count: u16,
-        body: &[u8],
-    ) -> Result<(), Broken> {
-        self.add_body(body)?;
-        self.add_key(object, part)?;
-        let place = 4096usize.saturating_sub(self.bodies.len());
-        self.heads.extend_from_slice(&count.to_le_bytes())?;
-        self.heads.extend_from_slice(&short(body.len())?)?;
-        self.heads.extend_from_slice(&short(place)?)?;
-        self.heads.extend_from_slice(&part.version().to_le_bytes())?;
-        self.count = self.count.wrapping_add(1);
-        Ok(())
-    }
-
-    /// The finished node.
-    pub fn finish(&self) -> Result<Block, Broken> {
-        node(1, self.count, &self.heads, &self.bodies)
-    }
 }
 
 /// A node of these bytes behind its head, and of those at its end.

@@ -1,5 +1,5 @@
 use Rattle.std.proofs.Common.{◌≡◌, length, None}
-use Rattle.piece_tests.proofs.pieces.sample.without_tree.Given as goal
+use Rattle.reiser_samples.proofs.volume.without_tree.Given as goal
 
 abbrev pub invariant-loop-n : goal.invariant-loop-n
 invariant-loop-n l = record {
