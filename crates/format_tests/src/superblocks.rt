@@ -112,7 +112,8 @@ fn writes(rt: HostRuntime) -> Result<(), Fail> {
     let mut written = Block::zero();
     found.encode(&mut written);
     assert!(rt; written == block);
-    assert_eq!(rt; sum_kind(found.csum_type).map(csum_type), Some(0));
+    let kind = sum_kind(found.csum_type).ok_or("a kind of checksum")?;
+    assert_eq!(rt; csum_type(kind), 0);
     Ok(())
 }
 
