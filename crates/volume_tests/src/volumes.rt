@@ -1,11 +1,13 @@
 // Small volumes in memory, opened.
 ghost use Rattle.std.specs.Prelude.{◌≡◌, None, IfOk, length};
 
+mod items;
 mod rows;
 
+use items::{add_entries, add_stat, stat};
 use outside::{Access, Disk, Memory, Rule, VolAnswer, VolumeRefusal};
 use outside_mem::MemDisk;
-use reiser_samples::{Content, Entry, Object, Thing, leaf_of, with_leaf};
+use reiser_samples::{Entry, Leaf, Object, with_leaf};
 use reiser_volume::Volume;
 use std::alloc::Global;
 use std::test::*;
@@ -16,14 +18,15 @@ const DIRECTORY: u16 = 0o40755;
 
 const SYMLINK: u16 = 0o120777;
 
-const fn thing<'a>(object: Object, mode: u16, size: u64, content: &'a [Content<'a>]) -> Thing<'a> {
-    Thing {
-        object,
-        mode,
-        size,
-        old: false,
-        content,
-    }
+/// Adds a directory with these entries.
+fn add_directory(
+    alloc: Global,
+    leaf: &mut Leaf,
+    object: Object,
+    entries: &[Entry],
+) -> Result<(), Memory> {
+    add_stat(leaf, object, &stat(DIRECTORY, 48));
+    add_entries(alloc, leaf, object, entries)
 }
 
 /// The root with these entries, for the files (2, 4), the directories (2, 5), (2, 6), (2, 7) and a symlink (2, 8).
@@ -37,18 +40,14 @@ fn with_root(
     ensures size { IfOk result (λ d. length d.history.start ≡ 2048) }
     ensures closed { IfOk result (λ d. d.opened ≡ None) }
 {
-    let root = [Content::Names(root)];
-    let fifth = [Content::Names(fifth)];
-    let sixth = [Content::Names(sixth)];
-    let things = [
-        thing(Object(1, 2), DIRECTORY, 48, &root),
-        thing(Object(2, 4), FILE, 1, &[]),
-        thing(Object(2, 5), DIRECTORY, 1, &fifth),
-        thing(Object(2, 6), DIRECTORY, 1, &sixth),
-        thing(Object(2, 7), DIRECTORY, 1, &[]),
-        thing(Object(2, 8), SYMLINK, target, &[]),
-    ];
-    with_leaf(alloc, 2048, &[(0, 52)], &leaf_of(alloc, &things)?)
+    let mut leaf = Leaf::new();
+    add_directory(alloc, &mut leaf, Object(1, 2), root)?;
+    add_stat(&mut leaf, Object(2, 4), &stat(FILE, 1));
+    add_directory(alloc, &mut leaf, Object(2, 5), fifth)?;
+    add_directory(alloc, &mut leaf, Object(2, 6), sixth)?;
+    add_directory(alloc, &mut leaf, Object(2, 7), &[])?;
+    add_stat(&mut leaf, Object(2, 8), &stat(SYMLINK, target));
+    with_leaf(alloc, 2048, &[(0, 52)], &leaf.finish())
 }
 
 /// How many objects are named in the volume on a disk.

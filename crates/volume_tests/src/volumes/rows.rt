@@ -1,27 +1,16 @@
 // The rows of a small volume, by their text.
 ghost use Rattle.std.specs.Prelude.{◌≡◌, None, IfOk, length};
 
+use super::items::{StatData, add_entries, add_stat, stat};
 use fs_rows::write_rows;
 use outside::{Access, Disk, Memory, VolAnswer};
 use outside_mem::{MemDisk, MemSink};
 use reiser_files::{FileRun, RunFrom};
-use reiser_samples::{Entry, Item, Leaf, Object, Part, change, entries_body, with_leaf};
+use reiser_samples::{Entry, Item, Leaf, Object, Part, change, with_leaf};
 use reiser_volume::Volume;
 use std::alloc::Global;
 use std::test::*;
 use vol_block::{Block, put_u16, put_u32, put_u64};
-
-/// Stat data of version 1, by the fields that rows have.
-#[derive(Clone, Copy)]
-struct StatData {
-    mode: u16,
-    attrs: u16,
-    size: u64,
-    owner: u32,
-    group: u32,
-    times: [u32; 3],
-    rdev: u32,
-}
 
 /// The attributes that rows have.
 const ALL: u16 = 0xF8;
@@ -38,54 +27,11 @@ const ROOT_ENTRIES: &[Entry] = &[
 
 const BELOW: &[Entry] = &[(2, 11, "tty"), (2, 4, "x")];
 
-/// Stat data with a mode and a size; all else is 0.
-fn stat(mode: u16, size: u64) -> StatData {
-    StatData {
-        mode,
-        attrs: 0,
-        size,
-        owner: 0,
-        group: 0,
-        times: [0, 0, 0],
-        rdev: 0,
-    }
-}
-
 /// The stat data of a device with this number.
 fn device(mode: u16, rdev: u32) -> StatData {
     let mut device = stat(mode, 0);
     device.rdev = rdev;
     device
-}
-
-/// Adds the stat data of an object.
-fn add_stat(leaf: &mut Leaf, object: Object, stat: &StatData) {
-    let mut body = Block::zero();
-    let bytes = &mut body.bytes;
-    put_u16(bytes, 0, stat.mode);
-    put_u16(bytes, 2, stat.attrs);
-    put_u32(bytes, 4, 1);
-    put_u64(bytes, 8, stat.size);
-    put_u32(bytes, 16, stat.owner);
-    put_u32(bytes, 20, stat.group);
-    put_u32(bytes, 24, stat.times[0]);
-    put_u32(bytes, 28, stat.times[1]);
-    put_u32(bytes, 32, stat.times[2]);
-    put_u32(bytes, 40, stat.rdev);
-    leaf.add(Item::of(object, Part::Stat), &body.bytes[..44]);
-}
-
-/// Adds the entries of a directory.
-fn add_entries(
-    alloc: Global,
-    leaf: &mut Leaf,
-    object: Object,
-    entries: &[Entry],
-) -> Result<(), Memory> {
-    let body = entries_body(alloc, 128, 0, entries)?;
-    let part = Part::Entries(128, (entries.len() % 256) as u16);
-    leaf.add(Item::of(object, part), &body);
-    Ok(())
 }
 
 /// A file with two names, of 5 bytes in an item of 11.
