@@ -23,7 +23,8 @@ def function_of(module):
     parts = path.split(".")
     while len(parts) > 1 and not parts[-1][0].islower():
         parts.pop()
-    return ".".join(parts) if library.endswith("-proofs") else f"{library}: {'.'.join(parts)}"
+    path = ".".join(parts)
+    return path if library.endswith("-proofs") else f"{library} {path}".rstrip()
 
 
 def kept_modules(folder):
