@@ -7,7 +7,7 @@
 `rt ci` prints no times, so every half second this looks up how much of the processors each prover below it has taken so far:
 the name of its crate is in its words, those of tests have `--test`, and wrong bodies are checked in folders rt-edit-*. What a
 process takes between the last look and its end is lost, a quarter of a second each. At the end it writes a table in
-Markdown, the dearest crate first, to FILE, or to standard error; where FILE has the lines of `MARKS`, as docs/GATE.md, the
+Markdown, the dearest crate first, to FILE, or to standard error; where FILE has the lines of `MARKS`, as bench/GATE_COSTS.md, the
 table stands between them then, and the rest stays. The status is that of the command."""
 
 import argparse

@@ -1,33 +1,14 @@
 """Names of directory entries that share one hash of Btrfs: a name's last four bytes can give it any checksum."""
 
-POLYNOMIAL = 0x82F63B78
+import sys
+from pathlib import Path
+
+sys.path.insert(0, str(Path(__file__).resolve().parent.parent / "tests"))
+from crc32c import TABLE, raw_crc  # noqa: E402
+
 START = 0xFFFFFFFE
-
-
-def table_of():
-    """The checksum of each byte."""
-    table = []
-    for byte in range(256):
-        for _ in range(8):
-            byte = byte >> 1 ^ (POLYNOMIAL if byte & 1 else 0)
-        table.append(byte)
-    return table
-
-
-TABLE = table_of()
 # The byte whose checksum begins with these eight bits.
 BY_TOP = {value >> 24: byte for byte, value in enumerate(TABLE)}
-
-
-def raw_crc(start, data):
-    """The register behind some bytes."""
-    for byte in data:
-        start = start >> 8 ^ TABLE[(start ^ byte) & 0xFF]
-    return start
-
-
-def crc32c(data):
-    return raw_crc(0xFFFFFFFF, data) ^ 0xFFFFFFFF
 
 
 def ending(register, wanted):

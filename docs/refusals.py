@@ -64,7 +64,7 @@ def read_table(path):
 
 
 def plain(block, field):
-    """A text without its marks, with `{1}` for the first number."""
+    """A text without its marks, with `{1}` for the first number and `{path}` for the path."""
     text = re.sub(r"\[([^]]*)\]\([^)]*\)", r"\1", block.text(field)).replace("`", "'")
     if block.kind in ("refused", "trial") and field == "means":
         for place, name in enumerate(block.names, 1):
@@ -72,6 +72,7 @@ def plain(block, field):
     elif block.kind == "refused" and field == "do":
         for place, name in enumerate(block.names, 1):
             text = re.sub(rf"(?<=-inum ){name}\b", f"{{{place}}}", text)
+    text = re.sub(r"\bPATH\b", "{path}", text)
     return text.replace("\\", "\\\\").replace('"', '\\"')
 
 
@@ -101,7 +102,7 @@ def sentences(blocks):
     parts = [
         "// Made by docs/refusals.py of docs/refusals.table: change that one, and not this file.\n",
         "/// What a line means, and what to do next, each empty where there is nothing to say. In the text of a refusal `{1}` stands for the first\n"
-        "/// number of its line, and so on.\n"
+        "/// number of its line, and so on, and `{path}` for the path of the run.\n"
         "#[derive(Clone, Copy)]\n"
         "pub struct Sentence {\n    pub means: &'static str,\n    pub next: &'static str,\n}\n",
         'const NOTHING: Sentence = Sentence {\n    means: "",\n    next: "",\n};\n',
@@ -112,6 +113,7 @@ def sentences(blocks):
         function("of_feature", "number: u64", "Of what is not supported.", arms("feature", number)) + "\n",
         function("of_line", "line: &str", "Of a line that is no refusal.", arms("line", quoted)) + "\n",
         function("of_fault", "cause: &str", "Of a device that fails, by the cause.", arms("fault", quoted)) + "\n",
+        function("of_start", "cause: &str", "Of a program that does not start, by the cause.", arms("start", quoted)) + "\n",
         function("of_safety", "case: &str", "What is safe.", arms("safe", quoted)) + "\n",
     ]
     return "\n".join(parts)
@@ -120,7 +122,7 @@ def sentences(blocks):
 # ---- the document ----
 
 
-def wrapped(text, width=150):
+def wrapped(text, width=120):
     return textwrap.fill(text, width, break_long_words=False, break_on_hyphens=False)
 
 
@@ -159,6 +161,7 @@ def parts_of_document(blocks):
     found["lines"] = rows(
         blocks, "line", ["Line", "Status", "What it means, and what to do"], lambda it: [f"`{it.name}`", it.text("status"), both(it)]
     )
+    found["starts"] = rows(blocks, "start", ["Why", "What to do"], lambda it: [it.text("means"), it.text("do")])
     found["faults"] = rows(blocks, "fault", ["Why", "What to do"], lambda it: [it.text("means"), it.text("do")])
     return found
 

@@ -1,6 +1,14 @@
-# The options of convert that may still be given. --label and --copy-label exclude each other.
+# shellcheck shell=bash
+# The options of a command that may still be given. --label and --copy-label exclude each other.
 _reiserconv_options() {
-    local left=' --nodesize --no-inline --no-datasum --label --copy-label --uuid ' i
+    local left=' ' i
+    case ${COMP_WORDS[1]} in
+        convert) left=' --nodesize --no-inline --no-datasum --label --copy-label --uuid --verbose ' ;;
+        inspect) left=' --nodesize --no-inline --no-datasum --verbose ' ;;
+        *) [ "$COMP_CWORD" != 2 ] || left=' --verbose ' ;;
+    esac
+    # alone behind the command
+    [ "$COMP_CWORD" != 2 ] || left+='--help '
     for ((i = 2; i < ${#COMP_WORDS[@]}; i++)); do
         [ "$i" = "$COMP_CWORD" ] && continue
         left=${left/" ${COMP_WORDS[i]} "/ }
@@ -22,16 +30,16 @@ _reiserconv() {
     COMPREPLY=()
     if [ "$COMP_CWORD" = 1 ]; then
         words='inspect list convert recover rollback trial --help --version'
-    elif [ "$COMP_CWORD" = 2 ] && [ "$before" = trial ]; then
-        words='0 100 1000 4000'
     elif [ "$before" = --nodesize ]; then
         words='4096 8192 16384 32768 65536'
     elif [ "$before" = --uuid ]; then
         words='new copy'
     elif [ "$before" = --label ]; then
         return
-    elif [ "${COMP_WORDS[1]}" = convert ] && [ "${word:0:1}" = - ]; then
+    elif [ "${COMP_WORDS[1]:0:1}" != - ] && [ "${word:0:1}" = - ]; then
         words=$(_reiserconv_options)
+    elif [ "${COMP_WORDS[1]}" = trial ] && { [ "$COMP_CWORD" = 2 ] || [ "$COMP_CWORD $before" = '3 --verbose' ]; }; then
+        words='0 100 1000 4000'
     elif [ "${COMP_WORDS[1]:0:1}" != - ]; then
         mapfile -t COMPREPLY < <(compgen -f -- "$word")
         compopt -o filenames

@@ -1,21 +1,18 @@
 #!/usr/bin/env bash
-# find.sh NAME: prints the path of the program NAME, reiserconv or sample_volume, that is made of the sources as they are here: the one
-# in crates/NAME/out, else the one in release/. Where neither is, it builds the former, which takes the kit.
+# find.sh [--any] NAME: prints the path of the program NAME, reiserconv or sample_volume, that is made of the sources as they are here: the
+# one in crates/NAME/out, else the one in release/. Where neither is, it builds the former, which takes the kit.
+#
+# With --any it prints the path of the one in release/ where none can be built, and says so in one line on standard error.
 set -euo pipefail
 
+any=
+[ "$1" != --any ] || { any=yes; shift; }
 name=$1
 cd "$(dirname "$(readlink -f "${BASH_SOURCE[0]}")")/.."
 # shellcheck source=release/programs.sh
 . release/programs.sh
 out=crates/$name/out
 seen=$out/sources.list
-
-# runs PROGRAM: whether this machine can run it. Without arguments a program only prints how it is called, with status 2.
-runs() {
-    local status=0
-    "$1" >/dev/null 2>&1 </dev/null || status=$?
-    [ "$status" = 2 ]
-}
 
 # Looks at the bytes of all sources, and sets $program to a program that is made of them, or to nothing.
 look() {
@@ -24,7 +21,7 @@ look() {
     checksum=$(sum)
     if fits "$out" && { ! command -v rt >/dev/null || grep -qxF "kit $(rt version)" "$out/MADE_OF"; }; then
         program=$out/$name
-    elif fits release && runs "release/$name"; then
+    elif fits release; then
         program=release/$name
     fi
 }
@@ -34,18 +31,18 @@ look() {
 note() {
     local newest
     [ -O . ] || return 0
-    newest=$(awk '$1 > newest { newest = $1 } END { printf "%d", newest }' <<<"$now")
+    newest=$(printf '%s\n' "$now" | awk '$1 > newest { newest = $1 } END { printf "%d", newest }')
     [ "$(date +%s)" -gt $((newest + 2)) ] || return 0
     { mkdir -p "$out" && printf '%s\n' "$program" "$now" >"$seen.$$" && mv "$seen.$$" "$seen"; } 2>/dev/null || :
 }
 
+# Builds it, where there is the kit.
 build_here() {
-    say 'no program here is made of these sources'
     if ! command -v rt >/dev/null; then
-        say 'The one in release/ was made of others, or is none for this machine: see release/MADE_OF. To build one takes the kit'
-        say 'with its command rt on the PATH.'
+        [ -n "$any" ] || say 'no program here is made of these sources. To build one takes the kit, with its command rt on the PATH'
         return 1
     fi
+    say 'no program here is made of these sources'
     mkdir -p "$out"
     (
         flock 9
@@ -56,9 +53,23 @@ build_here() {
     [ -n "$program" ] || { say 'the sources changed while it was built: start again'; return 1; }
 }
 
+# Takes the program in release/, and says what it is.
+take_any() {
+    [ -x "release/$name" ] || return 1
+    program=release/$name
+    if grep -qxF "$name $(sha256sum <"$program" | cut -d ' ' -f 1)" release/MADE_OF 2>/dev/null; then
+        say 'this is the program in release/, which was made of other sources than those here'
+    else
+        say 'this is the program in release/, and it is not the one that release/MADE_OF tells of'
+    fi
+}
+
 if ! { read -r program <"$seen" && { echo "$program"; list; } | cmp -s - "$seen"; } 2>/dev/null; then
     look
-    [ -n "$program" ] || build_here
-    note
+    if [ -n "$program" ] || build_here; then
+        note
+    elif [ -z "$any" ] || ! take_any; then
+        exit 1
+    fi
 fi
 printf '%s/%s\n' "$PWD" "$program"

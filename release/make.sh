@@ -1,12 +1,13 @@
 #!/usr/bin/env bash
-# make.sh: runs `rt ci`, and puts the programs that it built into release/, for machines without the kit:
+# make.sh: runs `rt ci`, and puts the programs that it built into release/, for machines without the kit and of any C library (release/static.py):
 #
 #     reiserconv, sample_volume    the programs
 #     SHA256SUMS                   their SHA-256, which `sha256sum -c` compares
-#     MADE_OF                      what they were made of: the commit, the kit, one checksum over all sources, and what they need
+#     MADE_OF                      what they were made of: the commit, the kit, one checksum over all sources, the SHA-256 of both programs, of the C
+#                                  library in them (c/library.o) and of what `rt ci` built (built), and what they need
 #
-# make.sh --check: says whether the ones in release/ are the programs that the last `rt ci` here built, to the byte, and of the sources as
-# they are. The status is 1 where they are not.
+# make.sh --check: says whether the ones in release/ are made of the programs that the last `rt ci` here built, to the byte, and of the sources
+# as they are. The status is 1 where they are not.
 #
 # make.sh --remove: removes what an earlier `rt ci` built, so that a check after the next one sees that one's programs.
 set -euo pipefail
@@ -33,13 +34,16 @@ remove_all() {
     done
 }
 
+# sum_of FILE: its SHA-256
+sum_of() { sha256sum <"$1" | cut -d ' ' -f 1; }
+
 check_all() {
     local status=0
     checksum=$(sum)
     for name in "${names[@]}"; do
-        if ! cmp "release/$name" "crates/$name/out/$name"; then
+        if ! release/static.py "crates/$name/out/$name" "$room/$name" || ! cmp "release/$name" "$room/$name"; then
             status=1
-        elif ! fits release; then
+        elif ! fits release || ! grep -qxF "built $name $(sum_of "crates/$name/out/$name")" release/MADE_OF; then
             echo "release/$name is of other sources than these, by release/MADE_OF"
             status=1
         fi
@@ -53,29 +57,34 @@ check_all() {
 }
 
 put_all() {
-    local needs
+    for name in "${names[@]}"; do
+        release/static.py "crates/$name/out/$name" "$room/$name"
+    done
     for name in "${names[@]}"; do
         # a program that runs cannot be written over
-        cp "crates/$name/out/$name" "release/$name.new"
+        cp "$room/$name" "release/$name.new"
         mv "release/$name.new" "release/$name"
     done
-    needs=$(cd release && { grep -aoh 'GLIBC_[0-9.]*' "${names[@]}" || :; } | sort -uV | tail -1)
     (cd release && sha256sum "${names[@]}" >SHA256SUMS)
     {
         printf 'commit %s\nkit %s\nsources %s\n' "$(git rev-parse HEAD)" "$(rt version)" "$checksum"
-        sed 's/\([^ ]*\) *\(.*\)/\2 \1/' release/SHA256SUMS
-        printf 'needs Linux %s%s\n' "$(uname -m)" "${needs:+ $needs}"
+        for name in "${names[@]}"; do printf '%s %s\n' "$name" "$(sum_of "release/$name")"; done
+        for name in "${names[@]}"; do printf 'built %s %s\n' "$name" "$(sum_of "crates/$name/out/$name")"; done
+        printf 'library %s\nneeds Linux 3.2 x86-64-v2\n' "$(sum_of release/c/library.o)"
     } >release/MADE_OF
     cat release/MADE_OF
 }
 
+room=$(mktemp -d)
+trap 'rm -rf "$room"' EXIT
 case "${1:-}" in
     --check) check_all ;;
     --remove) remove_all ;;
     '')
         mapfile -t places < <(sources)
+        places+=(release/static.py release/c)
         if [ -n "$(git status --porcelain -- "${places[@]}")" ]; then
-            echo 'release/make.sh: the sources are not those of a commit' >&2
+            echo 'release/make.sh: the sources, or what links the programs, are not those of a commit' >&2
             exit 1
         fi
         make_all

@@ -27,8 +27,8 @@ crates_of() {
 # sources_as ACTION..: find over all files of the sources
 sources_as() {
     local places
-    mapfile -t places < <(sources)
-    find "${places[@]}" \( -name out -o -name must-fail \) -prune -o -type f "$@"
+    # no <(..), which needs /proc
+    sources | { mapfile -t places && find "${places[@]}" \( -name out -o -name must-fail \) -prune -o -type f "$@"; }
 }
 
 # A line for each source, for the kit's command, and for the programs that may be run: the time of the last change of any kind,

@@ -16,8 +16,9 @@ turn (with all after it, as where a disk is gone), and each write of the output 
 - A trial is made on a new file; nothing is looked for there where it was not done. Of its many allocations and device
   calls some are taken.
 
-The program is that of the environment's RECONV, or else release/reiserconv. It needs a C compiler and the sample program of release/. The last
-line is `N passed, M failed`; each failure has a line."""
+The program is that of the environment's RECONV, or else crates/reiserconv/out/reiserconv, as `rt ci` builds it: into the one in release/, which is
+made of it, no library can be loaded. It needs a C compiler and the sample program of release/. The last line is `N passed, M failed`; each failure
+has a line."""
 
 import argparse
 import collections
@@ -34,7 +35,7 @@ sys.path.insert(0, str(Path(__file__).resolve().parent / "failing"))
 from volumes import BLOCK, SUPERBLOCK, empty_volume, marked  # noqa: E402
 
 TOP = Path(__file__).resolve().parent.parent
-PROGRAM = os.environ.get("RECONV", str(TOP / "release/reiserconv"))
+PROGRAM = os.environ.get("RECONV", str(TOP / "crates/reiserconv/out/reiserconv"))
 Ended = collections.namedtuple("Ended", "status out err counts")
 # Its words but the path, and what the volume is before, None for a new file.
 Command = collections.namedtuple("Command", "word base")

@@ -12,7 +12,7 @@ set -uo pipefail
 
 top=$(cd "$(dirname "$(readlink -f "${BASH_SOURCE[0]}")")/.." && pwd)
 crates=("$@")
-[ $# -gt 0 ] || crates=(tree_tests)
+[ $# -gt 0 ] || crates=(convert_steps_tests)
 read -ra numbers <<<"${NUMBERS:-1 2 3 5 8 13 21 34 55 89 144 233}"
 passed=0
 failed=0

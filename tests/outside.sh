@@ -7,80 +7,12 @@ set -uo pipefail
 top=$(cd "$(dirname "$(readlink -f "${BASH_SOURCE[0]}")")/.." && pwd)
 work=$(mktemp -d)
 trap 'rm -rf "$work"' EXIT
-passed=0
-failed=0
 cd "$work" || exit 1
 
-# ---- how a check is counted -----------------------------------------------------------------------------------------
+# shellcheck source=tests/outside/lib.sh
+. "$top/tests/outside/lib.sh"
 
-pass() { passed=$((passed + 1)); }
-
-fail() {
-    failed=$((failed + 1))
-    printf 'FAILED %s\n' "$1"
-}
-
-# same NAME EXPECTED FOUND: two texts are the same
-same() {
-    if [ "$2" = "$3" ]; then pass; else
-        fail "$1"
-        diff <(printf '%s\n' "$2") <(printf '%s\n' "$3") | head -10
-    fi
-}
-
-# kept COMMAND..: runs it; its status is in $status, its output in $out and its error line in $err
-kept() {
-    "$@" >"$work/.out" 2>"$work/.err"
-    status=$?
-    out=$(cat "$work/.out")
-    err=$(cat "$work/.err")
-}
-
-# run WORDS..: the same of the program
-run() { kept "$program" "$@"; }
-
-# ends NAME STATUS LINE WORDS..: the run prints nothing, and ends with this status and this line
-ends() {
-    local name=$1 want=$2 line=$3
-    shift 3
-    run "$@"
-    same "$name" "$want|$line|" "$status|$err|$out"
-}
-
-# ---- what is needed ---------------------------------------------------------------------------------------------------
-
-need() {
-    local tool=$1 package=$2
-    command -v "$tool" >/dev/null 2>&1 && return 0
-    if [ -z "${updated:-}" ]; then
-        apt-get update -qq >/dev/null 2>&1
-        updated=yes
-    fi
-    apt-get install -y -qq "$package" >/dev/null 2>&1
-    command -v "$tool" >/dev/null 2>&1
-}
-
-# lacks WHAT TOOL: says that checks are skipped, since a tool is not to be had
-lacks() {
-    echo "skipped: $1, since $2 is not to be had"
-    [ "${CI:-}" != true ] || fail "$1: $2 is not to be had"
-}
-
-# ---- making and changing volumes -------------------------------------------------------------------------------------
-
-# volume FILE BLOCKS OPTIONS..: a fresh volume of mkfs.reiserfs
-volume() {
-    local file=$1 blocks=$2
-    shift 2
-    rm -f "$file"
-    truncate -s $((blocks * 4096)) "$file"
-    mkfs.reiserfs -q -f "$@" "$file" >/dev/null 2>&1
-}
-
-# put FILE BYTE TEXT: writes bytes, in printf's escapes, at a place
-put() { printf '%b' "$3" | dd of="$1" bs=1 seek="$2" conv=notrunc status=none; }
-
-super=65536
+# ---- volumes of mkfs.reiserfs ----------------------------------------------------------------------------------------
 
 # what debugreiserfs says of a superblock, in the words of `inspect`
 expected_super() {
@@ -109,6 +41,8 @@ used_adds_up() {
 # ---- words and statuses ----------------------------------------------------------------------------------------------
 
 usage='usage: reiserconv COMMAND [OPTIONS] PATH'
+# as the sources have it
+version=$(sed -n 's/.*b"reiserconv \([0-9.]*\)\\n".*/\1/p' "$top/crates/volume_app/src/texts.rt")
 words_and_statuses() {
     ends 'no words' 2 "$usage"
     ends 'an unknown word' 2 "$usage" frobnicate volume
@@ -123,10 +57,12 @@ words_and_statuses() {
     ends 'a path that is not there' 3 'device fault' inspect "$work/nothing"
     ends 'a directory' 3 'device fault' inspect "$work"
     run --version
-    same 'the version' '0|reiserconv 0.1.0|' "$status|$out|$err"
+    same 'the version' "0|reiserconv $version|" "$status|$out|$err"
     run --help
     same 'the first line of the help' "0|$usage" "$status|$(head -1 "$work/.out")"
     ends 'help with a path' 2 "$usage" --help volume
+    short_words
+    words_to_tell_more
     if [ "$(id -u)" = 0 ]; then
         echo 'skipped: an unreadable file, since root can read each'
     else
@@ -140,6 +76,47 @@ words_and_statuses() {
     same 'a full output' '5|output fault' "$?|$(cat "$work/.err")"
     "$top/reiserconv" --version >&- 2>"$work/.err"
     same 'a closed output' '5|output fault' "$?|$(cat "$work/.err")"
+}
+
+# other words for the help and the version
+short_words() {
+    local name help
+    run --help
+    help=$out
+    for name in -h 'convert --help' 'inspect -h' 'list --help' 'recover -h' 'rollback --help' 'trial -h'; do
+        # shellcheck disable=SC2086
+        run $name
+        same "the help by $name" "0|$help|" "$status|$out|$err"
+    done
+    same 'the help names each status and the documents' '0 1 2 3 4 5 6 7 reiserconv(8) docs/HOWTO.md' \
+        "$(printf '%s\n' "$help" | sed -n '/^Exit status/,$p' | grep -oE '(^  |, )[0-7] |reiserconv\(8\)|docs/[A-Za-z.]*' | tr -d ', ' | xargs)"
+    run -V
+    same 'the version by -V' "0|reiserconv $version|" "$status|$out|$err"
+    ends 'help behind a word that is no command' 2 "$usage" mount --help
+    ends 'help and a path' 2 "$usage" convert --help volume
+    ends 'the version behind a command' 2 "$usage" list --version
+}
+
+# `--verbose` is an option of each command, once and before the other words but options; it changes no status and no output
+words_to_tell_more() {
+    local name words
+    for words in 'inspect --verbose' 'list --verbose' 'convert --verbose' 'recover --verbose' 'rollback --verbose' 'trial --verbose 7' \
+        'inspect --nodesize 4096 --verbose --no-inline' 'convert --label --verbose' 'convert --label a --verbose --uuid new'; do
+        # shellcheck disable=SC2086
+        run $words "$work/nothing"
+        same "$words of a path that is not there" '3|device fault|' "$status|$(head -1 "$work/.err")|$out"
+    done
+    for words in '--verbose list' 'list --verbose --verbose' 'trial 7 --verbose' 'convert --label --verbose a' 'convert --nodesize --verbose 4096'; do
+        # shellcheck disable=SC2086
+        begins "$words" 2 "$usage" $words volume
+    done
+    for name in list convert; do
+        begins "an option behind the path of $name" 2 "$usage" "$name" volume --verbose
+    done
+    for words in '--label a' --copy-label '--uuid new' '--no-inline --no-inline' '--nodesize 4095'; do
+        # shellcheck disable=SC2086
+        ends "inspect with $words" 2 "$usage" inspect $words volume
+    done
 }
 
 # ---- what is no clean volume -----------------------------------------------------------------------------------------
@@ -257,8 +234,8 @@ linux_volumes() {
     done
 }
 
-# 200 changes of one byte in the nodes of a real tree, by a fixed list: each run ends within a second, and either accepts
-# the volume or refuses it
+# 200 changes of one byte in the nodes of a real tree, by a fixed list: each run ends within a second of the processor, and
+# either accepts the volume or refuses it
 damaged_trees() {
     need zstd zstd || { lacks 'damaged trees' zstd; return; }
     zstd -dqf "$top/tests/volumes/tiny.img.zst" -o packed
@@ -274,7 +251,10 @@ damaged_trees() {
         was=$(od -An -tx1 -j "$place" -N 1 packed | tr -d ' ')
         draw
         put packed "$place" "$(printf '\\x%02x' $((seed / 65536 % 256)))"
-        timeout 1 "$program" inspect packed >/dev/null 2>&1
+        (
+            ulimit -t 1
+            exec timeout 60 "$program" inspect packed
+        ) >/dev/null 2>&1
         status=$?
         [ "$status" = 1 ] && refused=$((refused + 1))
         [ "$status" -gt 1 ] && others="$others $place:$status"
@@ -494,6 +474,10 @@ samples() {
 . "$top/tests/outside/users.sh"
 # shellcheck source=tests/outside/terminal.sh
 . "$top/tests/outside/terminal.sh"
+# shellcheck source=tests/outside/edge.sh
+. "$top/tests/outside/edge.sh"
+# shellcheck source=tests/outside/old.sh
+. "$top/tests/outside/old.sh"
 
 # ---- all -------------------------------------------------------------------------------------------------------------
 
@@ -504,9 +488,11 @@ if ! program=$("$top/release/find.sh" reiserconv) || ! maker=$("$top/release/fin
 fi
 words_and_statuses
 documents
+scripts
 manual_page
 package
 released
+other_systems
 damaged_volumes
 if need mkfs.btrfs btrfs-progs; then btrfs_volumes; else
     lacks 'Btrfs volumes' mkfs.btrfs
@@ -518,6 +504,9 @@ if need mkfs.reiserfs reiserfsprogs && need debugreiserfs reiserfsprogs; then
     damaged_trees
     loop_device
     devices_in_use
+    closed_streams
+    overwritten
+    unseen_devices
     terminals
     maker_statuses
     samples

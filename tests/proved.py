@@ -13,7 +13,7 @@ import sys
 # What is named in backquotes and is no name in the sources.
 OTHERS = {"reiserfs_saved", "--uuid copy", "--help", "--version"}
 # Sections of PROVED.md that are about one crate, by their headings.
-PROGRAMS = {"The program `reiserconv`": "volume_app", "The program `sample_volume`": "sample_app"}
+PROGRAMS = {"The program `reiserconv`": "volume_app", "The program `sample_volume`": "reiser_make_app"}
 # Crates with a main alone.
 MAINS = {"reiserconv", "sample_volume"}
 # The end of the names of crates with tests alone, which have one part together.

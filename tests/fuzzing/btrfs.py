@@ -4,8 +4,8 @@ import struct
 import sys
 from pathlib import Path
 
-sys.path.insert(0, str(Path(__file__).resolve().parent.parent.parent / "bench"))
-from hash_names import crc32c  # noqa: E402
+sys.path.insert(0, str(Path(__file__).resolve().parent.parent))
+from crc32c import crc32c  # noqa: E402
 
 SUPER, SUPER_SIZE, HEAD = 65536, 4096, 101
 KEY = [(0, 8), (8, 1), (9, 8)]

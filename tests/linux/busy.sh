@@ -1,5 +1,6 @@
 #!/bin/sh
 # Inside of the machine: a device that is in use is not opened for writing. /dev/vda and /dev/vdb are two disks.
+# shellcheck source=tests/linux/said.sh
 . ./said.sh
 
 # super PATH: block 16 of what stands at a path

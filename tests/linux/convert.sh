@@ -2,12 +2,14 @@
 # Inside of the machine, the way of a user: the kernel fills the ReiserFS volume on /dev/vda with files of every kind, it is unmounted,
 # converted on its device, and mounted as Btrfs for writing; another program than ours tells what Linux sees before and after. What the volume
 # was is kept on /dev/vdb, and the files' checksums on /dev/vdc, for a look from outside.
+# shellcheck source=tests/linux/said.sh
 . ./said.sh
 
 filled /dev/vda
 said 'convert: filled by Linux' $?
 seen reiserfs /dev/vda /tmp/before
-said "convert: looked at by Linux, $(wc -l </tmp/before) paths" $?
+status=$?
+said "convert: looked at by Linux, $(wc -l </tmp/before) paths" $status
 mount -t reiserfs -o ro,noatime /dev/vda /mnt
 (cd /mnt && find . -type f ! -name '*[^a-zA-Z0-9._+-]*' -exec sha256sum {} + | sed 's/  \./ /') >/dev/vdc
 umount /mnt

@@ -1,12 +1,14 @@
 #!/bin/sh
 # Inside of the machine: what is on a converted volume is written, removed, renamed, and moved by the kernel's own tools, list prints what
 # Linux sees then, and the volume goes back. /dev/vda is the volume, /dev/vdb keeps what it was, /dev/vdc what it became.
+# shellcheck source=tests/linux/said.sh
 . ./said.sh
 
 filled /dev/vda few
 said 'foreign: filled' $?
 seen reiserfs /dev/vda /tmp/before
-said "foreign: looked at, $(wc -l </tmp/before) paths" $?
+status=$?
+said "foreign: looked at, $(wc -l </tmp/before) paths" $status
 cp --sparse=always /dev/vda /dev/vdb
 run convert /dev/vda
 same 'foreign: converted' '0|' "$status|$err"
@@ -53,7 +55,8 @@ said 'foreign: unmounted' $?
 judged() {
     checked "foreign: btrfs check $1 finds nothing"
     seen btrfs /dev/vda /tmp/after
-    said "foreign: looked at $1, $(wc -l </tmp/after) paths" $?
+    status=$?
+    said "foreign: looked at $1, $(wc -l </tmp/after) paths" $status
     run list /dev/vda
     same "foreign: list $1 ends with status 0" '0|' "$status|$err"
     same_file "foreign: list $1 prints what Linux sees" /tmp/after /tmp/out

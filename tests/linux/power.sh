@@ -2,6 +2,7 @@
 # Inside of the machine: the power is cut at moments of a command, which are numbered from first to last; command, first and last are set
 # before. /dev/vda has the volume on which the command starts, /dev/vdb takes the log of its writes, and /dev/vdc all that is written over
 # the volume while it is tried: /dev/dm-0 is the volume with that over it.
+# shellcheck source=tests/linux/said.sh
 . ./said.sh
 sectors=$(cat /sys/class/block/vda/size)
 
@@ -58,7 +59,7 @@ whole() {
         [ "$status|$err" = '0|' ] || wrong="$wrong, rollback again ended with $status $err"
         listed ' behind rollback again'
     fi
-    [ -z "$(quiet '' | grep FAILED)" ] || wrong="$wrong, the kernel complains of $(head -n 3 /tmp/complaints)"
+    ! quiet '' | grep -q FAILED || wrong="$wrong, the kernel complains of $(head -n 3 /tmp/complaints)"
     if [ -z "$wrong" ]; then echo "ok $1: $format, mirrors $mirrors"; else echo "FAILED $1: $format$wrong"; fi
 }
 
@@ -85,7 +86,8 @@ cuts() {
 filled /dev/vda few
 said 'power: filled' $?
 seen reiserfs /dev/vda /tmp/before
-said "power: looked at, $(wc -l </tmp/before) paths" $?
+status=$?
+said "power: looked at, $(wc -l </tmp/before) paths" $status
 left=''
 case $command in
     convert) cuts "$first" "$last" ;;
@@ -98,5 +100,5 @@ case $command in
         converted && halfway rollback && cuts $((middle + 1)) "$last"
         ;;
 esac
-same "power: behind the cuts of $command both formats were met" 'btrfs reiserfs' "$(printf '%s\n' $left | sort -u | xargs)"
+same "power: behind the cuts of $command both formats were met" 'btrfs reiserfs' "$(printf '%s\n' "$left" | tr ' ' '\n' | sort -u | xargs)"
 exit 0

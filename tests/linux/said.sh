@@ -37,7 +37,7 @@ options() { if [ "$1" = reiserfs ]; then echo noatime,attrs; else echo noatime; 
 # filled DISK [few]: a new ReiserFS volume with a small journal, which the kernel fills
 filled() {
     mkfs.reiserfs -q -f -s 513 -l 'a label' "$1" >/dev/null 2>&1 &&
-        mount -t reiserfs -o noatime,attrs "$1" /mnt && perl /job/fill /mnt reiserfs ${2:-} >/dev/null && umount /mnt
+        mount -t reiserfs -o noatime,attrs "$1" /mnt && perl /job/fill /mnt reiserfs ${2:+"$2"} >/dev/null && umount /mnt
 }
 
 # seen KIND DISK FILE: mounts a volume for reading, and puts into a file what Linux sees of it

@@ -1,6 +1,7 @@
 #!/bin/sh
 # Inside of the machine: volumes on /dev/vda that have the free units which a conversion needs, and so many MiB beside them. The lines that
 # begin with # are figures of what the kernel can do on the new volume; /dev/vdb keeps the old one.
+# shellcheck source=tests/linux/said.sh
 . ./said.sh
 beside='16 8 4 2 1 0'
 # from so many MiB beside the needed units on the new volume mounts for writing

@@ -1,3 +1,4 @@
+# shellcheck shell=bash disable=SC2154
 # What `convert` makes of ReiserFS volumes. Of each the judges are btrfs-progs, the rows that `list` gave before, and the
 # saved image, which is read as the volume that it was. tests/outside.sh reads this file.
 
@@ -104,13 +105,16 @@ names_in() {
 
 # options by what btrfs and inspect say of the new volume
 converted_options() {
-    local size
+    local size needed
     makes 12288 7 12288
     cp made sample
     for size in 4096 8192 16384 32768 65536; do
         cp sample made
+        run inspect --nodesize "$size" --no-inline made
+        needed=$(sed -n 's/^needed //p' "$work/.out")
         run convert --nodesize "$size" --no-inline made
         same "convert to nodes of $size bytes" "0||$size" "$status|$err|$(btrfs inspect-internal dump-super made | awk '$1 == "nodesize" { print $2 }')"
+        same "convert to nodes of $size bytes takes what inspect told" "$needed" "$(sed -n 's/^units //p' "$work/.out")"
         judged "nodes of $size bytes" made
     done
     cp sample made
@@ -157,6 +161,8 @@ convert_refusals() {
     # and one unit more for the default, but not for the largest
     makes 9472 0 9472
     refuses 'convert to the largest nodes without the space' made 6 'refused 15 space 9 4 1 4' --nodesize 65536
+    run inspect --nodesize 65536 made
+    same 'inspect tells the space for the largest nodes' '0||units 4|needed 9|run 1' "$status|$err|$(tail -3 "$work/.out" | paste -sd '|')"
     truncate -s 1048576 zeros
     refuses 'convert of zeros' zeros 1 'refused 1 novolume'
 }

@@ -1,3 +1,4 @@
+# shellcheck shell=bash disable=SC2154
 # What is left of a volume when `convert` or `rollback` is killed at fifty moments: `recover` opens it, `list` prints the rows from before, and
 # the judge of the format that is there finds nothing. A rollback that was cut off can be done again. tests/outside.sh reads this file.
 

@@ -1,3 +1,4 @@
+# shellcheck shell=bash disable=SC2154
 # What `rollback` makes of converted volumes. The judges are reiserfsck, the rows that `list` gave before the conversion, and the used blocks
 # by the bitmap that debugreiserfs reads; of the converted volume also Debian's own way back. tests/outside.sh reads this file.
 

@@ -1,3 +1,4 @@
+# shellcheck shell=bash disable=SC2154
 # What is said to a person at a terminal, and which devices are not opened for writing. tests/outside.sh reads this file.
 
 # ---- a terminal ------------------------------------------------------------------------------------------------------
@@ -5,20 +6,29 @@
 # what most refusals say between what they mean and what to do
 nothing='Nothing was written. What to do:'
 
-# on_terminal WORDS..: runs the program with its output and its errors on a terminal of its own. The bytes that the terminal was sent are in
-# .out, and in $out the same as one line, with single spaces.
+# on_terminal WORDS..: runs the program with its output and its errors on a terminal of its own, of the kind $term and with $columns columns, where
+# these are set. The bytes that the terminal was sent are in .out, and in $out the same as one line, with single spaces.
 on_terminal() {
-    script -qec "$(printf '%q ' "$program" "$@")" /dev/null </dev/null >"$work/.out" 2>/dev/null
+    env -u COLUMNS SHELL=/bin/bash TERM="${term-xterm}" ${columns:+"COLUMNS=$columns"} script -qec "$(printf '%q ' "$program" "$@")" /dev/null </dev/null >"$work/.out" 2>/dev/null
     status=$?
-    out=$(tr '\r\n' '  ' <"$work/.out" | tr -s ' ')
+    one_line
 }
 
-# tells NAME STATUS LINE TEXT WORDS..: on a terminal the run ends so, with this line first and this text below it; without one the line is all
+# the bytes in .out as one line in $out
+one_line() { out=$(tr '\r\n' '  ' <"$work/.out" | tr -s ' '); }
+
+# has TEXT: "yes" where the text is in $out, else all of $out
+has() { if [[ $out == *"$1"* ]]; then echo yes; else echo "$out"; fi; }
+
+# lines_of_terminal: what is left of the lines in .out once the line of the progress is wiped
+lines_of_terminal() { sed 's/.*\x1b\[K//' "$work/.out" | tr -d '\r'; }
+
+# tells NAME STATUS LINE TEXT WORDS..: on a terminal the run ends so, with this line and this text below it; without one the line is all
 tells() {
     local name=$1 want=$2 line=$3 text=$4
     shift 4
     on_terminal "$@"
-    same "$name, on a terminal" "$want|$line|yes" "$status|$(head -1 "$work/.out" | sed 's/.*\x1b\[K//' | tr -d '\r')|$([[ $out == *"$text"* ]] && echo yes || echo "$out")"
+    same "$name, on a terminal" "$want|1|yes" "$status|$(lines_of_terminal | grep -cxF -- "$line")|$(has "$text")"
     ends "$name, without a terminal" "$want" "$line" "$@"
 }
 
@@ -63,10 +73,10 @@ KINDS
 
 # the superblock's log tree is at an address, and its checksum is right
 with_log() {
-    python3 - "$1" "$top/bench" <<'PYTHON'
+    python3 - "$1" "$top/tests" <<'PYTHON'
 import struct, sys
 sys.path.insert(0, sys.argv[2])
-from hash_names import crc32c
+from crc32c import crc32c
 with open(sys.argv[1], "r+b") as volume:
     volume.seek(65536)
     block = bytearray(volume.read(4096))
@@ -99,7 +109,8 @@ told_btrfs_refusals() {
 # a conversion without the space, and refusals of going back
 told_ways_back() {
     makes 9216 0 9216
-    tells 'too little space' 6 'refused 15 space 4 3 1 3' 'needs 4 free units of 1 MiB, and 3 are free. 1 of them have to lie in one row, and the longest free row has 3. Nothing' convert made
+    tells 'too little space' 6 'refused 15 space 4 3 1 3' \
+        "needs 4 free units of 1 MiB, with 1 in one row. Of units that are free as a whole there are 3, with 3 in the longest row. $nothing Remove large files or move them away, until 1 MiB more" convert made
     makes 12288 7 12288
     run convert made
     local place
@@ -132,7 +143,6 @@ told_moved_image() {
 
 # the lines that are no refusal
 told_lines() {
-    tells 'no command' 2 "$usage" "and nothing was opened. What to do: 'reiserconv --help' has the commands." inspect
     tells 'a path that is not there' 3 'device fault' "The reason: opening it: No such file or directory (os error 2). It could not be opened: it is not there, for example, or you may not open it. $nothing See" inspect nothing
     tells 'a directory' 3 'device fault' "It is neither a plain file nor a block device. $nothing Give a partition" inspect "$work"
     : >locked
@@ -141,8 +151,110 @@ told_lines() {
     tells 'a file that is locked' 3 'device fault' "Another program has locked it, such as another run of this one. $nothing Wait" recover locked
     exec 7<&-
     on_terminal --version
-    same 'nothing is told where a command is done' '0|reiserconv 0.1.0 ' "$status|$out"
+    same 'nothing is told where a command is done' "0|reiserconv $version " "$status|$out"
 }
+
+# what is wrong with words that are no command
+told_words() {
+    local words text
+    tells 'no words' 2 "$usage" "The command is missing: inspect, list, convert, recover, rollback or trial. What to do: 'reiserconv --help' has"
+    while IFS='|' read -r words text; do
+        # shellcheck disable=SC2086
+        tells "the words $words" 2 "$usage" "$text" $words
+    done <<'WORDS'
+convertt x|'convertt' is no command. Did you mean 'convert'?
+frobnicate x|'frobnicate' is no command: there are inspect, list, convert, recover, rollback and trial.
+/dev/null|The command stands before the path, for example 'reiserconv inspect /dev/null'.
+--uuid copy convert x|and '--uuid' behind it, for example 'reiserconv convert --uuid'.
+help|'help' is '--help' here.
+-x|'-x' is no command
+inspect|The path is missing behind 'inspect': that of the partition, or of a file with the volume.
+inspect one two|'two' is a word too many: one path is taken.
+convert --frobnicate x|'convert' has no option '--frobnicate'. If it is the path, write './--frobnicate'.
+convert -x|If it is the path, write './-x'.
+convert --no-inlin x|There is no option '--no-inlin'. Did you mean '--no-inline'?
+list --no-inline x|'list' has no option '--no-inline'.
+convert --no-inline --no-inline x|'--no-inline' can't stand beside '--no-inline'
+convert --label a --copy-label x|'--copy-label' can't stand beside '--label'
+convert --label=foo x|The value stands behind a space here: write '--label foo'.
+convert x --label foo|'--label' stands behind the path: options stand before it.
+convert --nodesize 16K x|takes bytes: write '--nodesize 16384' in place of '16K'.
+convert --nodesize 5 x|'5' is no size of a node: '--nodesize' takes 4096, 8192, 16384, 32768 or 65536, in bytes.
+convert --nodesize|A value is missing behind '--nodesize'.
+convert --uuid foo x|'foo' is no UUID: '--uuid' takes 'new', 'copy' or one in the form 01234567-89ab-cdef-0123-456789abcdef.
+convert -n x|There is no '-n' here: a volume with extended attributes is refused, so that none gets lost. Leave it out.
+convert -i x|'-i' is '--no-inline' here.
+convert -d x|'-d' is '--no-datasum' here.
+convert -l foo x|'-l' is '--label' here, with the label behind a space.
+convert -L x|'-L' is '--copy-label' here.
+convert -N 16384 x|'-N' is '--nodesize' here, with the bytes of a node behind a space.
+convert -r x|'-r' is a command here: 'reiserconv rollback', with the path behind it.
+convert --dry-run x|'reiserconv inspect' only reads, and says whether a volume can be converted.
+convert -- x|A path that begins with a dash is written with './' before it.
+trial scratch|'scratch' is no number of files: the number stands before the path, for example 'reiserconv trial 1000 scratch'.
+trial 4001 scratch|'4001' is no number of files: it goes from 0 to 4000
+trial 007 scratch|'007' is no number of files: it goes from 0 to 4000, without zeros or a sign before it.
+trial 7|The path is missing behind the number
+WORDS
+    tells 'an empty path' 2 "$usage" 'The path is empty.' inspect ''
+    tells 'a label of 256 bytes' 2 "$usage" 'The label has more than 255 bytes' convert --label "$(printf '%0256d' 7)" x
+    told_odd_words
+}
+
+# words with bytes that a terminal would not show as they are, and words without a terminal
+told_odd_words() {
+    tells 'a word with control characters' 2 "$usage" "'a\\ b\$'\\u001b'\$'\\u000a'c' is a word too many" inspect x $'a b\e\nc'
+    tells 'a path that is not in UTF-8' 7 'start fault' 'An argument is no text in UTF-8, and a path has to be. Nothing was opened. What to do: Reach the file by a symbolic link' inspect $'\xff'
+    run convert --verbose --nodesize 16K x
+    same 'without a terminal, but with --verbose' "2||$usage 'yes" "$status|$out|$(head -1 "$work/.err") '$(out=$(tr '\n' ' ' <"$work/.err") && has "write '--nodesize 16384' in place of '16K'. What to do: 'reiserconv --help' has")"
+}
+
+# whether the space suffices, and that what is told to help does help
+verdicts() {
+    makes 9216 0 9216
+    on_terminal inspect made
+    same 'the space does not suffice' '0|yes|yes' "$status|$(
+        has "It can't be converted as it is: 4 units of 1 MiB are needed, and 3 are free as a whole, which is 1 too few. What to do: Remove large files or move them away, until 1 MiB more are free as a whole.")|$(
+        has "Or make the partition larger by 9 MiB or more, and then the volume ('resize_reiserfs -f made'). Nodes of another size may need less: 'reiserconv inspect --nodesize 4096 made' and the same with 8192 tell how much.")"
+    run inspect made
+    same 'no verdict without a terminal' "0||run 1" "$status|$err|$(tail -1 "$work/.out")"
+    truncate -s +9M made
+    resize_reiserfs -q -f made >/dev/null 2>&1
+    on_terminal inspect made
+    same 'a volume that was made larger as it was told' '0|yes' "$status|$(has 'It can be converted: 4 units of 1 MiB are needed, 12 are free as a whole, and so 8 are to spare.')"
+    makes 12288 7 12288
+    on_terminal inspect made
+    same 'the space suffices' '0|yes' "$status|$(has "It can be converted: $(awk '$1 == "needed" { print $2 }' "$work/.out" | tr -d '\r') units of 1 MiB are needed")"
+    on_terminal list made
+    same 'nothing is told of a list' "$("$program" list made)" "$(lines_of_terminal)"
+}
+
+# what is told when a command that writes begins and when it is done, with the path as a shell reads it
+told_steps() {
+    local disk="my disk's"
+    rm -f "$disk"
+    makes 12288 7 12288
+    cp --sparse=always made "$disk"
+    on_terminal convert "$disk"
+    same 'a conversion begins and is done' '0|yes|yes|yes|yes' "$status|$(
+        has "is there, whole, at each moment. Run 'reiserconv recover my\\ disk\\'s' then")|$(has "'btrfs check --readonly my\\ disk\\'s' has to find nothing.")|$(
+        has "'mount -t btrfs -o space_cache=v2 my\\ disk\\'s /mnt'")|$(has "'reiserconv rollback my\\ disk\\'s'")"
+    on_terminal recover "$disk"
+    same 'what is there is Btrfs' '0|yes' "$status|$(has 'is a Btrfs volume. If a conversion was interrupted, it is done')"
+    on_terminal rollback "$disk"
+    same 'a rollback begins and is done' '0|yes|yes' "$status|$(has "is there, whole, at each moment. Run 'reiserconv recover my\\ disk\\'s' then")|$(has 'is the ReiserFS volume from before the conversion again')"
+    on_terminal recover "$disk"
+    same 'what is there is ReiserFS' '0|yes' "$status|$(has "it is as before: begin again with 'reiserconv convert my\\ disk\\'s'.")"
+    truncate -s 256M blank
+    on_terminal trial 7 blank
+    same 'a trial begins' '0|yes' "$status|$(has 'What blank holds is overwritten now.')"
+    run convert "$disk"
+    same 'nothing is told without a terminal' '0||6' "$status|$err|$(wc -l <"$work/.out")"
+    rm -f "$disk" blank
+}
+
+# shown: the texts that were shown in the line of the progress, one below the other
+shown() { grep -ao $'\r\e\\[?7l[^\e]*\e\\[K\e\\[?7h' "$work/.out" | sed $'s/\r\e\\[?7l//; s/\e.*//'; }
 
 # how far a long command is
 progress() {
@@ -150,19 +262,61 @@ progress() {
     "$top/tests/rare_volume.py" large rare
     cp --sparse=always rare copied
     on_terminal convert copied
-    same 'a long convert on a terminal' '0|read|wiped' "$status|$(grep -ao $'\rread [0-9]* MiB, wrote [0-9]* MiB, [0-9]* MiB/s, at [0-9]*% of the device\e\[K' "$work/.out" | head -1 | cut -c 2-5)|$(
-        grep -aq $'\r\e\[Kconverted to btrfs' "$work/.out" && echo wiped)"
-    same 'nothing else is told of a long convert' "$(printf 'converted to btrfs\npieces ')" "$(sed 's/.*\r\x1b\[K//' "$work/.out" | tr -d '\r' | head -c 26)"
-    run convert rare
+    same 'a long convert on a terminal' '0|wiped' "$status|$(grep -aq $'\r\e\\[Kconverted to btrfs' "$work/.out" && echo wiped)"
+    shown >lines
+    same 'how far a long convert is' '' "$(grep -Evx 'checking: [0-9]+ MiB, [0-9]+ MiB/s|converting: [0-9]+%, [0-9]+ of [0-9]+ MiB, [0-9]+ MiB/s(, (under 1|[0-9]+) min left)?' lines)"
+    same 'its share is there, and never falls' 'yes' "$(grep -q '^converting' lines && sed -n 's/^converting: \([0-9]*\)%.*/\1/p' lines | sort -nc 2>&1 && echo yes)"
+    # the volume has 533,047 blocks in use, and its tree a few hundred
+    same 'what is known of it is right' 'yes' "$(sed -n 's/.* of \([0-9]*\) MiB.*/\1/p' lines | sort -u | awk '{ n++; if ($1 < 2082 || $1 > 2086) exit 1 } END { if (n == 1) print "yes" }')"
+    same 'what is told before a long convert is done' "If this is interrupted, by Ctrl-C, a signal or a power cut, the old volume or the new one is there, whole, at each moment. Run 'reiserconv recover copied' then: it says which, and if it is the old one, begin again." \
+        "$(lines_of_terminal | sed '/^converted to btrfs$/,$d' | paste -sd ' ')"
+    narrow_terminals
+    cp --sparse=always rare copied
+    run convert copied
     same 'a long convert without a terminal' '0||converted to btrfs' "$status|$err|$(head -1 "$work/.out")"
+    interrupted
     on_terminal inspect good
     same 'a short command on a terminal' '0|0' "$status|$(tr -cd '\033' <"$work/.out" | wc -c)"
+}
+
+# the line of the progress on terminals that are narrow, or that know no escape sequences
+narrow_terminals() {
+    local columns=20 term
+    on_terminal list rare
+    same 'a narrow terminal' '0|19' "$status|$(shown | awk '{ if (length > most) most = length } END { print most }')"
+    columns=
+    for term in dumb ''; do
+        on_terminal list rare
+        same "a terminal of the kind '$term'" '0|0|' "$status|$(tr -cd '\033' <"$work/.out" | wc -c)|$(grep -av '^[df] ' "$work/.out" | grep -Ev '^reading: [0-9]+%, [0-9]+ of [0-9]+ MiB, [0-9]+ MiB/s(, .* left)?.$')"
+    done
+}
+
+# A conversion that a signal ends: what was told at its beginning leads on. It is SIGTERM, since a shell has its background commands ignore SIGINT.
+interrupted() {
+    local pid
+    cp --sparse=always rare copied
+    rm -f pid
+    # shellcheck disable=SC2016
+    SHELL=/bin/bash TERM=xterm script -qec "$(printf 'exec bash -c %q - %q' 'echo $$ >pid; exec "$1" convert copied' "$program")" /dev/null </dev/null >"$work/.out" 2>/dev/null &
+    pid=$!
+    for _ in {1..100}; do grep -aq 'converting:' "$work/.out" && break; sleep 0.1; done
+    kill -TERM "$(cat pid)"
+    wait "$pid" 2>/dev/null
+    one_line
+    same 'an interrupted convert was told what to do' 'yes|0' "$(has "Run 'reiserconv recover copied' then")|$(grep -ac 'converted to btrfs' "$work/.out")"
+    run recover copied
+    same 'an interrupted convert is the old volume' '0||volume is reiserfs' "$status|$err|$(head -1 "$work/.out")"
+    run convert copied
+    same 'an interrupted convert is begun again' '0||converted to btrfs' "$status|$err|$(head -1 "$work/.out")"
 }
 
 terminals() {
     need script bsdutils || { lacks 'what is told on a terminal' script; return; }
     told_refusals
     told_lines
+    told_words
+    verdicts
+    told_steps
     progress
 }
 
@@ -223,18 +377,20 @@ devices_in_use() {
 # a volume that another name space has mounted
 mounted_elsewhere() {
     local holder
-    unshare --mount --propagation private sh -c 'mount -t btrfs "$1" mounted && : >there && exec sleep 60' - "$1" &
+    # shellcheck disable=SC2016
+    unshare --mount --propagation private sh -c 'mount -t btrfs "$1" mounted && : >there && exec sleep 3600' - "$1" &
     holder=$!
-    for _ in {1..50}; do [ -e there ] || sleep 0.1; done
+    waits_for test -e there
     in_use 'a device that is mounted in another name space' "$1"
     kill "$holder"
     wait "$holder" 2>/dev/null
-    for _ in {1..50}; do [ -e "/sys/fs/btrfs/$(btrfs inspect-internal dump-super "$1" | awk '$1 == "fsid" { print $2 }')" ] && sleep 0.1; done
+    waits_for test ! -e "/sys/fs/btrfs/$(btrfs inspect-internal dump-super "$1" | awk '$1 == "fsid" { print $2 }')"
 }
 
 # a partition that is mounted, and the whole disk
 mounted_partition() {
     local disk part
+    need sfdisk fdisk || { lacks 'a mounted partition' sfdisk; return; }
     rm -f disk
     truncate -s 200M disk
     printf 'label: dos\nstart=2048, type=83\n' | sfdisk -q disk >/dev/null 2>&1

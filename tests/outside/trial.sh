@@ -1,3 +1,4 @@
+# shellcheck shell=bash disable=SC2154
 # Trials on files: what a trial prints, that what it leaves is good ReiserFS with the rows of its sample, and that what it refuses is as it was.
 # tests/outside.sh reads this file.
 

@@ -1,4 +1,4 @@
 pub mod Layouts
 pub mod Records
-pub mod Starts
 pub mod Repeats
+pub mod Starts

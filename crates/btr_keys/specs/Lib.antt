@@ -1,10 +1,11 @@
-pub mod Layout
-pub mod Key
-pub mod Stamp
-pub mod Inode
-pub mod Repeated
-pub mod InodeRef
-pub mod Extref
+pub use Rattle.vol_block.specs as vol_block
 pub mod DirEntry
+pub mod Extref
 pub mod FileExtent
+pub mod Inode
+pub mod InodeRef
+pub mod Key
 pub mod Laws
+pub mod Layout
+pub mod Repeated
+pub mod Stamp

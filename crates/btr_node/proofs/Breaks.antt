@@ -4,7 +4,7 @@ use Rattle.std.specs.Bool.{Decides}
 use Rattle.std.proofs.lemmas.Bool.Decides.{Decides-and, Decides-eqb, Decides-like}
 use Rattle.std.proofs.lemmas.Slice.Eq.{bytes_eq-Decides}
 use Rattle.csum_kinds.specs.declared.kind.SumKind.{SumKind}
-use Rattle.outside.specs.declared.rule.BtrRule.TheVariants.{NodeCsum, NodeHead, NodeLayout, KeyOrder}
+use Rattle.refusals.specs.declared.rule.BtrRule.TheVariants.{NodeCsum, NodeHead, NodeLayout, KeyOrder}
 use Rattle.btr_node.specs.Head.{HasHead, has_head, head_in}
 use Rattle.btr_node.specs.Sum.{HasSum, has_sum}
 use Rattle.btr_node.specs.Leaf.{has_leaf_head}

@@ -1,7 +1,7 @@
 -- What the rules of the format ask of a node, and which of them it breaks.
 use Rattle.std.specs.Prelude.{◌≡◌, ℕ, ◌≤◌, Bool, true, false, List, [], ◌∷◌, ◌++◌}
-use Rattle.outside.specs.declared.rule.BtrRule.{BtrRule}
-use Rattle.outside.specs.declared.rule.BtrRule.TheVariants.{NodeCsum, NodeHead, NodeLayout, KeyOrder}
+use Rattle.refusals.specs.declared.rule.BtrRule.{BtrRule}
+use Rattle.refusals.specs.declared.rule.BtrRule.TheVariants.{NodeCsum, NodeHead, NodeLayout, KeyOrder}
 use Rattle.btr_node.specs.Head.{count, HasHead}
 use Rattle.btr_node.specs.Sum.{HasSum, has_sum}
 use Rattle.btr_node.specs.Order.{Ascends}

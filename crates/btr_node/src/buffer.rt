@@ -10,7 +10,7 @@ use crate::head::{HEAD_SIZE, Head};
 use crate::put::{put_child, put_head, put_item};
 use btr_keys::Key;
 use csum_kinds::SumKind;
-use outside::Memory;
+use refusals::Memory;
 use std::alloc::Global;
 
 /// A buffer of so many zeros.

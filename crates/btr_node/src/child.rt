@@ -2,7 +2,7 @@ ghost use Rattle.std.specs.Prelude.{◌≡◌, ◌≤◌, ◌+◌, length, drop}
 ghost use Rattle.btr_node.specs.Inner.{child_layout};
 
 use btr_keys::Key;
-use vol_block::u64_at;
+use refusals::u64_at;
 
 /// A child of an inner node, 33 bytes, as the Btrfs on-disk format documentation has it.
 #[derive(Clone, Copy, Debug, PartialEq, Eq)]

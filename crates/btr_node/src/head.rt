@@ -5,7 +5,7 @@ ghost use Rattle.btr_node.specs.Head.{head_layout, head_in, behind_head, expecte
 use crate::expect::Expect;
 use crate::sum::SUM_SIZE;
 use csum_kinds::SumKind;
-use vol_block::{Field, put_fields, u32_at, u64_at};
+use refusals::{Field, put_fields, u32_at, u64_at};
 
 /// The bytes of a node's checksum and head.
 pub const HEAD_SIZE: usize = 101;

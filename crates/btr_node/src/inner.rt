@@ -9,7 +9,7 @@ use crate::expect::Expect;
 use crate::head::{HEAD_SIZE, Head, behind_head, has_head};
 use crate::order::keys_ascend;
 use crate::sum::has_sum;
-use outside::BtrRule;
+use refusals::BtrRule;
 use std::marker::Model;
 
 /// The children of an inner node, seen as a list.

@@ -11,7 +11,7 @@ use crate::item::ItemHead;
 use crate::order::keys_ascend;
 use crate::sum::has_sum;
 use btr_keys::Key;
-use outside::BtrRule;
+use refusals::BtrRule;
 use std::marker::Model;
 
 /// The items of a leaf, seen as a list of keys with their data.

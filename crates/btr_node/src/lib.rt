@@ -20,7 +20,11 @@ mod put;
 mod sum;
 mod writer;
 
+pub use btr_keys::{
+    DirEntry, DirItems, DiskRange, ExtentContent, Extref, FileExtent, Inode, InodeRef, Key, Stamp,
+};
 pub use child::Child;
+pub use csum_kinds::{SumKind, data_ref_hash, kind_sum, kind_width, name_hash};
 pub use expect::Expect;
 pub use head::Head;
 pub use inner::InnerView;
@@ -29,4 +33,8 @@ pub use laws::{
     damages_tell, inner_nodes_read_back, joined_ascend, leaves_read_back, parts_ascend,
 };
 pub use leaf::LeafView;
+pub use refusals::{
+    Access, Block, BlockNo, BlockSource, BtrAnswer, BtrRefusal, BtrRule, CopyList, Disk, Fault,
+    Feature, Ids, Memory, VolAnswer, VolumeRefusal, u16_at,
+};
 pub use writer::{Full, NodeWriter};

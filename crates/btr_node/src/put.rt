@@ -11,7 +11,7 @@ use crate::item::ItemHead;
 use crate::sum::SUM_SIZE;
 use btr_keys::Key;
 use csum_kinds::{SumKind, kind_sum};
-use vol_block::{Field, put_fields};
+use refusals::{Field, put_fields};
 
 /// Puts an item behind the `count` items that a leaf has. `behind` is what stands behind the leaf's head, and the data
 /// of the leaf begins at byte `low` of it.

@@ -15,7 +15,7 @@ use crate::head::{HEAD_SIZE, Head};
 use crate::item::ItemHead;
 use btr_keys::Key;
 use csum_kinds::SumKind;
-use outside::Memory;
+use refusals::Memory;
 use std::alloc::Global;
 use std::marker::Model;
 use thiserror::Error;

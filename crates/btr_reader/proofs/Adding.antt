@@ -3,14 +3,14 @@ use Rattle.std.proofs.Common.{◌≡◌, ℕ, ◌+◌, ◌<◌, true, false, Lis
 use Rattle.std.specs.List.{list_any}
 use Rattle.std.specs.Option.{option_map}
 use Rattle.std.proofs.lemmas.List.{drop_more}
-use Rattle.outside.specs.declared.answer.BtrAnswer.{BtrAnswer}
-use Rattle.outside.specs.declared.refusal.BtrRefusal.{BtrRefusal}
-use Rattle.btr_keys.specs.declared.key.Key.{Key}
+use Rattle.btr_reader_walk.specs.refusals.declared.answer.BtrAnswer.{BtrAnswer}
+use Rattle.btr_reader_walk.specs.refusals.declared.refusal.BtrRefusal.{BtrRefusal}
+use Rattle.btr_reader_walk.specs.btr_keys.declared.key.Key.{Key}
 use Rattle.btr_space_items.specs.Chunk.{chunk_of}
 use Rattle.btr_space_items.specs.declared.chunk.Chunk.{Chunk}
-use Rattle.btr_walk.specs.declared.map.MapRange.{MapRange}
-use Rattle.btr_walk.specs.Events.{TreeItem}
-use Rattle.btr_walk.proofs.Events.{none_both}
+use Rattle.btr_reader_walk.specs.declared.map.MapRange.{MapRange}
+use Rattle.btr_reader_walk.specs.Events.{TreeItem}
+use Rattle.btr_reader_walk.proofs.Events.{none_both}
 use Rattle.btr_reader.specs.declared.chunk.ChunkAt.{ChunkAt}
 use Rattle.btr_reader.specs.Chunks.{range_of, same_chunk, is_chunk_key, beside_refusals, chunks_refusals, chunk_in, new_chunk, with_chunk, chunk_item_refusals, with_items, items_refusals}
 use Rattle.btr_reader.specs.Opening.{IsAmong}

@@ -1,10 +1,10 @@
 -- Refusals as members of lists, and what a walk has given.
 use Rattle.std.proofs.Common.{◌≡◌, ◌≤◌, ℕ, Result, Err, List, [], ◌∷◌, ◌++◌, sym, ◌∙◌, ap, subst, arith}
 use Rattle.std.proofs.lemmas.List.Elements.{Contains-append_left, Contains-append_right}
-use Rattle.outside.specs.Fault.{HasCauseOf, Rose}
-use Rattle.outside.specs.declared.answer.BtrAnswer.{BtrAnswer}
-use Rattle.outside.specs.declared.answer.BtrAnswer.TheVariants.{Refused, Fault, Memory}
-use Rattle.outside.specs.declared.refusal.BtrRefusal.{BtrRefusal}
+use Rattle.btr_reader_walk.specs.outside.Fault.{HasCauseOf, Rose}
+use Rattle.btr_reader_walk.specs.refusals.declared.answer.BtrAnswer.{BtrAnswer}
+use Rattle.btr_reader_walk.specs.refusals.declared.answer.BtrAnswer.TheVariants.{Refused, Fault, Memory}
+use Rattle.btr_reader_walk.specs.refusals.declared.refusal.BtrRefusal.{BtrRefusal}
 use Rattle.btr_reader.specs.Opening.{IsAmong, or_later}
 
 pub among_left : (xs ys : List BtrRefusal) (e : BtrAnswer) → IsAmong xs e → IsAmong (xs ++ ys) e

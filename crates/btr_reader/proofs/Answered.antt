@@ -2,28 +2,28 @@
 use Rattle.std.proofs.Common.{◌≡◌, inl, inr, ℕ, Bool, List, [], map, Contains, Option, Some, None, ◌∙◌, ap, subst}
 use Rattle.std.specs.Prelude.{Result, Ok, Err, IfOk, OnOk, IfErr}
 use Rattle.std.specs.Result.{MatchResult}
-use Rattle.outside.specs.History.{Image}
-use Rattle.outside.specs.declared.answer.BtrAnswer.{BtrAnswer}
-use Rattle.outside.specs.declared.answer.BtrAnswer.TheVariants.{Refused, Fault, Memory}
-use Rattle.outside.specs.declared.refusal.BtrRefusal.{BtrRefusal}
+use Rattle.btr_reader_walk.specs.outside.History.{Image}
+use Rattle.btr_reader_walk.specs.refusals.declared.answer.BtrAnswer.{BtrAnswer}
+use Rattle.btr_reader_walk.specs.refusals.declared.answer.BtrAnswer.TheVariants.{Refused, Fault, Memory}
+use Rattle.btr_reader_walk.specs.refusals.declared.refusal.BtrRefusal.{BtrRefusal}
 use Rattle.btr_super.specs.declared.superblock.Super.{Super}
-use Rattle.btr_walk.specs.declared.map.MapRange.{MapRange}
-use Rattle.btr_walk.specs.declared.tree.Pointer.{Pointer}
-use Rattle.btr_walk.specs.declared.tree.Tree.{Tree}
-use Rattle.btr_walk.specs.Events.{TreeItem}
-use Rattle.btr_walk.specs.Walks.{found, wrong}
+use Rattle.btr_reader_walk.specs.declared.map.MapRange.{MapRange}
+use Rattle.btr_reader_walk.specs.declared.tree.Pointer.{Pointer}
+use Rattle.btr_reader_walk.specs.declared.tree.Tree.{Tree}
+use Rattle.btr_reader_walk.specs.Events.{TreeItem}
+use Rattle.btr_reader_walk.specs.Walks.{found, wrong}
 use Rattle.fs_rows.specs.Rows.{WholeRow, row_of}
 use Rattle.fs_rows.specs.declared.row.Row.{Row}
-use Rattle.path_list.specs.declared.node.NodeId.{NodeId}
-use Rattle.btr_names.specs.Read.{BlamesTree}
-use Rattle.btr_names.specs.Roots.{has_root}
-use Rattle.btr_names.specs.Rules.{BreaksNames, KeepsNames}
-use Rattle.btr_names.specs.declared.table.Names.{Names}
-use Rattle.btr_names.specs.Refuses.{RefusesNames}
-use Rattle.btr_names.specs.Steps.{AreNamed, links_of}
-use Rattle.btr_names.specs.TreeLinks.{AreTreeLinks}
-use Rattle.btr_contents.specs.Checked.{AreSound}
-use Rattle.btr_contents.specs.Contents.{wanted_at, RefusesContents}
+use Rattle.fs_paths.specs.declared.node.NodeId.{NodeId}
+use Rattle.btr_reader_names.specs.Read.{BlamesTree}
+use Rattle.btr_reader_names.specs.Roots.{has_root}
+use Rattle.btr_reader_names.specs.Rules.{BreaksNames, KeepsNames}
+use Rattle.btr_reader_names.specs.declared.table.Names.{Names}
+use Rattle.btr_reader_names.specs.Refuses.{RefusesNames}
+use Rattle.btr_reader_names.specs.Steps.{AreNamed, links_of}
+use Rattle.btr_reader_names.specs.TreeLinks.{AreTreeLinks}
+use Rattle.btr_reader_contents.specs.Checked.{AreSound}
+use Rattle.btr_reader_contents.specs.Contents.{wanted_at, RefusesContents}
 use Rattle.btr_reader.specs.Made.{IsChecked, IsMemory, RefusesChecked, RefusesRows, RefusesTree}
 use Rattle.btr_reader.specs.Opening.{tree_of}
 use Rattle.btr_reader.specs.Reading.{FindsTree}

@@ -5,10 +5,10 @@ use Rattle.std.specs.Option.{option_map}
 use Rattle.std.proofs.Math.Seq.{drop-append-add}
 use Rattle.std.proofs.lemmas.Bool.{le-ltb}
 use Rattle.std.proofs.lemmas.List.{take_at, drop_at}
-use Rattle.vol_block.specs.Volume.{field}
-use Rattle.btr_keys.specs.Key.{key_layout, key_bytes, make_key, key_at}
-use Rattle.btr_keys.specs.declared.key.Key.{Key}
-use Rattle.btr_keys.proofs.Records.{key_reads}
+use Rattle.btr_reader_walk.specs.vol_block.Volume.{field}
+use Rattle.btr_reader_walk.specs.btr_keys.Key.{key_layout, key_bytes, make_key, key_at}
+use Rattle.btr_reader_walk.specs.btr_keys.declared.key.Key.{Key}
+use Rattle.btr_reader_walk.proofs.btr_keys.Records.{key_reads}
 use Rattle.btr_space_items.specs.Chunk.{chunk_of, chunk_bytes}
 use Rattle.btr_space_items.specs.declared.chunk.Chunk.{Chunk}
 use Rattle.btr_space_items.proofs.Records.{chunks_read_back, chunk_reads, chunk_width, stripes_at}

@@ -1,14 +1,14 @@
 -- An entry found as the items go by.
 use Rattle.std.proofs.Common.{◌≡◌, ℕ, Bool, true, false, ◌&&◌, eqb, List, [], ◌∷◌, ◌++◌, Option, Some, if◌then◌else◌, refl, sym, ◌∙◌, ap, subst, append_assoc}
 use Rattle.std.proofs.lemmas.List.{append-nil}
-use Rattle.outside.specs.declared.answer.BtrAnswer.{BtrAnswer}
-use Rattle.outside.specs.declared.refusal.BtrRefusal.{BtrRefusal}
-use Rattle.btr_keys.specs.declared.key.Key.{Key}
-use Rattle.btr_walk.specs.Events.{TreeItem}
-use Rattle.btr_walk.proofs.Events.{none_both}
+use Rattle.btr_reader_walk.specs.refusals.declared.answer.BtrAnswer.{BtrAnswer}
+use Rattle.btr_reader_walk.specs.refusals.declared.refusal.BtrRefusal.{BtrRefusal}
+use Rattle.btr_reader_walk.specs.btr_keys.declared.key.Key.{Key}
+use Rattle.btr_reader_walk.specs.Events.{TreeItem}
+use Rattle.btr_reader_walk.proofs.Events.{none_both}
 use Rattle.btr_reader.specs.Image.{first_key, entry_named, own_index_refusals, index_refusals}
-use Rattle.btr_names.specs.declared.naming.Naming.{Naming}
-use Rattle.btr_names.specs.Links.{own_naming, namings}
+use Rattle.btr_reader_names.specs.declared.naming.Naming.{Naming}
+use Rattle.btr_reader_names.specs.Links.{own_naming, namings}
 use Rattle.btr_reader.specs.Opening.{IsAmong}
 use Rattle.btr_reader.proofs.Among.{among_left, among_right}
 

@@ -3,15 +3,15 @@ use Rattle.std.proofs.Common.{◌≡◌, ℕ, ◌+◌, ◌-◌, ◌*◌, ◌/◌
 use Rattle.std.proofs.lemmas.Bool.Decides.{nat_tests}
 use Rattle.std.proofs.lemmas.List.{append-nil}
 use Rattle.std.specs.Option.{option_map}
-use Rattle.outside.specs.declared.refusal.BtrRefusal.{BtrRefusal}
-use Rattle.btr_keys.specs.FileExtent.{ContentValue, Inline, Regular, Prealloc, FileExtentValue, file_extent_of}
-use Rattle.btr_keys.specs.declared.file_extent.DiskRange.{DiskRange}
-use Rattle.btr_walk.specs.declared.map.MapRange.{MapRange}
-use Rattle.btr_walk.specs.Map.{place}
-use Rattle.btr_walk.specs.Events.{TreeItem}
-use Rattle.btr_files.proofs.ExtentLists.{none_right, first, second, end_grows, covers_at, past_end, before_start}
+use Rattle.btr_reader_walk.specs.refusals.declared.refusal.BtrRefusal.{BtrRefusal}
+use Rattle.btr_reader_walk.specs.btr_keys.FileExtent.{ContentValue, Inline, Regular, Prealloc, FileExtentValue, file_extent_of}
+use Rattle.btr_reader_walk.specs.btr_keys.declared.file_extent.DiskRange.{DiskRange}
+use Rattle.btr_reader_walk.specs.declared.map.MapRange.{MapRange}
+use Rattle.btr_reader_walk.specs.Map.{place}
+use Rattle.btr_reader_walk.specs.Events.{TreeItem}
+use Rattle.btr_reader_contents.proofs.ExtentLists.{none_right, first, second, end_grows, covers_at, past_end, before_start}
 use Rattle.btr_reader.specs.declared.piece.Piece.{Piece}
-use Rattle.btr_files.specs.Extents.{is_hole, covers, range_is_aligned, is_aligned, end_after, covered_after, refusals_at, extents_refusals, extents_end}
+use Rattle.btr_reader_contents.specs.Extents.{is_hole, covers, range_is_aligned, is_aligned, end_after, covered_after, refusals_at, extents_refusals, extents_end}
 use Rattle.btr_reader.specs.Image.{content_block, block_from, file_block}
 use Rattle.btr_reader.specs.Pieces.{holds_block, block_in, or_else, pieces_place, range_piece, range_pieces, pieces_of}
 

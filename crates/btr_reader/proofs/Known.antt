@@ -1,18 +1,18 @@
 -- A named inode of a tree whose names keep the rules is there, and its kind is known.
 use Rattle.std.proofs.Common.{◌≡◌, ℕ, ◌<◌, Bool, List, [], ◌∷◌, Contains, Option, Some, None, refl, sym, ap, subst, ◌∙◌}
 use Rattle.std.specs.Option.{option_and_then}
-use Rattle.outside.specs.declared.refusal.BtrRefusal.TheVariants.{BadBtrfs}
-use Rattle.outside.specs.declared.rule.BtrRule.TheVariants.{Body, NoInode}
-use Rattle.btr_keys.specs.Inode.{inode_of}
-use Rattle.btr_keys.specs.declared.inode.Inode.{Inode}
-use Rattle.btr_walk.specs.Events.{TreeItem}
+use Rattle.btr_reader_walk.specs.refusals.declared.refusal.BtrRefusal.TheVariants.{BadBtrfs}
+use Rattle.btr_reader_walk.specs.refusals.declared.rule.BtrRule.TheVariants.{Body, NoInode}
+use Rattle.btr_reader_walk.specs.btr_keys.Inode.{inode_of}
+use Rattle.btr_reader_walk.specs.btr_keys.declared.inode.Inode.{Inode}
+use Rattle.btr_reader_walk.specs.Events.{TreeItem}
 use Rattle.fs_rows.specs.Rows.{NameList}
 use Rattle.fs_rows.specs.declared.row.Kind.{Kind}
 use Rattle.fs_rows.specs.declared.row.Kind.TheVariants.{Symlink}
-use Rattle.btr_names.specs.declared.naming.Naming.{Naming}
-use Rattle.btr_names.specs.Inodes.{inode_item, inode_on, kind_of_mode, IsDirectory}
-use Rattle.btr_names.specs.Links.{followed, IsNamed, root, entry, Target, inode, tree, Names as IsNameOf, Leads}
-use Rattle.btr_names.specs.Rules.{KeepsNames, no_root_directory, no_inode, bad_inode, bad_mode, long_target}
+use Rattle.btr_reader_names.specs.declared.naming.Naming.{Naming}
+use Rattle.btr_reader_names.specs.Inodes.{inode_item, inode_on, kind_of_mode, IsDirectory}
+use Rattle.btr_reader_names.specs.Links.{followed, IsNamed, root, entry, Target, inode, tree, Names as IsNameOf, Leads}
+use Rattle.btr_reader_names.specs.Rules.{KeepsNames, no_root_directory, no_inode, bad_inode, bad_mode, long_target}
 
 -- an inode that is there, and its kind
 pub record IsKnown (items : List TreeItem) (ino : ℕ) : Type 0 where

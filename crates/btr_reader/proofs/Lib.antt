@@ -1,15 +1,23 @@
+pub use Rattle.btr_reader_walk.proofs.btr_keys as btr_keys
+pub use Rattle.btr_reader_walk.proofs.btr_node as btr_node
+pub use Rattle.btr_space_items.proofs as btr_space_items
+pub use Rattle.btr_super.proofs as btr_super
+pub use Rattle.fs_paths.proofs as fs_paths
 pub mod Adding
 pub mod Among
 pub mod Answered
 pub mod Array
 pub mod ArrayBack
 pub mod Bridging
+pub mod Chosen
+pub mod Decided
 pub mod EntryItems
 pub mod Gathering
 pub mod Known
 pub mod MapApart
 pub mod MapBlocks
 pub mod NoLogs
+pub mod Nodes
 pub mod NotedRoots
 pub mod OneExtent
 pub mod OneRows
@@ -24,3 +32,4 @@ pub mod SameItems
 pub mod Searching
 pub mod Stages
 pub mod Supers
+pub mod Volumes

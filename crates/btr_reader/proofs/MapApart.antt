@@ -4,15 +4,15 @@ use Rattle.std.specs.List.{list_any}
 use Rattle.std.proofs.lemmas.Bool.{cases_lt}
 use Rattle.std.proofs.lemmas.Bool.Decides.{nat_tests}
 use Rattle.std.proofs.lemmas.List.{append-nil, get_or_append_left, get_or_at}
-use Rattle.outside.specs.History.{Image}
-use Rattle.outside.specs.declared.refusal.BtrRefusal.{BtrRefusal}
-use Rattle.outside.specs.declared.refusal.BtrRefusal.TheVariants.{BadBtrfs}
-use Rattle.outside.specs.declared.rule.BtrRule.TheVariants.{ChunkForm}
+use Rattle.btr_reader_walk.specs.outside.History.{Image}
+use Rattle.btr_reader_walk.specs.refusals.declared.refusal.BtrRefusal.{BtrRefusal}
+use Rattle.btr_reader_walk.specs.refusals.declared.refusal.BtrRefusal.TheVariants.{BadBtrfs}
+use Rattle.btr_reader_walk.specs.refusals.declared.rule.BtrRule.TheVariants.{ChunkForm}
 use Rattle.btr_super.specs.declared.superblock.Super.{Super}
-use Rattle.btr_walk.specs.declared.map.MapRange.{MapRange}
-use Rattle.btr_walk.specs.Events.{TreeItem}
-use Rattle.btr_walk.specs.Walks.{found}
-use Rattle.btr_files.proofs.ExtentLists.{none_left, none_right}
+use Rattle.btr_reader_walk.specs.declared.map.MapRange.{MapRange}
+use Rattle.btr_reader_walk.specs.Events.{TreeItem}
+use Rattle.btr_reader_walk.specs.Walks.{found}
+use Rattle.btr_reader_contents.proofs.ExtentLists.{none_left, none_right}
 use Rattle.btr_reader.specs.declared.chunk.ChunkAt.{ChunkAt}
 use Rattle.btr_reader.specs.Chunks.{range_of, overlap, chunk_refusals, beside_refusals, chunks_refusals, chunk_in, with_chunk, chunk_item_refusals, with_items, items_refusals}
 use Rattle.btr_reader.specs.Laws.{AreApart}

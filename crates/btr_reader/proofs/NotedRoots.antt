@@ -1,10 +1,10 @@
 -- The root item of a tree, found as the items go by.
 use Rattle.std.proofs.Common.{◌≡◌, ℕ, nat_eq, Bool, true, false, ◌&&◌, ◌||◌, eqb, List, [], ◌∷◌, ◌++◌, Option, Some, None, if◌then◌else◌, refl, sym, ◌∙◌, ap, subst}
 use Rattle.indexmap.specs.IndexSet.{contains}
-use Rattle.btr_keys.specs.declared.key.Key.{Key}
-use Rattle.btr_walk.specs.Events.{TreeItem}
-use Rattle.btr_names.specs.Roots.{is_root_of}
-use Rattle.btr_names.proofs.Walking.{root_push, root_other, root_own}
+use Rattle.btr_reader_walk.specs.btr_keys.declared.key.Key.{Key}
+use Rattle.btr_reader_walk.specs.Events.{TreeItem}
+use Rattle.btr_reader_names.specs.Roots.{is_root_of}
+use Rattle.btr_reader_names.proofs.Walking.{root_push, root_other, root_own}
 use Rattle.btr_reader.specs.declared.roots.RootFound.{RootFound}
 use Rattle.btr_reader.specs.declared.roots.RootItems.{RootItems}
 use Rattle.btr_reader.specs.Roots.{last_or, root_item, pointer_of, TellsRoot, HasRoots, found_root}

@@ -4,23 +4,23 @@ use Rattle.std.proofs.lemmas.Bool.{cases_lt}
 use Rattle.std.proofs.lemmas.Bool.Decides.{nat_tests}
 use Rattle.std.proofs.lemmas.List.{get_or_default}
 use Rattle.std.proofs.Math.ListN.{get_or-append}
-use Rattle.outside.specs.History.{Image}
-use Rattle.btr_keys.specs.declared.inode.Inode.{Inode}
-use Rattle.btr_walk.specs.declared.map.MapRange.{MapRange}
-use Rattle.btr_walk.specs.declared.tree.Pointer.{Pointer}
-use Rattle.btr_walk.specs.Events.{TreeItem}
-use Rattle.btr_walk.specs.Walks.{found}
+use Rattle.btr_reader_walk.specs.outside.History.{Image}
+use Rattle.btr_reader_walk.specs.btr_keys.declared.inode.Inode.{Inode}
+use Rattle.btr_reader_walk.specs.declared.map.MapRange.{MapRange}
+use Rattle.btr_reader_walk.specs.declared.tree.Pointer.{Pointer}
+use Rattle.btr_reader_walk.specs.Events.{TreeItem}
+use Rattle.btr_reader_walk.specs.Walks.{found}
 use Rattle.fs_rows.specs.Rows.{NameList, WholeRow, name_count}
 use Rattle.fs_rows.specs.declared.row.Kind.{Kind}
-use Rattle.path_list.proofs.FirstPlaces.{neither_above}
-use Rattle.path_list.proofs.OneList.{rows_one}
-use Rattle.btr_names.specs.declared.naming.Naming.{Naming}
-use Rattle.btr_names.specs.Inodes.{kind_of_mode, IsDirectory}
-use Rattle.btr_names.specs.Links.{namings, followed, is_followed, IsNamed, root, entry, Target, inode, tree, Names, Leads}
-use Rattle.btr_names.specs.Roots.{has_root}
-use Rattle.btr_names.specs.Rules.{AreIn, IsOpen, KeepsNames, twice}
-use Rattle.btr_names.proofs.Members.{with_rest}
-use Rattle.path_list.proofs.Lists.{from_filter}
+use Rattle.fs_paths.proofs.FirstPlaces.{neither_above}
+use Rattle.fs_paths.proofs.OneList.{rows_one}
+use Rattle.btr_reader_names.specs.declared.naming.Naming.{Naming}
+use Rattle.btr_reader_names.specs.Inodes.{kind_of_mode, IsDirectory}
+use Rattle.btr_reader_names.specs.Links.{namings, followed, is_followed, IsNamed, root, entry, Target, inode, tree, Names, Leads}
+use Rattle.btr_reader_names.specs.Roots.{has_root}
+use Rattle.btr_reader_names.specs.Rules.{AreIn, IsOpen, KeepsNames, twice}
+use Rattle.btr_reader_names.proofs.Members.{with_rest}
+use Rattle.fs_paths.proofs.Lists.{from_filter}
 use Rattle.btr_reader.specs.Laws.{BtrfsRowsAreOne}
 use Rattle.btr_reader.specs.Made.{row_by, bytes_at}
 use Rattle.btr_reader.specs.Opening.{tree_of}

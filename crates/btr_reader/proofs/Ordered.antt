@@ -5,9 +5,9 @@ use Rattle.std.proofs.lemmas.Bool.Decides.{nat_tests}
 use Rattle.std.proofs.lemmas.List.{append-nil}
 use Rattle.std.proofs.lemmas.List.Elements.{All-push, All-weaker, All-get_or}
 use Rattle.std.proofs.lemmas.List.Quantifiers.{all_pairs_push}
-use Rattle.btr_keys.specs.FileExtent.{ContentValue, Inline, Regular, Prealloc}
-use Rattle.btr_keys.specs.declared.file_extent.DiskRange.{DiskRange}
-use Rattle.btr_files.specs.Extents.{is_hole, extent_length, range_is_aligned, is_aligned}
+use Rattle.btr_reader_walk.specs.btr_keys.FileExtent.{ContentValue, Inline, Regular, Prealloc}
+use Rattle.btr_reader_walk.specs.btr_keys.declared.file_extent.DiskRange.{DiskRange}
+use Rattle.btr_reader_contents.specs.Extents.{is_hole, extent_length, range_is_aligned, is_aligned}
 use Rattle.btr_reader.specs.declared.piece.Piece.{Piece}
 use Rattle.btr_reader.specs.declared.gathered.Gathered.{Gathered}
 use Rattle.btr_reader.specs.Ascending.{IsBefore, AreApart}

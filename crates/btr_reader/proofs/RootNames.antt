@@ -7,21 +7,21 @@ use Rattle.std.proofs.lemmas.Bool.Decides.{nat_tests}
 use Rattle.std.proofs.lemmas.List.{append-nil}
 use Rattle.std.proofs.lemmas.List.Elements.{Contains-append_left, Contains-append_right, Contains-append_cases}
 use Rattle.indexmap.specs.IndexSet.{IndexSet}
-use Rattle.outside.specs.declared.answer.BtrAnswer.{BtrAnswer}
-use Rattle.outside.specs.declared.answer.BtrAnswer.TheVariants.{Refused, Fault, Memory}
-use Rattle.outside.specs.declared.refusal.BtrRefusal.{BtrRefusal}
-use Rattle.outside.specs.declared.refusal.BtrRefusal.TheVariants.{BadBtrfs}
-use Rattle.outside.specs.declared.rule.BtrRule.TheVariants.{NameForm}
-use Rattle.btr_keys.specs.DirEntry.{DirEntryValue}
-use Rattle.btr_walk.specs.Events.{TreeItem}
-use Rattle.btr_walk.proofs.Events.{none_both}
-use Rattle.path_list.proofs.Lists.{at_head, head_or_tail, in_map, in_filter, from_map, from_filter}
-use Rattle.path_list.proofs.Nodes.{same_name-true}
-use Rattle.btr_names.specs.declared.naming.Naming.{Naming}
-use Rattle.btr_names.specs.declared.seen.NameIn.{NameIn}
-use Rattle.btr_names.specs.Links.{is_index, index_entry, naming_of, naming_at, own_naming, namings}
-use Rattle.btr_names.specs.Passes.{DifferInName, HasSeen, BlamesTwice}
-use Rattle.btr_names.proofs.Seeing.{closed_more}
+use Rattle.btr_reader_walk.specs.refusals.declared.answer.BtrAnswer.{BtrAnswer}
+use Rattle.btr_reader_walk.specs.refusals.declared.answer.BtrAnswer.TheVariants.{Refused, Fault, Memory}
+use Rattle.btr_reader_walk.specs.refusals.declared.refusal.BtrRefusal.{BtrRefusal}
+use Rattle.btr_reader_walk.specs.refusals.declared.refusal.BtrRefusal.TheVariants.{BadBtrfs}
+use Rattle.btr_reader_walk.specs.refusals.declared.rule.BtrRule.TheVariants.{NameForm}
+use Rattle.btr_reader_walk.specs.btr_keys.DirEntry.{DirEntryValue}
+use Rattle.btr_reader_walk.specs.Events.{TreeItem}
+use Rattle.btr_reader_walk.proofs.Events.{none_both}
+use Rattle.fs_paths.proofs.Lists.{at_head, head_or_tail, in_map, in_filter, from_map, from_filter}
+use Rattle.fs_paths.proofs.Nodes.{same_name-true}
+use Rattle.btr_reader_names.specs.declared.naming.Naming.{Naming}
+use Rattle.btr_reader_names.specs.declared.seen.NameIn.{NameIn}
+use Rattle.btr_reader_names.specs.Links.{is_index, index_entry, naming_of, naming_at, own_naming, namings}
+use Rattle.btr_reader_names.specs.Passes.{DifferInName, HasSeen, BlamesTwice}
+use Rattle.btr_reader_names.proofs.Seeing.{closed_more}
 use Rattle.btr_reader.specs.Image.{is_root_directory, is_again, naming_refusals, index_refusals_at, own_index_refusals, twice_refusals, index_refusals, root_refusals}
 use Rattle.btr_reader.specs.Opening.{IsAmong}
 use Rattle.btr_reader.proofs.Among.{among_right}

@@ -2,15 +2,15 @@
 use Rattle.std.proofs.Common.{◌≡◌, ℕ, ◌≤◌, nat_le, Bool, true, false, List, [], replicate, Option, Some, None, IfOk, Result, Ok, Err, if◌then◌else◌, refl, sym, ap, ◌∙◌, arith}
 use Rattle.std.specs.Option.{option_and_then}
 use Rattle.std.proofs.lemmas.Bool.Decides.{nat_tests}
-use Rattle.outside.specs.History.{Image}
-use Rattle.btr_keys.specs.declared.inode.Inode.{Inode}
-use Rattle.btr_walk.specs.declared.map.MapRange.{MapRange}
-use Rattle.btr_walk.specs.Events.{TreeItem}
-use Rattle.btr_files.specs.Extents.{file_bytes}
-use Rattle.btr_names.specs.Inodes.{kind_of_mode}
+use Rattle.btr_reader_walk.specs.outside.History.{Image}
+use Rattle.btr_reader_walk.specs.btr_keys.declared.inode.Inode.{Inode}
+use Rattle.btr_reader_walk.specs.declared.map.MapRange.{MapRange}
+use Rattle.btr_reader_walk.specs.Events.{TreeItem}
+use Rattle.btr_reader_contents.specs.Extents.{file_bytes}
+use Rattle.btr_reader_names.specs.Inodes.{kind_of_mode}
 use Rattle.fs_rows.specs.declared.content.Content.{Content}
-use Rattle.btr_contents.specs.declared.wanted.Wanted.{Wanted}
-use Rattle.btr_contents.specs.Contents.{wanted_by, wanted_inode, content_of, content_in}
+use Rattle.btr_reader_contents.specs.declared.wanted.Wanted.{Wanted}
+use Rattle.btr_reader_contents.specs.Contents.{wanted_by, wanted_inode, content_of, content_in}
 use Rattle.fs_rows.specs.declared.row.Kind.{Kind}
 use Rattle.fs_rows.specs.declared.row.Kind.TheVariants.{Directory, File, Symlink, Character, Block, Fifo, Socket, Subvolume}
 use Rattle.btr_reader.specs.Made.{bytes_at}

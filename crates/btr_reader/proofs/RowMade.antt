@@ -5,26 +5,26 @@ use Rattle.std.specs.Option.{option_and_then}
 use Rattle.std.proofs.lemmas.Bool.{cases_lt}
 use Rattle.std.proofs.lemmas.List.{get_or-map, length-map, length-take, get_or-take}
 use Rattle.std.proofs.lemmas.Option.{slice_get_within, get_or_from_slice_get, slice_get-get_or}
-use Rattle.outside.specs.History.{Image}
-use Rattle.btr_keys.specs.declared.inode.Inode.{Inode}
-use Rattle.btr_walk.specs.declared.map.MapRange.{MapRange}
-use Rattle.btr_walk.specs.Events.{TreeItem}
+use Rattle.btr_reader_walk.specs.outside.History.{Image}
+use Rattle.btr_reader_walk.specs.btr_keys.declared.inode.Inode.{Inode}
+use Rattle.btr_reader_walk.specs.declared.map.MapRange.{MapRange}
+use Rattle.btr_reader_walk.specs.Events.{TreeItem}
 use Rattle.fs_rows.specs.Rows.{NameList, row_of}
 use Rattle.fs_rows.specs.declared.row.Kind.{Kind}
 use Rattle.fs_rows.specs.declared.row.Kind.TheVariants.{File, Symlink}
 use Rattle.fs_rows.specs.declared.row.Row.{Row}
-use Rattle.path_list.specs.declared.link.PathTo.{PathTo}
-use Rattle.path_list.specs.declared.node.NodeId.{NodeId}
-use Rattle.path_list.specs.Paths.{ArePaths, first_path}
-use Rattle.btr_names.specs.declared.table.Names.{Names}
-use Rattle.btr_names.specs.Inodes.{inode_on, kind_of_mode}
-use Rattle.btr_names.specs.Links.{IsNamed, Target, inode, tree, Leads}
-use Rattle.btr_names.specs.Steps.{inode_node, node_of, links_of}
+use Rattle.fs_paths.specs.declared.link.PathTo.{PathTo}
+use Rattle.fs_paths.specs.declared.node.NodeId.{NodeId}
+use Rattle.fs_paths.specs.Paths.{ArePaths, first_path}
+use Rattle.btr_reader_names.specs.declared.table.Names.{Names}
+use Rattle.btr_reader_names.specs.Inodes.{inode_on, kind_of_mode}
+use Rattle.btr_reader_names.specs.Links.{IsNamed, Target, inode, tree, Leads}
+use Rattle.btr_reader_names.specs.Steps.{inode_node, node_of, links_of}
 use Rattle.fs_rows.specs.declared.content.Content.{Content}
-use Rattle.btr_contents.specs.Contents.{wanted_inode, wanted_at}
+use Rattle.btr_reader_contents.specs.Contents.{wanted_inode, wanted_at}
 use Rattle.btr_reader.specs.Made.{IsReadTree, bytes_at, kind_by, made_inode, made_row, no_inode, own_at, row_by}
 use Rattle.btr_reader.specs.Rows.{subvolume_row}
-use Rattle.path_list.proofs.FirstPlaces.{first_before}
+use Rattle.fs_paths.proofs.FirstPlaces.{first_before}
 use Rattle.btr_reader.proofs.Known.{IsKnown, own_on, is_known, not_long, leads_named}
 
 no_some : {X : Type 0} (x : X) → None ≡ Some x → ⊥

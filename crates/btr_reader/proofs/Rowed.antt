@@ -3,31 +3,31 @@ use Rattle.std.proofs.Common.{◌≡◌, ℕ, ◌+◌, ◌<◌, ◌≤◌, ◌==
 use Rattle.std.specs.Ordering.{is_le}
 use Rattle.std.proofs.lemmas.Simd.{map-map}
 use Rattle.std.proofs.lemmas.List.{get_or-map, length-map, map-append, take_more, take_all, get_or_default}
-use Rattle.outside.specs.History.{Image}
-use Rattle.btr_keys.specs.declared.inode.Inode.{Inode}
-use Rattle.btr_walk.specs.declared.map.MapRange.{MapRange}
-use Rattle.btr_walk.specs.Events.{TreeItem}
+use Rattle.btr_reader_walk.specs.outside.History.{Image}
+use Rattle.btr_reader_walk.specs.btr_keys.declared.inode.Inode.{Inode}
+use Rattle.btr_reader_walk.specs.declared.map.MapRange.{MapRange}
+use Rattle.btr_reader_walk.specs.Events.{TreeItem}
 use Rattle.fs_rows.specs.Rows.{NameList, WholeRow, AscendsByPath, path_cmp, is_same_path, name_count, row_of}
 use Rattle.fs_rows.specs.declared.row.Row.{Row}
 use Rattle.fs_rows.specs.declared.row.Kind.{Kind}
-use Rattle.path_list.specs.declared.link.Link.{Link}
-use Rattle.path_list.specs.declared.link.PathTo.{PathTo}
-use Rattle.path_list.specs.declared.node.NodeId.{NodeId}
-use Rattle.path_list.specs.Links.{AreNamedOnce}
-use Rattle.path_list.specs.Paths.{ArePaths, leads_to, first_path}
-use Rattle.path_list.proofs.Counts.{count_map}
-use Rattle.path_list.proofs.Lists.{in_map, from_map}
-use Rattle.path_list.proofs.Nodes.{same_node-true}
-use Rattle.btr_names.specs.Inodes.{inode_on, kind_of_mode}
+use Rattle.fs_paths.specs.declared.link.Link.{Link}
+use Rattle.fs_paths.specs.declared.link.PathTo.{PathTo}
+use Rattle.fs_paths.specs.declared.node.NodeId.{NodeId}
+use Rattle.fs_paths.specs.Links.{AreNamedOnce}
+use Rattle.fs_paths.specs.Paths.{ArePaths, leads_to, first_path}
+use Rattle.fs_paths.proofs.Counts.{count_map}
+use Rattle.fs_paths.proofs.Lists.{in_map, from_map}
+use Rattle.fs_paths.proofs.Nodes.{same_node-true}
+use Rattle.btr_reader_names.specs.Inodes.{inode_on, kind_of_mode}
 use Rattle.fs_rows.specs.Kinds.{is_directory}
-use Rattle.btr_names.specs.Links.{Target, inode, tree, Leads}
-use Rattle.btr_names.specs.Rules.{KeepsNames}
-use Rattle.btr_names.specs.Steps.{inode_node, tree_node, node_of}
-use Rattle.btr_names.specs.TreeLinks.{AreTreeLinks}
+use Rattle.btr_reader_names.specs.Links.{Target, inode, tree, Leads}
+use Rattle.btr_reader_names.specs.Rules.{KeepsNames}
+use Rattle.btr_reader_names.specs.Steps.{inode_node, tree_node, node_of}
+use Rattle.btr_reader_names.specs.TreeLinks.{AreTreeLinks}
 use Rattle.btr_reader.specs.Made.{row_by, bytes_at, made_inode, made_row}
 use Rattle.btr_reader.specs.Rows.{IsLeastPath, IsInodeRow, IsTreeRow, IsRowOf, AreRows, subvolume_row, top}
 use Rattle.btr_reader.proofs.Known.{own_on, is_known, leads_named}
-use Rattle.path_list.proofs.FirstPlaces.{both_ways, count_among, same_names, one_place, first_within, first_in, first_leads, is_least, same_first}
+use Rattle.fs_paths.proofs.FirstPlaces.{both_ways, count_among, same_names, one_place, first_within, first_in, first_leads, is_least, same_first}
 use Rattle.btr_reader.proofs.RowMade.{path_is, tree_is, inode_is}
 
 -- a node of an inode is no other tree

@@ -4,19 +4,19 @@ use Rattle.std.specs.List.{range_with_len}
 use Rattle.std.specs.Option.{option_map, option_and_then}
 use Rattle.std.proofs.lemmas.Bool.Decides.{nat_tests}
 use Rattle.std.proofs.lemmas.List.{map-append}
-use Rattle.outside.specs.History.{Image}
-use Rattle.btr_keys.specs.DirEntry.{DirEntryValue}
-use Rattle.btr_keys.specs.FileExtent.{FileExtentValue, file_extent_of}
-use Rattle.btr_keys.specs.Inode.{inode_of}
-use Rattle.btr_keys.specs.declared.inode.Inode.{Inode}
-use Rattle.btr_walk.specs.declared.map.MapRange.{MapRange}
-use Rattle.btr_walk.specs.Events.{TreeItem}
+use Rattle.btr_reader_walk.specs.outside.History.{Image}
+use Rattle.btr_reader_walk.specs.btr_keys.DirEntry.{DirEntryValue}
+use Rattle.btr_reader_walk.specs.btr_keys.FileExtent.{FileExtentValue, file_extent_of}
+use Rattle.btr_reader_walk.specs.btr_keys.Inode.{inode_of}
+use Rattle.btr_reader_walk.specs.btr_keys.declared.inode.Inode.{Inode}
+use Rattle.btr_reader_walk.specs.declared.map.MapRange.{MapRange}
+use Rattle.btr_reader_walk.specs.Events.{TreeItem}
 use Rattle.fs_rows.specs.Rows.{NameList, WholeRow}
-use Rattle.path_list.proofs.Lists.{in_map, from_map, at_head, in_tail}
-use Rattle.btr_files.specs.Extents.{extents_of, is_extent_of, extent_length, content_byte, covers, byte_from, file_byte, file_bytes}
-use Rattle.btr_names.specs.declared.naming.Naming.{Naming}
-use Rattle.btr_names.specs.Inodes.{is_inode_of, inode_item, inode_on, IsDirectory}
-use Rattle.btr_names.specs.Links.{is_index, index_entry, naming_at, own_naming, namings, is_followed, followed, IsNamed, root, entry, Target, inode, tree, Names, Leads}
+use Rattle.fs_paths.proofs.Lists.{in_map, from_map, at_head, in_tail}
+use Rattle.btr_reader_contents.specs.Extents.{extents_of, is_extent_of, extent_length, content_byte, covers, byte_from, file_byte, file_bytes}
+use Rattle.btr_reader_names.specs.declared.naming.Naming.{Naming}
+use Rattle.btr_reader_names.specs.Inodes.{is_inode_of, inode_item, inode_on, IsDirectory}
+use Rattle.btr_reader_names.specs.Links.{is_index, index_entry, naming_at, own_naming, namings, is_followed, followed, IsNamed, root, entry, Target, inode, tree, Names, Leads}
 use Rattle.btr_reader.specs.Laws.{unplaced, SameExtents, ItemsDecideBtrfsRows}
 use Rattle.btr_reader.specs.Rows.{top, IsRowOf, AreRows}
 use Rattle.fs_rows.specs.Kinds.{has_bytes}

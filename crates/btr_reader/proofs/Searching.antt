@@ -5,8 +5,8 @@ use Rattle.std.specs.List.Sorted.{IsPartitionedBy, IsPartitionPoint, IsNonDecrea
 use Rattle.std.proofs.lemmas.Bool.{cases_lt}
 use Rattle.std.proofs.lemmas.Bool.Decides.{nat_tests}
 use Rattle.std.proofs.lemmas.List.Sorted.{IsPartitionedBy-leb}
-use Rattle.btr_walk.specs.declared.map.MapRange.{MapRange}
-use Rattle.btr_walk.specs.Map.{place}
+use Rattle.btr_reader_walk.specs.declared.map.MapRange.{MapRange}
+use Rattle.btr_reader_walk.specs.Map.{place}
 use Rattle.btr_reader.specs.declared.piece.Piece.{Piece}
 use Rattle.btr_reader.specs.Ascending.{IsBefore, AreApart}
 use Rattle.btr_reader.specs.Pieces.{holds_block, block_in, or_else, pieces_place}

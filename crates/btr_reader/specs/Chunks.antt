@@ -2,20 +2,20 @@
 use Rattle.std.specs.Prelude.{ℕ, zero, suc, ◌+◌, ◌*◌, ◌%◌, ◌==◌, nat_eq, nat_lt, nat_le, max, min, Bool, ◌&&◌, ◌||◌, if◌then◌else◌, List, [], ◌∷◌, ◌++◌, length, drop, slice_range, Option, Some, None}
 use Rattle.std.specs.List.{list_any}
 use Rattle.std.specs.Option.{option_map, option_and_then}
-use Rattle.outside.specs.declared.refusal.BtrRefusal.{BtrRefusal}
-use Rattle.outside.specs.declared.refusal.BtrRefusal.TheVariants.{BadBtrfs, Unsupported}
-use Rattle.outside.specs.declared.rule.BtrRule.TheVariants.{ChunkForm}
-use Rattle.outside.specs.declared.rule.Feature.TheVariants.{ChunkType}
-use Rattle.vol_block.specs.Volume.{field}
-use Rattle.btr_keys.specs.Key.{key_at}
-use Rattle.btr_keys.specs.declared.key.Key.{Key}
+use Rattle.btr_reader_walk.specs.refusals.declared.refusal.BtrRefusal.{BtrRefusal}
+use Rattle.btr_reader_walk.specs.refusals.declared.refusal.BtrRefusal.TheVariants.{BadBtrfs, Unsupported}
+use Rattle.btr_reader_walk.specs.refusals.declared.rule.BtrRule.TheVariants.{ChunkForm}
+use Rattle.btr_reader_walk.specs.refusals.declared.rule.Feature.TheVariants.{ChunkType}
+use Rattle.btr_reader_walk.specs.vol_block.Volume.{field}
+use Rattle.btr_reader_walk.specs.btr_keys.Key.{key_at}
+use Rattle.btr_reader_walk.specs.btr_keys.declared.key.Key.{Key}
 use Rattle.btr_space_items.specs.Chunk.{chunk_of}
 use Rattle.btr_space_items.specs.declared.chunk.Chunk.{Chunk}
 use Rattle.btr_space_items.specs.declared.stripe.Stripe.{Stripe}
 use Rattle.std.specs.Cmp.Lexicographic.{pointwise}
-use Rattle.btr_walk.specs.declared.map.MapRange.{MapRange}
-use Rattle.btr_walk.specs.Events.{TreeItem}
-use Rattle.btr_files.specs.Extents.{unless}
+use Rattle.btr_reader_walk.specs.declared.map.MapRange.{MapRange}
+use Rattle.btr_reader_walk.specs.Events.{TreeItem}
+use Rattle.btr_reader_contents.specs.Extents.{unless}
 use Rattle.btr_reader.specs.declared.chunk.ChunkAt.{ChunkAt}
 
 -- the key of a chunk, whose offset is the logical address

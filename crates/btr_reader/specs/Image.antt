@@ -3,28 +3,28 @@ use Rattle.std.specs.Prelude.{ℕ, ◌+◌, ◌-◌, ◌*◌, ◌/◌, ◌%◌, 
 use Rattle.std.specs.Option.{option_map, option_and_then}
 use Rattle.std.specs.List.{list_any}
 use Rattle.std.specs.Cmp.Lexicographic.{pointwise}
-use Rattle.outside.specs.History.{Image}
-use Rattle.outside.specs.declared.refusal.BtrRefusal.{BtrRefusal}
-use Rattle.outside.specs.declared.refusal.BtrRefusal.TheVariants.{BadBtrfs}
-use Rattle.outside.specs.declared.rule.BtrRule.TheVariants.{Body, NameForm}
-use Rattle.btr_keys.specs.FileExtent.{ContentValue, Inline, Regular, Prealloc, FileExtentValue, file_extent_of}
-use Rattle.btr_keys.specs.Inode.{inode_of}
-use Rattle.btr_keys.specs.declared.inode.Inode.{Inode}
-use Rattle.btr_keys.specs.declared.key.Key.{Key}
+use Rattle.btr_reader_walk.specs.outside.History.{Image}
+use Rattle.btr_reader_walk.specs.refusals.declared.refusal.BtrRefusal.{BtrRefusal}
+use Rattle.btr_reader_walk.specs.refusals.declared.refusal.BtrRefusal.TheVariants.{BadBtrfs}
+use Rattle.btr_reader_walk.specs.refusals.declared.rule.BtrRule.TheVariants.{Body, NameForm}
+use Rattle.btr_reader_walk.specs.btr_keys.FileExtent.{ContentValue, Inline, Regular, Prealloc, FileExtentValue, file_extent_of}
+use Rattle.btr_reader_walk.specs.btr_keys.Inode.{inode_of}
+use Rattle.btr_reader_walk.specs.btr_keys.declared.inode.Inode.{Inode}
+use Rattle.btr_reader_walk.specs.btr_keys.declared.key.Key.{Key}
 use Rattle.btr_super.specs.declared.superblock.Super.{Super}
-use Rattle.btr_walk.specs.declared.map.MapRange.{MapRange}
-use Rattle.btr_walk.specs.declared.tree.Pointer.{Pointer}
-use Rattle.btr_walk.specs.Events.{TreeItem}
-use Rattle.btr_walk.specs.Map.{place}
-use Rattle.btr_walk.specs.Walks.{found, wrong}
-use Rattle.btr_walk.specs.declared.tree.Tree.{Tree}
-use Rattle.btr_keys.specs.DirEntry.{DirEntryValue}
+use Rattle.btr_reader_walk.specs.declared.map.MapRange.{MapRange}
+use Rattle.btr_reader_walk.specs.declared.tree.Pointer.{Pointer}
+use Rattle.btr_reader_walk.specs.Events.{TreeItem}
+use Rattle.btr_reader_walk.specs.Map.{place}
+use Rattle.btr_reader_walk.specs.Walks.{found, wrong}
+use Rattle.btr_reader_walk.specs.declared.tree.Tree.{Tree}
+use Rattle.btr_reader_walk.specs.btr_keys.DirEntry.{DirEntryValue}
 use Rattle.btr_reader.specs.Opening.{tree_of, or_later}
 use Rattle.btr_reader.specs.Roots.{root_item, pointer_of}
-use Rattle.btr_names.specs.Inodes.{inode_item}
-use Rattle.btr_names.specs.declared.naming.Naming.{Naming}
-use Rattle.btr_names.specs.Links.{namings, naming_of, is_index, index_entry, is_name, names_inode, names_tree}
-use Rattle.btr_files.specs.Extents.{extents_of, extents_refusals, is_hole, covers}
+use Rattle.btr_reader_names.specs.Inodes.{inode_item}
+use Rattle.btr_reader_names.specs.declared.naming.Naming.{Naming}
+use Rattle.btr_reader_names.specs.Links.{namings, naming_of, is_index, index_entry, is_name, names_inode, names_tree}
+use Rattle.btr_reader_contents.specs.Extents.{extents_of, extents_refusals, is_hole, covers}
 use Rattle.btr_reader.specs.Rows.{roots_on}
 
 -- the first one of two

@@ -1,17 +1,17 @@
 -- What holds of an opened volume.
 use Rattle.std.specs.Prelude.{◌≡◌, ℕ, ◌+◌, ◌^◌, ◌≤◌, ◌<◌, AllPairs, Contains, List, ◌++◌, length, map, Some}
 use Rattle.std.specs.List.{flat_map, AllByRecursion}
-use Rattle.btr_keys.specs.Key.{key_bytes, make_key}
+use Rattle.btr_reader_walk.specs.btr_keys.Key.{key_bytes, make_key}
 use Rattle.btr_space_items.specs.Chunk.{chunk_layout, chunk_bytes}
 use Rattle.btr_reader.specs.declared.chunk.ChunkAt.{ChunkAt}
-use Rattle.outside.specs.History.{Image}
+use Rattle.btr_reader_walk.specs.outside.History.{Image}
 use Rattle.btr_super.specs.declared.superblock.Super.{Super}
-use Rattle.btr_walk.specs.declared.map.MapRange.{MapRange}
-use Rattle.btr_keys.specs.FileExtent.{FileExtentValue, file_extent_of}
-use Rattle.btr_walk.specs.Events.{TreeItem}
-use Rattle.btr_files.specs.Blocks.{AreInBlocks}
-use Rattle.btr_files.specs.Extents.{extents_of, extent_length, content_byte}
-use Rattle.btr_names.specs.Links.{IsNamed}
+use Rattle.btr_reader_walk.specs.declared.map.MapRange.{MapRange}
+use Rattle.btr_reader_walk.specs.btr_keys.FileExtent.{FileExtentValue, file_extent_of}
+use Rattle.btr_reader_walk.specs.Events.{TreeItem}
+use Rattle.btr_reader_contents.specs.Blocks.{AreInBlocks}
+use Rattle.btr_reader_contents.specs.Extents.{extents_of, extent_length, content_byte}
+use Rattle.btr_reader_names.specs.Links.{IsNamed}
 use Rattle.fs_rows.specs.Rows.{WholeRow}
 use Rattle.btr_reader.specs.Opening.{IsOpened, boot_chunks}
 use Rattle.btr_reader.specs.Rows.{AreRows, AreBtrfsRows}

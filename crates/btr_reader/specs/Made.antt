@@ -1,29 +1,29 @@
 -- The row that is made for each path of a file tree.
 use Rattle.std.specs.Prelude.{◌≡◌, ◌≢◌, ◌⊎◌, ℕ, ◌/◌, ◌%◌, ◌^◌, ◌==◌, pos, not, Bool, ◌&&◌, List, [], Option, unwrap_or, if◌then◌else◌}
-use Rattle.outside.specs.History.{Image}
-use Rattle.outside.specs.declared.answer.BtrAnswer.{BtrAnswer}
-use Rattle.outside.specs.declared.answer.BtrAnswer.TheVariants.{Refused, Fault, Memory}
-use Rattle.outside.specs.declared.refusal.BtrRefusal.TheVariants.{LogPending}
+use Rattle.btr_reader_walk.specs.outside.History.{Image}
+use Rattle.btr_reader_walk.specs.refusals.declared.answer.BtrAnswer.{BtrAnswer}
+use Rattle.btr_reader_walk.specs.refusals.declared.answer.BtrAnswer.TheVariants.{Refused, Fault, Memory}
+use Rattle.btr_reader_walk.specs.refusals.declared.refusal.BtrRefusal.TheVariants.{LogPending}
 use Rattle.btr_super.specs.declared.superblock.Super.{Super}
-use Rattle.btr_keys.specs.declared.inode.Inode.{Inode}
-use Rattle.btr_walk.specs.declared.map.MapRange.{MapRange}
-use Rattle.btr_walk.specs.Events.{TreeItem}
+use Rattle.btr_reader_walk.specs.btr_keys.declared.inode.Inode.{Inode}
+use Rattle.btr_reader_walk.specs.declared.map.MapRange.{MapRange}
+use Rattle.btr_reader_walk.specs.Events.{TreeItem}
 use Rattle.fs_rows.specs.Rows.{NameList, WholeRow}
 use Rattle.fs_rows.specs.declared.row.Kind.{Kind}
 use Rattle.fs_rows.specs.declared.row.Kind.TheVariants.{File}
-use Rattle.path_list.specs.declared.link.PathTo.{PathTo}
-use Rattle.path_list.specs.declared.node.NodeId.{NodeId}
+use Rattle.fs_paths.specs.declared.link.PathTo.{PathTo}
+use Rattle.fs_paths.specs.declared.node.NodeId.{NodeId}
 use Rattle.fs_rows.specs.declared.content.Content.{Content}
-use Rattle.btr_contents.specs.Contents.{wanted_at, HasContents}
-use Rattle.btr_names.specs.declared.table.Names.{Names}
-use Rattle.btr_names.specs.Inodes.{inode_on, kind_of_mode}
+use Rattle.btr_reader_contents.specs.Contents.{wanted_at, HasContents}
+use Rattle.btr_reader_names.specs.declared.table.Names.{Names}
+use Rattle.btr_reader_names.specs.Inodes.{inode_on, kind_of_mode}
 use Rattle.fs_rows.specs.Kinds.{is_directory, is_symlink, is_device, has_bytes}
-use Rattle.btr_names.specs.Rules.{KeepsNames, BreaksNames}
-use Rattle.btr_names.specs.Steps.{AreNamed, links_of}
-use Rattle.btr_names.specs.Table.{HasNoted}
-use Rattle.btr_names.specs.TreeLinks.{AreTreeLinks}
-use Rattle.btr_files.specs.Extents.{file_bytes}
-use Rattle.path_list.specs.Paths.{first_path}
+use Rattle.btr_reader_names.specs.Rules.{KeepsNames, BreaksNames}
+use Rattle.btr_reader_names.specs.Steps.{AreNamed, links_of}
+use Rattle.btr_reader_names.specs.Table.{HasNoted}
+use Rattle.btr_reader_names.specs.TreeLinks.{AreTreeLinks}
+use Rattle.btr_reader_contents.specs.Extents.{file_bytes}
+use Rattle.fs_paths.specs.Paths.{first_path}
 use Rattle.btr_reader.specs.Rows.{time_of, has_flag, subvolume_row, IsTreeRefusal}
 
 -- the row of an inode at a path

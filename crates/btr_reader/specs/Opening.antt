@@ -1,22 +1,22 @@
 -- What is read of a volume as it is opened: the superblock, the chunks and the root tree.
 use Rattle.std.specs.Prelude.{◌≡◌, ℕ, ◌≤◌, List, [], ◌∷◌, ◌++◌, length, take, map, Option, Some, None, unwrap_or, Result, Ok, Err}
-use Rattle.outside.specs.History.{Image, block_at}
-use Rattle.outside.specs.declared.answer.BtrAnswer.{BtrAnswer}
-use Rattle.outside.specs.declared.answer.BtrAnswer.TheVariants.{Refused, Fault, Memory}
-use Rattle.outside.specs.declared.refusal.BtrRefusal.{BtrRefusal}
-use Rattle.outside.specs.declared.refusal.BtrRefusal.TheVariants.{BadBtrfs}
-use Rattle.outside.specs.declared.rule.BtrRule.TheVariants.{ChunkForm}
-use Rattle.csum_kinds.specs.declared.kind.SumKind.TheVariants.{Crc32c}
-use Rattle.btr_node.specs.NodeSize.{IsNodeSize}
+use Rattle.btr_reader_walk.specs.outside.History.{Image, block_at}
+use Rattle.btr_reader_walk.specs.refusals.declared.answer.BtrAnswer.{BtrAnswer}
+use Rattle.btr_reader_walk.specs.refusals.declared.answer.BtrAnswer.TheVariants.{Refused, Fault, Memory}
+use Rattle.btr_reader_walk.specs.refusals.declared.refusal.BtrRefusal.{BtrRefusal}
+use Rattle.btr_reader_walk.specs.refusals.declared.refusal.BtrRefusal.TheVariants.{BadBtrfs}
+use Rattle.btr_reader_walk.specs.refusals.declared.rule.BtrRule.TheVariants.{ChunkForm}
+use Rattle.btr_reader_walk.specs.csum_kinds.declared.kind.SumKind.TheVariants.{Crc32c}
+use Rattle.btr_reader_walk.specs.btr_node.NodeSize.{IsNodeSize}
 use Rattle.btr_super.specs.declared.superblock.Super.{Super}
 use Rattle.btr_super.specs.Rules.{super_of, NamesNoLog}
 use Rattle.btr_super.specs.Sums.{known_kind}
-use Rattle.btr_walk.specs.declared.map.MapRange.{MapRange}
-use Rattle.btr_walk.specs.declared.tree.Form.{Form}
-use Rattle.btr_walk.specs.declared.tree.Pointer.{Pointer}
-use Rattle.btr_walk.specs.declared.tree.Tree.{Tree}
-use Rattle.btr_walk.specs.Walks.{wrong, found}
-pub use Rattle.btr_walk.specs.Walks.{IsAmong}
+use Rattle.btr_reader_walk.specs.declared.map.MapRange.{MapRange}
+use Rattle.btr_reader_walk.specs.declared.tree.Form.{Form}
+use Rattle.btr_reader_walk.specs.declared.tree.Pointer.{Pointer}
+use Rattle.btr_reader_walk.specs.declared.tree.Tree.{Tree}
+use Rattle.btr_reader_walk.specs.Walks.{wrong, found}
+pub use Rattle.btr_reader_walk.specs.Walks.{IsAmong}
 use Rattle.btr_reader.specs.declared.chunk.ChunkAt.{ChunkAt}
 use Rattle.btr_reader.specs.Chunks.{range_of, array_chunks, chunks_refusals, with_items, items_refusals}
 

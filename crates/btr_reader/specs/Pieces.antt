@@ -2,16 +2,16 @@
 use Rattle.std.specs.Prelude.{◌≡◌, ℕ, ◌+◌, ◌-◌, ◌*◌, ◌/◌, ◌≤◌, All, nat_lt, nat_le, Bool, ◌&&◌, if◌then◌else◌, List, [], ◌∷◌, Option, Some, None}
 use Rattle.std.specs.List.{list_any}
 use Rattle.std.specs.Option.{option_map}
-use Rattle.btr_keys.specs.FileExtent.{ContentValue, Inline, Regular, Prealloc, file_extent_of}
-use Rattle.btr_keys.specs.declared.file_extent.DiskRange.{DiskRange}
-use Rattle.btr_walk.specs.declared.map.MapRange.{MapRange}
-use Rattle.btr_walk.specs.Map.{place}
-use Rattle.btr_walk.specs.Events.{TreeItem}
+use Rattle.btr_reader_walk.specs.btr_keys.FileExtent.{ContentValue, Inline, Regular, Prealloc, file_extent_of}
+use Rattle.btr_reader_walk.specs.btr_keys.declared.file_extent.DiskRange.{DiskRange}
+use Rattle.btr_reader_walk.specs.declared.map.MapRange.{MapRange}
+use Rattle.btr_reader_walk.specs.Map.{place}
+use Rattle.btr_reader_walk.specs.Events.{TreeItem}
 use Rattle.btr_reader.specs.declared.piece.Piece.{Piece}
 use Rattle.btr_reader.specs.declared.image_map.ImageMap.{ImageMap}
 use Rattle.btr_reader.specs.Ascending.{AreApart}
 use Rattle.btr_reader.specs.declared.gathered.Gathered.{Gathered}
-use Rattle.btr_files.specs.Extents.{is_hole, extents_end, extents_covered, extents_refusals}
+use Rattle.btr_reader_contents.specs.Extents.{is_hole, extents_end, extents_covered, extents_refusals}
 use Rattle.btr_reader.specs.Image.{ImageFile, is_inline, file_block, image_place}
 
 -- block b of the file is in the piece

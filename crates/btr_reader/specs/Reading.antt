@@ -1,18 +1,18 @@
 -- The answers of the steps on the way to the saved image.
 use Rattle.std.specs.Prelude.{◌≡◌, ◌≤◌, ℕ, true, false, List, [], Option, Some, None, Result, Ok, Err}
-use Rattle.outside.specs.declared.answer.BtrAnswer.{BtrAnswer}
-use Rattle.outside.specs.declared.answer.BtrAnswer.TheVariants.{Refused, Fault, Memory}
-use Rattle.outside.specs.declared.refusal.BtrRefusal.TheVariants.{BadBtrfs}
-use Rattle.outside.specs.declared.refusal.BtrRefusal.{BtrRefusal}
-use Rattle.outside.specs.declared.rule.BtrRule.TheVariants.{Body}
-use Rattle.btr_keys.specs.Inode.{inode_of}
-use Rattle.btr_keys.specs.declared.inode.Inode.{Inode}
-use Rattle.btr_node.specs.NodeSize.{IsNodeSize}
+use Rattle.btr_reader_walk.specs.refusals.declared.answer.BtrAnswer.{BtrAnswer}
+use Rattle.btr_reader_walk.specs.refusals.declared.answer.BtrAnswer.TheVariants.{Refused, Fault, Memory}
+use Rattle.btr_reader_walk.specs.refusals.declared.refusal.BtrRefusal.TheVariants.{BadBtrfs}
+use Rattle.btr_reader_walk.specs.refusals.declared.refusal.BtrRefusal.{BtrRefusal}
+use Rattle.btr_reader_walk.specs.refusals.declared.rule.BtrRule.TheVariants.{Body}
+use Rattle.btr_reader_walk.specs.btr_keys.Inode.{inode_of}
+use Rattle.btr_reader_walk.specs.btr_keys.declared.inode.Inode.{Inode}
+use Rattle.btr_reader_walk.specs.btr_node.NodeSize.{IsNodeSize}
 use Rattle.btr_super.specs.declared.superblock.Super.{Super}
-use Rattle.btr_walk.specs.declared.map.MapRange.{MapRange}
-use Rattle.btr_walk.specs.declared.tree.Pointer.{Pointer}
-use Rattle.btr_walk.specs.declared.tree.Tree.{Tree}
-use Rattle.btr_walk.specs.Events.{TreeItem}
+use Rattle.btr_reader_walk.specs.declared.map.MapRange.{MapRange}
+use Rattle.btr_reader_walk.specs.declared.tree.Pointer.{Pointer}
+use Rattle.btr_reader_walk.specs.declared.tree.Tree.{Tree}
+use Rattle.btr_reader_walk.specs.Events.{TreeItem}
 use Rattle.btr_reader.specs.declared.image_map.ImageMap.{ImageMap}
 use Rattle.btr_reader.specs.Image.{ImageFile, is_file}
 use Rattle.btr_reader.specs.Opening.{IsAmong, tree_of}

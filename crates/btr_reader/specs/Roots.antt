@@ -5,9 +5,9 @@ use Rattle.indexmap.specs.IndexMap.{get}
 use Rattle.indexmap.specs.IndexSet.{contains}
 use Rattle.btr_space_items.specs.RootItem.{root_item_of}
 use Rattle.btr_space_items.specs.declared.root_item.RootItem.{RootItem}
-use Rattle.btr_walk.specs.declared.tree.Pointer.{Pointer}
-use Rattle.btr_walk.specs.Events.{TreeItem}
-use Rattle.btr_names.specs.Roots.{is_root_of, has_root}
+use Rattle.btr_reader_walk.specs.declared.tree.Pointer.{Pointer}
+use Rattle.btr_reader_walk.specs.Events.{TreeItem}
+use Rattle.btr_reader_names.specs.Roots.{is_root_of, has_root}
 use Rattle.btr_reader.specs.declared.roots.RootFound.{RootFound}
 use Rattle.btr_reader.specs.declared.roots.RootItems.{RootItems}
 

@@ -2,28 +2,28 @@
 use Rattle.std.specs.Prelude.{◌≡◌, ◌⊎◌, ℕ, ◌/◌, ◌%◌, ◌^◌, ◌==◌, pos, Bool, true, false, not, ◌&&◌, if◌then◌else◌, List, [], Contains, Some, None}
 use Rattle.std.specs.Int.{bit_at}
 use Rattle.std.specs.Ordering.{is_le}
-use Rattle.outside.specs.History.{Image}
-use Rattle.outside.specs.declared.refusal.BtrRefusal.{BtrRefusal}
-use Rattle.outside.specs.declared.refusal.BtrRefusal.TheVariants.{BadBtrfs}
-use Rattle.outside.specs.declared.rule.BtrRule.TheVariants.{Body, NoInode}
-use Rattle.btr_keys.specs.declared.inode.Inode.{Inode}
-use Rattle.btr_keys.specs.declared.stamp.Stamp.{Stamp}
+use Rattle.btr_reader_walk.specs.outside.History.{Image}
+use Rattle.btr_reader_walk.specs.refusals.declared.refusal.BtrRefusal.{BtrRefusal}
+use Rattle.btr_reader_walk.specs.refusals.declared.refusal.BtrRefusal.TheVariants.{BadBtrfs}
+use Rattle.btr_reader_walk.specs.refusals.declared.rule.BtrRule.TheVariants.{Body, NoInode}
+use Rattle.btr_reader_walk.specs.btr_keys.declared.inode.Inode.{Inode}
+use Rattle.btr_reader_walk.specs.btr_keys.declared.stamp.Stamp.{Stamp}
 use Rattle.btr_super.specs.declared.superblock.Super.{Super}
-use Rattle.btr_walk.specs.declared.map.MapRange.{MapRange}
-use Rattle.btr_walk.specs.declared.tree.Pointer.{Pointer}
-use Rattle.btr_walk.specs.Events.{TreeItem}
-use Rattle.btr_walk.specs.Walks.{found, wrong}
+use Rattle.btr_reader_walk.specs.declared.map.MapRange.{MapRange}
+use Rattle.btr_reader_walk.specs.declared.tree.Pointer.{Pointer}
+use Rattle.btr_reader_walk.specs.Events.{TreeItem}
+use Rattle.btr_reader_walk.specs.Walks.{found, wrong}
 use Rattle.fs_rows.specs.Rows.{NameList, WholeRow, AscendsByPath, path_cmp, name_count}
 use Rattle.fs_rows.specs.declared.row.Kind.TheVariants.{File, Symlink, Subvolume}
 use Rattle.fs_rows.specs.declared.row.Time.{Time}
 use Rattle.btr_reader.specs.Opening.{tree_of, root_tree}
 use Rattle.btr_reader.specs.Roots.{root_item, pointer_of}
-use Rattle.btr_names.specs.Inodes.{inode_on, kind_of_mode, HasKind}
+use Rattle.btr_reader_names.specs.Inodes.{inode_on, kind_of_mode, HasKind}
 use Rattle.fs_rows.specs.Kinds.{is_device, has_bytes, is_symlink, is_directory}
-use Rattle.btr_names.specs.Links.{IsNamed, Target, inode, tree, Leads}
-use Rattle.btr_names.specs.Roots.{has_root}
-use Rattle.btr_names.specs.Rules.{BreaksNames}
-use Rattle.btr_files.specs.Extents.{extents_of, file_bytes, extents_refusals}
+use Rattle.btr_reader_names.specs.Links.{IsNamed, Target, inode, tree, Leads}
+use Rattle.btr_reader_names.specs.Roots.{has_root}
+use Rattle.btr_reader_names.specs.Rules.{BreaksNames}
+use Rattle.btr_reader_contents.specs.Extents.{extents_of, file_bytes, extents_refusals}
 
 abbrev pub time_of : Stamp → Time
 time_of s = record { sec = s.sec; nsec = s.nsec }

@@ -1,6 +1,6 @@
 -- What an opened volume is of a disk.
 use Rattle.std.specs.Prelude.{◌≡◌, length}
-use Rattle.outside.specs.History.{Image}
+use Rattle.btr_reader_walk.specs.outside.History.{Image}
 use Rattle.btr_reader.specs.declared.volume.Btrfs.{Btrfs}
 use Rattle.btr_reader.specs.Opening.{IsOpened}
 use Rattle.btr_reader.specs.Roots.{HasRoots}

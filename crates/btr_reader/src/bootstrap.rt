@@ -3,11 +3,9 @@ ghost use Rattle.btr_reader.specs.Chunks.{front_chunk, entry_size, array_chunks}
 ghost use Rattle.btr_reader.specs.Opening.{IsBadArray, NamesNoLogTree};
 
 use crate::chunk::{ChunkAt, is_chunk_key};
-use btr_keys::Key;
+use btr_reader_walk::{BtrAnswer, BtrRefusal, BtrRule, Key, Memory, u16_at};
 use btr_space_items::Chunk;
-use outside::{BtrAnswer, BtrRefusal, BtrRule, Memory};
 use std::alloc::Global;
-use vol_block::u16_at;
 
 /// The bytes of a chunk's key, of its body without stripes, and of a stripe.
 const KEY_SIZE: usize = 17;

@@ -1,12 +1,12 @@
 ghost use Rattle.std.specs.Prelude.{◌≡◌, ◌≢◌, ◌≤◌, List, Some, Err};
 ghost use Rattle.std.specs.Result.{MatchResult};
-ghost use Rattle.outside.specs.Fault.{HasCauseOf};
-ghost use Rattle.outside.specs.History.{Image, OverTold};
-ghost use Rattle.outside.specs.declared.refusal.BtrRefusal.TheVariants.{BadBtrfs, LogPending};
-ghost use Rattle.outside.specs.declared.rule.BtrRule.TheVariants.{SuperField};
-ghost use Rattle.btr_walk.specs.declared.tree.Pointer.{Pointer as PointerOf};
-ghost use Rattle.btr_walk.specs.Events.{TreeItem};
-ghost use Rattle.btr_walk.specs.Walks.{LieOn};
+ghost use Rattle.btr_reader_walk.specs.outside.Fault.{HasCauseOf};
+ghost use Rattle.btr_reader_walk.specs.outside.History.{Image, OverTold};
+ghost use Rattle.btr_reader_walk.specs.refusals.declared.refusal.BtrRefusal.TheVariants.{BadBtrfs, LogPending};
+ghost use Rattle.btr_reader_walk.specs.refusals.declared.rule.BtrRule.TheVariants.{SuperField};
+ghost use Rattle.btr_reader_walk.specs.declared.tree.Pointer.{Pointer as PointerOf};
+ghost use Rattle.btr_reader_walk.specs.Events.{TreeItem};
+ghost use Rattle.btr_reader_walk.specs.Walks.{LieOn};
 ghost use Rattle.btr_reader.specs.Made.{RefusesRows, RefusesTree};
 ghost use Rattle.btr_reader.specs.Opening.{tree_of};
 ghost use Rattle.btr_reader.specs.Reading.{IsWalkable};
@@ -16,10 +16,9 @@ ghost use Rattle.btr_reader.specs.Rows.{CanBeRead, roots_on};
 
 use crate::refused::refused;
 use crate::volume::Btrfs;
-use btr_contents::check_contents;
-use btr_names::Names;
-use btr_walk::Tree;
-use outside::{BlockSource, BtrAnswer, BtrRefusal, BtrRule};
+use btr_reader_contents::check_contents;
+use btr_reader_names::Names;
+use btr_reader_walk::{BlockSource, BtrAnswer, BtrRefusal, BtrRule, Tree};
 use std::alloc::Global;
 
 impl Btrfs {

@@ -1,15 +1,13 @@
 ghost use Rattle.std.specs.Prelude.{◌≡◌, ◌++◌, ◌∷◌, [], map, true, OnOk, OnErr, IfErr, Contains};
 ghost use Rattle.std.specs.List.{list_any};
 ghost use Rattle.btr_reader.specs.Chunks.{range_of, is_read_kind, lies_on, overlap, same_stripe, same_body, same_chunk, beside_refusals, chunks_refusals, is_chunk_key};
-ghost use Rattle.btr_names.specs.Refuses.{IsNoFault};
+ghost use Rattle.btr_reader_names.specs.Refuses.{IsNoFault};
 ghost use Rattle.btr_reader.specs.Opening.{IsAmong, NamesNoLogTree};
 ghost use Rattle.btr_super.specs.Rules.{NamesNoLog};
-ghost use Rattle.btr_walk.specs.Walks.{LieOn};
+ghost use Rattle.btr_reader_walk.specs.Walks.{LieOn};
 
-use btr_keys::Key;
+use btr_reader_walk::{BtrAnswer, BtrRefusal, BtrRule, Feature, Key, MapRange, Memory};
 use btr_space_items::{Chunk, Stripe};
-use btr_walk::MapRange;
-use outside::{BtrAnswer, BtrRefusal, BtrRule, Feature, Memory};
 
 /// The object and the kind in the key of a chunk; the offset is its logical address in bytes.
 const CHUNK_OBJECT: u64 = 256;

@@ -1,17 +1,17 @@
 ghost use Rattle.std.specs.Prelude.{◌≡◌, ◌≤◌, ◌++◌, [], IfOk, IfErr, OnOk};
-ghost use Rattle.outside.specs.Fault.{HasCauseOf};
-ghost use Rattle.outside.specs.History.{OverTold};
-ghost use Rattle.btr_node.specs.NodeSize.{IsNodeSize};
-ghost use Rattle.btr_walk.specs.Walks.{LieOn, found, wrong};
+ghost use Rattle.btr_reader_walk.specs.outside.Fault.{HasCauseOf};
+ghost use Rattle.btr_reader_walk.specs.outside.History.{OverTold};
+ghost use Rattle.btr_reader_walk.specs.btr_node.NodeSize.{IsNodeSize};
+ghost use Rattle.btr_reader_walk.specs.Walks.{LieOn, found, wrong};
 ghost use Rattle.btr_reader.specs.Chunks.{chunk_in, with_chunk, with_items, chunk_item_refusals, items_refusals};
-ghost use Rattle.btr_names.specs.Refuses.{IsNoFault};
+ghost use Rattle.btr_reader_names.specs.Refuses.{IsNoFault};
 ghost use Rattle.btr_reader.specs.Opening.{IsAmong, NamesNoLogTree};
 
 use crate::chunk::{ChunkAt, add_chunk, is_among, is_chunk_key};
-use btr_keys::Key;
+use btr_reader_walk::{
+    BlockSource, BtrAnswer, BtrRefusal, BtrRule, Key, MapRange, Memory, Tree, TreeWalker,
+};
 use btr_space_items::Chunk;
-use btr_walk::{MapRange, Tree, TreeWalker};
-use outside::{BlockSource, BtrAnswer, BtrRefusal, BtrRule, Memory};
 use std::alloc::Global;
 
 /// Adds what an item of the chunk tree adds to the map, where `boot` are the chunks of the bootstrap array.

@@ -1,24 +1,22 @@
 ghost use Rattle.std.specs.Prelude.{◌≡◌, ◌≤◌, ◌++◌, ◌∷◌, [], List, true, if◌then◌else◌, Some, None, IfOk, IfErr, OnOk};
-ghost use Rattle.outside.specs.Fault.{HasCauseOf};
-ghost use Rattle.outside.specs.History.{Image, OverTold};
-ghost use Rattle.btr_node.specs.NodeSize.{IsNodeSize};
-ghost use Rattle.btr_walk.specs.Events.{TreeItem};
-ghost use Rattle.btr_walk.specs.Walks.{LieOn, found};
+ghost use Rattle.btr_reader_walk.specs.outside.Fault.{HasCauseOf};
+ghost use Rattle.btr_reader_walk.specs.outside.History.{Image, OverTold};
+ghost use Rattle.btr_reader_walk.specs.btr_node.NodeSize.{IsNodeSize};
+ghost use Rattle.btr_reader_walk.specs.Events.{TreeItem};
+ghost use Rattle.btr_reader_walk.specs.Walks.{LieOn, found};
 ghost use Rattle.btr_reader.specs.Image.{first_key, entry_named, is_called, own_index_refusals, naming_refusals, is_root_directory, twice_refusals, entry_refusals};
-ghost use Rattle.btr_names.specs.declared.naming.Naming.{Naming as NamingOf};
-ghost use Rattle.btr_names.specs.Links.{own_naming, namings};
-ghost use Rattle.btr_names.specs.Passes.{HasSeen};
-ghost use Rattle.btr_names.specs.Refuses.{IsNoFault};
+ghost use Rattle.btr_reader_names.specs.declared.naming.Naming.{Naming as NamingOf};
+ghost use Rattle.btr_reader_names.specs.Links.{own_naming, namings};
+ghost use Rattle.btr_reader_names.specs.Passes.{HasSeen};
+ghost use Rattle.btr_reader_names.specs.Refuses.{IsNoFault};
 ghost use Rattle.btr_reader.specs.Opening.{IsAmong, NamesNoLogTree};
 
 use crate::refused::refused;
-use btr_keys::{DirEntry, Key};
-use btr_names::{
+use btr_reader_names::{
     NameIn, Naming, ROOT, index_entry, is_name, names_inode, names_tree, naming_of, see_name,
 };
-use btr_walk::{MapRange, Tree, TreeWalker};
+use btr_reader_walk::{BlockSource, BtrAnswer, BtrRule, DirEntry, Key, MapRange, Tree, TreeWalker};
 use indexmap::IndexSet;
-use outside::{BlockSource, BtrAnswer, BtrRule};
 use std::alloc::Global;
 
 /// The kind in the key of a directory index.

@@ -1,23 +1,24 @@
 ghost use Rattle.std.specs.Prelude.{◌≡◌, true, ◌≤◌, ◌<◌, ◌+◌, ◌^◌, ◌++◌, ◌∷◌, ◌||◌, [], List, IfErr, IfOk, IfSome, OnOk};
-ghost use Rattle.outside.specs.Fault.{HasCauseOf};
-ghost use Rattle.outside.specs.History.{OverTold};
-ghost use Rattle.btr_keys.specs.FileExtent.{content_value};
-ghost use Rattle.btr_node.specs.NodeSize.{IsNodeSize};
-ghost use Rattle.btr_walk.specs.declared.map.MapRange.{MapRange as RangeOf};
-ghost use Rattle.btr_walk.specs.Events.{TreeItem};
-ghost use Rattle.btr_walk.specs.Walks.{LieOn, found, wrong};
-ghost use Rattle.btr_files.specs.Extents.{extent_length, covered_by, is_aligned, is_extent_key, extents_of, extents_refusals};
+ghost use Rattle.btr_reader_walk.specs.outside.Fault.{HasCauseOf};
+ghost use Rattle.btr_reader_walk.specs.outside.History.{OverTold};
+ghost use Rattle.btr_reader_walk.specs.btr_keys.FileExtent.{content_value};
+ghost use Rattle.btr_reader_walk.specs.btr_node.NodeSize.{IsNodeSize};
+ghost use Rattle.btr_reader_walk.specs.declared.map.MapRange.{MapRange as RangeOf};
+ghost use Rattle.btr_reader_walk.specs.Events.{TreeItem};
+ghost use Rattle.btr_reader_walk.specs.Walks.{LieOn, found, wrong};
+ghost use Rattle.btr_reader_contents.specs.Extents.{extent_length, covered_by, is_aligned, is_extent_key, extents_of, extents_refusals};
 ghost use Rattle.btr_reader.specs.Image.{content_is_inline};
-ghost use Rattle.btr_names.specs.Refuses.{IsNoFault};
+ghost use Rattle.btr_reader_names.specs.Refuses.{IsNoFault};
 ghost use Rattle.btr_reader.specs.Opening.{IsAmong, NamesNoLogTree};
 ghost use Rattle.btr_reader.specs.Pieces.{range_pieces, pieces_of, Gathers, IsInOrder};
 
 use crate::gathered::Gathered;
 use crate::piece::Piece;
-use btr_files::{Reach, check_extent, covered_by, extent_length, is_hole};
-use btr_keys::{DiskRange, ExtentContent, FileExtent, Key};
-use btr_walk::{MapRange, Tree, TreeWalker};
-use outside::{BlockSource, BtrAnswer, BtrRefusal, BtrRule, Memory};
+use btr_reader_contents::{Reach, check_extent, covered_by, extent_length, is_hole};
+use btr_reader_walk::{
+    BlockSource, BtrAnswer, BtrRefusal, BtrRule, DiskRange, ExtentContent, FileExtent, Key,
+    MapRange, Memory, Tree, TreeWalker,
+};
 use std::alloc::Global;
 
 /// The kind in the key of a file extent.

@@ -1,5 +1,5 @@
 use crate::piece::Piece;
-use btr_files::Reach;
+use btr_reader_contents::Reach;
 
 /// What is gathered of the extents of a file, one after the other.
 #[derive(Drop)]

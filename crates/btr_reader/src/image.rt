@@ -1,14 +1,14 @@
 ghost use Rattle.std.specs.Prelude.{◌≡◌, ◌≢◌, ◌≤◌, ◌∷◌, [], Option, Some, None, Err, true, IfOk, IfErr, IfSome, List};
 ghost use Rattle.std.specs.Option.{option_and_then};
-ghost use Rattle.outside.specs.Fault.{HasCauseOf};
-ghost use Rattle.outside.specs.History.{OverTold};
-ghost use Rattle.outside.specs.declared.refusal.BtrRefusal.TheVariants.{BadBtrfs};
-ghost use Rattle.outside.specs.declared.rule.BtrRule.TheVariants.{SuperField};
-ghost use Rattle.btr_walk.specs.Events.{TreeItem};
-ghost use Rattle.btr_walk.specs.Walks.{LieOn, found, wrong};
+ghost use Rattle.btr_reader_walk.specs.outside.Fault.{HasCauseOf};
+ghost use Rattle.btr_reader_walk.specs.outside.History.{OverTold};
+ghost use Rattle.btr_reader_walk.specs.refusals.declared.refusal.BtrRefusal.TheVariants.{BadBtrfs};
+ghost use Rattle.btr_reader_walk.specs.refusals.declared.rule.BtrRule.TheVariants.{SuperField};
+ghost use Rattle.btr_reader_walk.specs.Events.{TreeItem};
+ghost use Rattle.btr_reader_walk.specs.Walks.{LieOn, found, wrong};
 ghost use Rattle.btr_reader.specs.Image.{is_file, tree_number, inode_number, file_if_image, image_at, image_below, saved_image, file_refusals, refusals_below, image_refusals};
-ghost use Rattle.btr_names.specs.Inodes.{inode_item, TellsInode};
-ghost use Rattle.btr_names.specs.Refuses.{IsNoFault};
+ghost use Rattle.btr_reader_names.specs.Inodes.{inode_item, TellsInode};
+ghost use Rattle.btr_reader_names.specs.Refuses.{IsNoFault};
 ghost use Rattle.btr_reader.specs.Opening.{NamesNoLogTree};
 ghost use Rattle.btr_reader.specs.Pieces.{Gathers, IsInOrder, MapsImage};
 ghost use Rattle.btr_reader.specs.Reading.{IsWalkable, FindsTree, FindsFile, ReadsImage};
@@ -25,11 +25,9 @@ use crate::open::form_of;
 use crate::refused::refused;
 use crate::roots::RootFound;
 use crate::volume::Btrfs;
-use btr_keys::{Inode, Key};
-use btr_names::InodeFound;
+use btr_reader_names::InodeFound;
+use btr_reader_walk::{BlockSource, BtrAnswer, BtrRule, Inode, Key, MapRange, Memory, Tree};
 use btr_super::Super;
-use btr_walk::{MapRange, Tree};
-use outside::{BlockSource, BtrAnswer, BtrRule, Memory};
 use std::alloc::Global;
 
 /// The number of the file tree.
@@ -42,7 +40,7 @@ const INODE_KIND: u8 = 1;
 
 impl Btrfs {
     /// The tree of a root item that was looked for.
-    #[tactic(auto, using(btr_walk::proofs::Stacks::sized))]
+    #[tactic(auto, using(btr_reader_walk::proofs::Stacks::sized))]
     fn tree_in(&self, number: u64, root: Option<RootFound>) -> Result<Option<Tree>, BtrAnswer>
         ensures finds { (item : Option TreeItem) → TellsRoot root item → FindsTree self.now.sup number item result }
         ensures walkable { IfOk result (λ o. IfSome o IsWalkable) }

@@ -1,8 +1,8 @@
-ghost use Rattle.btr_walk.specs.Walks.{LieOn};
+ghost use Rattle.btr_reader_walk.specs.Walks.{LieOn};
 ghost use Rattle.btr_reader.specs.Ascending.{AreApart};
 
 use crate::piece::Piece;
-use btr_walk::MapRange;
+use btr_reader_walk::MapRange;
 
 /// Where the blocks of a saved image lie on the device.
 ///

@@ -1,13 +1,12 @@
 ghost use Rattle.std.specs.Prelude.{◌≡◌, ◌<◌, ◌≤◌, true, false, leb, length, IfSome};
 ghost use Rattle.std.specs.List.Sorted.{IsPartitionPoint};
-ghost use Rattle.btr_walk.specs.Walks.{LieOn};
+ghost use Rattle.btr_reader_walk.specs.Walks.{LieOn};
 ghost use Rattle.btr_reader.specs.Ascending.{AreApart};
 ghost use Rattle.btr_reader.specs.Pieces.{holds_block, block_in, pieces_place, map_place};
 
 use crate::image_map::ImageMap;
 use crate::piece::Piece;
-use btr_walk::{MapRange, place};
-use vol_block::BlockNo;
+use btr_reader_walk::{BlockNo, MapRange, place};
 
 impl Piece {
     /// Whether block `b` of the file is in the piece.
@@ -18,7 +17,7 @@ impl Piece {
     }
 
     /// The block of the device that holds block `b` of the file, if that is in the piece, on a device of `device` blocks.
-    #[tactic(auto, using(btr_walk::proofs::Mapping::place_within))]
+    #[tactic(auto, using(btr_reader_walk::proofs::Mapping::place_within))]
     fn place(&self, ranges: &[MapRange], device: u64, b: u64) -> Option<BlockNo>
         requires { LieOn device ranges.now }
         ensures place { result ≡ block_in ranges.now self.now b }

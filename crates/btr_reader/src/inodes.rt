@@ -1,16 +1,16 @@
 ghost use Rattle.std.specs.Prelude.{◌≡◌, ◌≤◌, [], Option, if◌then◌else◌, Some, None, IfOk, IfErr, OnOk};
-ghost use Rattle.outside.specs.Fault.{HasCauseOf};
-ghost use Rattle.outside.specs.History.{OverTold};
-ghost use Rattle.btr_node.specs.NodeSize.{IsNodeSize};
-ghost use Rattle.btr_walk.specs.Events.{TreeItem};
-ghost use Rattle.btr_walk.specs.Walks.{LieOn, found, wrong};
-ghost use Rattle.btr_names.specs.Inodes.{is_inode_of, inode_item, first_item, TellsInode};
+ghost use Rattle.btr_reader_walk.specs.outside.Fault.{HasCauseOf};
+ghost use Rattle.btr_reader_walk.specs.outside.History.{OverTold};
+ghost use Rattle.btr_reader_walk.specs.btr_node.NodeSize.{IsNodeSize};
+ghost use Rattle.btr_reader_walk.specs.Events.{TreeItem};
+ghost use Rattle.btr_reader_walk.specs.Walks.{LieOn, found, wrong};
+ghost use Rattle.btr_reader_names.specs.Inodes.{is_inode_of, inode_item, first_item, TellsInode};
 ghost use Rattle.btr_reader.specs.Opening.{IsAmong, NamesNoLogTree};
 
-use btr_keys::{Inode, Key};
-use btr_names::InodeFound;
-use btr_walk::{MapRange, Notes, Tree, note_items};
-use outside::{BlockSource, BtrAnswer, Memory};
+use btr_reader_names::InodeFound;
+use btr_reader_walk::{
+    BlockSource, BtrAnswer, Inode, Key, MapRange, Memory, Notes, Tree, note_items,
+};
 use std::alloc::Global;
 
 /// The kind in the key of an inode item.
@@ -25,7 +25,7 @@ pub struct SoughtInode {
 
 impl Notes for SoughtInode {
     ghost use Rattle.std.specs.Prelude.{◌≡◌};
-    ghost use Rattle.btr_names.specs.Inodes.{inode_item, TellsInode};
+    ghost use Rattle.btr_reader_names.specs.Inodes.{inode_item, TellsInode};
 
     ghost holds = { λ begun sought items. (sought.number ≡ begun.number) × TellsInode sought.first (inode_item items begun.number) };
 

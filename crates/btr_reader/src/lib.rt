@@ -14,6 +14,7 @@ mod image_place;
 mod inodes;
 mod laws;
 mod listing;
+mod metadata_laws;
 mod open;
 mod piece;
 mod placed;
@@ -31,6 +32,7 @@ pub use laws::{
     arrays_read_back, btrfs_rows_are_one, items_decide_btrfs_rows, opened_maps_are_apart,
     opened_maps_are_in_blocks,
 };
+pub use metadata_laws::{metadata_decides, reserved_blocks_are_spare, same_parts_decide};
 pub use piece::Piece;
 pub use roots::{RootFound, RootItems};
 pub use volume::Btrfs;

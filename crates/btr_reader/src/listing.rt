@@ -1,15 +1,14 @@
 ghost use Rattle.std.specs.Prelude.{◌≡◌, IsTrue};
 ghost use Rattle.std.specs.Result.{MatchResult};
-ghost use Rattle.outside.specs.Fault.{HasCauseOf};
-ghost use Rattle.outside.specs.History.{OverTold, block_at};
+ghost use Rattle.btr_reader_walk.specs.outside.Fault.{HasCauseOf};
+ghost use Rattle.btr_reader_walk.specs.outside.History.{OverTold, block_at};
 ghost use Rattle.btr_reader.specs.Parts.{ListsBtrfs, RefusesBtrfsRows};
 
 use crate::open::super_by;
 use crate::volume::Btrfs;
+use btr_reader_walk::{Block, BlockSource, BtrAnswer, BtrRefusal};
 use fs_rows::Rows;
-use outside::{BlockSource, BtrAnswer, BtrRefusal};
 use std::alloc::Global;
-use vol_block::Block;
 
 impl Btrfs {
     /// The rows of the volume of a source whose block 16 was read; that is read no second time.

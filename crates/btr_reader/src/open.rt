@@ -1,10 +1,10 @@
 ghost use Rattle.std.specs.Prelude.{◌≡◌, ◌≤◌, [], Ok, Some, length, take, map, IfOk, IfErr, OnOk};
-ghost use Rattle.outside.specs.Fault.{HasCauseOf};
-ghost use Rattle.outside.specs.History.{OverTold, block_at};
+ghost use Rattle.btr_reader_walk.specs.outside.Fault.{HasCauseOf};
+ghost use Rattle.btr_reader_walk.specs.outside.History.{OverTold, block_at};
 ghost use Rattle.btr_super.specs.Rules.{super_of, NamesNoLog};
-ghost use Rattle.btr_walk.specs.Walks.{LieOn};
+ghost use Rattle.btr_reader_walk.specs.Walks.{LieOn};
 ghost use Rattle.btr_reader.specs.Chunks.{range_of};
-ghost use Rattle.btr_names.specs.Refuses.{IsNoFault};
+ghost use Rattle.btr_reader_names.specs.Refuses.{IsNoFault};
 ghost use Rattle.btr_reader.specs.Opening.{form_of, chunk_tree, root_tree, super_on, boot_chunks, opening_refusals, boot_refusals, IsOpened, IsAmong, IsInBounds, IsSuperAnswer, NamesNoLogTree};
 ghost use Rattle.btr_reader.specs.Volume.{IsVolumeOn};
 
@@ -13,12 +13,12 @@ use crate::chunk::{ChunkAt, add_chunks};
 use crate::chunk_tree::read_chunks;
 use crate::roots::read_roots;
 use crate::volume::Btrfs;
+use btr_reader_walk::{
+    Block, BlockNo, BlockSource, BtrAnswer, BtrRefusal, BtrRule, Form, MapRange, Pointer, SumKind,
+    Tree,
+};
 use btr_super::{Super, sum_kind};
-use btr_walk::{Form, MapRange, Pointer, Tree};
-use csum_kinds::SumKind;
-use outside::{BlockSource, BtrAnswer, BtrRefusal, BtrRule};
 use std::alloc::Global;
-use vol_block::{Block, BlockNo};
 
 /// The place of the first superblock.
 const SUPER_PLACE: BlockNo = 16;

@@ -1,32 +1,31 @@
 ghost use Rattle.std.specs.Prelude.{◌≡◌, ◌≤◌, ◌<◌, ℕ, Bool, Option, List, map, take, length, slice_get, Some, nat_eq, IfErr, IfOk};
 ghost use Rattle.std.specs.Result.{MatchResult};
-ghost use Rattle.outside.specs.History.{Image};
+ghost use Rattle.btr_reader_walk.specs.outside.History.{Image};
 ghost use Rattle.fs_rows.specs.Rows.{row_of};
 ghost use Rattle.fs_rows.specs.declared.row.Kind.{Kind as KindOf};
 ghost use Rattle.fs_rows.specs.declared.row.Kind.TheVariants.{Symlink};
 ghost use Rattle.fs_rows.specs.declared.row.Row.{Row as RowOf};
 ghost use Rattle.indexmap.specs.IndexMap.{get};
-ghost use Rattle.path_list.specs.declared.link.PathTo.{PathTo as PathOf};
-ghost use Rattle.path_list.specs.declared.node.NodeId.{NodeId as NodeOf};
-ghost use Rattle.path_list.specs.Paths.{ArePaths};
-ghost use Rattle.btr_walk.specs.Events.{TreeItem};
-ghost use Rattle.btr_walk.specs.declared.map.MapRange.{MapRange as RangeOf};
-ghost use Rattle.btr_names.specs.Inodes.{kind_of_mode};
-ghost use Rattle.btr_names.specs.Steps.{inode_node, links_of};
-ghost use Rattle.btr_contents.specs.Contents.{wanted_inode, HasContents};
-ghost use Rattle.btr_contents.specs.declared.wanted.Wanted.{Wanted as WantedOf};
+ghost use Rattle.fs_paths.specs.declared.link.PathTo.{PathTo as PathOf};
+ghost use Rattle.fs_paths.specs.declared.node.NodeId.{NodeId as NodeOf};
+ghost use Rattle.fs_paths.specs.Paths.{ArePaths};
+ghost use Rattle.btr_reader_walk.specs.Events.{TreeItem};
+ghost use Rattle.btr_reader_walk.specs.declared.map.MapRange.{MapRange as RangeOf};
+ghost use Rattle.btr_reader_names.specs.Inodes.{kind_of_mode};
+ghost use Rattle.btr_reader_names.specs.Steps.{inode_node, links_of};
+ghost use Rattle.btr_reader_contents.specs.Contents.{wanted_inode, HasContents};
+ghost use Rattle.btr_reader_contents.specs.declared.wanted.Wanted.{Wanted as WantedOf};
 ghost use Rattle.btr_reader.specs.Made.{IsMemory, IsReadTree, bytes_at, made_row};
 ghost use Rattle.fs_rows.specs.Content.{IsContent};
-ghost use Rattle.btr_names.specs.Refuses.{IsNoFault};
+ghost use Rattle.btr_reader_names.specs.Refuses.{IsNoFault};
 
 use crate::refused::refused;
 use crate::row::{inode_row, tree_row};
-use btr_contents::{Contents, wanted_inode};
-use btr_keys::Inode;
-use btr_names::{Names, ROOT, kind_of_mode};
+use btr_reader_contents::{Contents, wanted_inode};
+use btr_reader_names::{Names, ROOT, kind_of_mode};
+use btr_reader_walk::{BtrAnswer, BtrRule, Inode, Memory};
+use fs_paths::PathTo;
 use fs_rows::{Content, Row, Rows, Spot, no_content};
-use outside::{BtrAnswer, BtrRule, Memory};
-use path_list::PathTo;
 use std::alloc::Global;
 
 /// The row at a path, behind those of the paths before it.

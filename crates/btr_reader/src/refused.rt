@@ -1,8 +1,8 @@
 ghost use Rattle.std.specs.Prelude.{◌≡◌};
-ghost use Rattle.outside.specs.declared.answer.BtrAnswer.TheVariants.{Refused};
-ghost use Rattle.outside.specs.declared.refusal.BtrRefusal.TheVariants.{BadBtrfs};
+ghost use Rattle.btr_reader_walk.specs.refusals.declared.answer.BtrAnswer.TheVariants.{Refused};
+ghost use Rattle.btr_reader_walk.specs.refusals.declared.refusal.BtrRefusal.TheVariants.{BadBtrfs};
 
-use outside::{BtrAnswer, BtrRefusal, BtrRule};
+use btr_reader_walk::{BtrAnswer, BtrRefusal, BtrRule};
 
 /// What is answered where the node at an address breaks a rule.
 pub fn refused(address: u64, rule: BtrRule) -> BtrAnswer

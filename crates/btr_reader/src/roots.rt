@@ -1,19 +1,19 @@
 ghost use Rattle.std.specs.Prelude.{◌≡◌, ◌≤◌, ◌++◌, ◌∷◌, ◌||◌, [], ℕ, List, Option, if◌then◌else◌, Some, None, nat_eq, IfOk, IfErr, OnOk, IsTrue};
 ghost use Rattle.indexmap.specs.IndexMap.{get};
 ghost use Rattle.indexmap.specs.IndexSet.{contains};
-ghost use Rattle.outside.specs.Fault.{HasCauseOf};
-ghost use Rattle.outside.specs.History.{Image, OverTold};
-ghost use Rattle.btr_node.specs.NodeSize.{IsNodeSize};
-ghost use Rattle.btr_walk.specs.Events.{TreeItem};
-ghost use Rattle.btr_walk.specs.Walks.{LieOn, found, wrong};
+ghost use Rattle.btr_reader_walk.specs.outside.Fault.{HasCauseOf};
+ghost use Rattle.btr_reader_walk.specs.outside.History.{Image, OverTold};
+ghost use Rattle.btr_reader_walk.specs.btr_node.NodeSize.{IsNodeSize};
+ghost use Rattle.btr_reader_walk.specs.Events.{TreeItem};
+ghost use Rattle.btr_reader_walk.specs.Walks.{LieOn, found, wrong};
 ghost use Rattle.btr_reader.specs.Opening.{IsAmong, NamesNoLogTree};
 ghost use Rattle.btr_reader.specs.Roots.{pointer_of, root_pointer, HasRoots, found_root};
 
-use btr_keys::Key;
+use btr_reader_walk::{
+    BlockSource, BtrAnswer, Key, MapRange, Memory, Notes, Pointer, Tree, note_items,
+};
 use btr_space_items::RootItem;
-use btr_walk::{MapRange, Notes, Pointer, Tree, note_items};
 use indexmap::{IndexMap, IndexSet};
-use outside::{BlockSource, BtrAnswer, Memory};
 use std::alloc::Global;
 
 /// The kind in the key of a root item.

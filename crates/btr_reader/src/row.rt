@@ -5,9 +5,8 @@ ghost use Rattle.btr_reader.specs.Made.{row_by};
 ghost use Rattle.fs_rows.specs.Content.{IsContent};
 ghost use Rattle.btr_reader.specs.Rows.{has_flag, time_of, subvolume_row};
 
-use btr_keys::{Inode, Stamp};
+use btr_reader_walk::{Inode, Memory, Stamp};
 use fs_rows::{Content, Kind, Name, Path, Row, Spot, Time};
-use outside::Memory;
 use std::alloc::Global;
 
 /// The row of an inode.

@@ -1,10 +1,10 @@
 ghost use Rattle.std.specs.Prelude.{◌≤◌, IsTrue};
-ghost use Rattle.btr_walk.specs.Stack.{is_node_size};
-ghost use Rattle.btr_walk.specs.Walks.{LieOn};
+ghost use Rattle.btr_reader_walk.specs.Stack.{is_node_size};
+ghost use Rattle.btr_reader_walk.specs.Walks.{LieOn};
 
 use crate::roots::RootItems;
+use btr_reader_walk::MapRange;
 use btr_super::Super;
-use btr_walk::MapRange;
 
 /// An opened Btrfs volume: its superblock, the map of its addresses, and the root items of its trees.
 #[derive(Drop)]

@@ -1,3 +1,4 @@
+pub use Rattle.btr_keys.proofs as btr_keys
 pub mod Inline
 pub mod InlineLaw
 pub mod Records

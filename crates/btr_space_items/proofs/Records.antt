@@ -4,7 +4,7 @@ use Rattle.std.proofs.lemmas.Bool.{le-ltb}
 use Rattle.std.proofs.lemmas.List.{take_at, append-nil}
 use Rattle.byteorder.specs.Endian.{little_bytes}
 use Rattle.byteorder.specs.Numbers.{little_number-reads_back}
-use Rattle.vol_block.specs.Volume.{field}
+use Rattle.btr_keys.specs.vol_block.Volume.{field}
 use Rattle.btr_keys.specs.Key.{key_layout}
 use Rattle.btr_keys.specs.Stamp.{stamp_layout}
 use Rattle.btr_keys.specs.Inode.{inode_layout}

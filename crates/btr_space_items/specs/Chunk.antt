@@ -1,6 +1,6 @@
 -- Bodies of chunks, as the Btrfs on-disk format documentation has them (struct btrfs_chunk).
 use Rattle.std.specs.Prelude.{ℕ, ◌+◌, ◌*◌, ◌==◌, nat_lt, if◌then◌else◌, List, length, Option, Some, None}
-use Rattle.vol_block.specs.Volume.{field}
+use Rattle.btr_keys.specs.vol_block.Volume.{field}
 use Rattle.btr_keys.specs.Layout.{Layout, made_by, ◌▸◌, u16, u32, u64, part, spelling}
 use Rattle.btr_space_items.specs.Stripe.{stripe_layout}
 use Rattle.btr_space_items.specs.declared.stripe.Stripe.{Stripe}

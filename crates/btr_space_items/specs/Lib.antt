@@ -1,10 +1,11 @@
+pub use Rattle.btr_keys.specs as btr_keys
 pub mod BlockGroup
+pub mod Chunk
 pub mod DevExtent
 pub mod Device
-pub mod Stripe
 pub mod ExtentHead
-pub mod Chunk
-pub mod RootItem
-pub mod RootRef
 pub mod InlineRef
 pub mod Laws
+pub mod RootItem
+pub mod RootRef
+pub mod Stripe

@@ -2,7 +2,7 @@ ghost use Rattle.std.specs.Prelude.{◌≡◌, ◌≤◌, length};
 ghost use Rattle.btr_space_items.specs.Chunk.{chunk_layout, chunk_of, chunk_bytes};
 
 use crate::stripe::Stripe;
-use vol_block::{Field, put_fields, u16_at, u32_at, u64_at};
+use btr_keys::{Field, put_fields, u16_at, u32_at, u64_at};
 
 /// The body of a chunk, key (256, 228, logical address in bytes): 48 bytes, and 32 for each stripe, as the Btrfs on-disk
 /// format documentation has it.

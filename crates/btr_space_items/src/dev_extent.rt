@@ -1,7 +1,7 @@
 ghost use Rattle.std.specs.Prelude.{◌≡◌, length};
 ghost use Rattle.btr_space_items.specs.DevExtent.{dev_extent_of, dev_extent_bytes};
 
-use vol_block::{Field, array_at, put_fields, u64_at};
+use btr_keys::{Field, array_at, put_fields, u64_at};
 
 /// The body of a device extent, key (device, 204, physical address in bytes): 48 bytes, as the Btrfs on-disk format
 /// documentation has it.

@@ -1,7 +1,7 @@
 ghost use Rattle.std.specs.Prelude.{◌≡◌, ◌+◌, ◌≤◌, length};
 ghost use Rattle.btr_space_items.specs.Device.{device_layout, device_at, device_of, device_bytes};
 
-use vol_block::{Field, array_at, put_fields, u32_at, u64_at};
+use btr_keys::{Field, array_at, put_fields, u32_at, u64_at};
 
 /// The body of a device, key (1, 216, device): 98 bytes, as the Btrfs on-disk format documentation has it.
 #[derive(Clone, Copy, Debug, PartialEq, Eq)]

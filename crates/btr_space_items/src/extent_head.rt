@@ -1,7 +1,7 @@
 ghost use Rattle.std.specs.Prelude.{◌≡◌, length};
 ghost use Rattle.btr_space_items.specs.ExtentHead.{extent_head_of, extent_head_bytes};
 
-use vol_block::{Field, put_fields, u64_at};
+use btr_keys::{Field, put_fields, u64_at};
 
 /// The first 24 bytes of an extent, key (logical address, 168, length), or of a metadata extent, key (logical address,
 /// 169, level), as the Btrfs on-disk format documentation has it. References stand behind it.

@@ -10,8 +10,8 @@ ghost use Rattle.btr_space_items.specs.InlineRef.{
   inline_refs_of,
 };
 
+use btr_keys::{Field, put_fields, u32_at, u64_at};
 use std::marker::Model;
-use vol_block::{Field, put_fields, u32_at, u64_at};
 
 /// A reference to an extent that stands in the extent's item, as the Btrfs on-disk format documentation has it.
 #[derive(Clone, Copy, Debug, PartialEq, Eq)]

@@ -1,7 +1,7 @@
 ghost use Rattle.std.specs.Prelude.{◌≡◌, ◌+◌, ◌≤◌, length};
 ghost use Rattle.btr_space_items.specs.Stripe.{stripe_layout, stripe_at, stripe_of, stripe_bytes};
 
-use vol_block::{Field, array_at, put_fields, u64_at};
+use btr_keys::{Field, array_at, put_fields, u64_at};
 
 /// Where a chunk lies on a device: 32 bytes, as the Btrfs on-disk format documentation has it.
 #[derive(Clone, Copy, Debug, PartialEq, Eq)]

@@ -4,7 +4,7 @@ use Rattle.std.specs.Prelude.{IsOk}
 use Rattle.csum_kinds.specs.Kind.{kind_sum}
 use Rattle.csum_kinds.specs.declared.kind.SumKind.{SumKind}
 use Rattle.csum_kinds.specs.declared.kind.SumKind.TheVariants.{Crc32c}
-use Rattle.outside.specs.declared.refusal.BtrRefusal.{BtrRefusal}
+use Rattle.refusals.specs.declared.refusal.BtrRefusal.{BtrRefusal}
 use Rattle.btr_super.specs.Rules.{failing, unless_refused}
 
 pub sum_length : (kind : SumKind) (bytes : List ℕ) → length (kind_sum kind bytes) ≡ 32

@@ -5,14 +5,14 @@ use Rattle.std.proofs.lemmas.List.{take_at, drop_at, drop-drop, drop-append-le, 
 use Rattle.std.specs.List.{starts_with}
 use Rattle.byteorder.specs.Endian.{little_number, little_bytes}
 use Rattle.byteorder.specs.Numbers.{little_number-reads_back}
-use Rattle.vol_block.specs.Volume.{put_field}
-use Rattle.vol_block.specs.Format.{has_bytes_at}
+use Rattle.refusals.specs.vol_block.Volume.{put_field}
+use Rattle.refusals.specs.vol_block.Format.{has_bytes_at}
 use Rattle.csum_kinds.specs.Kind.{kind_sum}
 use Rattle.csum_kinds.specs.declared.kind.SumKind.{SumKind}
-use Rattle.outside.specs.declared.refusal.BtrRefusal.{BtrRefusal}
-use Rattle.outside.specs.declared.refusal.BtrRefusal.TheVariants.{BadBtrfs, Unsupported}
-use Rattle.outside.specs.declared.rule.BtrRule.TheVariants.{SuperCsum}
-use Rattle.outside.specs.declared.rule.Feature.TheVariants.{ChecksumType}
+use Rattle.refusals.specs.declared.refusal.BtrRefusal.{BtrRefusal}
+use Rattle.refusals.specs.declared.refusal.BtrRefusal.TheVariants.{BadBtrfs, Unsupported}
+use Rattle.refusals.specs.declared.rule.BtrRule.TheVariants.{SuperCsum}
+use Rattle.refusals.specs.declared.rule.Feature.TheVariants.{ChecksumType}
 use Rattle.btr_space_items.specs.Device.{device_layout}
 use Rattle.btr_super.specs.declared.superblock.Super.{Super}
 use Rattle.btr_super.specs.Sums.{known_kind, csum_type_of, has_sum, sealed_by}

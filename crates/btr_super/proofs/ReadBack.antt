@@ -4,12 +4,12 @@ use Rattle.std.proofs.lemmas.Bool.{lt-ltb}
 use Rattle.std.proofs.lemmas.List.{drop_at, drop-drop}
 use Rattle.std.specs.List.{starts_with}
 use Rattle.byteorder.specs.Endian.{little_number, little_bytes}
-use Rattle.vol_block.specs.Volume.{field}
-use Rattle.vol_block.specs.Format.{has_bytes_at}
+use Rattle.refusals.specs.vol_block.Volume.{field}
+use Rattle.refusals.specs.vol_block.Format.{has_bytes_at}
 use Rattle.csum_kinds.specs.Kind.{kind_sum}
-use Rattle.outside.specs.declared.refusal.BtrRefusal.{BtrRefusal}
-use Rattle.btr_keys.specs.Layout.{spelling}
-use Rattle.btr_keys.proofs.Layouts.{Reads, start, ◌▹◌, u8_reads, u16_reads, u32_reads, u64_reads, array_reads, part_reads}
+use Rattle.refusals.specs.declared.refusal.BtrRefusal.{BtrRefusal}
+use Rattle.btr_space_items.specs.btr_keys.Layout.{spelling}
+use Rattle.btr_space_items.proofs.btr_keys.Layouts.{Reads, start, ◌▹◌, u8_reads, u16_reads, u32_reads, u64_reads, array_reads, part_reads}
 use Rattle.btr_space_items.proofs.Records.{device_reads}
 use Rattle.btr_super.specs.declared.superblock.Super.{Super}
 use Rattle.btr_super.specs.Sums.{known_kind, csum_type_of, has_sum, sealed_by}

@@ -1,6 +1,6 @@
 -- Bytes of a record that belong to no field.
 use Rattle.std.specs.Prelude.{ℕ, ◌+◌, List, ◌++◌, length}
-use Rattle.btr_keys.specs.Layout.{Layout}
+use Rattle.btr_space_items.specs.btr_keys.Layout.{Layout}
 
 -- the same bytes in each record: written as they are, and not looked at
 infixl 10 ◌▸▸◌

@@ -1,5 +1,5 @@
 pub mod Constant
+pub mod Laws
+pub mod Rules
 pub mod Sums
 pub mod Super
-pub mod Rules
-pub mod Laws

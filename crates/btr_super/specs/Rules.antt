@@ -1,10 +1,10 @@
 -- The rules of a superblock that is read, each a test and what is answered where it fails, in their order.
 use Rattle.std.specs.Prelude.{ℕ, ◌+◌, ◌-◌, ◌*◌, ◌%◌, ◌^◌, ◌==◌, nat_lt, nat_le, Bool, ◌&&◌, ◌||◌, if◌then◌else◌, bit_and, List, [], ◌∷◌, ◌++◌, codes, is_some, Result, Ok, Err}
-use Rattle.outside.specs.declared.refusal.BtrRefusal.{BtrRefusal}
-use Rattle.outside.specs.declared.refusal.BtrRefusal.TheVariants.{BadBtrfs, Unsupported, LogPending}
-use Rattle.outside.specs.declared.rule.BtrRule.TheVariants.{SuperCsum, SuperField}
-use Rattle.outside.specs.declared.rule.Feature.TheVariants.{Incompat, ChecksumType, SectorSize, NodeSize, DeviceCount}
-use Rattle.vol_block.specs.Format.{has_bytes_at}
+use Rattle.refusals.specs.declared.refusal.BtrRefusal.{BtrRefusal}
+use Rattle.refusals.specs.declared.refusal.BtrRefusal.TheVariants.{BadBtrfs, Unsupported, LogPending}
+use Rattle.refusals.specs.declared.rule.BtrRule.TheVariants.{SuperCsum, SuperField}
+use Rattle.refusals.specs.declared.rule.Feature.TheVariants.{Incompat, ChecksumType, SectorSize, NodeSize, DeviceCount}
+use Rattle.refusals.specs.vol_block.Format.{has_bytes_at}
 use Rattle.btr_super.specs.declared.superblock.Super.{Super}
 use Rattle.btr_super.specs.Sums.{known_kind, csum_type_of, has_sum}
 use Rattle.btr_super.specs.Super.{super_in}

@@ -4,7 +4,7 @@ use Rattle.std.specs.List.{starts_with}
 use Rattle.csum_kinds.specs.Kind.{kind_sum}
 use Rattle.csum_kinds.specs.declared.kind.SumKind.{SumKind}
 use Rattle.csum_kinds.specs.declared.kind.SumKind.TheVariants.{Crc32c}
-use Rattle.vol_block.specs.Volume.{field}
+use Rattle.refusals.specs.vol_block.Volume.{field}
 
 -- the kind of checksum that a type of the Btrfs format is
 abbrev pub known_kind : ℕ → Option SumKind

@@ -1,7 +1,7 @@
 -- The superblock, as the Btrfs on-disk format documentation has it (struct btrfs_super_block).
 use Rattle.std.specs.Prelude.{ℕ, ◌*◌, List, ◌++◌, drop, codes, replicate}
-use Rattle.vol_block.specs.Volume.{put_field}
-use Rattle.btr_keys.specs.Layout.{Layout, made_by, ◌▸◌, u8, u16, u32, u64, array, part, spelling}
+use Rattle.refusals.specs.vol_block.Volume.{put_field}
+use Rattle.btr_space_items.specs.btr_keys.Layout.{Layout, made_by, ◌▸◌, u8, u16, u32, u64, array, part, spelling}
 use Rattle.btr_space_items.specs.Device.{device_layout}
 use Rattle.btr_space_items.specs.declared.device.Device.{Device}
 use Rattle.btr_super.specs.declared.superblock.Super.{Super}

@@ -1,5 +1,5 @@
 ghost use Rattle.std.specs.Prelude.{◌≡◌, ◌≤◌, ◌↔◌, [], length, codes, IsOk, IfErr};
-ghost use Rattle.vol_block.specs.Format.{has_bytes_at};
+ghost use Rattle.refusals.specs.vol_block.Format.{has_bytes_at};
 ghost use Rattle.btr_super.specs.Rules.{
   is_super,
   has_fields,
@@ -16,8 +16,7 @@ ghost use Rattle.btr_super.specs.Rules.{
 
 use crate::sums::{has_sum, sum_kind};
 use crate::superblock::{MAGIC, Super};
-use outside::{BtrRefusal, BtrRule, Feature};
-use vol_block::{Block, BlockNo, u16_at};
+use refusals::{Block, BlockNo, BtrRefusal, BtrRule, Feature, u16_at};
 
 /// The address of the first superblock in bytes, which each refusal names.
 const ADDRESS: u64 = 65536;

@@ -2,7 +2,7 @@ ghost use Rattle.std.specs.Prelude.{◌≡◌, ◌≤◌, drop, length, Some};
 ghost use Rattle.btr_super.specs.Sums.{known_kind, kind_number, has_sum, behind_sum, sealed};
 
 use csum_kinds::{SumKind, kind_sum};
-use vol_block::{Block, u16_at};
+use refusals::{Block, u16_at};
 
 /// The kind of checksum that the superblock's field `csum_type` names; None exactly where it is not known.
 pub fn sum_kind(csum_type: u16) -> Option<SumKind>

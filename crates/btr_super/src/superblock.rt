@@ -1,11 +1,11 @@
 ghost use Rattle.std.specs.Prelude.{◌≡◌, ◌<◌, ◌≤◌, ◌^◌, ◌++◌, replicate, length};
-ghost use Rattle.btr_keys.specs.Layout.{spelling};
+ghost use Rattle.btr_space_items.specs.btr_keys.Layout.{spelling};
 ghost use Rattle.btr_space_items.specs.Device.{device_bytes};
 ghost use Rattle.btr_super.specs.Super.{super_layout, super_in, super_bytes, mirror_bytes};
 
 use crate::sums::seal;
 use btr_space_items::Device;
-use vol_block::{Block, BlockNo, Field, array_at, put_fields, put_u64, u16_at, u32_at, u64_at};
+use refusals::{Block, BlockNo, Field, array_at, put_fields, put_u64, u16_at, u32_at, u64_at};
 
 /// The superblock of a Btrfs volume: block 16 and the copies of it, as the Btrfs on-disk format documentation has it.
 #[derive(Clone, Copy, Debug, PartialEq, Eq)]

@@ -2,22 +2,22 @@
 use Rattle.std.proofs.Common.{◌≡◌, ℕ, zero, suc, Bool, List, [], ◌∷◌, ◌++◌, if◌then◌else◌, map, None, refl, ◌∙◌, ap, subst}
 use Rattle.std.specs.List.{All, flat_map}
 use Rattle.std.proofs.lemmas.List.Elements.{All-nil, All-cons, All-head, All-tail}
-use Rattle.outside.specs.History.{Image}
-use Rattle.outside.specs.declared.refusal.BtrRefusal.{BtrRefusal}
-use Rattle.outside.specs.declared.rule.BtrRule.{BtrRule}
-use Rattle.outside.specs.declared.rule.BtrRule.TheVariants.{Unmapped}
+use Rattle.btr_node.specs.outside.History.{Image}
+use Rattle.btr_node.specs.refusals.declared.refusal.BtrRefusal.{BtrRefusal}
+use Rattle.btr_node.specs.refusals.declared.rule.BtrRule.{BtrRule}
+use Rattle.btr_node.specs.refusals.declared.rule.BtrRule.TheVariants.{Unmapped}
 use Rattle.btr_node.specs.Leaf.{items_in}
 use Rattle.btr_node.specs.Inner.{children_in}
 use Rattle.btr_node.specs.declared.child.Child.{Child}
-use Rattle.btr_walk.specs.declared.tree.Form.{Form}
-use Rattle.btr_walk.specs.declared.tree.Pointer.{Pointer}
-use Rattle.btr_walk.specs.declared.map.MapRange.{MapRange}
-use Rattle.btr_walk.specs.Map.{is_mapped, node_at}
-use Rattle.btr_walk.specs.Node.{want, content_damages, node_damages}
-use Rattle.btr_walk.specs.Events.{Event, node, leaf_events, unless_damaged, node_events, nodes_in, tree_events, may_be_bare, items_in_events}
-use Rattle.btr_walk.specs.Tree.{tree_items, pointer_damages, at_address, node_faults, order_damages, when_sound, bare_item}
-use Rattle.btr_walk.proofs.Events.{nodes_in-append}
-use Rattle.btr_walk.proofs.Subtrees.{to}
+use Rattle.btr_reader_walk.specs.declared.tree.Form.{Form}
+use Rattle.btr_reader_walk.specs.declared.tree.Pointer.{Pointer}
+use Rattle.btr_reader_walk.specs.declared.map.MapRange.{MapRange}
+use Rattle.btr_reader_walk.specs.Map.{is_mapped, node_at}
+use Rattle.btr_reader_walk.specs.Node.{want, content_damages, node_damages}
+use Rattle.btr_reader_walk.specs.Events.{Event, node, leaf_events, unless_damaged, node_events, nodes_in, tree_events, may_be_bare, items_in_events}
+use Rattle.btr_reader_walk.specs.Tree.{tree_items, pointer_damages, at_address, node_faults, order_damages, when_sound, bare_item}
+use Rattle.btr_reader_walk.proofs.Events.{nodes_in-append}
+use Rattle.btr_reader_walk.proofs.Subtrees.{to}
 
 all_first : {X : Type 0} (P : X → Type 0) (xs ys : List X) → All P (xs ++ ys) → All P xs
 all_first P [] ys all = All-nil P

@@ -10,18 +10,18 @@ use Rattle.btr_node.specs.Leaf.{Item, keys_of}
 use Rattle.btr_node.specs.NodeSize.{IsNodeSize}
 use Rattle.btr_node.specs.Order.{Ascends, ascends}
 use Rattle.btr_node.specs.declared.child.Child.{Child}
-use Rattle.btr_walk.specs.Laws.{IsSubtree, SubtreesAreTrees}
-use Rattle.btr_walk.specs.Events.{may_be_bare, nodes_in, pointer_events}
-use Rattle.btr_walk.specs.Map.{identity}
-use Rattle.btr_walk.specs.Node.{child_pointer}
-use Rattle.btr_walk.specs.declared.tree.Pointer.{Pointer}
+use Rattle.btr_reader_walk.specs.Laws.{IsSubtree, SubtreesAreTrees}
+use Rattle.btr_reader_walk.specs.Events.{may_be_bare, nodes_in, pointer_events}
+use Rattle.btr_reader_walk.specs.Map.{identity}
+use Rattle.btr_reader_walk.specs.Node.{child_pointer}
+use Rattle.btr_reader_walk.specs.declared.tree.Pointer.{Pointer}
 use Rattle.btr_tree.specs.Building.{Made, StandAt, pointer_to}
 use Rattle.btr_tree.specs.Packing.{fan_out, level_sizes}
 use Rattle.btr_tree.specs.Roots.{AreRoots, IsExtended, HasRoots, IsRaised, IsRoot, HasNodes, AreFirst, nodes_below, pointers_to, level_pointers}
 use Rattle.std.specs.List.Sorted.{IsPermutation}
 use Rattle.std.proofs.lemmas.List.Sorted.{IsPermutation-refl, IsPermutation-trans, IsPermutation-append_right, IsPermutation-append_comm}
 use Rattle.std.proofs.lemmas.List.Sums.{sum_by_push}
-use Rattle.outside.specs.History.{Image}
+use Rattle.btr_node.specs.outside.History.{Image}
 use Rattle.btr_tree.proofs.Meeting.{below_one, levels_more}
 use Rattle.btr_tree.proofs.KeyOrder.{heads_ascend}
 use Rattle.btr_tree.proofs.RaisingLoop.{extended_none, stand_front}

@@ -2,11 +2,11 @@
 use Rattle.std.proofs.Common.{◌≡◌, ℕ, ◌+◌, ◌^◌, ◌<◌, ◌≤◌, Bool, List, length, get_or, sym, ◌∙◌, subst, arith}
 use Rattle.std.specs.List.{sum}
 use Rattle.std.specs.Int.{div_ceil}
-use Rattle.outside.specs.History.{Image}
+use Rattle.btr_node.specs.outside.History.{Image}
 use Rattle.btr_node.specs.Inner.{first_keys}
 use Rattle.btr_node.specs.Order.{Ascends}
 use Rattle.btr_node.specs.declared.child.Child.{Child}
-use Rattle.btr_walk.specs.Laws.{SubtreesAreTrees}
+use Rattle.btr_reader_walk.specs.Laws.{SubtreesAreTrees}
 use Rattle.btr_tree.specs.Building.{Made, Goes, HasBack, taken, whole}
 use Rattle.btr_tree.specs.Packing.{fan_out, tree_levels}
 use Rattle.btr_tree.specs.Roots.{IsRaised, IsClimbed, HasForest, IsRoot, HasNodes}

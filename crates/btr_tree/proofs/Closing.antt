@@ -3,11 +3,11 @@ use Rattle.std.proofs.Common.{◌≡◌, ℕ, ◌<◌, Bool, List, [], ◌∷◌
 use Rattle.std.specs.Prelude.{MatchOption, IfOk}
 use Rattle.std.specs.List.{flat_map}
 use Rattle.std.proofs.lemmas.List.{length_push}
-use Rattle.outside.specs.History.{Image}
+use Rattle.btr_node.specs.outside.History.{Image}
 use Rattle.btr_node.specs.Draft.{node_bytes}
 use Rattle.btr_node.specs.Leaf.{Item, items_in}
 use Rattle.btr_node.specs.declared.child.Child.{Child}
-use Rattle.btr_walk.specs.Laws.{LeavesGiveItems}
+use Rattle.btr_reader_walk.specs.Laws.{LeavesGiveItems}
 use Rattle.btr_tree.specs.Building.{ReadsBack, Goes, HasBack, taken, whole}
 use Rattle.btr_tree.specs.Builder.{Building, Standing, Holds, IsIdle, IsInHand, all_made, leaf_closed}
 use Rattle.btr_tree.specs.Counting.{tree_nodes, nodes_above}

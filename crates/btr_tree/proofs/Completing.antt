@@ -6,7 +6,7 @@ use Rattle.btr_node.specs.Draft.{node_bytes}
 use Rattle.btr_node.specs.Leaf.{items_in}
 use Rattle.btr_node.specs.NodeSize.{IsNodeSize}
 use Rattle.btr_node.specs.declared.child.Child.{Child}
-use Rattle.btr_walk.specs.Laws.{LeavesGiveItems, SubtreesAreTrees}
+use Rattle.btr_reader_walk.specs.Laws.{LeavesGiveItems, SubtreesAreTrees}
 use Rattle.btr_tree.specs.Building.{Made, AreSlots, begun_at, with_node, ReadsBack}
 use Rattle.btr_tree.specs.Builder.{Building, pushed, leaf_closed, IsInHand, IsNextSlot, Standing}
 use Rattle.btr_tree.specs.Counting.{tree_nodes, nodes_above}

@@ -2,10 +2,10 @@
 use Rattle.std.proofs.Common.{◌≡◌, ℕ, Bool, List, [], ◌++◌, length, IsTrue, sym, ◌∙◌, ap, subst, arith}
 use Rattle.std.proofs.lemmas.List.{append-nil}
 use Rattle.std.specs.List.Sorted.{IsPermutation}
-use Rattle.outside.specs.History.{Image}
+use Rattle.btr_node.specs.outside.History.{Image}
 use Rattle.btr_node.specs.Leaf.{Item}
-use Rattle.btr_walk.specs.Events.{nodes_in, tree_events}
-use Rattle.btr_walk.specs.Map.{identity}
+use Rattle.btr_reader_walk.specs.Events.{nodes_in, tree_events}
+use Rattle.btr_reader_walk.specs.Map.{identity}
 use Rattle.btr_tree.specs.Building.{Made, StandAt, Goes, HasBack, pointer_to, taken, whole}
 use Rattle.btr_tree.specs.Builder.{Building, Standing, Holds, pushed, all_made, HasTree}
 use Rattle.btr_tree.specs.Counting.{tree_nodes}

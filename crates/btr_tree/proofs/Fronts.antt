@@ -1,8 +1,8 @@
 -- The nodes that were written, and those that are held.
 use Rattle.std.proofs.Common.{◌≡◌, ℕ, ◌+◌, ◌<◌, ◌≤◌, Bool, List, [], ◌++◌, length, take, IsTrue, refl, sym, ◌∙◌, ap, subst, arith, length-append}
 use Rattle.std.proofs.lemmas.List.{append-nil}
-use Rattle.outside.specs.History.{Image, History, WritesOnly}
-use Rattle.outside.proofs.Crash.{writes_then, writes_weaker}
+use Rattle.btr_node.specs.outside.History.{Image, History, WritesOnly}
+use Rattle.btr_node.proofs.outside.Crash.{writes_then, writes_weaker}
 use Rattle.btr_tree.specs.Building.{Made, StandAt, Goes, IsLater, taken, flushed}
 use Rattle.btr_tree.specs.Writing.{IsInSlots}
 use Rattle.std.proofs.lemmas.List.{length-take, get_or-take}

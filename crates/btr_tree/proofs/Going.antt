@@ -3,11 +3,11 @@ use Rattle.std.proofs.Common.{◌≡◌, ℕ, zero, suc, ◌+◌, ◌<◌, ◌�
 use Rattle.std.specs.List.{flat_map}
 use Rattle.std.specs.Prelude.{MatchOption}
 use Rattle.std.proofs.lemmas.List.{length-map, length-take, length_push}
-use Rattle.outside.specs.History.{Image}
+use Rattle.btr_node.specs.outside.History.{Image}
 use Rattle.btr_node.specs.Leaf.{Item, items_in}
 use Rattle.btr_node.specs.declared.child.Child.{Child}
-use Rattle.btr_walk.specs.Map.{identity, node_at}
-use Rattle.btr_walk.specs.declared.tree.Form.{Form}
+use Rattle.btr_reader_walk.specs.Map.{identity, node_at}
+use Rattle.btr_reader_walk.specs.declared.tree.Form.{Form}
 use Rattle.btr_tree.specs.Building.{Made, StandAt, Goes, HasBack, IsLater, slot, whole, nodes_on}
 use Rattle.btr_tree.specs.Builder.{Building, Standing, Stands, Holds, IsReady, IsPushed, HasPut, IsIdle, IsInHand, pushed, pushed_on, told_nodes, all_made, leaves_of}
 use Rattle.btr_tree.specs.Laws.{StandsBySlots}

@@ -3,15 +3,15 @@ use Rattle.std.proofs.Common.{◌≡◌, ℕ, ◌+◌, ◌<◌, ◌≤◌, true,
 use Rattle.std.specs.Prelude.{MatchOption}
 use Rattle.std.specs.List.{flat_map, slice_get}
 use Rattle.std.proofs.lemmas.List.{length-map, length_push}
-use Rattle.outside.specs.History.{Image}
-use Rattle.btr_keys.specs.declared.key.Key.{Key}
+use Rattle.btr_node.specs.outside.History.{Image}
+use Rattle.btr_node.specs.btr_keys.declared.key.Key.{Key}
 use Rattle.btr_node.specs.Draft.{node_bytes, room}
 use Rattle.btr_node.specs.Leaf.{Item, items_in, keys_of}
 use Rattle.btr_node.specs.NodeSize.{IsNodeSize}
 use Rattle.btr_node.specs.Order.{Ascends, ascends, is_before_first}
 use Rattle.btr_node.specs.declared.child.Child.{Child}
 use Rattle.btr_node.proofs.Rows.{both, joined}
-use Rattle.btr_walk.specs.declared.tree.Form.{Form}
+use Rattle.btr_reader_walk.specs.declared.tree.Form.{Form}
 use Rattle.btr_tree.specs.Building.{Made, AreSlots, IsFresh, ReadsBack, taken, whole, with_item, begun_at, nodes_on}
 use Rattle.btr_tree.specs.Builder.{Building, Standing, Stands, Holds, HasPut, IsIdle, IsInHand, IsNextTaken, pushed, pushed_on, told_nodes, all_made, leaf_begun, leaf_closed, leaves_of}
 use Rattle.btr_tree.proofs.RaisingFronts.{whole_count}

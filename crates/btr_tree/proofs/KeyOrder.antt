@@ -9,7 +9,7 @@ use Rattle.std.specs.Cmp.{nat_cmp_is}
 use Rattle.std.proofs.lemmas.Bool.{cases_order, both_ways}
 use Rattle.std.proofs.lemmas.List.{map-append}
 use Rattle.std.proofs.lemmas.List.Elements.{All-head, All-tail}
-use Rattle.btr_keys.specs.declared.key.Key.{Key}
+use Rattle.btr_node.specs.btr_keys.declared.key.Key.{Key}
 use Rattle.btr_node.specs.Leaf.{Item, keys_of}
 use Rattle.btr_node.specs.Order.{is_before, is_before_first, ascends, Ascends}
 use Rattle.btr_node.proofs.Ascending.{second_ascends}

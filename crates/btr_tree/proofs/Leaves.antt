@@ -6,7 +6,7 @@ use Rattle.std.proofs.lemmas.Bool.{or_right, lt-ltb, cases_lt}
 use Rattle.std.proofs.lemmas.List.{append-nil, take_more, length-map, length_push, map-append}
 use Rattle.std.proofs.lemmas.List.Sums.{sum_by-cons}
 use Rattle.std.proofs.lemmas.List.Elements.{All-nil, All-cons, All-head, All-tail}
-use Rattle.outside.specs.History.{Image}
+use Rattle.btr_node.specs.outside.History.{Image}
 use Rattle.btr_node.specs.Draft.{node_bytes}
 use Rattle.btr_node.specs.Head.{count, behind_head}
 use Rattle.btr_node.specs.Inner.{first_keys}
@@ -15,17 +15,17 @@ use Rattle.btr_node.specs.NodeSize.{IsNodeSize}
 use Rattle.btr_node.specs.Records.{records_in}
 use Rattle.btr_node.specs.declared.child.Child.{Child}
 use Rattle.btr_node.proofs.Rows.{length-records_in}
-use Rattle.btr_walk.specs.Laws.{IsSubtree, AreSubtrees, LeavesGiveItems, SubtreesAreTrees}
-use Rattle.btr_walk.specs.Map.{identity, is_mapped, node_at}
-use Rattle.btr_walk.specs.Node.{want, child_pointer}
-use Rattle.btr_walk.specs.declared.tree.Form.{Form}
-use Rattle.btr_walk.specs.declared.tree.Pointer.{Pointer}
+use Rattle.btr_reader_walk.specs.Laws.{IsSubtree, AreSubtrees, LeavesGiveItems, SubtreesAreTrees}
+use Rattle.btr_reader_walk.specs.Map.{identity, is_mapped, node_at}
+use Rattle.btr_reader_walk.specs.Node.{want, child_pointer}
+use Rattle.btr_reader_walk.specs.declared.tree.Form.{Form}
+use Rattle.btr_reader_walk.specs.declared.tree.Pointer.{Pointer}
 use Rattle.btr_tree.specs.Building.{Made, AreSlots, slot, pointer_to, begun_at, with_node, ReadsBack}
 use Rattle.btr_tree.specs.Builder.{Building, pushed, first_key, child_of, children_of, IsInHand, IsNextSlot, Standing, item_size}
 use Rattle.btr_tree.specs.Counting.{tree_nodes}
 use Rattle.btr_tree.specs.Packing.{packed_from, packed, weight, capacity, level_sizes, leaves, tree_levels}
 use Rattle.btr_tree.specs.Roots.{HasRoots, IsExtended, IsRoot, HasNodes, AreFirst, nodes_below, pointers_to, level_pointers, lengths_of}
-use Rattle.btr_walk.specs.Events.{may_be_bare, nodes_in, pointer_events}
+use Rattle.btr_reader_walk.specs.Events.{may_be_bare, nodes_in, pointer_events}
 use Rattle.std.specs.List.Sorted.{IsPermutation}
 use Rattle.std.proofs.lemmas.List.Sorted.{IsPermutation-refl}
 use Rattle.btr_tree.proofs.Meeting.{leaf_met}

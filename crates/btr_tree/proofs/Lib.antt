@@ -1,3 +1,5 @@
+pub use Rattle.btr_node.proofs as btr_node
+pub use Rattle.btr_node.proofs.outside as outside
 pub mod Alike
 pub mod Answering
 pub mod Climbing

@@ -6,20 +6,20 @@ use Rattle.std.proofs.lemmas.List.{append-nil, map-append}
 use Rattle.std.proofs.lemmas.List.Concat.{flat_map-append}
 use Rattle.std.proofs.lemmas.List.Sorted.{IsPermutation-append_left, IsPermutation-append_right, IsPermutation-append_comm}
 use Rattle.std.proofs.lemmas.List.Sums.{sum_by-cons}
-use Rattle.outside.specs.History.{Image}
-use Rattle.outside.specs.declared.refusal.BtrRefusal.{BtrRefusal}
-use Rattle.outside.specs.declared.rule.BtrRule.{BtrRule}
+use Rattle.btr_node.specs.outside.History.{Image}
+use Rattle.btr_node.specs.refusals.declared.refusal.BtrRefusal.{BtrRefusal}
+use Rattle.btr_node.specs.refusals.declared.rule.BtrRule.{BtrRule}
 use Rattle.btr_node.specs.Inner.{children_in}
 use Rattle.btr_node.specs.Leaf.{Item, items_in}
 use Rattle.btr_node.specs.declared.child.Child.{Child}
-use Rattle.btr_walk.specs.declared.tree.Form.{Form}
-use Rattle.btr_walk.specs.declared.tree.Pointer.{Pointer}
-use Rattle.btr_walk.specs.Map.{identity, node_at}
-use Rattle.btr_walk.specs.Node.{child_pointer, node_damages}
-use Rattle.btr_walk.specs.Events.{Event, leaf_events, unless_damaged, node_events, nodes_in, pointer_events}
-use Rattle.btr_walk.specs.Tree.{at_address}
-use Rattle.btr_walk.specs.Laws.{IsSubtree}
-use Rattle.btr_walk.proofs.Events.{nodes_in-append, leaf_nodes}
+use Rattle.btr_reader_walk.specs.declared.tree.Form.{Form}
+use Rattle.btr_reader_walk.specs.declared.tree.Pointer.{Pointer}
+use Rattle.btr_reader_walk.specs.Map.{identity, node_at}
+use Rattle.btr_reader_walk.specs.Node.{child_pointer, node_damages}
+use Rattle.btr_reader_walk.specs.Events.{Event, leaf_events, unless_damaged, node_events, nodes_in, pointer_events}
+use Rattle.btr_reader_walk.specs.Tree.{at_address}
+use Rattle.btr_reader_walk.specs.Laws.{IsSubtree}
+use Rattle.btr_reader_walk.proofs.Events.{nodes_in-append, leaf_nodes}
 use Rattle.btr_tree.specs.Building.{Made, pointer_to}
 use Rattle.btr_tree.specs.Roots.{nodes_below, pointers_to, level_pointers}
 

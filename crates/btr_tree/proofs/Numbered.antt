@@ -4,7 +4,7 @@ use Rattle.std.specs.List.{range_with_len}
 use Rattle.std.specs.Cmp.{nat_cmp_is}
 use Rattle.std.specs.Ordering.{ordering_then}
 use Rattle.std.proofs.lemmas.List.FromFn.{get_or-map-range_with_len, length-map-range_with_len, map-range_with_len_more}
-use Rattle.btr_keys.specs.declared.key.Key.{Key}
+use Rattle.btr_node.specs.btr_keys.declared.key.Key.{Key}
 use Rattle.btr_node.specs.Leaf.{Item, keys_of}
 use Rattle.btr_node.specs.Order.{ascends, is_before, Ascends}
 use Rattle.btr_node.proofs.Rows.{joined}

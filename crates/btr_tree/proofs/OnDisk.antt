@@ -8,9 +8,9 @@ use Rattle.std.proofs.lemmas.List.Elements.{All-head, All-tail}
 use Rattle.std.proofs.lemmas.Nat.{mul-le}
 use Rattle.std.proofs.lemmas.List.{length-take, get_or-take}
 use Rattle.std.proofs.lemmas.Option.{get_or_from_slice_get, slice_get_within}
-use Rattle.outside.specs.History.{Image, block_at}
+use Rattle.btr_node.specs.outside.History.{Image, block_at}
 use Rattle.btr_node.specs.NodeSize.{IsNodeSize}
-use Rattle.btr_walk.specs.Map.{place, holds, identity, block_of_place, blocks_at, node_at}
+use Rattle.btr_reader_walk.specs.Map.{place, holds, identity, block_of_place, blocks_at, node_at}
 use Rattle.btr_tree.specs.Building.{pieces_of, AreSlots, slot, nodes_on}
 use Rattle.btr_tree.specs.Writing.{IsInNode, IsInSlots, HoldBytes}
 

@@ -4,25 +4,25 @@ use Rattle.std.specs.Prelude.{All}
 use Rattle.std.specs.List.{flat_map}
 use Rattle.std.proofs.lemmas.Bool.{and_from, le-leb, lt-ltb, eq-eqb}
 use Rattle.std.proofs.lemmas.List.{take-append-drop, take_more, map-append, take-map, drop-map, length_push, get_or_append_left, get_or_push, get_or-take, get_or-drop, length-take, length-drop}
-use Rattle.outside.specs.History.{Image}
+use Rattle.btr_node.specs.outside.History.{Image}
 use Rattle.btr_node.specs.Inner.{IsInner, children_in, first_keys}
 use Rattle.btr_node.specs.Leaf.{Item}
 use Rattle.btr_node.specs.NodeSize.{IsNodeSize}
 use Rattle.btr_node.specs.Order.{Ascends, ascends}
 use Rattle.btr_node.specs.declared.child.Child.{Child}
 use Rattle.btr_node.proofs.Ascending.{first_ascends, second_ascends}
-use Rattle.btr_walk.specs.Laws.{IsSubtree, AreSubtrees, ChildrenGiveItems}
-use Rattle.btr_keys.specs.declared.key.Key.{Key}
+use Rattle.btr_reader_walk.specs.Laws.{IsSubtree, AreSubtrees, ChildrenGiveItems}
+use Rattle.btr_node.specs.btr_keys.declared.key.Key.{Key}
 use Rattle.std.proofs.lemmas.Option.{get_or_from_slice_get, slice_get_within}
 use Rattle.btr_tree.proofs.Standing.{all_push}
-use Rattle.btr_walk.specs.Map.{holds, identity, are_mapped, is_mapped, node_at}
-use Rattle.btr_walk.specs.Node.{want, child_pointer}
-use Rattle.btr_walk.specs.declared.tree.Form.{Form}
-use Rattle.btr_walk.specs.declared.tree.Pointer.{Pointer}
+use Rattle.btr_reader_walk.specs.Map.{holds, identity, are_mapped, is_mapped, node_at}
+use Rattle.btr_reader_walk.specs.Node.{want, child_pointer}
+use Rattle.btr_reader_walk.specs.declared.tree.Form.{Form}
+use Rattle.btr_reader_walk.specs.declared.tree.Pointer.{Pointer}
 use Rattle.btr_tree.specs.Building.{Made, AreSlots, slot, StandAt, pointer_to, IsParent}
 use Rattle.btr_tree.specs.Builder.{first_key}
 use Rattle.btr_tree.specs.Roots.{AreRoots, nodes_below}
-use Rattle.btr_walk.specs.Events.{nodes_in, pointer_events}
+use Rattle.btr_reader_walk.specs.Events.{nodes_in, pointer_events}
 use Rattle.btr_tree.proofs.Meeting.{inner_met, below_one}
 
 -- the keys of the first children ascend, and of any part

@@ -2,10 +2,10 @@
 use Rattle.std.proofs.Common.{◌≡◌, ℕ, zero, suc, ◌+◌, ◌-◌, ◌<◌, ◌≤◌, min, Bool, List, [], ◌∷◌, ◌++◌, length, take, drop, None, refl, sym, ◌∙◌, ap, subst, arith, append_assoc, length-append}
 use Rattle.std.specs.Int.{div_ceil}
 use Rattle.std.specs.List.{slice_get}
-use Rattle.outside.specs.History.{Image}
+use Rattle.btr_node.specs.outside.History.{Image}
 use Rattle.btr_node.specs.NodeSize.{IsNodeSize}
 use Rattle.btr_node.specs.declared.child.Child.{Child}
-use Rattle.btr_walk.specs.Laws.{ChildrenGiveItems}
+use Rattle.btr_reader_walk.specs.Laws.{ChildrenGiveItems}
 use Rattle.btr_tree.specs.Building.{Made, AreSlots, StandAt, Goes, HasBack, IsParentAt, IsParent, taken, whole}
 use Rattle.btr_tree.specs.Packing.{fan_out}
 use Rattle.btr_tree.specs.Roots.{IsRaised}

@@ -10,17 +10,17 @@ use Rattle.std.proofs.lemmas.List.Concat.{flat_map-append}
 use Rattle.std.proofs.lemmas.List.Elements.{All-nil}
 use Rattle.std.proofs.lemmas.Nat.{mul-le}
 use Rattle.std.proofs.lemmas.Option.{slice_get_within, slice_get-get_or, get_or_from_slice_get}
-use Rattle.outside.specs.History.{Image}
+use Rattle.btr_node.specs.outside.History.{Image}
 use Rattle.btr_node.specs.Leaf.{Item}
 use Rattle.btr_node.specs.NodeSize.{IsNodeSize}
 use Rattle.btr_node.specs.declared.child.Child.{Child}
-use Rattle.btr_walk.specs.Laws.{ChildrenGiveItems}
+use Rattle.btr_reader_walk.specs.Laws.{ChildrenGiveItems}
 use Rattle.btr_tree.specs.Building.{Made, AreSlots, StandAt, IsParent, pointer_to}
 use Rattle.btr_tree.specs.Builder.{first_key}
 use Rattle.btr_tree.specs.Packing.{fan_out}
 use Rattle.btr_tree.specs.Roots.{AreRoots, IsExtended, HasRoots, IsRaised, nodes_below, pointers_to}
-use Rattle.btr_walk.specs.Node.{child_pointer}
-use Rattle.btr_walk.specs.declared.tree.Pointer.{Pointer}
+use Rattle.btr_reader_walk.specs.Node.{child_pointer}
+use Rattle.btr_reader_walk.specs.declared.tree.Pointer.{Pointer}
 use Rattle.std.specs.List.Sorted.{IsPermutation}
 use Rattle.std.proofs.lemmas.List.Sorted.{IsPermutation-refl, IsPermutation-trans, IsPermutation-append_left}
 use Rattle.btr_tree.proofs.Meeting.{perm_more, below_append}

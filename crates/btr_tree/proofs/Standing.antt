@@ -7,11 +7,11 @@ use Rattle.std.proofs.lemmas.List.{append-nil, map-append, length-map, get_or_ap
 use Rattle.std.proofs.lemmas.List.Concat.{flat_map-append}
 use Rattle.std.proofs.lemmas.List.Elements.{All-nil, All-cons, All-head, All-tail}
 use Rattle.std.proofs.lemmas.Option.{get_or_from_slice_get, slice_get_within}
-use Rattle.btr_keys.specs.declared.key.Key.{Key}
+use Rattle.btr_node.specs.btr_keys.declared.key.Key.{Key}
 use Rattle.btr_node.specs.Draft.{node_bytes, room}
 use Rattle.btr_node.specs.Leaf.{Item, IsLeaf, items_in, keys_of}
 use Rattle.btr_node.specs.NodeSize.{IsNodeSize}
-use Rattle.btr_walk.specs.declared.tree.Form.{Form}
+use Rattle.btr_reader_walk.specs.declared.tree.Form.{Form}
 use Rattle.btr_node.specs.Order.{Ascends, ascends}
 use Rattle.btr_node.specs.declared.child.Child.{Child}
 use Rattle.btr_node.specs.declared.expect.Expect.{Expect}

@@ -2,15 +2,15 @@
 use Rattle.std.specs.Prelude.{◌≡◌, ℕ, ◌+◌, ◌≤◌, ◌<◌, Bool, true, List, [], ◌∷◌, ◌++◌, length, map, slice_index_or, Option, Some, MatchOption}
 use Rattle.std.specs.List.{slice_get}
 use Rattle.std.specs.List.{All, flat_map}
-use Rattle.outside.specs.History.{Image}
-use Rattle.btr_keys.specs.declared.key.Key.{Key}
+use Rattle.btr_node.specs.outside.History.{Image}
+use Rattle.btr_node.specs.btr_keys.declared.key.Key.{Key}
 use Rattle.btr_node.specs.Draft.{node_bytes}
 use Rattle.btr_node.specs.Leaf.{Item, IsLeaf, items_in, keys_of}
 use Rattle.btr_node.specs.NodeSize.{IsNodeSize}
 use Rattle.btr_node.specs.Order.{Ascends}
 use Rattle.btr_node.specs.declared.child.Child.{Child}
-use Rattle.btr_walk.specs.Map.{identity}
-use Rattle.btr_walk.specs.Tree.{tree_items}
+use Rattle.btr_reader_walk.specs.Map.{identity}
+use Rattle.btr_reader_walk.specs.Tree.{tree_items}
 use Rattle.btr_tree.specs.Building.{Made, AreSlots, slot, taken, whole, nodes_on, pointer_to, expected_at, begun_at, with_node, with_item}
 use Rattle.btr_tree.specs.Packing.{capacity, packed}
 

@@ -2,18 +2,18 @@
 use Rattle.std.specs.Prelude.{◌≡◌, ◌≢◌, ℕ, zero, suc, ◌+◌, ◌*◌, ◌%◌, ◌^◌, ◌≤◌, ◌<◌, false, List, [], ◌∷◌, ◌++◌, length, map, take, drop, slice_index_or, Some, Bool, IsTrue}
 use Rattle.std.specs.List.{slice_get}
 use Rattle.std.specs.List.{All, AllPairs}
-use Rattle.outside.specs.History.{Image}
-use Rattle.btr_keys.specs.declared.key.Key.{Key}
+use Rattle.btr_node.specs.outside.History.{Image}
+use Rattle.btr_node.specs.btr_keys.declared.key.Key.{Key}
 use Rattle.btr_node.specs.Draft.{Draft, started_for}
 use Rattle.btr_node.specs.Inner.{IsInner, children_in}
 use Rattle.btr_node.specs.Leaf.{IsLeaf, items_in}
 use Rattle.btr_node.specs.NodeSize.{IsNodeSize}
 use Rattle.btr_node.specs.declared.child.Child.{Child}
 use Rattle.btr_node.specs.declared.expect.Expect.{Expect}
-use Rattle.btr_walk.specs.Map.{identity, node_at}
-use Rattle.btr_walk.specs.Node.{want}
-use Rattle.btr_walk.specs.declared.tree.Form.{Form}
-use Rattle.btr_walk.specs.declared.tree.Pointer.{Pointer}
+use Rattle.btr_reader_walk.specs.Map.{identity, node_at}
+use Rattle.btr_reader_walk.specs.Node.{want}
+use Rattle.btr_reader_walk.specs.declared.tree.Form.{Form}
+use Rattle.btr_reader_walk.specs.declared.tree.Pointer.{Pointer}
 
 -- the first n pieces of this size
 abbrev pub pieces_of : ℕ → ℕ → List ℕ → List (List ℕ)

@@ -1,14 +1,14 @@
 -- What packing is, and what keeps a tree that is written.
 use Rattle.std.specs.Prelude.{◌≡◌, ℕ, ◌+◌, ◌*◌, ◌/◌, ◌^◌, ◌≤◌, ◌<◌, List, [], ◌∷◌, ◌++◌, Some, length, take, slice_index, slice_index_or}
 use Rattle.std.specs.List.{All, concat}
-use Rattle.outside.specs.History.{Image, block_at}
+use Rattle.btr_node.specs.outside.History.{Image, block_at}
 use Rattle.btr_node.specs.NodeSize.{IsNodeSize}
-use Rattle.btr_walk.specs.declared.map.MapRange.{MapRange}
-use Rattle.btr_walk.specs.declared.tree.Form.{Form}
-use Rattle.btr_walk.specs.declared.tree.Pointer.{Pointer}
-use Rattle.btr_walk.specs.Events.{tree_events, nodes_in}
-use Rattle.btr_walk.specs.Map.{place, identity}
-use Rattle.btr_walk.specs.Tree.{tree_items}
+use Rattle.btr_reader_walk.specs.declared.map.MapRange.{MapRange}
+use Rattle.btr_reader_walk.specs.declared.tree.Form.{Form}
+use Rattle.btr_reader_walk.specs.declared.tree.Pointer.{Pointer}
+use Rattle.btr_reader_walk.specs.Events.{tree_events, nodes_in}
+use Rattle.btr_reader_walk.specs.Map.{place, identity}
+use Rattle.btr_reader_walk.specs.Tree.{tree_items}
 use Rattle.btr_tree.specs.Builder.{Building, Stands, pushed_on}
 use Rattle.btr_tree.specs.Counting.{bytes_of, tree_nodes}
 use Rattle.btr_tree.specs.Packing.{weight, packed}

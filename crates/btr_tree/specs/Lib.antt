@@ -1,3 +1,11 @@
+pub use Rattle.btr_node.specs.btr_keys as btr_keys
+pub use Rattle.btr_node.specs as btr_node
+pub use Rattle.btr_reader_walk.specs as btr_reader_walk
+pub use Rattle.btr_node.specs.castagnoli as castagnoli
+pub use Rattle.btr_node.specs.csum_kinds as csum_kinds
+pub use Rattle.btr_node.specs.outside as outside
+pub use Rattle.btr_node.specs.refusals as refusals
+pub use Rattle.btr_node.specs.vol_block as vol_block
 pub mod Answers
 pub mod Builder
 pub mod Building

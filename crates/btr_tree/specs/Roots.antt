@@ -3,18 +3,18 @@ use Rattle.std.specs.Prelude.{◌≡◌, ℕ, suc, ◌+◌, ◌≤◌, Bool, Lis
 use Rattle.std.specs.List.{All, flat_map, sum}
 use Rattle.std.specs.List.Sorted.{IsPermutation}
 use Rattle.std.specs.Int.{div_ceil}
-use Rattle.outside.specs.History.{Image}
+use Rattle.btr_node.specs.outside.History.{Image}
 use Rattle.btr_node.specs.Draft.{Draft}
 use Rattle.btr_node.specs.Inner.{first_keys}
 use Rattle.btr_node.specs.Leaf.{Item, keys_of}
 use Rattle.btr_node.specs.Order.{Ascends}
 use Rattle.btr_node.specs.declared.child.Child.{Child}
-use Rattle.btr_walk.specs.Laws.{AreSubtrees}
-use Rattle.btr_walk.specs.Map.{identity}
-use Rattle.btr_walk.specs.Node.{child_pointer}
-use Rattle.btr_walk.specs.Tree.{tree_items}
-use Rattle.btr_walk.specs.Events.{nodes_in, pointer_events, tree_events}
-use Rattle.btr_walk.specs.declared.tree.Pointer.{Pointer}
+use Rattle.btr_reader_walk.specs.Laws.{AreSubtrees}
+use Rattle.btr_reader_walk.specs.Map.{identity}
+use Rattle.btr_reader_walk.specs.Node.{child_pointer}
+use Rattle.btr_reader_walk.specs.Tree.{tree_items}
+use Rattle.btr_reader_walk.specs.Events.{nodes_in, pointer_events, tree_events}
+use Rattle.btr_reader_walk.specs.declared.tree.Pointer.{Pointer}
 use Rattle.btr_tree.specs.Building.{Made, StandAt, taken, whole, pointer_to}
 use Rattle.btr_tree.specs.Builder.{Building, pushed, first_key, IsSameTree}
 use Rattle.btr_tree.specs.Counting.{tree_nodes}

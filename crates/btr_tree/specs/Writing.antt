@@ -1,6 +1,6 @@
 -- The blocks of nodes.
 use Rattle.std.specs.Prelude.{◌≡◌, ℕ, ◌+◌, ◌*◌, ◌/◌, ◌≤◌, ◌<◌, List, take, drop, Any}
-use Rattle.outside.specs.History.{Image, block_at}
+use Rattle.btr_node.specs.outside.History.{Image, block_at}
 
 -- a block of the node of so many bytes at an address
 abbrev pub IsInNode : ℕ → ℕ → ℕ → Type 0

@@ -1,4 +1,4 @@
-use outside::{Fault as DeviceFault, Memory as NoMemory};
+use btr_node::{Fault as DeviceFault, Memory as NoMemory};
 use thiserror::Error;
 
 /// Why a tree was not written.

@@ -1,6 +1,6 @@
 ghost use Rattle.std.specs.Prelude.{◌≡◌, ◌≤◌, ◌<◌, ◌+◌, ◌*◌, ◌↔◌, ◌++◌, ◌∷◌, [], List, Some, All, Err, IsErr, IsOk, ℕ, length, take, drop, true, false, None, IfOk, IfSome, OnOk, IsTrue};
-ghost use Rattle.outside.specs.Fault.{HasCauseOf};
-ghost use Rattle.outside.specs.History.{Image, reads, WritesOnly};
+ghost use Rattle.btr_node.specs.outside.Fault.{HasCauseOf};
+ghost use Rattle.btr_node.specs.outside.History.{Image, reads, WritesOnly};
 ghost use Rattle.btr_tree.specs.Writing.{IsInSlots};
 ghost use Rattle.btr_node.specs.Draft.{node_bytes};
 ghost use Rattle.btr_node.specs.Leaf.{Item, keys_of};
@@ -15,15 +15,11 @@ use crate::answer::NodeAnswer;
 use crate::climb::{Root, climb};
 use crate::nodes::Nodes;
 use crate::{Slots, TreeAnswer};
-use btr_keys::Key;
-use btr_node::Child;
-use btr_walk::{Form, leaves_give_items, subtrees_are_trees};
-use csum_kinds::SumKind;
-use outside::{Access, Disk, Memory};
+use btr_node::{Access, Child, Disk, Ids, Key, Memory, SumKind};
+use btr_reader_walk::{Form, leaves_give_items, subtrees_are_trees};
 use std::alloc::Global;
 use std::marker::Model;
 use std::mem::replace;
-use vol_block::Ids;
 
 /// The bytes of an item's head in a leaf.
 const ITEM_SIZE: usize = 25;

@@ -1,7 +1,7 @@
 ghost use Rattle.std.specs.Prelude.{◌≡◌, ◌≤◌, ◌<◌, ◌+◌, ◌*◌, ◌^◌, List, Some, Err, All, length, take, IfOk, IsTrue};
 ghost use Rattle.std.specs.List.{sum};
-ghost use Rattle.outside.specs.Fault.{HasCauseOf};
-ghost use Rattle.outside.specs.History.{reads, WritesOnly};
+ghost use Rattle.btr_node.specs.outside.Fault.{HasCauseOf};
+ghost use Rattle.btr_node.specs.outside.History.{reads, WritesOnly};
 ghost use Rattle.btr_node.specs.NodeSize.{IsNodeSize};
 ghost use Rattle.btr_tree.specs.Building.{AreSlots, IsLater, Goes, taken};
 ghost use Rattle.btr_tree.specs.Packing.{tree_levels};
@@ -11,9 +11,8 @@ ghost use Rattle.btr_tree.specs.Writing.{IsInSlots};
 use crate::answer::TreeAnswer;
 use crate::nodes::Nodes;
 use crate::parents::raise;
-use btr_node::Child;
-use btr_walk::subtrees_are_trees;
-use outside::{Access, Disk};
+use btr_node::{Access, Child, Disk};
+use btr_reader_walk::subtrees_are_trees;
 use std::alloc::Global;
 
 /// The root of a tree that was written.

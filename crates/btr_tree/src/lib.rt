@@ -21,6 +21,10 @@ mod write;
 
 pub use answer::TreeAnswer;
 pub use bound::node_bound;
+pub use btr_node::{
+    Access, Block, BlockSource, CopyList, DirEntry, Disk, Extref, Fault, Ids, Inode, InodeRef, Key,
+    Memory, SumKind, VolAnswer, VolumeRefusal, data_ref_hash, kind_sum, kind_width, name_hash,
+};
 pub use builder::TreeBuilder;
 pub use climb::Root;
 pub use counter::Counter;

@@ -1,6 +1,6 @@
 ghost use Rattle.std.specs.Prelude.{◌≡◌, ◌≤◌, ◌<◌, ◌+◌, ◌*◌, ◌^◌, ◌++◌, ◌∷◌, [], ℕ, List, Some, All, length, take, drop, slice_get, vec_capacity, IfOk, OnOk, IsTrue};
-ghost use Rattle.outside.specs.Fault.{HasCause};
-ghost use Rattle.outside.specs.History.{reads, WritesOnly};
+ghost use Rattle.btr_node.specs.outside.Fault.{HasCause};
+ghost use Rattle.btr_node.specs.outside.History.{reads, WritesOnly};
 ghost use Rattle.btr_tree.specs.Writing.{IsInSlots};
 ghost use Rattle.btr_node.specs.Draft.{room, node_bytes};
 ghost use Rattle.btr_node.specs.Inner.{first_keys};
@@ -14,10 +14,8 @@ use crate::Slots;
 use crate::bound::HEAD_SIZE;
 use crate::counter::CHILD_SIZE;
 use crate::write::write_node;
-use btr_keys::Key;
-use btr_node::{Child, Expect, NodeWriter};
-use btr_walk::Form;
-use outside::{Access, Disk, Fault, Memory};
+use btr_node::{Access, Child, Disk, Expect, Fault, Key, Memory, NodeWriter};
+use btr_reader_walk::Form;
 use std::alloc::Global;
 use std::marker::Model;
 

@@ -1,6 +1,6 @@
 ghost use Rattle.std.specs.Prelude.{◌≡◌, ◌≤◌, ◌<◌, ◌+◌, ◌*◌, ◌++◌, ◌∷◌, [], Some, Err, OnOk, All, length, take, IfOk, IfSome, slice_get, None, IsTrue};
-ghost use Rattle.outside.specs.Fault.{HasCauseOf};
-ghost use Rattle.outside.specs.History.{reads, WritesOnly};
+ghost use Rattle.btr_node.specs.outside.Fault.{HasCauseOf};
+ghost use Rattle.btr_node.specs.outside.History.{reads, WritesOnly};
 ghost use Rattle.btr_node.specs.Inner.{first_keys};
 ghost use Rattle.btr_node.specs.NodeSize.{IsNodeSize};
 ghost use Rattle.btr_node.specs.Order.{Ascends};
@@ -12,9 +12,8 @@ ghost use Rattle.btr_tree.specs.Writing.{IsInSlots};
 
 use crate::answer::{NodeAnswer, TreeAnswer};
 use crate::nodes::Nodes;
-use btr_node::Child;
-use btr_walk::children_give_items;
-use outside::{Access, Disk, Memory};
+use btr_node::{Access, Child, Disk, Memory};
+use btr_reader_walk::children_give_items;
 use std::alloc::Global;
 
 /// Makes the node at the next slot that has these children, and gives the child that it is for the level above: None exactly

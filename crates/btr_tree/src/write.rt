@@ -1,10 +1,9 @@
 ghost use Rattle.std.specs.Prelude.{◌≡◌, ◌≤◌, ◌+◌, ◌*◌, ◌/◌, ◌%◌, Some, length, take, drop, IsTrue, OnOk};
-ghost use Rattle.outside.specs.Fault.{HasCause};
-ghost use Rattle.outside.specs.History.{reads, WritesOnly};
+ghost use Rattle.btr_node.specs.outside.Fault.{HasCause};
+ghost use Rattle.btr_node.specs.outside.History.{reads, WritesOnly};
 ghost use Rattle.btr_tree.specs.Writing.{IsInNode, HoldBytes};
 
-use outside::{Access, Disk, Fault};
-use vol_block::Block;
+use btr_node::{Access, Block, Disk, Fault};
 
 /// The bytes of a block.
 const BLOCK_SIZE: usize = 4096;

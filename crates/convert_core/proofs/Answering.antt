@@ -1,14 +1,14 @@
 -- The answers of the steps as those of the conversion.
 use Rattle.std.proofs.Common.{◌≡◌, ◌⊎◌, ℕ, Result, Ok, Err, inl, inr, refl, sym, ap, subst, ⊎_elim}
 use Rattle.std.specs.Result.{IsErrAnd, MatchResult}
-use Rattle.object_files.specs.Answers.{IsFault}
-use Rattle.outside.specs.declared.answer.Answer.{Answer}
-use Rattle.outside.specs.declared.answer.Answer.TheVariants as answer
-use Rattle.outside.specs.declared.answer.VolAnswer.{VolAnswer}
-use Rattle.outside.specs.declared.answer.VolAnswer.TheVariants as vol
-use Rattle.tree_writer.specs.Answers.{IsFailure}
-use Rattle.tree_writer.specs.declared.answer.WriteAnswer.{WriteAnswer}
-use Rattle.tree_writer.specs.declared.answer.WriteAnswer.TheVariants as writer
+use Rattle.reiser_volume.specs.reiser_volume_contents.Answers.{IsFault}
+use Rattle.convert_steps.specs.command_answers.declared.answer.Answer.{Answer}
+use Rattle.convert_steps.specs.command_answers.declared.answer.Answer.TheVariants as answer
+use Rattle.reiser_volume.specs.refusals.declared.answer.VolAnswer.{VolAnswer}
+use Rattle.reiser_volume.specs.refusals.declared.answer.VolAnswer.TheVariants as vol
+use Rattle.btr_tree_writer.specs.Answers.{IsFailure}
+use Rattle.btr_tree_writer.specs.declared.answer.WriteAnswer.{WriteAnswer}
+use Rattle.btr_tree_writer.specs.declared.answer.WriteAnswer.TheVariants as writer
 use Rattle.convert_steps.specs.Prepared.{IsPrepareAnswer, by_volume}
 use Rattle.convert_core.specs.Answers.{by_writer}
 

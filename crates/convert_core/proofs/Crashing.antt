@@ -1,18 +1,18 @@
 -- What a crash leaves in each phase of a conversion.
 use Rattle.std.proofs.Common.{◌≡◌, ◌≢◌, ◌∙◌, ◌⊎◌, inl, inr, ⊎_elim, ℕ, ◌≤◌, ◌<◌, List, length, refl, sym, ap, subst, arith}
-use Rattle.vol_block.specs.declared.format.Format.TheVariants.{Btrfs}
-use Rattle.vol_block.specs.declared.ids.Ids.{Ids}
-use Rattle.outside.specs.Format.{format_in}
-use Rattle.outside.specs.History.{Image, History, IsSettled, LeftSince, WritesOnly, block_at, clock, reads}
-use Rattle.outside.proofs.Crash.{left_each, writes_length, writes_none}
-use Rattle.outside.proofs.Phases.{left_outside, left_then, left_unwritten, reads_outside}
-use Rattle.btr_node.specs.NodeSize.{IsNodeSize}
-use Rattle.conversion.specs.Source.{HasPieces}
+use Rattle.reiser_volume.specs.vol_block.declared.format.Format.TheVariants.{Btrfs}
+use Rattle.reiser_volume.specs.vol_block.declared.ids.Ids.{Ids}
+use Rattle.reiser_volume.specs.outside.Format.{format_in}
+use Rattle.reiser_volume.specs.outside.History.{Image, History, IsSettled, LeftSince, WritesOnly, block_at, clock, reads}
+use Rattle.reiser_volume.proofs.outside.Crash.{left_each, writes_length, writes_none}
+use Rattle.reiser_volume.proofs.outside.Phases.{left_outside, left_then, left_unwritten, reads_outside}
+use Rattle.unit_plan.specs.btr_node.NodeSize.{IsNodeSize}
+use Rattle.convert_steps.specs.Source.{HasPieces}
 use Rattle.convert_steps.specs.Switch.{HasCopies, IsMirror, IsPart, IsSwitched}
-use Rattle.reiser_super.specs.declared.superblock.Super.{Super}
+use Rattle.reiser_volume.specs.reiser_super.declared.superblock.Super.{Super}
 use Rattle.reiser_volume.specs.Volume.{superblock, used_of}
 use Rattle.reiser_volume.proofs.Holding.{used_length}
-use Rattle.unit_plan.specs.declared.options.Options.{Options}
+use Rattle.convert_options.specs.declared.options.Options.{Options}
 use Rattle.convert_core.specs.Converted.{DiffersInFree, IsBefore, IsConverted, IsConvertible, IsEither, IsFree, IsNew, IsPutDown}
 use Rattle.convert_core.specs.declared.volume.Written.{Written}
 use Rattle.convert_core.proofs.Putting.{convertible, free_before, node_free, piece_some, used_not_free}

@@ -2,14 +2,14 @@
 use Rattle.std.proofs.Common.{◌≡◌, ◌≢◌, ◌⊎◌, ℕ, Ok, Err, sym, subst, ⊎_elim, rules}
 use Rattle.std.specs.Prelude.{IfErr, Result}
 use Rattle.std.specs.Result.{MatchResult}
-use Rattle.outside.specs.Fault.{HasCauseOf}
-use Rattle.vol_block.specs.declared.format.Format.TheVariants.{Btrfs}
-use Rattle.outside.specs.Format.{format_in}
-use Rattle.outside.specs.History.{Image}
-use Rattle.outside.specs.declared.answer.Answer.{Answer}
-use Rattle.outside.specs.declared.answer.Answer.TheVariants as answer
+use Rattle.reiser_volume.specs.outside.Fault.{HasCauseOf}
+use Rattle.reiser_volume.specs.vol_block.declared.format.Format.TheVariants.{Btrfs}
+use Rattle.reiser_volume.specs.outside.Format.{format_in}
+use Rattle.reiser_volume.specs.outside.History.{Image}
+use Rattle.convert_steps.specs.command_answers.declared.answer.Answer.{Answer}
+use Rattle.convert_steps.specs.command_answers.declared.answer.Answer.TheVariants as answer
 use Rattle.convert_steps.specs.Prepared.{IsPrepareAnswer, RefusesConversion}
-use Rattle.unit_plan.specs.declared.options.Options.{Options}
+use Rattle.convert_options.specs.declared.options.Options.{Options}
 use Rattle.convert_core.specs.Answers.{IsConvertAnswer, RefusesConvert}
 
 -- a volume that is not prepared is not converted

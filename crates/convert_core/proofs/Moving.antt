@@ -5,20 +5,20 @@ use Rattle.std.proofs.lemmas.Bool.{both_ways, cases_eq, or_cases, or_left, or_ri
 use Rattle.std.proofs.lemmas.List.Elements.{All-append, All-cons, All-contains, All-drop, All-head, All-nil, All-tail, All-take, All-weaker}
 use Rattle.std.proofs.lemmas.List.Sorted.{Contains-permutation, IsPermutation-sym}
 use Rattle.indexmap.specs.IndexMap.{keys}
-use Rattle.path_list.proofs.Lists.{from_flat_map, from_map}
-use Rattle.outside.specs.History.{Image}
-use Rattle.reiser_bitmap.specs.Bits.{has}
-use Rattle.reiser_bitmap.specs.Units.{IsFreeUnit}
-use Rattle.reiser_bitmap.proofs.Ranges.{all_from_contains}
-use Rattle.reiser_names.specs.Names.{inode_of}
-use Rattle.reiser_objects.specs.declared.key.ObjectKey.{ObjectKey}
+use Rattle.reiser_volume.proofs.fs_paths.Lists.{from_flat_map, from_map}
+use Rattle.reiser_volume.specs.outside.History.{Image}
+use Rattle.reiser_volume.specs.reiser_bitmap.Bits.{has}
+use Rattle.reiser_volume.specs.reiser_bitmap.Units.{IsFreeUnit}
+use Rattle.reiser_volume.proofs.reiser_bitmap.Ranges.{all_from_contains}
+use Rattle.reiser_volume.specs.reiser_volume_names.Names.{inode_of}
+use Rattle.reiser_volume.specs.reiser_volume_objects.declared.key.ObjectKey.{ObjectKey}
 use Rattle.reiser_volume.specs.Volume.{used_of, volume_items}
 use Rattle.reiser_volume.specs.declared.volume.Volume.{Volume}
 use Rattle.reiser_volume.proofs.Holding.{used_length}
 use Rattle.unit_plan.specs.Choice.{is_among, is_chosen}
 use Rattle.unit_plan.specs.Laws.{AreApart, IsSoundPlan}
 use Rattle.unit_plan.specs.Needed.{need}
-use Rattle.unit_plan.specs.declared.options.Options.{Options}
+use Rattle.convert_options.specs.declared.options.Options.{Options}
 use Rattle.unit_plan.specs.declared.piece.Piece.{Piece}
 use Rattle.unit_plan.specs.declared.plan.Plan.{Plan}
 use Rattle.unit_plan.proofs.Sound.{plans_sound}
@@ -35,7 +35,7 @@ use Rattle.extent_pieces.proofs.Lists.{all_at, all_map}
 use Rattle.extent_pieces.proofs.Maximal.{kept_are_maximal}
 use Rattle.extent_pieces.proofs.Once.{IsFileOf, file_of}
 use Rattle.extent_pieces.proofs.Reserving.{at_second, at_third}
-use Rattle.conversion.specs.Source.{HasPieces}
+use Rattle.convert_steps.specs.Source.{HasPieces}
 use Rattle.convert_steps.specs.Moved.{CanMove, HasOwner, IsMovedTo, IsPlace}
 use Rattle.convert_steps.specs.Switch.{IsMirror}
 use Rattle.convert_core.specs.Converted.{IsFree, IsTaken}

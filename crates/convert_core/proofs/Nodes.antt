@@ -5,7 +5,7 @@ use Rattle.std.specs.List.{range_with_len}
 use Rattle.std.proofs.lemmas.List.FromFn.{length-range_with_len}
 use Rattle.std.proofs.lemmas.List.Elements.{All-head, All-tail}
 use Rattle.extent_pieces.proofs.Bounding.{filter_few}
-use Rattle.reiser_bitmap.specs.Units.{free_units, is_free_unit, unit_count}
+use Rattle.reiser_volume.specs.reiser_bitmap.Units.{free_units, is_free_unit, unit_count}
 use Rattle.unit_plan.specs.Choice.{IsSmall}
 use Rattle.unit_plan.specs.Chunks.{FitsVolume}
 use Rattle.unit_plan.specs.Laws.{IsSoundPlan}
@@ -13,7 +13,7 @@ use Rattle.unit_plan.specs.declared.need.Need.{Need}
 use Rattle.unit_plan.specs.declared.piece.Piece.{Piece}
 use Rattle.unit_plan.proofs.Sound.{plans_sound}
 use Rattle.unit_plan.proofs.Uses.{plans_fit}
-use Rattle.volume_trees.specs.Sources.{end_of}
+use Rattle.convert_trees.specs.Sources.{end_of}
 use Rattle.convert_steps.specs.Prepared.{HasPlanFor}
 use Rattle.convert_steps.specs.declared.prepared.Prepared.{Prepared}
 use Rattle.convert_core.specs.Whole.{IsWhole}

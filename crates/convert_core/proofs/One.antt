@@ -6,12 +6,12 @@ use Rattle.std.specs.List.Sorted.{IsStrictlySortedBy}
 use Rattle.std.specs.Ordering.{is_lt, ordering_reverse}
 use Rattle.std.specs.declared.cmp.Ordering.TheVariants.{Less}
 use Rattle.std.proofs.lemmas.Bool.{false≢true}
-use Rattle.reiser_bitmap.proofs.Ranges.{contains_cases, contains_head, contains_tail}
-use Rattle.reiser_names.specs.Links.{object_cmp}
-use Rattle.reiser_names.proofs.Tabling.{object_total}
-use Rattle.reiser_names.proofs.Uniqueness.{links_one}
-use Rattle.reiser_objects.specs.declared.key.ObjectKey.{ObjectKey}
-use Rattle.reiser_objects.specs.declared.naming.Naming.{Naming}
+use Rattle.reiser_volume.proofs.reiser_bitmap.Ranges.{contains_cases, contains_head, contains_tail}
+use Rattle.reiser_volume.specs.reiser_volume_names.Links.{object_cmp}
+use Rattle.reiser_volume.proofs.reiser_volume_names.Tabling.{object_total}
+use Rattle.reiser_volume.proofs.reiser_volume_names.Uniqueness.{links_one}
+use Rattle.reiser_volume.specs.reiser_volume_objects.declared.key.ObjectKey.{ObjectKey}
+use Rattle.reiser_volume.specs.reiser_volume_objects.declared.naming.Naming.{Naming}
 use Rattle.reiser_volume.specs.Volume.{volume_items}
 use Rattle.unit_plan.specs.declared.counts.Counts.{Counts}
 use Rattle.unit_plan.specs.declared.need.Need.{Need}

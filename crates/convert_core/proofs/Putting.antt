@@ -2,33 +2,33 @@
 use Rattle.std.proofs.Common.{◌≡◌, ◌∙◌, ◌⊎◌, ℕ, ◌+◌, ◌≤◌, ◌<◌, List, length, refl, sym, ap, subst, ⊎_elim, true≢false}
 use Rattle.std.specs.Prelude.{Contains, true}
 use Rattle.indexmap.specs.IndexMap.{keys}
-use Rattle.vol_block.specs.declared.ids.Ids.{Ids}
-use Rattle.outside.specs.History.{Image, History, WritesOnly, block_at, reads}
-use Rattle.outside.proofs.Crash.{writes_length, writes_weaker}
-use Rattle.outside.proofs.Phases.{reads_outside}
-use Rattle.btr_node.specs.NodeSize.{IsNodeSize}
-use Rattle.btr_super.specs.Super.{super_bytes}
-use Rattle.btr_tree.specs.Writing.{IsInSlots}
-use Rattle.conversion.specs.Making.{IsMaking, Making, label_by, label_field, new_ids}
-use Rattle.conversion.specs.Source.{HasPieces}
-use Rattle.conversion.specs.Standing.{AllFit, HasTrees, IsFor, SameVolume, used_bytes}
-use Rattle.conversion.specs.declared.trees.VolumeTrees.{VolumeTrees}
+use Rattle.reiser_volume.specs.vol_block.declared.ids.Ids.{Ids}
+use Rattle.reiser_volume.specs.outside.History.{Image, History, WritesOnly, block_at, reads}
+use Rattle.reiser_volume.proofs.outside.Crash.{writes_length, writes_weaker}
+use Rattle.reiser_volume.proofs.outside.Phases.{reads_outside}
+use Rattle.unit_plan.specs.btr_node.NodeSize.{IsNodeSize}
+use Rattle.convert_steps.specs.btr_super.Super.{super_bytes}
+use Rattle.unit_plan.specs.btr_tree.Writing.{IsInSlots}
+use Rattle.convert_steps.specs.Making.{IsMaking, Making, label_by, label_field, new_ids}
+use Rattle.convert_steps.specs.Source.{HasPieces}
+use Rattle.convert_steps.specs.Standing.{AllFit, HasTrees, IsFor, SameVolume, used_bytes}
+use Rattle.convert_steps.specs.declared.trees.VolumeTrees.{VolumeTrees}
 use Rattle.convert_steps.specs.Moved.{HoldMoved, IsPlace}
 use Rattle.convert_steps.specs.Prepared.{IsPrepared}
 use Rattle.convert_steps.specs.Superblock.{new_super}
 use Rattle.convert_steps.specs.declared.prepared.Prepared.{Prepared}
 use Rattle.extent_pieces.proofs.Lists.{all_at}
-use Rattle.reiser_bitmap.specs.Bits.{has}
+use Rattle.reiser_volume.specs.reiser_bitmap.Bits.{has}
 use Rattle.reiser_volume.specs.Opened.{links_in}
 use Rattle.reiser_volume.specs.Volume.{used_of}
 use Rattle.reiser_volume.specs.declared.volume.Volume.{Volume}
-use Rattle.space_items.specs.Laws.{AreIds}
-use Rattle.space_items.specs.declared.node.TreeNode.{TreeNode}
-use Rattle.space_laws.specs.Bounds.{PlansSuffice}
+use Rattle.convert_steps.specs.space_items.Laws.{AreIds}
+use Rattle.convert_steps.specs.space_items.declared.node.TreeNode.{TreeNode}
+use Rattle.convert_trees_laws.specs.Bounds.{PlansSuffice}
 use Rattle.unit_plan.specs.Chunks.{AreChunks}
 use Rattle.unit_plan.specs.Places.{node_places}
 use Rattle.unit_plan.specs.declared.chunk.Chunk.{Chunk}
-use Rattle.unit_plan.specs.declared.options.Options.{Options}
+use Rattle.convert_options.specs.declared.options.Options.{Options}
 use Rattle.unit_plan.specs.declared.piece.Piece.{Piece}
 use Rattle.unit_plan.specs.declared.plan.Plan.{Plan}
 use Rattle.convert_core.specs.Converted.{IsBefore, IsConvertible, IsFree, IsPutDown, IsTaken, StandsOn}

@@ -6,15 +6,15 @@ use Rattle.std.proofs.lemmas.Bool.{both_ways}
 use Rattle.std.proofs.lemmas.List.Elements.{Contains-append_cases}
 use Rattle.std.proofs.lemmas.List.Sorted.{Contains-permutation, IsPermutation-sym}
 use Rattle.std.proofs.Math.Seq.{take-append_seam}
-use Rattle.path_list.proofs.Lists.{from_flat_map}
-use Rattle.vol_block.specs.Volume.{IsReserved, is_reserved}
-use Rattle.outside.specs.History.{Image}
-use Rattle.reiser_bitmap.specs.Bits.{has}
-use Rattle.reiser_bitmap.specs.Units.{IsFreeUnit}
-use Rattle.reiser_bitmap.proofs.Ranges.{contains_cases, contains_head, contains_tail, range_contains}
+use Rattle.reiser_volume.proofs.fs_paths.Lists.{from_flat_map}
+use Rattle.reiser_volume.specs.vol_block.Volume.{IsReserved, is_reserved}
+use Rattle.reiser_volume.specs.outside.History.{Image}
+use Rattle.reiser_volume.specs.reiser_bitmap.Bits.{has}
+use Rattle.reiser_volume.specs.reiser_bitmap.Units.{IsFreeUnit}
+use Rattle.reiser_volume.proofs.reiser_bitmap.Ranges.{contains_cases, contains_head, contains_tail, range_contains}
 use Rattle.reiser_volume.specs.Volume.{used_of}
 use Rattle.reiser_volume.specs.declared.volume.Volume.{Volume}
-use Rattle.unit_plan.specs.declared.options.Options.{Options}
+use Rattle.convert_options.specs.declared.options.Options.{Options}
 use Rattle.unit_plan.specs.declared.piece.Piece.{Piece}
 use Rattle.unit_plan.specs.declared.plan.Plan.{Plan}
 use Rattle.extent_pieces.specs.Files.{owner, tails}
@@ -26,7 +26,7 @@ use Rattle.extent_pieces.proofs.Ending.{data_unreserved}
 use Rattle.extent_pieces.proofs.Lists.{all_at}
 use Rattle.extent_pieces.proofs.Maximal.{kept_are_maximal}
 use Rattle.extent_pieces.proofs.Reserving.{reserved_yes}
-use Rattle.conversion.specs.Source.{HasPieces}
+use Rattle.convert_steps.specs.Source.{HasPieces}
 use Rattle.convert_steps.specs.Switch.{IsMirror}
 use Rattle.convert_core.specs.Converted.{IsFree}
 use Rattle.convert_core.proofs.Moving.{can_move, sound, stays_or_moves, well}

@@ -2,10 +2,10 @@
 use Rattle.std.proofs.Common.{◌≡◌, ℕ, ◌+◌, ◌*◌, ◌/◌, ◌^◌, ◌<◌, List, sym, subst, ⊎_elim, arith}
 use Rattle.std.specs.Prelude.{Contains}
 use Rattle.std.specs.List.{range_with_len}
-use Rattle.path_list.proofs.Lists.{from_flat_map, from_map}
-use Rattle.btr_node.specs.NodeSize.{IsNodeSize}
-use Rattle.btr_tree.specs.Writing.{IsInNode, IsInSlots}
-use Rattle.reiser_bitmap.proofs.Ranges.{range_contains}
+use Rattle.reiser_volume.proofs.fs_paths.Lists.{from_flat_map, from_map}
+use Rattle.unit_plan.specs.btr_node.NodeSize.{IsNodeSize}
+use Rattle.unit_plan.specs.btr_tree.Writing.{IsInNode, IsInSlots}
+use Rattle.reiser_volume.proofs.reiser_bitmap.Ranges.{range_contains}
 use Rattle.unit_plan.specs.Needed.{nodes_in_unit}
 use Rattle.unit_plan.specs.Places.{node_places, places_in}
 

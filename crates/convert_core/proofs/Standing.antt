@@ -2,23 +2,23 @@
 use Rattle.std.proofs.Common.{◌≡◌, ◌∙◌, ◌⊎◌, inl, inr, ℕ, ◌+◌, ◌-◌, ◌^◌, ◌<◌, ◌≤◌, List, [], ◌++◌, length, take, drop, sym, ap, subst, arith, length-drop}
 use Rattle.std.specs.Prelude.{Contains, if◌then◌else◌}
 use Rattle.std.proofs.lemmas.List.{get_or-drop}
-use Rattle.outside.specs.History.{Image, block_at}
-use Rattle.btr_node.specs.Leaf.{Item}
-use Rattle.btr_tree.specs.Roots.{lengths_of}
-use Rattle.btr_tree.specs.Writing.{IsInSlots}
-use Rattle.btr_tree.specs.declared.climb.Root.{Root}
-use Rattle.conversion.specs.Making.{Making, new_ids, chunk_slots, slots}
-use Rattle.conversion.specs.Standing.{HasTrees, device_from, extents_from, file_tree_items, form, image_from, image_tree_items, nodes_from, relocation_from, root_from, root_tree_items, sum_tree_items, sums_from}
-use Rattle.conversion.specs.declared.trees.VolumeTrees.{VolumeTrees}
+use Rattle.reiser_volume.specs.outside.History.{Image, block_at}
+use Rattle.unit_plan.specs.btr_node.Leaf.{Item}
+use Rattle.unit_plan.specs.btr_tree.Roots.{lengths_of}
+use Rattle.unit_plan.specs.btr_tree.Writing.{IsInSlots}
+use Rattle.unit_plan.specs.btr_tree.declared.climb.Root.{Root}
+use Rattle.convert_steps.specs.Making.{Making, new_ids, chunk_slots, slots}
+use Rattle.convert_steps.specs.Standing.{HasTrees, device_from, extents_from, file_tree_items, form, image_from, image_tree_items, nodes_from, relocation_from, root_from, root_tree_items, sum_tree_items, sums_from}
+use Rattle.convert_steps.specs.declared.trees.VolumeTrees.{VolumeTrees}
 use Rattle.convert_steps.specs.Moved.{HoldMoved}
-use Rattle.file_items.specs.Small.{relocation_items}
-use Rattle.space_items.specs.Chunks.{chunk_items, device_items}
-use Rattle.space_items.specs.Extents.{extent_items}
-use Rattle.space_items.specs.Nodes.{merged_nodes, nodes_of_tree}
-use Rattle.space_items.specs.declared.node.TreeNode.{TreeNode}
-use Rattle.tree_writer.specs.Trees.{TreeStands}
-use Rattle.tree_writer.proofs.Others.{by_nodes}
-use Rattle.tree_writer.proofs.Pushing.{in_all}
+use Rattle.convert_steps.specs.file_items.Small.{relocation_items}
+use Rattle.convert_steps.specs.space_items.Chunks.{chunk_items, device_items}
+use Rattle.convert_steps.specs.space_items.Extents.{extent_items}
+use Rattle.convert_steps.specs.space_items.Nodes.{merged_nodes, nodes_of_tree}
+use Rattle.convert_steps.specs.space_items.declared.node.TreeNode.{TreeNode}
+use Rattle.btr_tree_writer.specs.Trees.{TreeStands}
+use Rattle.btr_tree_writer.proofs.Others.{by_nodes}
+use Rattle.btr_tree_writer.proofs.Pushing.{in_all}
 use Rattle.unit_plan.specs.declared.piece.Piece.{Piece}
 use Rattle.convert_core.specs.Converted.{StandsOn}
 use Rattle.convert_core.proofs.Sums.{sums_same}

@@ -4,13 +4,13 @@ use Rattle.std.specs.Prelude.{Contains}
 use Rattle.std.specs.Int.{div_ceil}
 use Rattle.std.specs.List.{flat_map, range_with_len}
 use Rattle.std.proofs.Math.Nat.{min-le_right}
-use Rattle.outside.specs.History.{Image, block_at}
-use Rattle.btr_keys.specs.Key.{make_key}
-use Rattle.btr_node.specs.Leaf.{Item}
-use Rattle.csum_kinds.specs.Kind.{kind_sum, kind_width}
-use Rattle.csum_kinds.specs.declared.kind.SumKind.{SumKind}
-use Rattle.reiser_bitmap.proofs.Ranges.{contains_head, contains_tail}
-use Rattle.space_items.specs.Sums.{block_sum, run_items, sum_items, sums_item}
+use Rattle.reiser_volume.specs.outside.History.{Image, block_at}
+use Rattle.unit_plan.specs.btr_keys.Key.{make_key}
+use Rattle.unit_plan.specs.btr_node.Leaf.{Item}
+use Rattle.unit_plan.specs.csum_kinds.Kind.{kind_sum, kind_width}
+use Rattle.unit_plan.specs.csum_kinds.declared.kind.SumKind.{SumKind}
+use Rattle.reiser_volume.proofs.reiser_bitmap.Ranges.{contains_head, contains_tail}
+use Rattle.convert_steps.specs.space_items.Sums.{block_sum, run_items, sum_items, sums_item}
 use Rattle.unit_plan.specs.Sums.{sums_in_item}
 use Rattle.unit_plan.specs.declared.piece.Piece.{Piece}
 

@@ -2,24 +2,24 @@
 use Rattle.std.proofs.Common.{◌≡◌, ◌≤◌, ◌<◌, ℕ, ◌+◌, ◌^◌, List, length, get_or, Option, Some, None, sym, ap, subst, ◌∙◌, ⊎_elim, arith}
 use Rattle.std.specs.Prelude.{All, AllPairs, MatchOption}
 use Rattle.std.proofs.lemmas.Bool.{cases_lt}
-use Rattle.outside.specs.History.{Image, block_at}
-use Rattle.btr_node.specs.NodeSize.{IsNodeSize}
-use Rattle.reiser_super.specs.Rules.{IsCleanSuper}
-use Rattle.reiser_super.specs.declared.superblock.Super.{Super}
+use Rattle.reiser_volume.specs.outside.History.{Image, block_at}
+use Rattle.unit_plan.specs.btr_node.NodeSize.{IsNodeSize}
+use Rattle.reiser_volume.specs.reiser_super.Rules.{IsCleanSuper}
+use Rattle.reiser_volume.specs.reiser_super.declared.superblock.Super.{Super}
 use Rattle.reiser_volume.specs.Volume.{superblock, used_of}
 use Rattle.reiser_volume.specs.declared.volume.Volume.{Volume}
 use Rattle.reiser_volume.proofs.Holding.{used_length}
-use Rattle.space_items.specs.Stream.{ArePieces, IsSmallPiece}
-use Rattle.space_laws.proofs.Booting.{system_few}
+use Rattle.convert_steps.specs.space_items.Stream.{ArePieces, IsSmallPiece}
+use Rattle.convert_trees_laws.proofs.Booting.{system_few}
 use Rattle.unit_plan.specs.Needed.{need}
 use Rattle.unit_plan.specs.Pieces.{ArePlaced}
 use Rattle.unit_plan.specs.declared.counts.Counts.{Counts}
 use Rattle.unit_plan.specs.declared.need.Need.{Need}
-use Rattle.unit_plan.specs.declared.options.Options.{Options}
+use Rattle.convert_options.specs.declared.options.Options.{Options}
 use Rattle.unit_plan.specs.declared.piece.Piece.{Piece}
 use Rattle.unit_plan.specs.declared.plan.Plan.{Plan}
-use Rattle.vol_block.specs.declared.ids.Ids.{Ids}
-use Rattle.conversion.specs.Source.{HasPieces}
+use Rattle.reiser_volume.specs.vol_block.declared.ids.Ids.{Ids}
+use Rattle.convert_steps.specs.Source.{HasPieces}
 use Rattle.convert_steps.specs.Prepared.{IsPrepared}
 use Rattle.convert_steps.specs.declared.prepared.Prepared.{Prepared}
 use Rattle.convert_core.specs.Whole.{IsWhole}

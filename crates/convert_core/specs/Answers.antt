@@ -1,15 +1,15 @@
 -- What a conversion may answer.
 use Rattle.std.specs.Prelude.{◌≡◌, ◌≢◌, ℕ}
-use Rattle.outside.specs.Format.{format_in}
-use Rattle.outside.specs.History.{Image}
-use Rattle.outside.specs.declared.answer.Answer.{Answer}
-use Rattle.outside.specs.declared.answer.Answer.TheVariants as answer
-use Rattle.outside.specs.declared.refusal.VolumeRefusal.TheVariants.{Damaged}
-use Rattle.outside.specs.declared.rule.Rule.TheVariants.{Reread}
-use Rattle.tree_writer.specs.declared.answer.WriteAnswer.{WriteAnswer}
-use Rattle.tree_writer.specs.declared.answer.WriteAnswer.TheVariants as writer
-use Rattle.unit_plan.specs.declared.options.Options.{Options}
-use Rattle.vol_block.specs.declared.format.Format.TheVariants.{Btrfs}
+use Rattle.reiser_volume.specs.outside.Format.{format_in}
+use Rattle.reiser_volume.specs.outside.History.{Image}
+use Rattle.convert_steps.specs.command_answers.declared.answer.Answer.{Answer}
+use Rattle.convert_steps.specs.command_answers.declared.answer.Answer.TheVariants as answer
+use Rattle.reiser_volume.specs.refusals.declared.refusal.VolumeRefusal.TheVariants.{Damaged}
+use Rattle.reiser_volume.specs.refusals.declared.rule.Rule.TheVariants.{Reread}
+use Rattle.btr_tree_writer.specs.declared.answer.WriteAnswer.{WriteAnswer}
+use Rattle.btr_tree_writer.specs.declared.answer.WriteAnswer.TheVariants as writer
+use Rattle.convert_options.specs.declared.options.Options.{Options}
+use Rattle.reiser_volume.specs.vol_block.declared.format.Format.TheVariants.{Btrfs}
 use Rattle.convert_steps.specs.Prepared.{LacksSpace}
 use Rattle.reiser_volume.specs.Volume.{IsRefusal}
 

@@ -1,29 +1,29 @@
 -- The disk before, while and after a volume is converted.
 use Rattle.std.specs.Prelude.{◌≡◌, ◌≢◌, ◌≤◌, ◌⊎◌, ℕ, ◌/◌, true, List, length}
-use Rattle.outside.specs.Format.{format_in}
-use Rattle.outside.specs.History.{Image, block_at}
-use Rattle.vol_block.specs.declared.format.Format.TheVariants.{Btrfs}
-use Rattle.vol_block.specs.declared.ids.Ids.{Ids}
-use Rattle.btr_super.specs.Super.{super_bytes}
-use Rattle.conversion.specs.Making.{IsMaking, Making, label_by, label_field, new_ids}
-use Rattle.conversion.specs.Standing.{HasTrees, used_bytes}
-use Rattle.conversion.specs.declared.trees.VolumeTrees.{VolumeTrees}
+use Rattle.reiser_volume.specs.outside.Format.{format_in}
+use Rattle.reiser_volume.specs.outside.History.{Image, block_at}
+use Rattle.reiser_volume.specs.vol_block.declared.format.Format.TheVariants.{Btrfs}
+use Rattle.reiser_volume.specs.vol_block.declared.ids.Ids.{Ids}
+use Rattle.convert_steps.specs.btr_super.Super.{super_bytes}
+use Rattle.convert_steps.specs.Making.{IsMaking, Making, label_by, label_field, new_ids}
+use Rattle.convert_steps.specs.Standing.{HasTrees, used_bytes}
+use Rattle.convert_steps.specs.declared.trees.VolumeTrees.{VolumeTrees}
 use Rattle.convert_steps.specs.Moved.{HoldMoved}
 use Rattle.convert_steps.specs.Superblock.{new_super}
 use Rattle.convert_steps.specs.Switch.{HasCopies, IsMirror}
 use Rattle.extent_pieces.specs.Found.{IsFound}
 use Rattle.extent_pieces.specs.Laws.{AreSortedKeys}
 use Rattle.extent_pieces.specs.declared.pieces.Pieces.{Pieces}
-use Rattle.object_files.specs.Laws.{SameUsed}
-use Rattle.reiser_bitmap.specs.Units.{IsFreeUnit}
-use Rattle.reiser_names.specs.Links.{AreLinks}
-use Rattle.reiser_objects.specs.declared.key.ObjectKey.{ObjectKey}
-use Rattle.reiser_objects.specs.declared.naming.Naming.{Naming}
+use Rattle.reiser_volume.specs.reiser_volume_contents.Laws.{SameUsed}
+use Rattle.reiser_volume.specs.reiser_bitmap.Units.{IsFreeUnit}
+use Rattle.reiser_volume.specs.reiser_volume_names.Links.{AreLinks}
+use Rattle.reiser_volume.specs.reiser_volume_objects.declared.key.ObjectKey.{ObjectKey}
+use Rattle.reiser_volume.specs.reiser_volume_objects.declared.naming.Naming.{Naming}
 use Rattle.reiser_volume.specs.Volume.{used_of, volume_items}
-use Rattle.space_items.specs.declared.node.TreeNode.{TreeNode}
+use Rattle.convert_steps.specs.space_items.declared.node.TreeNode.{TreeNode}
 use Rattle.unit_plan.specs.Choice.{HasEnoughSpace, is_chosen}
 use Rattle.unit_plan.specs.Needed.{need}
-use Rattle.unit_plan.specs.declared.options.Options.{Options}
+use Rattle.convert_options.specs.declared.options.Options.{Options}
 use Rattle.unit_plan.specs.declared.plan.Plan.{Plan}
 use Rattle.convert_core.specs.Surveyed.{IsSummary}
 use Rattle.convert_core.specs.declared.volume.Written.{Written}

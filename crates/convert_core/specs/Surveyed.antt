@@ -1,14 +1,14 @@
 -- What is counted of a volume, and the space that a conversion of it needs.
 use Rattle.std.specs.Prelude.{◌≡◌, ◌+◌, List}
 use Rattle.std.specs.List.Sorted.{IsStrictlySortedBy}
-use Rattle.outside.specs.History.{Image}
-use Rattle.reiser_names.specs.Links.{AreLinks, AreNamedKeys, object_cmp}
-use Rattle.reiser_objects.specs.declared.key.ObjectKey.{ObjectKey}
-use Rattle.reiser_objects.specs.declared.naming.Naming.{Naming}
+use Rattle.reiser_volume.specs.outside.History.{Image}
+use Rattle.reiser_volume.specs.reiser_volume_names.Links.{AreLinks, AreNamedKeys, object_cmp}
+use Rattle.reiser_volume.specs.reiser_volume_objects.declared.key.ObjectKey.{ObjectKey}
+use Rattle.reiser_volume.specs.reiser_volume_objects.declared.naming.Naming.{Naming}
 use Rattle.reiser_volume.specs.Volume.{volume_items}
 use Rattle.unit_plan.specs.declared.counts.Counts.{Counts}
 use Rattle.unit_plan.specs.declared.need.Need.{Need}
-use Rattle.unit_plan.specs.declared.options.Options.{Options}
+use Rattle.convert_options.specs.declared.options.Options.{Options}
 use Rattle.unit_plan.specs.Needed.{need}
 use Rattle.extent_pieces.specs.Found.{counts_of}
 use Rattle.convert_core.specs.declared.summary.ConvertSummary.{ConvertSummary}

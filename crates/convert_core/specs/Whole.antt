@@ -1,7 +1,7 @@
 -- What every volume that gives the same blocks at each read keeps of what was prepared.
 use Rattle.std.specs.Prelude.{◌≡◌, ◌≤◌, ◌<◌, ◌^◌, ℕ, ◌+◌, length, All}
 use Rattle.convert_steps.specs.declared.prepared.Prepared.{Prepared}
-use Rattle.space_items.specs.Stream.{ArePieces}
+use Rattle.convert_steps.specs.space_items.Stream.{ArePieces}
 
 -- The volume has a superblock, lies on a device of so many blocks, and has a bit for each block; its pieces ascend by their places and
 -- lie on it; and the units for the chunk tree are so few that the superblock has room for their chunks.

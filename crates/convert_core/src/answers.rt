@@ -1,11 +1,11 @@
 // The answers of the steps as those of the conversion.
 ghost use Rattle.std.specs.Prelude.{◌≡◌};
 ghost use Rattle.convert_core.specs.Answers.{by_writer};
-ghost use Rattle.outside.specs.declared.answer.Answer.TheVariants as answers;
+ghost use Rattle.convert_steps.specs.command_answers.declared.answer.Answer.TheVariants as answers;
 
-use outside::{Answer, Fault, Rule, VolumeRefusal};
-use tree_writer::WriteAnswer;
-use vol_block::BlockNo;
+use btr_tree_writer::WriteAnswer;
+use convert_steps::Answer;
+use reiser_volume::{BlockNo, Fault, Rule, VolumeRefusal};
 
 /// The answer where a call of the device failed.
 pub fn fault_answer(fault: Fault) -> Answer

@@ -1,11 +1,11 @@
 // The conversion.
 ghost use Rattle.std.specs.Prelude.{◌≡◌, ◌≢◌, ◌<◌, ◌^◌, Some, IfErr, IfOk, IsTrue, OnOk};
 ghost use Rattle.std.specs.Result.{MatchResult};
-ghost use Rattle.btr_node.specs.NodeSize.{IsNodeSize};
-ghost use Rattle.outside.specs.Fault.{HasCauseOf};
-ghost use Rattle.outside.specs.Format.{format_in};
-ghost use Rattle.outside.specs.History.{EachCrash, IsSettled, OverTold, reads};
-ghost use Rattle.vol_block.specs.declared.format.Format.TheVariants as formats;
+ghost use Rattle.unit_plan.specs.btr_node.NodeSize.{IsNodeSize};
+ghost use Rattle.reiser_volume.specs.outside.Fault.{HasCauseOf};
+ghost use Rattle.reiser_volume.specs.outside.Format.{format_in};
+ghost use Rattle.reiser_volume.specs.outside.History.{EachCrash, IsSettled, OverTold, reads};
+ghost use Rattle.reiser_volume.specs.vol_block.declared.format.Format.TheVariants as formats;
 ghost use Rattle.convert_core.specs.Answers.{IsConvertAnswer, RefusesConvert};
 ghost use Rattle.convert_core.specs.Converted.{DiffersInFree, IsConverted, IsEither};
 ghost use Rattle.convert_core.specs.Surveyed.{IsSummary};
@@ -13,11 +13,10 @@ ghost use Rattle.convert_core.specs.Surveyed.{IsSummary};
 use crate::answers::fault_answer;
 use crate::summary::ConvertSummary;
 use crate::volume::write_volume;
-use convert_steps::switch_to;
-use outside::{Access, Answer, BlockSource, Disk};
+use convert_options::Options;
+use convert_steps::{Answer, switch_to};
+use reiser_volume::{Access, Block, BlockNo, BlockSource, Disk, Format, Ids, format_of};
 use std::alloc::Global;
-use unit_plan::Options;
-use vol_block::{Block, BlockNo, Format, Ids, format_of};
 
 /// The block of the superblock, of both formats.
 const SUPERBLOCK: BlockNo = 16;

@@ -1,9 +1,9 @@
 ghost use Rattle.std.specs.Prelude.{◌≡◌, IfOk, IfErr};
 ghost use Rattle.std.specs.Result.{MatchResult};
-ghost use Rattle.btr_node.specs.NodeSize.{IsNodeSize};
-ghost use Rattle.object_files.specs.Answers.{IsFileAnswer, IsFaultOrMemory};
-ghost use Rattle.outside.specs.Fault.{HasCauseOf};
-ghost use Rattle.outside.specs.History.{OverTold};
+ghost use Rattle.unit_plan.specs.btr_node.NodeSize.{IsNodeSize};
+ghost use Rattle.reiser_volume.specs.reiser_volume_contents.Answers.{IsFileAnswer, IsFaultOrMemory};
+ghost use Rattle.reiser_volume.specs.outside.Fault.{HasCauseOf};
+ghost use Rattle.reiser_volume.specs.outside.History.{OverTold};
 ghost use Rattle.reiser_volume.specs.Answers.{RefusesVolume};
 ghost use Rattle.reiser_volume.specs.Reading.{IsReadingAnswer};
 ghost use Rattle.reiser_volume.specs.Opened.{IsOpened};
@@ -11,11 +11,11 @@ ghost use Rattle.reiser_volume.specs.Volume.{IsAccepted};
 ghost use Rattle.unit_plan.specs.Choice.{IsSmall};
 ghost use Rattle.convert_core.specs.Surveyed.{IsSurvey};
 
+use convert_options::Options;
 use extent_pieces::Pieces;
-use outside::{BlockSource, VolAnswer};
-use reiser_volume::Volume;
+use reiser_volume::{BlockSource, VolAnswer, Volume};
 use std::alloc::Global;
-use unit_plan::{Counts, Need, Options, needed};
+use unit_plan::{Counts, Need, needed};
 
 /// What a conversion counts of a volume, and the space that it needs.
 #[derive(Clone, Copy, Debug, PartialEq, Eq)]

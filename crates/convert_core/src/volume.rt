@@ -1,36 +1,37 @@
 // The new volume without its superblock.
 ghost use Rattle.std.specs.Prelude.{◌≡◌, ◌≢◌, ◌≤◌, ◌<◌, ◌⊎◌, ◌^◌, ℕ, List, Some, IfErr, IfOk, IsTrue, OnOk};
 ghost use Rattle.std.specs.Result.{MatchResult};
-ghost use Rattle.btr_node.specs.NodeSize.{IsNodeSize};
-ghost use Rattle.outside.specs.Fault.{HasCauseOf};
-ghost use Rattle.outside.specs.History.{Image, IsSettled, OverTold, WritesOnly, reads};
-ghost use Rattle.btr_super.specs.Super.{super_bytes};
-ghost use Rattle.btr_tree.specs.Writing.{IsInSlots};
-ghost use Rattle.conversion.specs.Making.{IsMaking, Making as MakingOf};
-ghost use Rattle.conversion.specs.Standing.{AllFit, HasTrees, IsFor, SameVolume, used_bytes};
+ghost use Rattle.unit_plan.specs.btr_node.NodeSize.{IsNodeSize};
+ghost use Rattle.reiser_volume.specs.outside.Fault.{HasCauseOf};
+ghost use Rattle.reiser_volume.specs.outside.History.{Image, IsSettled, OverTold, WritesOnly, reads};
+ghost use Rattle.convert_steps.specs.btr_super.Super.{super_bytes};
+ghost use Rattle.unit_plan.specs.btr_tree.Writing.{IsInSlots};
+ghost use Rattle.convert_steps.specs.Making.{IsMaking, Making as MakingOf};
+ghost use Rattle.convert_steps.specs.Standing.{AllFit, HasTrees, IsFor, SameVolume, used_bytes};
 ghost use Rattle.convert_steps.specs.Moved.{CanMove, HoldMoved, IsPlace};
 ghost use Rattle.convert_steps.specs.Prepared.{HasPlanFor, IsPrepareAnswer, IsPrepared, RefusesConversion};
 ghost use Rattle.convert_steps.specs.Superblock.{new_super};
-ghost use Rattle.space_items.specs.Laws.{AreIds};
-ghost use Rattle.space_items.specs.declared.node.TreeNode.{TreeNode as NodeOf};
+ghost use Rattle.convert_steps.specs.space_items.Laws.{AreIds};
+ghost use Rattle.convert_steps.specs.space_items.declared.node.TreeNode.{TreeNode as NodeOf};
 ghost use Rattle.unit_plan.specs.Chunks.{AreChunks};
 ghost use Rattle.unit_plan.specs.Places.{node_places};
 ghost use Rattle.unit_plan.specs.declared.chunk.Chunk.{Chunk as ChunkOf};
-ghost use Rattle.vol_block.specs.declared.ids.Ids.{Ids as IdsOf};
+ghost use Rattle.reiser_volume.specs.vol_block.declared.ids.Ids.{Ids as IdsOf};
 ghost use Rattle.convert_core.specs.Converted.{IsConvertible, IsFree, IsPutDown};
 ghost use Rattle.convert_core.specs.Whole.{IsWhole};
 
 use crate::answers::{changed, fault_answer, write_answer};
 use crate::summary::{ConvertSummary, summary_of};
 use crate::whole::is_whole;
-use conversion::VolumeTrees;
-use convert_steps::{NewRoots, Prepared, prepare, superblock, volume_answer, write_moved};
-use outside::{Access, Answer, BlockSource, Cached, Disk, Room};
-use space_laws::plans_suffice;
+use convert_options::Options;
+use convert_steps::{
+    Answer, NewRoots, Prepared, VolumeTrees, prepare, superblock, volume_answer, write_moved,
+};
+use convert_trees::write_trees;
+use convert_trees_laws::plans_suffice;
+use reiser_volume::{Access, Block, BlockSource, Cached, Disk, Ids, Room};
 use std::alloc::Global;
-use unit_plan::{Options, chunks_of};
-use vol_block::{Block, Ids};
-use volume_trees::write_trees;
+use unit_plan::chunks_of;
 
 /// How many blocks are kept in memory while the volume is read and its trees are written.
 const CACHED: usize = 1024;

@@ -1,16 +1,16 @@
 // A look at what was prepared, before anything is written.
 ghost use Rattle.std.specs.Prelude.{◌≡◌, ◌≤◌, ◌<◌, ◌↔◌, ◌+◌, ◌^◌, true, All, IsTrue, MatchOption, length};
-ghost use Rattle.btr_node.specs.NodeSize.{IsNodeSize};
+ghost use Rattle.unit_plan.specs.btr_node.NodeSize.{IsNodeSize};
 ghost use Rattle.convert_core.specs.Whole.{IsWhole};
 ghost use Rattle.convert_steps.specs.Prepared.{IsPrepared};
-ghost use Rattle.outside.specs.History.{Image};
-ghost use Rattle.space_items.specs.Stream.{ArePieces, IsSmallPiece};
-ghost use Rattle.unit_plan.specs.declared.options.Options.{Options as OptionsOf};
-ghost use Rattle.vol_block.specs.declared.ids.Ids.{Ids as IdsOf};
+ghost use Rattle.reiser_volume.specs.outside.History.{Image};
+ghost use Rattle.convert_steps.specs.space_items.Stream.{ArePieces, IsSmallPiece};
+ghost use Rattle.convert_options.specs.declared.options.Options.{Options as OptionsOf};
+ghost use Rattle.reiser_volume.specs.vol_block.declared.ids.Ids.{Ids as IdsOf};
 
 use convert_steps::Prepared;
+use reiser_volume::BlockNo;
 use unit_plan::{Piece, PieceList};
-use vol_block::BlockNo;
 
 /// The most blocks of a volume: 2 TiB.
 const MOST_BLOCKS: u64 = 1 << 29;

@@ -7,15 +7,15 @@ use Rattle.std.proofs.lemmas.List.{append-nil, length-replicate, replicate-appen
 use Rattle.std.proofs.lemmas.List.Elements.{filter-append}
 use Rattle.std.proofs.lemmas.Option.{slice_get_within, get_or_from_slice_get}
 use borrow.Rule.Slice.PartMut.{put_mid}
-use Rattle.btr_keys.specs.Key.{key_bytes, key_layout}
-use Rattle.btr_keys.specs.declared.key.Key.{Key}
-use Rattle.btr_node.proofs.Putting.{put_is}
-use Rattle.btr_space_items.specs.Chunk.{chunk_bytes, chunk_layout}
-use Rattle.btr_space_items.specs.Stripe.{stripe_layout}
-use Rattle.btr_space_items.specs.declared.chunk.Chunk.{Chunk as ChunkBody}
+use Rattle.btr_tree.specs.btr_keys.Key.{key_bytes, key_layout}
+use Rattle.btr_tree.specs.btr_keys.declared.key.Key.{Key}
+use Rattle.btr_tree.proofs.btr_node.Putting.{put_is}
+use Rattle.btr_tree_writer.specs.btr_space_items.Chunk.{chunk_bytes, chunk_layout}
+use Rattle.btr_tree_writer.specs.btr_space_items.Stripe.{stripe_layout}
+use Rattle.btr_tree_writer.specs.btr_space_items.declared.chunk.Chunk.{Chunk as ChunkBody}
 use Rattle.space_items.specs.Chunks.{chunk_body, chunk_item}
 use Rattle.unit_plan.specs.declared.chunk.Chunk.{Chunk}
-use Rattle.vol_block.specs.declared.ids.Ids.{Ids}
+use Rattle.command_answers.specs.vol_block.declared.ids.Ids.{Ids}
 use Rattle.convert_steps.specs.Superblock.{boot_bytes, is_system_role, record_bytes}
 
 pub length_key : (key : Key) → length (key_bytes key) ≡ 17

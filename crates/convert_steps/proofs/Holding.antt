@@ -3,13 +3,13 @@ use Rattle.std.proofs.Common.{◌≡◌, ◌<◌, ℕ, ◌+◌, ◌^◌, [], len
 use Rattle.std.specs.Prelude.{Contains}
 use Rattle.std.specs.Result.{MatchResult}
 use Rattle.indexmap.specs.IndexMap.{keys}
-use Rattle.object_files.specs.Answers.{IsFault}
-use Rattle.outside.specs.History.{Image, block_at}
-use Rattle.outside.specs.declared.answer.VolAnswer.{VolAnswer}
-use Rattle.reiser_files.specs.Bytes.{tail_block}
-use Rattle.reiser_names.specs.Names.{inode_of}
-use Rattle.reiser_objects.specs.Keys.{items_of}
-use Rattle.reiser_objects.specs.declared.key.ObjectKey.{ObjectKey}
+use Rattle.reiser_volume.specs.reiser_volume_contents.Answers.{IsFault}
+use Rattle.command_answers.specs.outside.History.{Image, block_at}
+use Rattle.command_answers.specs.refusals.declared.answer.VolAnswer.{VolAnswer}
+use Rattle.reiser_volume.specs.reiser_volume_files.Bytes.{tail_block}
+use Rattle.reiser_volume.specs.reiser_volume_names.Names.{inode_of}
+use Rattle.reiser_volume.specs.reiser_volume_objects.Keys.{items_of}
+use Rattle.reiser_volume.specs.reiser_volume_objects.declared.key.ObjectKey.{ObjectKey}
 use Rattle.reiser_volume.specs.Made.{stat_at}
 use Rattle.reiser_volume.specs.Volume.{volume_items}
 use Rattle.reiser_volume.specs.declared.volume.Volume.{Volume}

@@ -5,7 +5,7 @@ use Rattle.std.proofs.lemmas.Bool.{cases_lt, ne_eqb}
 use Rattle.std.proofs.lemmas.List.{append-nil, drop_more, drop_all, drop-replicate, take_all, take-append-le, take-replicate}
 use Rattle.std.proofs.Math.Seq.{take-append-add}
 use Rattle.std.proofs.lemmas.List.Sums.{take_while-cons}
-use Rattle.conversion.specs.Making.{before_zero, label_field}
+use Rattle.convert_steps.specs.Making.{before_zero, label_field}
 
 -- the bytes so far are none of them zero, and the rest may be
 abbrev pub Goes : ℕ → List ℕ → Type 0

@@ -3,12 +3,12 @@ use Rattle.std.proofs.Common.{◌≡◌, ◌≢◌, ℕ, List, set, get_or, Opti
 use Rattle.std.specs.Prelude.{slice_get}
 use Rattle.std.specs.Result.{MatchResult}
 use Rattle.std.proofs.lemmas.Option.{slice_get_within, get_or_from_slice_get}
-use Rattle.object_files.specs.Answers.{IsFault}
-use Rattle.outside.specs.History.{Image, History, block_at, WritesOnly}
-use Rattle.outside.specs.declared.answer.VolAnswer.{VolAnswer}
-use Rattle.outside.proofs.Crash.{writes_weaker}
+use Rattle.reiser_volume.specs.reiser_volume_contents.Answers.{IsFault}
+use Rattle.command_answers.specs.outside.History.{Image, History, block_at, WritesOnly}
+use Rattle.command_answers.specs.refusals.declared.answer.VolAnswer.{VolAnswer}
+use Rattle.command_answers.proofs.outside.Crash.{writes_weaker}
 use Rattle.unit_plan.specs.declared.piece.Piece.{Piece}
-use Rattle.reiser_objects.specs.declared.key.ObjectKey.{ObjectKey}
+use Rattle.reiser_volume.specs.reiser_volume_objects.declared.key.ObjectKey.{ObjectKey}
 use Rattle.convert_steps.specs.Moved.{HasPlace, IsMovedTo, IsPlace}
 
 -- a block that was read, written to its place

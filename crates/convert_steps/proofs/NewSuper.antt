@@ -1,10 +1,10 @@
 -- The fields of a new superblock.
 use Rattle.std.proofs.Common.{◌≡◌, ℕ, ◌*◌, ◌-◌, ◌++◌, List, length, replicate, ◌∙◌, ap}
-use Rattle.btr_space_items.specs.declared.device.Device.{Device}
+use Rattle.btr_tree_writer.specs.btr_space_items.declared.device.Device.{Device}
 use Rattle.btr_super.specs.declared.superblock.Super.{Super}
 use Rattle.space_items.specs.Chunks.{device_body}
 use Rattle.unit_plan.specs.declared.chunk.Chunk.{Chunk}
-use Rattle.vol_block.specs.declared.ids.Ids.{Ids}
+use Rattle.command_answers.specs.vol_block.declared.ids.Ids.{Ids}
 use Rattle.convert_steps.specs.Superblock.{boot_bytes, features, new_super}
 use Rattle.convert_steps.specs.declared.fields.NewRoots.{NewRoots}
 

@@ -1,9 +1,9 @@
 -- What a crash leaves in each phase of the switch.
 use Rattle.std.proofs.Common.{◌≡◌, ◌≢◌, ◌⊎◌, inl, inr, ⊎_elim, ℕ, ◌<◌, List, [], length, set, Result, Ok, Err, OnOk, refl, sym, ◌∙◌, ap, subst, arith, get_or-set_same, get_or-set_other}
 use Rattle.std.proofs.lemmas.List.{length-set, ext_get_or}
-use Rattle.outside.specs.History.{Image, History, block_at, reads, clock, IsSettled, IsBlock, LeftSince, WritesBlock, WritesOnly}
-use Rattle.outside.proofs.Crash.{left_each, reads_only, write_only, writes_length, writes_then, writes_weaker}
-use Rattle.outside.proofs.Phases.{only_not, set_stands, write_reads}
+use Rattle.command_answers.specs.outside.History.{Image, History, block_at, reads, clock, IsSettled, IsBlock, LeftSince, WritesBlock, WritesOnly}
+use Rattle.command_answers.proofs.outside.Crash.{left_each, reads_only, write_only, writes_length, writes_then, writes_weaker}
+use Rattle.command_answers.proofs.outside.Phases.{only_not, set_stands, write_reads}
 use Rattle.btr_super.specs.Super.{mirror_bytes}
 use Rattle.convert_steps.specs.Switch.{IsMirror, IsCopy, IsCopyAt, IsPart, IsSwitched, HasCopies}
 

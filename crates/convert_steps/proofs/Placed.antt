@@ -4,11 +4,11 @@ use Rattle.std.specs.Prelude.{Contains, slice_get}
 use Rattle.std.proofs.lemmas.Bool.{cases_lt}
 use Rattle.std.proofs.lemmas.Option.{slice_get-get_or, slice_get_within}
 use Rattle.indexmap.specs.IndexMap.{keys}
-use Rattle.outside.specs.History.{Image}
+use Rattle.command_answers.specs.outside.History.{Image}
 use Rattle.extent_pieces.proofs.Named.{numbered}
-use Rattle.reiser_names.specs.Names.{inode_of}
-use Rattle.reiser_objects.specs.declared.key.ObjectKey.{ObjectKey}
-use Rattle.reiser_objects.specs.Keys.{root}
+use Rattle.reiser_volume.specs.reiser_volume_names.Names.{inode_of}
+use Rattle.reiser_volume.specs.reiser_volume_objects.declared.key.ObjectKey.{ObjectKey}
+use Rattle.reiser_volume.specs.reiser_volume_objects.Keys.{root}
 use Rattle.reiser_volume.specs.Numbers.{AreNumbered, by_inode}
 use Rattle.reiser_volume.specs.Opened.{IsOpened}
 use Rattle.reiser_volume.specs.Volume.{IsAccepted}

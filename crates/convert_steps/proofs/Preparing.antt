@@ -1,13 +1,13 @@
 -- What is decided before the first write.
 use Rattle.std.proofs.Common.{◌≡◌, ℕ, Bool, List, Result, Err, sym, ap, subst, ◌∙◌, arith}
 use Rattle.indexmap.specs.IndexMap.{keys}
-use Rattle.object_files.specs.Answers.{IsFaultOrMemory}
-use Rattle.outside.specs.Fault.{HasCauseOf}
-use Rattle.outside.specs.History.{Image}
-use Rattle.outside.specs.declared.answer.Answer.{Answer}
-use Rattle.outside.specs.declared.answer.Answer.TheVariants as answer
-use Rattle.outside.specs.declared.answer.VolAnswer.{VolAnswer}
-use Rattle.outside.specs.declared.answer.VolAnswer.TheVariants as vol
+use Rattle.reiser_volume.specs.reiser_volume_contents.Answers.{IsFaultOrMemory}
+use Rattle.command_answers.specs.outside.Fault.{HasCauseOf}
+use Rattle.command_answers.specs.outside.History.{Image}
+use Rattle.command_answers.specs.declared.answer.Answer.{Answer}
+use Rattle.command_answers.specs.declared.answer.Answer.TheVariants as answer
+use Rattle.command_answers.specs.refusals.declared.answer.VolAnswer.{VolAnswer}
+use Rattle.command_answers.specs.refusals.declared.answer.VolAnswer.TheVariants as vol
 use Rattle.extent_pieces.specs.Found.{IsFound}
 use Rattle.extent_pieces.specs.Laws.{HasPlan}
 use Rattle.extent_pieces.specs.Placed.{FitsPlan, IsCounted}
@@ -21,7 +21,7 @@ use Rattle.unit_plan.specs.Choice.{HasEnoughSpace, IsAnswer, IsPlan, TellsSpace}
 use Rattle.unit_plan.specs.Needed.{AreSmall, need as need_of}
 use Rattle.unit_plan.specs.declared.counts.Counts.{Counts}
 use Rattle.unit_plan.specs.declared.need.Need.{Need}
-use Rattle.unit_plan.specs.declared.options.Options.{Options}
+use Rattle.convert_options.specs.declared.options.Options.{Options}
 use Rattle.unit_plan.specs.declared.plan.Plan.{Plan}
 use Rattle.unit_plan.specs.declared.plan.PlanAnswer.{PlanAnswer}
 use Rattle.unit_plan.specs.declared.plan.PlanAnswer.TheVariants as plan

@@ -4,13 +4,13 @@ use Rattle.std.specs.Prelude.{Contains, slice_get}
 use Rattle.std.proofs.lemmas.Bool.{cases_lt}
 use Rattle.std.proofs.lemmas.List.{get_or_past}
 use Rattle.std.proofs.lemmas.Option.{slice_get_within, slice_get-get_or, get_or_from_slice_get}
-use Rattle.object_files.specs.Laws.{SameUsed}
-use Rattle.outside.specs.History.{Image, History, WritesOnly, block_at, reads}
-use Rattle.outside.proofs.Crash.{writes_length}
-use Rattle.outside.proofs.Phases.{reads_outside}
-use Rattle.reiser_bitmap.specs.Bits.{has}
-use Rattle.reiser_files.specs.Bytes.{tail_block}
-use Rattle.reiser_objects.specs.Keys.{items_of}
+use Rattle.reiser_volume.specs.reiser_volume_contents.Laws.{SameUsed}
+use Rattle.command_answers.specs.outside.History.{Image, History, WritesOnly, block_at, reads}
+use Rattle.command_answers.proofs.outside.Crash.{writes_length}
+use Rattle.command_answers.proofs.outside.Phases.{reads_outside}
+use Rattle.reiser_volume.specs.reiser_bitmap.Bits.{has}
+use Rattle.reiser_volume.specs.reiser_volume_files.Bytes.{tail_block}
+use Rattle.reiser_volume.specs.reiser_volume_objects.Keys.{items_of}
 use Rattle.reiser_volume.specs.Laws.{IsSameVolume}
 use Rattle.reiser_volume.specs.Made.{stat_at}
 use Rattle.reiser_volume.specs.Opened.{IsOpened}
@@ -18,7 +18,7 @@ use Rattle.reiser_volume.specs.Volume.{used_of}
 use Rattle.reiser_volume.specs.declared.volume.Volume.{Volume}
 use Rattle.reiser_volume.proofs.Holding.{used_length}
 use Rattle.reiser_volume.proofs.Unchanged.{opened_same, same_volume}
-use Rattle.reiser_walk.specs.Items.{Item}
+use Rattle.reiser_volume.specs.reiser_walk.Items.{Item}
 use Rattle.unit_plan.specs.declared.piece.Piece.{Piece}
 use Rattle.convert_steps.specs.Moved.{CanMove, CanWrite, HoldMoved, HoldsPiece, IsMovedTo, IsPlace}
 use Rattle.convert_steps.proofs.Moving.{copy_moves, tail_moves}

@@ -1,12 +1,12 @@
 -- The pieces that do not lie where they lay.
 use Rattle.std.specs.Prelude.{◌≡◌, ◌≢◌, ℕ, ◌+◌, ◌^◌, ◌<◌, List, Option, false, length, slice_get, All, AllPairs, Any, Contains, Some, None}
 use Rattle.indexmap.specs.IndexMap.{keys}
-use Rattle.outside.specs.History.{Image, block_at}
-use Rattle.reiser_bitmap.specs.Bits.{has}
-use Rattle.reiser_files.specs.Bytes.{tail_block}
-use Rattle.reiser_names.specs.Names.{inode_of}
-use Rattle.reiser_objects.specs.Keys.{items_of}
-use Rattle.reiser_objects.specs.declared.key.ObjectKey.{ObjectKey}
+use Rattle.command_answers.specs.outside.History.{Image, block_at}
+use Rattle.reiser_volume.specs.reiser_bitmap.Bits.{has}
+use Rattle.reiser_volume.specs.reiser_volume_files.Bytes.{tail_block}
+use Rattle.reiser_volume.specs.reiser_volume_names.Names.{inode_of}
+use Rattle.reiser_volume.specs.reiser_volume_objects.Keys.{items_of}
+use Rattle.reiser_volume.specs.reiser_volume_objects.declared.key.ObjectKey.{ObjectKey}
 use Rattle.reiser_volume.specs.Made.{stat_at}
 use Rattle.reiser_volume.specs.Opened.{IsOpened}
 use Rattle.reiser_volume.specs.Volume.{IsAccepted, used_of, volume_items}

@@ -1,23 +1,23 @@
 -- What is decided before the first write of a conversion.
 use Rattle.std.specs.Prelude.{◌≡◌, ℕ, List}
-use Rattle.outside.specs.History.{Image}
-use Rattle.outside.specs.declared.answer.Answer.{Answer}
-use Rattle.outside.specs.declared.answer.Answer.TheVariants as answer
-use Rattle.outside.specs.declared.answer.VolAnswer.{VolAnswer}
-use Rattle.outside.specs.declared.answer.VolAnswer.TheVariants as vol
-use Rattle.vol_block.specs.declared.ids.Ids.{Ids}
-use Rattle.conversion.specs.Making.{ids_by, label_by, label_field}
-use Rattle.conversion.specs.Source.{HasPieces}
+use Rattle.command_answers.specs.outside.History.{Image}
+use Rattle.command_answers.specs.declared.answer.Answer.{Answer}
+use Rattle.command_answers.specs.declared.answer.Answer.TheVariants as answer
+use Rattle.command_answers.specs.refusals.declared.answer.VolAnswer.{VolAnswer}
+use Rattle.command_answers.specs.refusals.declared.answer.VolAnswer.TheVariants as vol
+use Rattle.command_answers.specs.vol_block.declared.ids.Ids.{Ids}
+use Rattle.convert_steps.specs.Making.{ids_by, label_by, label_field}
+use Rattle.convert_steps.specs.Source.{HasPieces}
 use Rattle.extent_pieces.specs.Found.{IsFound}
 use Rattle.extent_pieces.specs.declared.pieces.Pieces.{Pieces}
-use Rattle.reiser_names.specs.Links.{AreLinks}
-use Rattle.reiser_objects.specs.declared.naming.Naming.{Naming}
-use Rattle.reiser_objects.specs.declared.key.ObjectKey.{ObjectKey}
+use Rattle.reiser_volume.specs.reiser_volume_names.Links.{AreLinks}
+use Rattle.reiser_volume.specs.reiser_volume_objects.declared.naming.Naming.{Naming}
+use Rattle.reiser_volume.specs.reiser_volume_objects.declared.key.ObjectKey.{ObjectKey}
 use Rattle.extent_pieces.specs.Laws.{AreSortedKeys}
 use Rattle.reiser_volume.specs.Volume.{IsRefusal, used_of, volume_items}
 use Rattle.unit_plan.specs.Choice.{HasEnoughSpace, IsPlan, TellsSpace}
 use Rattle.unit_plan.specs.Needed.{need as need_of}
-use Rattle.unit_plan.specs.declared.options.Options.{Options}
+use Rattle.convert_options.specs.declared.options.Options.{Options}
 use Rattle.unit_plan.specs.declared.plan.PlanAnswer.{PlanAnswer}
 use Rattle.unit_plan.specs.declared.plan.PlanAnswer.TheVariants as plan
 use Rattle.convert_steps.specs.declared.prepared.Prepared.{Prepared}

@@ -1,9 +1,9 @@
 -- The superblock of a converted volume.
 use Rattle.std.specs.Prelude.{ℕ, ◌*◌, ◌-◌, ◌==◌, List, ◌++◌, length, replicate, if◌then◌else◌, Bool, true, false, filter}
 use Rattle.std.specs.List.{flat_map}
-use Rattle.vol_block.specs.declared.ids.Ids.{Ids}
-use Rattle.btr_keys.specs.Key.{key_bytes}
-use Rattle.btr_node.specs.Leaf.{Item}
+use Rattle.command_answers.specs.vol_block.declared.ids.Ids.{Ids}
+use Rattle.btr_tree.specs.btr_keys.Key.{key_bytes}
+use Rattle.btr_tree.specs.btr_node.Leaf.{Item}
 use Rattle.btr_super.specs.declared.superblock.Super.{Super}
 use Rattle.space_items.specs.Chunks.{chunk_item, device_body}
 use Rattle.unit_plan.specs.declared.chunk.Chunk.{Chunk}

@@ -1,6 +1,6 @@
 -- What the switch to a Btrfs superblock leaves.
 use Rattle.std.specs.Prelude.{◌≡◌, ◌≢◌, ◌⊎◌, ℕ, ◌<◌, nat_lt, if◌then◌else◌, Option, Some, None, List, [], ◌∷◌, length}
-use Rattle.outside.specs.History.{Image, block_at, IsBlock}
+use Rattle.command_answers.specs.outside.History.{Image, block_at, IsBlock}
 use Rattle.btr_super.specs.Super.{mirror_bytes}
 
 -- the blocks of the copies of a superblock, at 64 MiB and at 256 GiB, as the Btrfs on-disk format documentation has them

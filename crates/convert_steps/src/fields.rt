@@ -7,14 +7,12 @@ ghost use Rattle.space_items.specs.Chunks.{chunk_item};
 ghost use Rattle.unit_plan.specs.Chunks.{AreChunks, FitsVolume};
 ghost use Rattle.unit_plan.specs.declared.chunk.Chunk.{Chunk as ChunkOf};
 
-use btr_keys::Key;
 use btr_super::Super;
-use btr_tree::Root;
-use outside::Memory;
+use btr_tree::{Key, Root};
+use command_answers::{Block, Ids, Memory};
 use space_items::{chunk_body, device_body};
 use std::alloc::Global;
 use unit_plan::{Chunk, Chunks, Plan, Role, chunks_of};
-use vol_block::{Block, Ids};
 
 /// The bytes of the bootstrap array.
 const ARRAY_SIZE: usize = 2048;

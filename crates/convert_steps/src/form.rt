@@ -1,21 +1,30 @@
 // What goes into each node and the superblock by the options.
-ghost use Rattle.std.specs.Prelude.{◌≡◌};
-ghost use Rattle.conversion.specs.Making.{before_zero, ids_by, label_by, label_field};
+ghost use Rattle.std.specs.Prelude.{◌≡◌, if◌then◌else◌};
+ghost use Rattle.convert_options.specs.Identifier.{is_nil};
+ghost use Rattle.convert_steps.specs.Making.{before_zero, ids_by, label_by, label_field};
 
+use command_answers::Ids;
+use convert_options::{LabelChoice, Options, UuidChoice, is_nil};
 use reiser_super::Super;
-use unit_plan::{LabelChoice, Options, UuidChoice};
-use vol_block::Ids;
 
-/// The identifiers of the converted volume: that of the file system is a new one, the old volume's or a given one.
+/// The identifiers of the converted volume: that of the file system is a new one, the old volume's if that is not nil,
+/// or a given one.
 pub fn ids_of(ids: &Ids, sup: &Super, options: &Options) -> Ids
     ensures { result ≡ ids_by ids.now sup.now options.now }
 {
     let fsid = match options.uuid {
         UuidChoice::New => ids.fsid,
-        UuidChoice::Copy => sup.uuid,
+        UuidChoice::Copy => kept_or_new(sup.uuid, ids.fsid),
         UuidChoice::Given(uuid) => uuid,
     };
     Ids { fsid, ..*ids }
+}
+
+/// The identifier of the old volume, or the new one where that is nil.
+fn kept_or_new(old: [u8; 16], new: [u8; 16]) -> [u8; 16]
+    ensures { result ≡ (if is_nil old then new else old) }
+{
+    if is_nil(&old) { new } else { old }
 }
 
 /// The label of the converted volume, filled up with zeros.

@@ -2,22 +2,21 @@
 ghost use Rattle.std.specs.Prelude.{◌≡◌, ◌<◌, ◌^◌, ℕ, length, Contains, slice_get, slice_set, Some, IsTrue, IfSome, IfErr};
 ghost use Rattle.std.specs.Result.{MatchResult};
 ghost use Rattle.indexmap.specs.IndexMap.{keys};
-ghost use Rattle.object_files.specs.Answers.{IsFault, IsReadAnswer};
-ghost use Rattle.outside.specs.Fault.{HasCauseOf};
-ghost use Rattle.outside.specs.History.{Image, block_at, reads, OverTold, WritesOnly};
-ghost use Rattle.reiser_files.specs.Bytes.{tail_block};
-ghost use Rattle.reiser_names.specs.Names.{inode_of};
-ghost use Rattle.reiser_objects.specs.Keys.{items_of};
-ghost use Rattle.reiser_objects.specs.declared.key.ObjectKey.{ObjectKey as KeyOf};
+ghost use Rattle.reiser_volume.specs.reiser_volume_contents.Answers.{IsFault, IsReadAnswer};
+ghost use Rattle.command_answers.specs.outside.Fault.{HasCauseOf};
+ghost use Rattle.command_answers.specs.outside.History.{Image, block_at, reads, OverTold, WritesOnly};
+ghost use Rattle.reiser_volume.specs.reiser_volume_files.Bytes.{tail_block};
+ghost use Rattle.reiser_volume.specs.reiser_volume_names.Names.{inode_of};
+ghost use Rattle.reiser_volume.specs.reiser_volume_objects.Keys.{items_of};
+ghost use Rattle.reiser_volume.specs.reiser_volume_objects.declared.key.ObjectKey.{ObjectKey as KeyOf};
 ghost use Rattle.reiser_volume.specs.Made.{stat_at};
 ghost use Rattle.reiser_volume.specs.Opened.{IsOpened};
 ghost use Rattle.reiser_volume.specs.Volume.{IsAccepted, volume_items};
 ghost use Rattle.convert_steps.specs.Moved.{CanMove, CanWrite, HasPlace, HoldMoved, HoldsPiece, IsMovedTo, IsPlace};
 
-use outside::{Access, BlockSource, Disk, Rule, VolAnswer, VolumeRefusal};
+use command_answers::{Access, Block, BlockNo, BlockSource, Disk, Rule, VolAnswer, VolumeRefusal};
 use reiser_volume::{Numbers, Volume};
 use unit_plan::{Piece, PieceList};
-use vol_block::{Block, BlockNo};
 
 /// Writes copies and tails to their places. No other block is written.
 ///

@@ -1,18 +1,18 @@
 // What is decided before the first write.
 ghost use Rattle.std.specs.Prelude.{◌≡◌, IfErr, IfOk};
 ghost use Rattle.std.specs.Result.{MatchResult};
-ghost use Rattle.outside.specs.Fault.{HasCauseOf};
-ghost use Rattle.outside.specs.History.{OverTold};
-ghost use Rattle.btr_node.specs.NodeSize.{IsNodeSize};
+ghost use Rattle.command_answers.specs.outside.Fault.{HasCauseOf};
+ghost use Rattle.command_answers.specs.outside.History.{OverTold};
+ghost use Rattle.btr_tree.specs.btr_node.NodeSize.{IsNodeSize};
 ghost use Rattle.convert_steps.specs.Prepared.{HasPlanFor, IsPrepared, IsPrepareAnswer, RefusesConversion, by_plan, by_volume};
 
 use crate::form::{ids_of, label_of};
+use command_answers::{Answer, BlockSource, Ids, VolAnswer};
+use convert_options::Options;
 use extent_pieces::Pieces;
-use outside::{Answer, BlockSource, VolAnswer};
 use reiser_volume::Volume;
 use std::alloc::Global;
-use unit_plan::{Need, Options, Plan, PlanAnswer, choose, needed};
-use vol_block::Ids;
+use unit_plan::{Need, Plan, PlanAnswer, choose, needed};
 
 /// All that is known before the first write.
 #[derive(Drop)]

@@ -1,13 +1,12 @@
 // The switch to the new format.
 ghost use Rattle.std.specs.Prelude.{◌≡◌, ◌≤◌, ◌<◌, ◌⊎◌, slice_set, Some, IsTrue, OnOk};
-ghost use Rattle.outside.specs.Fault.{HasCause};
-ghost use Rattle.outside.specs.History.{block_at, reads, IsSettled, IsBlock, EachCrash, WritesOnly};
+ghost use Rattle.command_answers.specs.outside.Fault.{HasCause};
+ghost use Rattle.command_answers.specs.outside.History.{block_at, reads, IsSettled, IsBlock, EachCrash, WritesOnly};
 ghost use Rattle.btr_super.specs.Super.{mirror_bytes};
 ghost use Rattle.convert_steps.specs.Switch.{IsMirror, IsPart, IsCopy, IsCopyAt, IsSwitched, HasCopies, mirror_places, on_volume};
 
 use btr_super::mirror;
-use outside::{Access, Disk, Fault};
-use vol_block::{Block, BlockNo};
+use command_answers::{Access, Block, BlockNo, Disk, Fault};
 
 /// The block of the superblock.
 const SUPERBLOCK: BlockNo = 16;

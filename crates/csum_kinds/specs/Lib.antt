@@ -1,1 +1,2 @@
+pub use Rattle.castagnoli.specs as castagnoli
 pub mod Kind

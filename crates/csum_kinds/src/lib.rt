@@ -6,4 +6,5 @@
 
 mod kind;
 
+pub use castagnoli::{data_ref_hash, name_hash};
 pub use kind::{SumKind, kind_sum, kind_width};

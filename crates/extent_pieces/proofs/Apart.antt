@@ -11,22 +11,22 @@ use Rattle.std.proofs.lemmas.List.Sorted.{Contains-permutation, IsPermutation-sy
 use Rattle.std.proofs.lemmas.Map.Keys.{IsDistinct-IsPermutation, IsDistinct-from_apart, apart_from_distinct}
 use Rattle.std.proofs.Math.Seq.{drop-append_seam, take-append_seam}
 use Rattle.std.proofs.lemmas.List.Kept.{AllPairs-cons}
-use Rattle.path_list.proofs.Lists.{from_filter, from_flat_map, from_map}
-use Rattle.outside.specs.History.{Image}
+use Rattle.reiser_volume.proofs.fs_paths.Lists.{from_filter, from_flat_map, from_map}
+use Rattle.reiser_bitmap.specs.outside.History.{Image}
 use Rattle.reiser_bitmap.specs.Bits.{has}
 use Rattle.reiser_bitmap.specs.Units.{IsFreeUnit}
 use Rattle.reiser_bitmap.proofs.Ranges.{all_from_contains, contains_cases, contains_head, contains_tail, range_contains}
-use Rattle.reiser_files.specs.declared.map.RunFrom.TheVariants.{Tail as InTree}
-use Rattle.reiser_files.specs.Runs.{disk_or_hole, is_held}
-use Rattle.reiser_files.specs.Bytes.{named_block}
-use Rattle.reiser_objects.specs.declared.stat.ObjectStat.{ObjectStat}
+use Rattle.reiser_volume_files.specs.declared.map.RunFrom.TheVariants.{Tail as InTree}
+use Rattle.reiser_volume_files.specs.Runs.{disk_or_hole, is_held}
+use Rattle.reiser_volume_files.specs.Bytes.{named_block}
+use Rattle.reiser_volume_objects.specs.declared.stat.ObjectStat.{ObjectStat}
 use Rattle.reiser_volume.specs.Made.{no_stat, stat_at}
 use Rattle.reiser_volume.specs.Volume.{used_of, volume_items}
 use Rattle.reiser_volume.proofs.Bounds.{accepted_is_small}
 use Rattle.reiser_volume.proofs.Holding.{used_length}
 use Rattle.unit_plan.specs.Choice.{is_among}
 use Rattle.unit_plan.specs.declared.counts.Counts.{Counts}
-use Rattle.unit_plan.specs.declared.options.Options.{Options}
+use Rattle.convert_options.specs.declared.options.Options.{Options}
 use Rattle.unit_plan.specs.declared.piece.Piece.{Piece}
 use Rattle.unit_plan.specs.declared.plan.Plan.{Plan}
 use Rattle.unit_plan.specs.Laws.{IsSoundPlan}

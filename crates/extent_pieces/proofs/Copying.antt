@@ -4,7 +4,7 @@ use Rattle.std.specs.Prelude.{filter}
 use Rattle.std.specs.List.{range_with_len}
 use Rattle.std.proofs.lemmas.Bool.{and_left, and_right, and_from, not-true, cases_eq}
 use Rattle.std.proofs.lemmas.List.{append-nil}
-use Rattle.vol_block.specs.Volume.{is_reserved}
+use Rattle.reiser_bitmap.specs.vol_block.Volume.{is_reserved}
 use Rattle.reiser_bitmap.specs.Bits.{has}
 use Rattle.reiser_bitmap.proofs.Ends.{IsEnd}
 use Rattle.unit_plan.specs.declared.piece.Piece.{Piece}

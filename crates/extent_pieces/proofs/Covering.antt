@@ -5,8 +5,8 @@ use Rattle.std.specs.List.{range_with_len}
 use Rattle.std.proofs.lemmas.Bool.{and_from, and_parts, both_ways, cases_Bool, cases_lt, not_from_false}
 use Rattle.std.proofs.lemmas.List.{get_or_past}
 use Rattle.std.proofs.lemmas.List.Elements.{All-append, Contains-append_left, Contains-append_right}
-use Rattle.path_list.proofs.Lists.{from_filter, from_map, in_filter, in_map}
-use Rattle.vol_block.specs.Volume.{is_reserved}
+use Rattle.reiser_volume.proofs.fs_paths.Lists.{from_filter, from_map, in_filter, in_map}
+use Rattle.reiser_bitmap.specs.vol_block.Volume.{is_reserved}
 use Rattle.reiser_bitmap.specs.Bits.{has}
 use Rattle.reiser_bitmap.proofs.MaximalRuns.{starts_ascend}
 use Rattle.reiser_bitmap.proofs.Ranges.{all_from_contains, contains_range}

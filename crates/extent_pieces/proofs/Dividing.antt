@@ -4,7 +4,7 @@ use Rattle.std.specs.Prelude.{filter}
 use Rattle.std.specs.List.{range_with_len}
 use Rattle.std.proofs.lemmas.Bool.{and_from, and_left, and_right, not_from_false, not_from_true, and_parts, both_ways, cases_lt, cases_eq, cases_Bool, not-true}
 use Rattle.std.proofs.lemmas.List.{append-nil, get_or_past}
-use Rattle.vol_block.specs.Volume.{is_reserved}
+use Rattle.reiser_bitmap.specs.vol_block.Volume.{is_reserved}
 use Rattle.reiser_bitmap.specs.Bits.{has}
 use Rattle.reiser_bitmap.proofs.Ends.{IsEnd}
 use Rattle.unit_plan.specs.Choice.{is_data}

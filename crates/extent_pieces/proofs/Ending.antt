@@ -1,7 +1,7 @@
 -- Where a kept piece ends.
 use Rattle.std.proofs.Common.{◌≡◌, ◌⊎◌, inl, inr, ℕ, ◌+◌, ◌-◌, ◌*◌, ◌/◌, ◌^◌, ◌<◌, ◌≤◌, ◌==◌, min, Bool, true, false, not, List, length, sym, arith, subst, ⊎_elim}
 use Rattle.std.proofs.lemmas.Bool.{and_from, and_left, and_right, and_parts, both_ways, cases_Bool, cases_lt, not-true}
-use Rattle.vol_block.specs.Volume.{is_reserved}
+use Rattle.reiser_bitmap.specs.vol_block.Volume.{is_reserved}
 use Rattle.reiser_bitmap.specs.Bits.{has}
 use Rattle.reiser_bitmap.specs.Next.{end_of_run}
 use Rattle.reiser_bitmap.proofs.Ends.{IsEnd, end_facts}

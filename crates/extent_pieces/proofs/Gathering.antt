@@ -8,10 +8,10 @@ use Rattle.std.proofs.lemmas.Grind.{flat_map-append}
 use Rattle.std.proofs.lemmas.List.Elements.{filter-append}
 use Rattle.std.proofs.lemmas.List.Sums.{sum_by_push}
 use Rattle.std.proofs.lemmas.Bool.{and_parts, cases_Bool}
-use Rattle.reiser_walk.specs.Items.{Item}
-use Rattle.reiser_files.specs.declared.map.FileRun.{FileRun}
-use Rattle.reiser_files.specs.Runs.{file_runs}
-use Rattle.reiser_objects.specs.declared.key.ObjectKey.{ObjectKey}
+use Rattle.reiser_volume.specs.reiser_walk.Items.{Item}
+use Rattle.reiser_volume_files.specs.declared.map.FileRun.{FileRun}
+use Rattle.reiser_volume_files.specs.Runs.{file_runs}
+use Rattle.reiser_volume_objects.specs.declared.key.ObjectKey.{ObjectKey}
 use Rattle.extent_pieces.proofs.Tailing.{one_tail, one_tail_owns, tails_of_runs}
 use Rattle.extent_pieces.specs.declared.parts.FileParts.{FileParts}
 use Rattle.extent_pieces.specs.declared.run.OwnedRun.{OwnedRun}

@@ -2,17 +2,17 @@
 use Rattle.std.proofs.Common.{◌≡◌, ℕ, ◌+◌, ◌-◌, ◌≤◌, true, List, Option, Some, refl, sym, ◌∙◌, ap, arith, subst}
 use Rattle.std.specs.Prelude.{Contains, filter, unwrap_or}
 use Rattle.std.proofs.lemmas.Option.{slice_get-get_or}
-use Rattle.outside.specs.History.{Image}
+use Rattle.reiser_bitmap.specs.outside.History.{Image}
 use Rattle.fs_rows.specs.declared.row.Kind.{Kind}
 use Rattle.fs_rows.specs.declared.row.Kind.TheVariants.{File}
-use Rattle.path_list.proofs.Lists.{in_filter, in_map}
-use Rattle.reiser_walk.specs.Items.{Item}
-use Rattle.reiser_files.specs.declared.map.FileRun.{FileRun}
-use Rattle.reiser_files.specs.Runs.{file_runs}
-use Rattle.reiser_objects.specs.declared.key.ObjectKey.{ObjectKey}
-use Rattle.reiser_objects.specs.declared.stat.ObjectStat.{ObjectStat}
-use Rattle.reiser_objects.specs.Keys.{items_of, root}
-use Rattle.reiser_objects.specs.Kinds.{is_file}
+use Rattle.reiser_volume.proofs.fs_paths.Lists.{in_filter, in_map}
+use Rattle.reiser_volume.specs.reiser_walk.Items.{Item}
+use Rattle.reiser_volume_files.specs.declared.map.FileRun.{FileRun}
+use Rattle.reiser_volume_files.specs.Runs.{file_runs}
+use Rattle.reiser_volume_objects.specs.declared.key.ObjectKey.{ObjectKey}
+use Rattle.reiser_volume_objects.specs.declared.stat.ObjectStat.{ObjectStat}
+use Rattle.reiser_volume_objects.specs.Keys.{items_of, root}
+use Rattle.reiser_volume_objects.specs.Kinds.{is_file}
 use Rattle.reiser_volume.specs.Made.{kind_by, no_stat, stat_at}
 use Rattle.reiser_volume.specs.Numbers.{AreNumbered}
 use Rattle.reiser_volume.specs.Owners.{Owns, TellsOwned}

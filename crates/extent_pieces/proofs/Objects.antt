@@ -4,17 +4,17 @@ use Rattle.std.specs.Prelude.{All, Contains, slice_get, unwrap_or}
 use Rattle.std.proofs.lemmas.List.{take_more}
 use Rattle.std.proofs.lemmas.Option.{slice_get_within, get_or_from_slice_get}
 use Rattle.indexmap.specs.IndexMap.{keys, get}
-use Rattle.outside.specs.History.{Image}
+use Rattle.reiser_bitmap.specs.outside.History.{Image}
 use Rattle.fs_rows.specs.declared.row.Kind.{Kind}
 use Rattle.fs_rows.specs.declared.row.Kind.TheVariants.{Directory, File, Symlink, Character, Block, Fifo, Socket, Subvolume}
-use Rattle.reiser_walk.specs.Items.{Item}
-use Rattle.reiser_files.specs.declared.map.FileRun.{FileRun}
-use Rattle.reiser_files.specs.Runs.{file_runs}
-use Rattle.reiser_objects.specs.declared.key.ObjectKey.{ObjectKey}
-use Rattle.reiser_objects.specs.declared.stat.ObjectStat.{ObjectStat}
-use Rattle.reiser_objects.specs.Keys.{items_of, same_key}
-use Rattle.reiser_objects.specs.Kinds.{is_file, is_symlink, kind_of_mode}
-use Rattle.reiser_names.specs.Names.{inode_of}
+use Rattle.reiser_volume.specs.reiser_walk.Items.{Item}
+use Rattle.reiser_volume_files.specs.declared.map.FileRun.{FileRun}
+use Rattle.reiser_volume_files.specs.Runs.{file_runs}
+use Rattle.reiser_volume_objects.specs.declared.key.ObjectKey.{ObjectKey}
+use Rattle.reiser_volume_objects.specs.declared.stat.ObjectStat.{ObjectStat}
+use Rattle.reiser_volume_objects.specs.Keys.{items_of, same_key}
+use Rattle.reiser_volume_objects.specs.Kinds.{is_file, is_symlink, kind_of_mode}
+use Rattle.reiser_volume.specs.reiser_volume_names.Names.{inode_of}
 use Rattle.reiser_volume.specs.declared.volume.Volume.{Volume}
 use Rattle.reiser_volume.specs.Made.{kind_by, no_stat, stat_at}
 use Rattle.reiser_volume.specs.Opened.{IsOpened}

@@ -4,24 +4,24 @@ use Rattle.std.specs.Prelude.{Contains, AllPairs, filter, slice_get, unwrap_or, 
 use Rattle.std.proofs.lemmas.Bool.{cases_lt, leb-true}
 use Rattle.std.proofs.lemmas.List.Kept.{AllPairs-filter}
 use Rattle.std.proofs.lemmas.Option.{slice_get-get_or}
-use Rattle.outside.specs.History.{Image}
+use Rattle.reiser_bitmap.specs.outside.History.{Image}
 use Rattle.fs_rows.specs.declared.row.Kind.{Kind}
 use Rattle.fs_rows.specs.declared.row.Kind.TheVariants.{Directory, File, Symlink, Character, Block, Fifo, Socket, Subvolume}
-use Rattle.path_list.proofs.Lists.{from_filter, from_map}
-use Rattle.reiser_walk.specs.Items.{Item}
-use Rattle.reiser_files.proofs.Ascending.{file_runs_are}
-use Rattle.reiser_files.specs.declared.map.FileRun.{FileRun}
-use Rattle.reiser_files.specs.declared.map.RunFrom.{RunFrom}
-use Rattle.reiser_files.specs.declared.map.RunFrom.TheVariants.{Disk, Tail as InTree}
-use Rattle.reiser_files.specs.Runs.{file_runs, next_from}
-use Rattle.reiser_objects.specs.declared.key.ObjectKey.{ObjectKey}
-use Rattle.reiser_objects.specs.declared.stat.ObjectStat.{ObjectStat}
-use Rattle.reiser_objects.specs.Keys.{items_of}
-use Rattle.reiser_objects.specs.Kinds.{fits_size, is_file}
-use Rattle.reiser_objects.specs.Names.{IsNamed}
-use Rattle.reiser_objects.specs.Rules.{IsObject}
-use Rattle.reiser_names.specs.Links.{AreNamedKeys}
-use Rattle.reiser_names.specs.Names.{inode_of}
+use Rattle.reiser_volume.proofs.fs_paths.Lists.{from_filter, from_map}
+use Rattle.reiser_volume.specs.reiser_walk.Items.{Item}
+use Rattle.reiser_volume_files.proofs.Ascending.{file_runs_are}
+use Rattle.reiser_volume_files.specs.declared.map.FileRun.{FileRun}
+use Rattle.reiser_volume_files.specs.declared.map.RunFrom.{RunFrom}
+use Rattle.reiser_volume_files.specs.declared.map.RunFrom.TheVariants.{Disk, Tail as InTree}
+use Rattle.reiser_volume_files.specs.Runs.{file_runs, next_from}
+use Rattle.reiser_volume_objects.specs.declared.key.ObjectKey.{ObjectKey}
+use Rattle.reiser_volume_objects.specs.declared.stat.ObjectStat.{ObjectStat}
+use Rattle.reiser_volume_objects.specs.Keys.{items_of}
+use Rattle.reiser_volume_objects.specs.Kinds.{fits_size, is_file}
+use Rattle.reiser_volume_objects.specs.Names.{IsNamed}
+use Rattle.reiser_volume_objects.specs.Rules.{IsObject}
+use Rattle.reiser_volume.specs.reiser_volume_names.Links.{AreNamedKeys}
+use Rattle.reiser_volume.specs.reiser_volume_names.Names.{inode_of}
 use Rattle.reiser_volume.specs.Bounds.{IsSmall}
 use Rattle.reiser_volume.specs.Made.{kind_by, no_stat, stat_at}
 use Rattle.reiser_volume.specs.Numbers.{AreNumbered}

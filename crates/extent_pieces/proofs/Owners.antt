@@ -10,11 +10,11 @@ use Rattle.std.proofs.lemmas.List.Elements.{Contains-append_cases, Contains-appe
 use Rattle.std.proofs.lemmas.List.Sorted.{Contains-permutation, IsPermutation-sym}
 use Rattle.std.proofs.lemmas.Map.Keys.{IsDistinct-IsPermutation, IsDistinct-from_apart, apart_from_distinct}
 use Rattle.reiser_bitmap.proofs.Ranges.{all_from_contains, contains_cases, contains_head, contains_range, contains_tail, range_contains}
-use Rattle.reiser_files.proofs.Ascending.{file_runs_are}
-use Rattle.reiser_files.specs.declared.map.FileRun.{FileRun}
-use Rattle.reiser_files.specs.declared.map.RunFrom.{RunFrom}
-use Rattle.reiser_files.specs.declared.map.RunFrom.TheVariants.{Disk, Tail as InTree}
-use Rattle.reiser_files.specs.Runs.{block_from, file_runs, next_from}
+use Rattle.reiser_volume_files.proofs.Ascending.{file_runs_are}
+use Rattle.reiser_volume_files.specs.declared.map.FileRun.{FileRun}
+use Rattle.reiser_volume_files.specs.declared.map.RunFrom.{RunFrom}
+use Rattle.reiser_volume_files.specs.declared.map.RunFrom.TheVariants.{Disk, Tail as InTree}
+use Rattle.reiser_volume_files.specs.Runs.{block_from, file_runs, next_from}
 use Rattle.extent_pieces.specs.declared.run.OwnedRun.{OwnedRun}
 use Rattle.extent_pieces.specs.Files.{FileAt, file_blocks, is_in_block, owner, owns}
 use Rattle.extent_pieces.specs.Owned.{IsBefore, IsRun, TellOwners, holds_block, owner_in}

@@ -1,8 +1,8 @@
 -- The next reserved block.
 use Rattle.std.proofs.Common.{◌≡◌, ◌⊎◌, ℕ, ◌-◌, ◌*◌, ◌/◌, ◌%◌, ◌<◌, ◌≤◌, true, false, not, arith, ⊎_elim, inl, inr}
 use Rattle.std.proofs.lemmas.Bool.{cases_Bool, cases_lt, not_from_false, not_from_true}
-use Rattle.vol_block.specs.Volume.{IsReserved, is_reserved}
-use Rattle.vol_block.proofs.Reserved.{decides_reserved}
+use Rattle.reiser_bitmap.specs.vol_block.Volume.{IsReserved, is_reserved}
+use Rattle.reiser_bitmap.proofs.vol_block.Reserved.{decides_reserved}
 use Rattle.reiser_bitmap.proofs.Ends.{IsEnd}
 
 pub reserved_yes : (b n : ℕ) → IsReserved b n → is_reserved b n ≡ true

@@ -8,25 +8,25 @@ use Rattle.std.proofs.lemmas.Bool.{and_parts, cases_eq, leb-true, ltb-true}
 use Rattle.std.proofs.lemmas.List.Concat.{length-flat_map}
 use Rattle.std.proofs.lemmas.List.FromFn.{length-range_with_len}
 use Rattle.std.proofs.lemmas.List.Sums.{sum_by-append, sum_by-cons, sum_by-le}
-use Rattle.outside.specs.History.{Image}
+use Rattle.reiser_bitmap.specs.outside.History.{Image}
 use Rattle.fs_rows.specs.declared.row.Kind.{Kind}
 use Rattle.fs_rows.specs.declared.row.Kind.TheVariants.{Directory, File, Symlink, Character, Block, Fifo, Socket, Subvolume}
-use Rattle.path_list.proofs.Lists.{from_filter, from_map}
+use Rattle.reiser_volume.proofs.fs_paths.Lists.{from_filter, from_map}
 use Rattle.reiser_bitmap.specs.Runs.{begins_run, free_runs, maximal_runs, run_from}
 use Rattle.reiser_bitmap.specs.Units.{is_free_unit, unit_count}
 use Rattle.reiser_bitmap.proofs.Ranges.{all_from_contains}
-use Rattle.reiser_node.specs.declared.head.ItemKind.{ItemKind}
-use Rattle.reiser_node.specs.declared.head.ItemKind.TheVariants.{Stat, Indirect, Direct, Directory as Entries}
-use Rattle.reiser_walk.specs.Items.{Item}
-use Rattle.reiser_files.specs.Bytes.{first_byte, named_block}
-use Rattle.reiser_files.specs.declared.map.RunFrom.TheVariants.{Disk, Tail as InTree}
-use Rattle.reiser_files.specs.Runs.{disk_or_hole, holds_by_kind, is_held}
-use Rattle.reiser_objects.specs.declared.key.ObjectKey.{ObjectKey}
-use Rattle.reiser_objects.specs.declared.naming.Naming.{Naming}
-use Rattle.reiser_objects.specs.declared.stat.ObjectStat.{ObjectStat}
-use Rattle.reiser_objects.specs.Kinds.{kind_of_mode, is_symlink}
-use Rattle.reiser_objects.specs.Rules.{IsObject}
-use Rattle.reiser_names.specs.Links.{AreLinks, AreNamedKeys}
+use Rattle.reiser_volume.specs.reiser_node.declared.head.ItemKind.{ItemKind}
+use Rattle.reiser_volume.specs.reiser_node.declared.head.ItemKind.TheVariants.{Stat, Indirect, Direct, Directory as Entries}
+use Rattle.reiser_volume.specs.reiser_walk.Items.{Item}
+use Rattle.reiser_volume_files.specs.Bytes.{first_byte, named_block}
+use Rattle.reiser_volume_files.specs.declared.map.RunFrom.TheVariants.{Disk, Tail as InTree}
+use Rattle.reiser_volume_files.specs.Runs.{disk_or_hole, holds_by_kind, is_held}
+use Rattle.reiser_volume_objects.specs.declared.key.ObjectKey.{ObjectKey}
+use Rattle.reiser_volume_objects.specs.declared.naming.Naming.{Naming}
+use Rattle.reiser_volume_objects.specs.declared.stat.ObjectStat.{ObjectStat}
+use Rattle.reiser_volume_objects.specs.Kinds.{kind_of_mode, is_symlink}
+use Rattle.reiser_volume_objects.specs.Rules.{IsObject}
+use Rattle.reiser_volume.specs.reiser_volume_names.Links.{AreLinks, AreNamedKeys}
 use Rattle.reiser_volume.specs.Bounds.{IsSmall, direct_bytes, direct_length}
 use Rattle.reiser_volume.specs.Made.{stat_at}
 use Rattle.reiser_volume.specs.Volume.{used_of, volume_items, IsAccepted}

@@ -6,10 +6,10 @@ use Rattle.std.specs.List.{flat_map, range_with_len}
 use Rattle.std.proofs.lemmas.List.{append-nil, map-append}
 use Rattle.std.proofs.lemmas.Bool.{and_left, and_parts, cases_Bool, cases_eq, eqb-true, leb-true, false≢true}
 use Rattle.reiser_bitmap.proofs.Ranges.{range_cut, filter_more_yes, filter_more_no}
-use Rattle.reiser_files.specs.declared.map.FileRun.{FileRun}
-use Rattle.reiser_files.specs.declared.map.RunFrom.{RunFrom}
-use Rattle.reiser_files.specs.declared.map.RunFrom.TheVariants.{Disk, Tail as InTree}
-use Rattle.reiser_files.specs.Runs.{runs_of, file_runs, extended, with_block, goes_on, is_next, longer, block_from}
+use Rattle.reiser_volume_files.specs.declared.map.FileRun.{FileRun}
+use Rattle.reiser_volume_files.specs.declared.map.RunFrom.{RunFrom}
+use Rattle.reiser_volume_files.specs.declared.map.RunFrom.TheVariants.{Disk, Tail as InTree}
+use Rattle.reiser_volume_files.specs.Runs.{runs_of, file_runs, extended, with_block, goes_on, is_next, longer, block_from}
 use Rattle.extent_pieces.specs.declared.tail.Tail.{Tail}
 use Rattle.reiser_volume.specs.Inline.{is_tail}
 use Rattle.extent_pieces.specs.Files.{FileAt, file_blocks, has_tail, is_inline}

@@ -5,12 +5,12 @@ use Rattle.std.specs.List.{flat_map}
 use Rattle.std.proofs.lemmas.Bool.{and_from, and_parts, and_right, both_ways, cases_Bool, cases_lt, ltb-true, leb-true, lt-ltb, le-ltb, le-leb, eqb-true}
 use Rattle.std.proofs.lemmas.List.Elements.{All-append}
 use Rattle.reiser_bitmap.proofs.Ranges.{all_from_contains, contains_cases, contains_head, contains_tail}
-use Rattle.reiser_files.proofs.Ascending.{file_runs_are}
-use Rattle.reiser_files.specs.declared.map.FileRun.{FileRun}
-use Rattle.reiser_files.specs.declared.map.RunFrom.{RunFrom}
-use Rattle.reiser_files.specs.declared.map.RunFrom.TheVariants.{Disk, Tail as InTree}
-use Rattle.reiser_files.specs.Runs.{AreRunsOf, IsBefore as IsBeforeRun, block_from, disk_or_hole, file_runs, goes_on, is_held, is_in_run, lies_at, next_from}
-use Rattle.reiser_files.specs.Bytes.{named_block}
+use Rattle.reiser_volume_files.proofs.Ascending.{file_runs_are}
+use Rattle.reiser_volume_files.specs.declared.map.FileRun.{FileRun}
+use Rattle.reiser_volume_files.specs.declared.map.RunFrom.{RunFrom}
+use Rattle.reiser_volume_files.specs.declared.map.RunFrom.TheVariants.{Disk, Tail as InTree}
+use Rattle.reiser_volume_files.specs.Runs.{AreRunsOf, IsBefore as IsBeforeRun, block_from, disk_or_hole, file_runs, goes_on, is_held, is_in_run, lies_at, next_from}
+use Rattle.reiser_volume_files.specs.Bytes.{named_block}
 use Rattle.extent_pieces.specs.declared.run.OwnedRun.{OwnedRun}
 use Rattle.extent_pieces.specs.Files.{FileAt}
 use Rattle.extent_pieces.specs.Owned.{GoesOn, IsBefore}

@@ -1,7 +1,7 @@
 -- What is counted of a volume.
 use Rattle.std.specs.Prelude.{ℕ, ◌+◌, Bool, List, length, sum_by}
 use Rattle.reiser_bitmap.specs.Runs.{free_runs}
-use Rattle.reiser_objects.specs.declared.naming.Naming.{Naming}
+use Rattle.reiser_volume_objects.specs.declared.naming.Naming.{Naming}
 use Rattle.unit_plan.specs.declared.counts.Counts.{Counts}
 use Rattle.extent_pieces.specs.Files.{FileAt, inline_files, owner, tails}
 use Rattle.extent_pieces.specs.Pieces.{copied_pieces, pieces}

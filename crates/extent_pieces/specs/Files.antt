@@ -3,14 +3,14 @@ use Rattle.std.specs.Prelude.{ℕ, ◌==◌, Bool, false, List, [], ◌∷◌, m
 use Rattle.std.specs.Int.{div_ceil}
 use Rattle.std.specs.List.{find, flat_map, range_with_len}
 use Rattle.std.specs.Option.{option_map, option_or}
-use Rattle.reiser_walk.specs.Items.{Item}
-use Rattle.reiser_files.specs.declared.map.RunFrom.{RunFrom}
-use Rattle.reiser_files.specs.declared.map.RunFrom.TheVariants.{Disk, Tail}
-use Rattle.reiser_files.specs.Runs.{block_from}
-use Rattle.reiser_objects.specs.declared.key.ObjectKey.{ObjectKey}
-use Rattle.reiser_objects.specs.Keys.{items_of}
-use Rattle.reiser_objects.specs.Kinds.{is_file, is_symlink}
-use Rattle.reiser_names.specs.Names.{inode_of}
+use Rattle.reiser_volume.specs.reiser_walk.Items.{Item}
+use Rattle.reiser_volume_files.specs.declared.map.RunFrom.{RunFrom}
+use Rattle.reiser_volume_files.specs.declared.map.RunFrom.TheVariants.{Disk, Tail}
+use Rattle.reiser_volume_files.specs.Runs.{block_from}
+use Rattle.reiser_volume_objects.specs.declared.key.ObjectKey.{ObjectKey}
+use Rattle.reiser_volume_objects.specs.Keys.{items_of}
+use Rattle.reiser_volume_objects.specs.Kinds.{is_file, is_symlink}
+use Rattle.reiser_volume.specs.reiser_volume_names.Names.{inode_of}
 use Rattle.fs_rows.specs.declared.row.Kind.TheVariants.{File}
 use Rattle.reiser_volume.specs.Inline.{is_inline as stays_in_tree, is_tail}
 use Rattle.reiser_volume.specs.Made.{stat_at, kind_by}

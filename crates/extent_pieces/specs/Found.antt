@@ -1,8 +1,8 @@
 -- What the pieces of a volume hold.
 use Rattle.std.specs.Prelude.{◌≡◌, Bool, List, length}
-use Rattle.outside.specs.History.{Image}
-use Rattle.reiser_objects.specs.declared.key.ObjectKey.{ObjectKey}
-use Rattle.reiser_objects.specs.declared.naming.Naming.{Naming}
+use Rattle.reiser_bitmap.specs.outside.History.{Image}
+use Rattle.reiser_volume_objects.specs.declared.key.ObjectKey.{ObjectKey}
+use Rattle.reiser_volume_objects.specs.declared.naming.Naming.{Naming}
 use Rattle.reiser_volume.specs.Volume.{used_of, volume_items}
 use Rattle.extent_pieces.specs.declared.pieces.Pieces.{Pieces}
 use Rattle.extent_pieces.specs.Counts.{counts}

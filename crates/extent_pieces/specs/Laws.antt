@@ -1,15 +1,15 @@
 -- What pieces keep.
 use Rattle.std.specs.Prelude.{◌≡◌, ◌≢◌, ◌≤◌, ◌<◌, ℕ, ◌+◌, ◌-◌, ◌/◌, Bool, true, false, List, length, All, AllPairs, Any, Some}
 use Rattle.std.specs.List.Sorted.{IsStrictlySortedBy}
-use Rattle.outside.specs.History.{Image}
+use Rattle.reiser_bitmap.specs.outside.History.{Image}
 use Rattle.reiser_bitmap.specs.Bits.{has}
-use Rattle.reiser_objects.specs.declared.key.ObjectKey.{ObjectKey}
-use Rattle.reiser_objects.specs.declared.naming.Naming.{Naming}
-use Rattle.reiser_names.specs.Links.{AreLinks, AreNamedKeys, object_cmp}
-use Rattle.reiser_names.specs.Names.{inode_of}
+use Rattle.reiser_volume_objects.specs.declared.key.ObjectKey.{ObjectKey}
+use Rattle.reiser_volume_objects.specs.declared.naming.Naming.{Naming}
+use Rattle.reiser_volume.specs.reiser_volume_names.Links.{AreLinks, AreNamedKeys, object_cmp}
+use Rattle.reiser_volume.specs.reiser_volume_names.Names.{inode_of}
 use Rattle.reiser_volume.specs.Owners.{Owns}
 use Rattle.reiser_volume.specs.Volume.{used_of, volume_items, IsAccepted}
-use Rattle.unit_plan.specs.declared.options.Options.{Options}
+use Rattle.convert_options.specs.declared.options.Options.{Options}
 use Rattle.unit_plan.specs.declared.piece.Piece.{Piece}
 use Rattle.unit_plan.specs.declared.plan.Plan.{Plan}
 use Rattle.unit_plan.specs.Choice.{HasEnoughSpace, IsPlan, is_among, is_data}

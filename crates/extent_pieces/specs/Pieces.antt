@@ -1,7 +1,7 @@
 -- The pieces that the used blocks of a volume, and the tails of its files, are divided into.
 use Rattle.std.specs.Prelude.{ℕ, ◌+◌, ◌-◌, ◌/◌, ◌==◌, nat_lt, Bool, true, false, not, ◌&&◌, List, ◌++◌, length, map, filter, Option, Some, None}
 use Rattle.std.specs.List.{range_with_len}
-use Rattle.vol_block.specs.Volume.{is_reserved}
+use Rattle.reiser_bitmap.specs.vol_block.Volume.{is_reserved}
 use Rattle.reiser_bitmap.specs.Bits.{has}
 use Rattle.reiser_bitmap.specs.Next.{end_of_run}
 use Rattle.unit_plan.specs.Choice.{is_data}

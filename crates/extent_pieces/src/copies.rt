@@ -1,16 +1,14 @@
 // The used blocks that are copied.
 ghost use Rattle.std.specs.Prelude.{◌≡◌, ◌≤◌, ◌++◌, not, length, OnOk};
-ghost use Rattle.vol_block.specs.Volume.{is_reserved};
+ghost use Rattle.reiser_bitmap.specs.vol_block.Volume.{is_reserved};
 ghost use Rattle.reiser_bitmap.specs.Next.{end_of_run};
 ghost use Rattle.extent_pieces.specs.Owned.{TellOwners};
 ghost use Rattle.extent_pieces.specs.Pieces.{Owners, copied_pieces};
 
 use crate::owned::owner_of;
 use crate::run::OwnedRun;
-use outside::Memory;
-use reiser_bitmap::Bitmap;
+use reiser_bitmap::{Bitmap, BlockNo, Memory, is_reserved};
 use unit_plan::Piece;
-use vol_block::{BlockNo, is_reserved};
 
 /// Where the second superblock of Btrfs lies.
 const SECOND: BlockNo = 16384;

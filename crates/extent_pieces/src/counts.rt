@@ -5,7 +5,7 @@ ghost use Rattle.extent_pieces.specs.Parts.{capped};
 ghost use Rattle.extent_pieces.specs.Tallies.{Tells};
 
 use crate::parts::FileParts;
-use outside::Memory;
+use reiser_bitmap::Memory;
 use reiser_volume::Volume;
 use unit_plan::{Counts, Piece};
 

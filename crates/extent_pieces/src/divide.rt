@@ -8,10 +8,8 @@ ghost use Rattle.extent_pieces.specs.Pieces.{Owners, is_joined, kept_piece, kept
 use crate::copies::next_reserved;
 use crate::owned::{owner_end, owner_of};
 use crate::run::OwnedRun;
-use outside::Memory;
-use reiser_bitmap::Bitmap;
+use reiser_bitmap::{Bitmap, BlockNo, Memory, is_reserved};
 use unit_plan::Piece;
-use vol_block::{BlockNo, is_reserved};
 
 /// No piece crosses a multiple of so many blocks.
 const CUT: u64 = 32768;

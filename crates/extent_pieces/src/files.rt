@@ -2,10 +2,10 @@
 ghost use Rattle.std.specs.Prelude.{◌≡◌, ◌<◌, ◌+◌, ◌^◌, All, Some, length, slice_get, take, OnOk, IfErr};
 ghost use Rattle.std.specs.Result.{MatchResult};
 ghost use Rattle.indexmap.specs.IndexMap.{keys};
-ghost use Rattle.outside.specs.Fault.{HasCauseOf};
-ghost use Rattle.outside.specs.History.{Image, OverTold};
-ghost use Rattle.object_files.specs.Answers.{IsFileAnswer, IsFaultOrMemory};
-ghost use Rattle.reiser_objects.specs.declared.key.ObjectKey.{ObjectKey as KeyOf};
+ghost use Rattle.reiser_bitmap.specs.outside.Fault.{HasCauseOf};
+ghost use Rattle.reiser_bitmap.specs.outside.History.{Image, OverTold};
+ghost use Rattle.reiser_volume.specs.reiser_volume_contents.Answers.{IsFileAnswer, IsFaultOrMemory};
+ghost use Rattle.reiser_volume_objects.specs.declared.key.ObjectKey.{ObjectKey as KeyOf};
 ghost use Rattle.reiser_volume.specs.Made.{kind_by, stat_at};
 ghost use Rattle.reiser_volume.specs.Opened.{IsOpened};
 ghost use Rattle.reiser_volume.specs.Volume.{IsAccepted, volume_items};
@@ -15,10 +15,10 @@ use crate::parts::FileParts;
 use crate::run::OwnedRun;
 use crate::tail::Tail;
 use fs_rows::Kind;
-use outside::{BlockSource, Memory, VolAnswer};
-use reiser_files::{FileMap, FileRun, RunFrom};
-use reiser_objects::kind_of_mode;
+use reiser_bitmap::{BlockSource, Memory, VolAnswer};
 use reiser_volume::Volume;
+use reiser_volume_files::{FileMap, FileRun, RunFrom};
+use reiser_volume_objects::kind_of_mode;
 use std::alloc::Global;
 
 /// The most bytes of a file that stay in the tree.

@@ -1,12 +1,12 @@
 ghost use Rattle.std.specs.Prelude.{◌≡◌, ◌++◌, Bool, map, OnOk, IfOk, IfErr};
 ghost use Rattle.std.specs.Result.{MatchResult};
 ghost use Rattle.indexmap.specs.IndexMap.{keys};
-ghost use Rattle.outside.specs.Fault.{HasCauseOf};
-ghost use Rattle.outside.specs.History.{Image, OverTold};
-ghost use Rattle.outside.specs.declared.answer.VolAnswer.TheVariants.{Refused};
-ghost use Rattle.outside.specs.declared.refusal.VolumeRefusal.TheVariants.{Damaged};
-ghost use Rattle.outside.specs.declared.rule.Rule.TheVariants.{Reread};
-ghost use Rattle.object_files.specs.Answers.{IsFileAnswer, IsFaultOrMemory};
+ghost use Rattle.reiser_bitmap.specs.outside.Fault.{HasCauseOf};
+ghost use Rattle.reiser_bitmap.specs.outside.History.{Image, OverTold};
+ghost use Rattle.reiser_bitmap.specs.refusals.declared.answer.VolAnswer.TheVariants.{Refused};
+ghost use Rattle.reiser_bitmap.specs.refusals.declared.refusal.VolumeRefusal.TheVariants.{Damaged};
+ghost use Rattle.reiser_bitmap.specs.refusals.declared.rule.Rule.TheVariants.{Reread};
+ghost use Rattle.reiser_volume.specs.reiser_volume_contents.Answers.{IsFileAnswer, IsFaultOrMemory};
 ghost use Rattle.reiser_volume.specs.Opened.{IsOpened, links_in};
 ghost use Rattle.reiser_volume.specs.Volume.{IsAccepted, volume_items};
 ghost use Rattle.unit_plan.specs.Needed.{AreSmall};
@@ -21,11 +21,11 @@ use crate::counts::{are_small, counts_of};
 use crate::divide::{add_kept, count_kept};
 use crate::parts::FileParts;
 use crate::tail::Tail;
-use outside::{BlockSource, Memory, Rule, VolAnswer, VolumeRefusal};
+use convert_options::Options;
+use reiser_bitmap::{BlockNo, BlockSource, Memory, Rule, VolAnswer, VolumeRefusal};
 use reiser_volume::Volume;
 use std::alloc::Global;
-use unit_plan::{Options, Piece};
-use vol_block::BlockNo;
+use unit_plan::Piece;
 
 /// The most blocks of a volume that are reserved.
 const MOST_COPIES: usize = 303;

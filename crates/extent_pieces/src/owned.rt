@@ -7,7 +7,7 @@ ghost use Rattle.extent_pieces.specs.Owned.{TellOwners, holds_block, owner_in};
 ghost use Rattle.extent_pieces.specs.Pieces.{Owners, advanced, is_owner};
 
 use crate::run::OwnedRun;
-use vol_block::BlockNo;
+use reiser_bitmap::BlockNo;
 
 /// How many runs begin at block `b` or before.
 fn begun(runs: &[OwnedRun], b: BlockNo) -> usize

@@ -1,7 +1,7 @@
 ghost use Rattle.extent_pieces.specs.Parts.{Gathers};
 ghost use Rattle.std.specs.Prelude.{[], List, Bool};
-ghost use Rattle.reiser_walk.specs.Items.{Item};
-ghost use Rattle.reiser_objects.specs.declared.key.ObjectKey.{ObjectKey as KeyOf};
+ghost use Rattle.reiser_volume.specs.reiser_walk.Items.{Item};
+ghost use Rattle.reiser_volume_objects.specs.declared.key.ObjectKey.{ObjectKey as KeyOf};
 
 use crate::run::OwnedRun;
 use crate::tail::Tail;

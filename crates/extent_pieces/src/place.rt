@@ -2,8 +2,8 @@ ghost use Rattle.std.specs.Prelude.{◌≡◌, ◌≤◌, ◌<◌, ◌*◌, ◌^
 ghost use Rattle.extent_pieces.specs.Placed.{ArePlaced, FitsPlan, blocks_of_units};
 
 use crate::Pieces;
+use reiser_bitmap::BlockNo;
 use unit_plan::{Plan, Units};
-use vol_block::BlockNo;
 
 /// How many blocks a unit of 1 MiB has.
 const BLOCKS_IN_UNIT: usize = 256;

@@ -1,4 +1,4 @@
-use vol_block::BlockNo;
+use reiser_bitmap::BlockNo;
 
 /// Neighbouring blocks of the volume that hold neighbouring blocks of one file.
 #[derive(Clone, Copy, Debug, PartialEq, Eq)]

@@ -7,20 +7,20 @@ use Rattle.std.proofs.lemmas.List.Sums.{length-filter, sum_by-cons, sum_by-appen
 use Rattle.fs_rows.specs.declared.row.Kind.{Kind}
 use Rattle.fs_rows.specs.declared.row.Kind.TheVariants.{Directory}
 use Rattle.fs_rows.specs.Kinds.{is_directory}
-use Rattle.outside.specs.History.{Image}
-use Rattle.btr_keys.specs.Inode.{inode_bytes}
-use Rattle.btr_keys.specs.Key.{make_key}
-use Rattle.btr_keys.specs.declared.inode.Inode.{Inode}
-use Rattle.btr_node.specs.Leaf.{Item}
-use Rattle.item_list.specs.Spots.{is_under}
-use Rattle.item_list.specs.declared.spot.Spot.{Spot}
-use Rattle.item_list.proofs.Placing.{places_count}
-use Rattle.reiser_names.proofs.Uniqueness.{links_one}
-use Rattle.reiser_objects.specs.Keys.{same_key, root, items_of}
-use Rattle.reiser_objects.specs.Rules.{IsDirectory}
-use Rattle.reiser_objects.specs.declared.key.ObjectKey.{ObjectKey}
-use Rattle.reiser_objects.specs.declared.naming.Naming.{Naming}
-use Rattle.reiser_objects.specs.declared.stat.ObjectStat.{ObjectStat}
+use Rattle.reiser_volume.specs.outside.History.{Image}
+use Rattle.unit_plan.specs.btr_keys.Inode.{inode_bytes}
+use Rattle.unit_plan.specs.btr_keys.Key.{make_key}
+use Rattle.unit_plan.specs.btr_keys.declared.inode.Inode.{Inode}
+use Rattle.unit_plan.specs.btr_node.Leaf.{Item}
+use Rattle.btr_item_list.specs.Spots.{is_under}
+use Rattle.btr_item_list.specs.declared.spot.Spot.{Spot}
+use Rattle.btr_item_list.proofs.Placing.{places_count}
+use Rattle.reiser_volume.proofs.reiser_volume_names.Uniqueness.{links_one}
+use Rattle.reiser_volume_objects.specs.Keys.{same_key, root, items_of}
+use Rattle.reiser_volume_objects.specs.Rules.{IsDirectory}
+use Rattle.reiser_volume_objects.specs.declared.key.ObjectKey.{ObjectKey}
+use Rattle.reiser_volume_objects.specs.declared.naming.Naming.{Naming}
+use Rattle.reiser_volume_objects.specs.declared.stat.ObjectStat.{ObjectStat}
 use Rattle.reiser_volume.proofs.Bounds.{accepted_is_small}
 use Rattle.reiser_volume.specs.Made.{stat_at, kind_by, no_stat}
 use Rattle.reiser_volume.specs.Opened.{links_in}

@@ -2,11 +2,11 @@
 use Rattle.std.proofs.Common.{◌≡◌, ℕ, ◌-◌, Bool, true, false, List, [], ◌∷◌, ◌++◌, length, drop, take, Option, Some, None, refl, sym, ap, subst, ◌∙◌, if◌then◌else◌, arith}
 use Rattle.std.specs.List.{flat_map}
 use Rattle.std.proofs.lemmas.List.{append-nil}
-use Rattle.btr_node.specs.Leaf.{Item}
-use Rattle.item_list.specs.Extents.{extent_item, inline_extent}
-use Rattle.reiser_files.specs.Bytes.{target_bytes}
-use Rattle.reiser_objects.specs.declared.key.ObjectKey.{ObjectKey}
-use Rattle.reiser_objects.specs.Keys.{items_of}
+use Rattle.unit_plan.specs.btr_node.Leaf.{Item}
+use Rattle.btr_item_list.specs.Extents.{extent_item, inline_extent}
+use Rattle.reiser_volume_files.specs.Bytes.{target_bytes}
+use Rattle.reiser_volume_objects.specs.declared.key.ObjectKey.{ObjectKey}
+use Rattle.reiser_volume_objects.specs.Keys.{items_of}
 use Rattle.reiser_volume.specs.Numbers.{by_inode}
 use Rattle.unit_plan.specs.declared.piece.Piece.{Piece}
 use Rattle.file_items.specs.Contents.{HoldsBy}

@@ -7,20 +7,20 @@ use Rattle.std.proofs.lemmas.Option.{slice_get_within, get_or_from_slice_get}
 use Rattle.fs_rows.specs.declared.row.Kind.{Kind}
 use Rattle.fs_rows.specs.declared.row.Kind.TheVariants.{Directory, File, Symlink, Character, Block, Fifo, Socket, Subvolume}
 use Rattle.indexmap.specs.IndexMap.{keys, get}
-use Rattle.outside.specs.History.{Image}
-use Rattle.reiser_files.specs.declared.map.RunFrom.{RunFrom}
-use Rattle.reiser_files.specs.Runs.{block_from, file_runs, runs_of, extended}
-use Rattle.reiser_objects.specs.declared.key.ObjectKey.{ObjectKey}
-use Rattle.reiser_objects.specs.declared.stat.ObjectStat.{ObjectStat}
-use Rattle.reiser_objects.specs.Items.{stat_of_object}
-use Rattle.reiser_objects.specs.Keys.{same_key, items_of}
-use Rattle.reiser_objects.specs.Kinds.{kind_of_mode}
+use Rattle.reiser_volume.specs.outside.History.{Image}
+use Rattle.reiser_volume_files.specs.declared.map.RunFrom.{RunFrom}
+use Rattle.reiser_volume_files.specs.Runs.{block_from, file_runs, runs_of, extended}
+use Rattle.reiser_volume_objects.specs.declared.key.ObjectKey.{ObjectKey}
+use Rattle.reiser_volume_objects.specs.declared.stat.ObjectStat.{ObjectStat}
+use Rattle.reiser_volume_objects.specs.Items.{stat_of_object}
+use Rattle.reiser_volume_objects.specs.Keys.{same_key, items_of}
+use Rattle.reiser_volume_objects.specs.Kinds.{kind_of_mode}
 use Rattle.reiser_volume.specs.Inline.{is_inline, is_tail}
 use Rattle.reiser_volume.specs.Made.{stat_at, kind_by, no_stat}
 use Rattle.reiser_volume.specs.Opened.{IsOpened}
 use Rattle.reiser_volume.specs.Volume.{IsAccepted, volume_items}
 use Rattle.reiser_volume.specs.declared.volume.Volume.{Volume}
-use Rattle.reiser_walk.specs.Items.{Item}
+use Rattle.reiser_volume.specs.reiser_walk.Items.{Item}
 use Rattle.file_items.specs.Contents.{begins_in_tail, HoldsBy, HoldsBytes, HoldsInline}
 use Rattle.file_items.specs.Spots.{IsAt}
 

@@ -8,21 +8,21 @@ use Rattle.std.proofs.lemmas.List.{append-nil, map-append, length-take}
 use Rattle.std.proofs.lemmas.List.Elements.{filter-append, All-push, All-from_recursion}
 use Rattle.std.proofs.lemmas.Option.{slice_get_within, get_or_from_slice_get, slice_get-get_or}
 use Rattle.indexmap.specs.IndexMap.{IndexMap, keys}
-use Rattle.outside.specs.History.{Image}
-use Rattle.item_list.specs.Groups.{ascending}
-use Rattle.item_list.specs.Places.{places_from}
-use Rattle.item_list.specs.Spots.{is_under}
-use Rattle.item_list.specs.declared.spot.Spot.{Spot}
-use Rattle.item_list.proofs.Joining.{take_push}
-use Rattle.item_list.proofs.Placing.{places_push, places_map, places_hold, places_before, places_rise, count_map, pairs_map}
-use Rattle.item_list.proofs.Sorting.{ascending_filter, ascending_all}
-use Rattle.reiser_names.specs.Names.{reference_size}
-use Rattle.reiser_names.specs.Tally.{tally, capped}
-use Rattle.reiser_names.proofs.Sums.{weight_push}
-use Rattle.reiser_objects.specs.declared.key.ObjectKey.{ObjectKey}
-use Rattle.reiser_objects.specs.declared.naming.Naming.{Naming}
-use Rattle.reiser_objects.specs.Keys.{same_key}
-use Rattle.reiser_objects.proofs.Tables.{same_key-true, same_key-self, and_left, and_right}
+use Rattle.reiser_volume.specs.outside.History.{Image}
+use Rattle.btr_item_list.specs.Groups.{ascending}
+use Rattle.btr_item_list.specs.Places.{places_from}
+use Rattle.btr_item_list.specs.Spots.{is_under}
+use Rattle.btr_item_list.specs.declared.spot.Spot.{Spot}
+use Rattle.btr_item_list.proofs.Joining.{take_push}
+use Rattle.btr_item_list.proofs.Placing.{places_push, places_map, places_hold, places_before, places_rise, count_map, pairs_map}
+use Rattle.btr_item_list.proofs.Sorting.{ascending_filter, ascending_all}
+use Rattle.reiser_volume.specs.reiser_volume_names.Names.{reference_size}
+use Rattle.reiser_volume.specs.reiser_volume_names.Tally.{tally, capped}
+use Rattle.reiser_volume.proofs.reiser_volume_names.Sums.{weight_push}
+use Rattle.reiser_volume_objects.specs.declared.key.ObjectKey.{ObjectKey}
+use Rattle.reiser_volume_objects.specs.declared.naming.Naming.{Naming}
+use Rattle.reiser_volume_objects.specs.Keys.{same_key}
+use Rattle.reiser_volume_objects.proofs.Tables.{same_key-true, same_key-self, and_left, and_right}
 use Rattle.reiser_volume.specs.declared.volume.Volume.{Volume}
 use Rattle.reiser_volume.specs.Opened.{IsOpened, links_in}
 use Rattle.file_items.specs.Spots.{AreBelow, TellsPlaces}

@@ -6,21 +6,21 @@ use Rattle.std.proofs.lemmas.List.Elements.{filter-append, filter_passes}
 use Rattle.std.proofs.lemmas.List.Sums.{sum_by_push, sum_by-cons}
 use Rattle.std.proofs.lemmas.Option.{slice_get_within, get_or_from_slice_get, slice_get-get_or}
 use Rattle.fs_rows.specs.declared.row.Kind.{Kind}
-use Rattle.outside.specs.History.{Image}
-use Rattle.btr_keys.specs.DirEntry.{DirEntryValue}
-use Rattle.btr_keys.specs.Key.{make_key}
-use Rattle.btr_keys.specs.declared.key.Key.{Key}
-use Rattle.btr_node.specs.Leaf.{Item}
-use Rattle.item_list.specs.Spots.{is_under}
-use Rattle.item_list.specs.declared.spot.Spot.{Spot}
-use Rattle.item_list.proofs.Joining.{take_push}
-use Rattle.item_list.proofs.Placing.{told_at, told_long, places_count}
-use Rattle.reiser_names.proofs.Uniqueness.{links_one}
-use Rattle.reiser_names.specs.Tally.{capped}
-use Rattle.reiser_objects.specs.declared.key.ObjectKey.{ObjectKey}
-use Rattle.reiser_objects.specs.declared.naming.Naming.{Naming}
-use Rattle.reiser_objects.specs.Keys.{same_key, root}
-use Rattle.reiser_objects.proofs.Tables.{same_key-true}
+use Rattle.reiser_volume.specs.outside.History.{Image}
+use Rattle.unit_plan.specs.btr_keys.DirEntry.{DirEntryValue}
+use Rattle.unit_plan.specs.btr_keys.Key.{make_key}
+use Rattle.unit_plan.specs.btr_keys.declared.key.Key.{Key}
+use Rattle.unit_plan.specs.btr_node.Leaf.{Item}
+use Rattle.btr_item_list.specs.Spots.{is_under}
+use Rattle.btr_item_list.specs.declared.spot.Spot.{Spot}
+use Rattle.btr_item_list.proofs.Joining.{take_push}
+use Rattle.btr_item_list.proofs.Placing.{told_at, told_long, places_count}
+use Rattle.reiser_volume.proofs.reiser_volume_names.Uniqueness.{links_one}
+use Rattle.reiser_volume.specs.reiser_volume_names.Tally.{capped}
+use Rattle.reiser_volume_objects.specs.declared.key.ObjectKey.{ObjectKey}
+use Rattle.reiser_volume_objects.specs.declared.naming.Naming.{Naming}
+use Rattle.reiser_volume_objects.specs.Keys.{same_key, root}
+use Rattle.reiser_volume_objects.proofs.Tables.{same_key-true}
 use Rattle.reiser_volume.proofs.Bounds.{accepted_is_small}
 use Rattle.reiser_volume.specs.declared.numbers.Numbers.{Numbers}
 use Rattle.reiser_volume.specs.declared.volume.Volume.{Volume}

@@ -7,14 +7,14 @@ use Rattle.std.proofs.lemmas.List.{map-append, append-nil}
 use Rattle.std.proofs.lemmas.List.Elements.{filter-append}
 use Rattle.std.proofs.lemmas.List.Sums.{sum_by-cons, sum_by_push}
 use Rattle.std.proofs.lemmas.Option.{slice_get_within, get_or_from_slice_get, slice_get-get_or}
-use Rattle.item_list.specs.Groups.{ascending}
-use Rattle.item_list.specs.Spots.{is_under}
-use Rattle.item_list.specs.declared.spot.Spot.{Spot}
-use Rattle.item_list.proofs.Joining.{take_push}
-use Rattle.item_list.proofs.Placing.{told_at, told_long}
-use Rattle.item_list.proofs.Sorting.{ascending_filter, ascending_kept, ascending_sum}
-use Rattle.reiser_names.specs.Tally.{capped}
-use Rattle.item_list.proofs.Runs.{ascending_map}
+use Rattle.btr_item_list.specs.Groups.{ascending}
+use Rattle.btr_item_list.specs.Spots.{is_under}
+use Rattle.btr_item_list.specs.declared.spot.Spot.{Spot}
+use Rattle.btr_item_list.proofs.Joining.{take_push}
+use Rattle.btr_item_list.proofs.Placing.{told_at, told_long}
+use Rattle.btr_item_list.proofs.Sorting.{ascending_filter, ascending_kept, ascending_sum}
+use Rattle.reiser_volume.specs.reiser_volume_names.Tally.{capped}
+use Rattle.btr_item_list.proofs.Runs.{ascending_map}
 use Rattle.unit_plan.specs.Pieces.{ArePlaced}
 use Rattle.unit_plan.specs.declared.piece.Piece.{Piece}
 use Rattle.file_items.specs.Extents.{owner_inode, file_block, source_block, by_block, is_owned_by, pieces_of}

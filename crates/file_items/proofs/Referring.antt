@@ -4,19 +4,19 @@ use Rattle.std.specs.Prelude.{slice_get}
 use Rattle.std.specs.List.{flat_map}
 use Rattle.std.proofs.lemmas.List.{map-append}
 use Rattle.std.proofs.lemmas.Option.{slice_get-get_or}
-use Rattle.castagnoli.specs.Castagnoli.{name_hash, extref_hash}
-use Rattle.btr_keys.specs.DirEntry.{dir_entry_bytes}
-use Rattle.btr_keys.specs.Extref.{ExtrefValue, extref_bytes}
-use Rattle.btr_keys.specs.InodeRef.{InodeRefValue, inode_ref_bytes}
-use Rattle.btr_keys.specs.Key.{make_key}
-use Rattle.btr_node.specs.Leaf.{Item}
-use Rattle.item_list.specs.Groups.{grouped, ascending}
-use Rattle.item_list.specs.Lists.{offset_of, joined, joined_item}
-use Rattle.item_list.proofs.Joining.{take_push}
-use Rattle.item_list.proofs.Runs.{grouped_map, ascending_map, flat_of_map}
-use Rattle.reiser_names.specs.Names.{inode_of}
-use Rattle.reiser_objects.specs.declared.key.ObjectKey.{ObjectKey}
-use Rattle.reiser_objects.specs.declared.naming.Naming.{Naming}
+use Rattle.reiser_volume.specs.castagnoli.Castagnoli.{name_hash, extref_hash}
+use Rattle.unit_plan.specs.btr_keys.DirEntry.{dir_entry_bytes}
+use Rattle.unit_plan.specs.btr_keys.Extref.{ExtrefValue, extref_bytes}
+use Rattle.unit_plan.specs.btr_keys.InodeRef.{InodeRefValue, inode_ref_bytes}
+use Rattle.unit_plan.specs.btr_keys.Key.{make_key}
+use Rattle.unit_plan.specs.btr_node.Leaf.{Item}
+use Rattle.btr_item_list.specs.Groups.{grouped, ascending}
+use Rattle.btr_item_list.specs.Lists.{offset_of, joined, joined_item}
+use Rattle.btr_item_list.proofs.Joining.{take_push}
+use Rattle.btr_item_list.proofs.Runs.{grouped_map, ascending_map, flat_of_map}
+use Rattle.reiser_volume.specs.reiser_volume_names.Names.{inode_of}
+use Rattle.reiser_volume_objects.specs.declared.key.ObjectKey.{ObjectKey}
+use Rattle.reiser_volume_objects.specs.declared.naming.Naming.{Naming}
 use Rattle.file_items.specs.Gathered.{AreExtrefs}
 use Rattle.file_items.specs.Names.{Entry, Indexed, names_of, parent_of, inode_ref, extref, inode_refs, extrefs, entry_items, ref_record, far_record, hash_record, index_record}
 

@@ -4,13 +4,13 @@ use Rattle.std.specs.Prelude.{slice_get}
 use Rattle.std.specs.List.{flat_map}
 use Rattle.std.specs.Result.{MatchResult}
 use Rattle.std.proofs.lemmas.Option.{slice_get_within, slice_get-get_or}
-use Rattle.btr_node.specs.Leaf.{Item}
+use Rattle.unit_plan.specs.btr_node.Leaf.{Item}
 use Rattle.indexmap.specs.IndexMap.{keys}
-use Rattle.object_files.specs.Answers.{IsFaultOrMemory}
-use Rattle.outside.specs.History.{Image}
-use Rattle.outside.specs.declared.answer.VolAnswer.{VolAnswer}
-use Rattle.reiser_objects.specs.Keys.{root}
-use Rattle.reiser_objects.specs.declared.key.ObjectKey.{ObjectKey}
+use Rattle.reiser_volume.specs.reiser_volume_contents.Answers.{IsFaultOrMemory}
+use Rattle.reiser_volume.specs.outside.History.{Image}
+use Rattle.reiser_volume.specs.refusals.declared.answer.VolAnswer.{VolAnswer}
+use Rattle.reiser_volume_objects.specs.Keys.{root}
+use Rattle.reiser_volume_objects.specs.declared.key.ObjectKey.{ObjectKey}
 use Rattle.reiser_volume.specs.Numbers.{by_inode, AreNumbered}
 use Rattle.reiser_volume.proofs.Numbered.{place_behind}
 use Rattle.reiser_volume.specs.declared.volume.Volume.{Volume}

@@ -2,8 +2,8 @@
 use Rattle.std.proofs.Common.{◌≡◌, List, ◌++◌, refl, ap, drop}
 use Rattle.std.specs.List.{flat_map}
 use Rattle.indexmap.specs.IndexMap.{keys}
-use Rattle.outside.specs.History.{Image}
-use Rattle.btr_node.specs.Leaf.{Item}
+use Rattle.reiser_volume.specs.outside.History.{Image}
+use Rattle.unit_plan.specs.btr_node.Leaf.{Item}
 use Rattle.file_items.specs.Stream.{ahead, rest_ahead, file_ahead}
 use Rattle.file_items.specs.Tree.{Source, object_items}
 use Rattle.file_items.specs.declared.files.FileTree.{FileTree}
@@ -14,7 +14,7 @@ use Rattle.reiser_volume.specs.Numbers.{by_inode}
 use Rattle.reiser_volume.specs.Opened.{links_in}
 use Rattle.reiser_volume.specs.Volume.{volume_items}
 use Rattle.reiser_volume.specs.declared.volume.Volume.{Volume}
-use Rattle.reiser_walk.specs.Items.{Item as ReiserItem}
+use Rattle.reiser_volume.specs.reiser_walk.Items.{Item as ReiserItem}
 use Rattle.unit_plan.specs.declared.piece.Piece.{Piece}
 
 -- the source of a file tree, by the items alone

@@ -1,10 +1,10 @@
 -- What is held in the tree itself.
 use Rattle.std.specs.Prelude.{◌≡◌, ℕ, Bool, false, true, List, [], ◌∷◌, Option, Some, None}
 use Rattle.fs_rows.specs.declared.row.Kind.{Kind}
-use Rattle.reiser_files.specs.Bytes.{tail_block}
-use Rattle.reiser_files.specs.declared.map.FileRun.{FileRun}
+use Rattle.reiser_volume_files.specs.Bytes.{tail_block}
+use Rattle.reiser_volume_files.specs.declared.map.FileRun.{FileRun}
 use Rattle.reiser_volume.specs.Inline.{is_tail, is_inline}
-use Rattle.reiser_walk.specs.Items.{Item}
+use Rattle.reiser_volume.specs.reiser_walk.Items.{Item}
 
 -- the first blocks that lie anywhere lie in direct items
 abbrev pub begins_in_tail : List FileRun → Bool

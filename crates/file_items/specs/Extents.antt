@@ -1,9 +1,9 @@
 -- The file extents of a file tree, for the pieces of a volume.
 use Rattle.std.specs.Prelude.{ℕ, ◌*◌, ◌==◌, Bool, false, is_some, List, map, filter, sum_by}
 use Rattle.std.specs.Option.{option_map_or}
-use Rattle.btr_node.specs.Leaf.{Item}
-use Rattle.item_list.specs.Extents.{extent_item, regular_extent}
-use Rattle.item_list.specs.Groups.{ascending}
+use Rattle.unit_plan.specs.btr_node.Leaf.{Item}
+use Rattle.btr_item_list.specs.Extents.{extent_item, regular_extent}
+use Rattle.btr_item_list.specs.Groups.{ascending}
 use Rattle.unit_plan.specs.declared.piece.Piece.{Piece}
 
 -- the inode of an owned piece, and its block of the file

@@ -1,11 +1,11 @@
 -- What was gathered of an object, in the order of the links.
 use Rattle.std.specs.Prelude.{◌≡◌, ℕ, ◌+◌, not, List, [], ◌∷◌, ◌++◌, map, filter, length, if◌then◌else◌}
-use Rattle.btr_keys.specs.Key.{make_key}
-use Rattle.btr_node.specs.Leaf.{Item}
-use Rattle.item_list.specs.Groups.{ascending}
-use Rattle.item_list.specs.Lists.{offset_of}
-use Rattle.reiser_names.specs.Tally.{capped}
-use Rattle.reiser_objects.specs.declared.key.ObjectKey.{ObjectKey}
+use Rattle.unit_plan.specs.btr_keys.Key.{make_key}
+use Rattle.unit_plan.specs.btr_node.Leaf.{Item}
+use Rattle.btr_item_list.specs.Groups.{ascending}
+use Rattle.btr_item_list.specs.Lists.{offset_of}
+use Rattle.reiser_volume.specs.reiser_volume_names.Tally.{capped}
+use Rattle.reiser_volume_objects.specs.declared.key.ObjectKey.{ObjectKey}
 use Rattle.file_items.specs.Names.{Entry, Indexed, letters, ref_record, far_record, hash_record, index_record}
 use Rattle.file_items.specs.declared.names.Names.{Names}
 use Rattle.file_items.specs.declared.directory.Directory.{Directory}

@@ -1,10 +1,10 @@
 -- The inode of an object of a ReiserFS volume.
 use Rattle.std.specs.Prelude.{ℕ, ◌+◌, ◌*◌, ◌^◌, Bool, not, ◌&&◌, if◌then◌else◌}
-use Rattle.btr_keys.specs.declared.inode.Inode.{Inode}
+use Rattle.unit_plan.specs.btr_keys.declared.inode.Inode.{Inode}
 use Rattle.fs_rows.specs.Kinds.{is_device, is_file, is_symlink}
 use Rattle.fs_rows.specs.declared.row.Kind.{Kind}
-use Rattle.item_list.specs.Inodes.{stamp_of, new_inode}
-use Rattle.reiser_objects.specs.declared.stat.ObjectStat.{ObjectStat}
+use Rattle.btr_item_list.specs.Inodes.{stamp_of, new_inode}
+use Rattle.reiser_volume_objects.specs.declared.stat.ObjectStat.{ObjectStat}
 use Rattle.reiser_volume.specs.Rows.{flag, major_of, minor_of}
 
 abbrev pub if_set : Bool → ℕ → ℕ

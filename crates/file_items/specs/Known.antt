@@ -1,7 +1,7 @@
 -- What is known of a volume that a stream goes over.
 use Rattle.std.specs.Prelude.{◌≡◌, length, map}
 use Rattle.indexmap.specs.IndexMap.{keys}
-use Rattle.outside.specs.History.{Image}
+use Rattle.reiser_volume.specs.outside.History.{Image}
 use Rattle.reiser_volume.specs.Numbers.{AreNumbered}
 use Rattle.reiser_volume.specs.Opened.{IsOpened, links_in}
 use Rattle.reiser_volume.specs.Volume.{IsAccepted}

@@ -1,20 +1,20 @@
 -- The items of a file tree that tell names, for the links of a ReiserFS volume.
 use Rattle.std.specs.Prelude.{ℕ, ◌+◌, ◌-◌, ◌^◌, nat_lt, Bool, not, List, [], ◌∷◌, ◌++◌, map, filter, count_by, sum_by, length, if◌then◌else◌}
 use Rattle.std.specs.List.{flat_map}
-use Rattle.castagnoli.specs.Castagnoli.{name_hash, extref_hash}
-use Rattle.btr_keys.specs.DirEntry.{DirEntryValue, dir_entry_bytes}
-use Rattle.btr_keys.specs.Extref.{ExtrefValue, extref_bytes}
-use Rattle.btr_keys.specs.InodeRef.{InodeRefValue, inode_ref_bytes}
-use Rattle.btr_keys.specs.Key.{make_key}
-use Rattle.btr_node.specs.Leaf.{Item}
+use Rattle.reiser_volume.specs.castagnoli.Castagnoli.{name_hash, extref_hash}
+use Rattle.unit_plan.specs.btr_keys.DirEntry.{DirEntryValue, dir_entry_bytes}
+use Rattle.unit_plan.specs.btr_keys.Extref.{ExtrefValue, extref_bytes}
+use Rattle.unit_plan.specs.btr_keys.InodeRef.{InodeRefValue, inode_ref_bytes}
+use Rattle.unit_plan.specs.btr_keys.Key.{make_key}
+use Rattle.unit_plan.specs.btr_node.Leaf.{Item}
 use Rattle.fs_rows.specs.declared.row.Kind.{Kind}
 use Rattle.fs_rows.specs.declared.row.Kind.TheVariants.{Directory, File, Symlink, Character, Block, Fifo, Socket, Subvolume}
-use Rattle.reiser_names.specs.Names.{inode_of, reference_size, saved_name}
-use Rattle.reiser_objects.specs.declared.key.ObjectKey.{ObjectKey}
-use Rattle.reiser_objects.specs.declared.naming.Naming.{Naming}
-use Rattle.reiser_objects.specs.Keys.{root, same_key}
-use Rattle.item_list.specs.Groups.{grouped, ascending}
-use Rattle.item_list.specs.Inodes.{ref_item}
+use Rattle.reiser_volume.specs.reiser_volume_names.Names.{inode_of, reference_size, saved_name}
+use Rattle.reiser_volume_objects.specs.declared.key.ObjectKey.{ObjectKey}
+use Rattle.reiser_volume_objects.specs.declared.naming.Naming.{Naming}
+use Rattle.reiser_volume_objects.specs.Keys.{root, same_key}
+use Rattle.btr_item_list.specs.Groups.{grouped, ascending}
+use Rattle.btr_item_list.specs.Inodes.{ref_item}
 
 -- A link with the index that it gets in its directory. It is extended where the names of its object in its directory, up
 -- to it, take more than an inode ref holds.

@@ -1,10 +1,10 @@
 -- What the names of an object in a directory take, by the places of both.
 use Rattle.std.specs.Prelude.{◌≡◌, ℕ, ◌==◌, Bool, ◌&&◌, List, slice_get, Some}
 use Rattle.indexmap.specs.IndexMap.{IndexMap}
-use Rattle.reiser_names.specs.Names.{reference_size}
-use Rattle.reiser_names.specs.Tally.{tally, capped}
-use Rattle.reiser_objects.specs.declared.key.ObjectKey.{ObjectKey}
-use Rattle.reiser_objects.specs.declared.naming.Naming.{Naming}
+use Rattle.reiser_volume.specs.reiser_volume_names.Names.{reference_size}
+use Rattle.reiser_volume.specs.reiser_volume_names.Tally.{tally, capped}
+use Rattle.reiser_volume_objects.specs.declared.key.ObjectKey.{ObjectKey}
+use Rattle.reiser_volume_objects.specs.declared.naming.Naming.{Naming}
 use Rattle.file_items.specs.declared.link_index.NamesIn.{NamesIn}
 
 abbrev pub same_names : NamesIn → NamesIn → Bool

@@ -1,11 +1,11 @@
 -- The items of the tree of the saved image, and of the relocation tree.
 use Rattle.std.specs.Prelude.{ℕ, ◌*◌, List, [], ◌∷◌, ◌++◌, codes, if◌then◌else◌, Bool}
-use Rattle.btr_node.specs.Leaf.{Item}
+use Rattle.unit_plan.specs.btr_node.Leaf.{Item}
 use Rattle.fs_rows.specs.declared.row.Kind.TheVariants.{File}
 use Rattle.unit_plan.specs.declared.piece.Piece.{Piece}
 use Rattle.file_items.specs.Extents.{pieces_of_volume, source_block, piece_bytes, extents_at}
 use Rattle.file_items.specs.Names.{root_ref, entry_to, entry_items, Indexed, letters}
-use Rattle.item_list.specs.Inodes.{inode_made, inode_item, ref_item}
+use Rattle.btr_item_list.specs.Inodes.{inode_made, inode_item, ref_item}
 
 -- the name of the image
 abbrev pub image_name : List ℕ

@@ -1,12 +1,12 @@
 -- Links under the places of objects.
 use Rattle.std.specs.Prelude.{◌≡◌, ◌<◌, ℕ, List, map, filter, slice_get, Some, All}
 use Rattle.indexmap.specs.IndexMap.{keys}
-use Rattle.item_list.specs.Places.{places_from}
-use Rattle.item_list.specs.Spots.{is_under}
-use Rattle.item_list.specs.declared.spot.Spot.{Spot}
-use Rattle.reiser_objects.specs.declared.key.ObjectKey.{ObjectKey}
-use Rattle.reiser_objects.specs.declared.naming.Naming.{Naming}
-use Rattle.reiser_objects.specs.Keys.{same_key}
+use Rattle.btr_item_list.specs.Places.{places_from}
+use Rattle.btr_item_list.specs.Spots.{is_under}
+use Rattle.btr_item_list.specs.declared.spot.Spot.{Spot}
+use Rattle.reiser_volume_objects.specs.declared.key.ObjectKey.{ObjectKey}
+use Rattle.reiser_volume_objects.specs.declared.naming.Naming.{Naming}
+use Rattle.reiser_volume_objects.specs.Keys.{same_key}
 use Rattle.reiser_volume.specs.declared.volume.Volume.{Volume}
 
 -- the numbers are among the first n

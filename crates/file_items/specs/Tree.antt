@@ -2,29 +2,29 @@
 use Rattle.std.specs.Prelude.{ℕ, ◌*◌, Bool, List, [], ◌∷◌, ◌++◌, count_by, if◌then◌else◌}
 use Rattle.std.specs.List.{flat_map}
 use Rattle.indexmap.specs.IndexMap.{keys}
-use Rattle.outside.specs.History.{Image}
-use Rattle.btr_keys.specs.declared.inode.Inode.{Inode}
-use Rattle.btr_node.specs.Leaf.{Item}
+use Rattle.reiser_volume.specs.outside.History.{Image}
+use Rattle.unit_plan.specs.btr_keys.declared.inode.Inode.{Inode}
+use Rattle.unit_plan.specs.btr_node.Leaf.{Item}
 use Rattle.fs_rows.specs.Kinds.{is_directory}
 use Rattle.fs_rows.specs.declared.row.Kind.{Kind}
 use Rattle.fs_rows.specs.declared.row.Kind.TheVariants.{Directory, File, Symlink, Character, Block, Fifo, Socket, Subvolume}
-use Rattle.reiser_files.specs.Bytes.{target_bytes}
-use Rattle.reiser_names.specs.Names.{inode_of}
-use Rattle.reiser_objects.specs.declared.key.ObjectKey.{ObjectKey}
-use Rattle.reiser_objects.specs.declared.naming.Naming.{Naming}
-use Rattle.reiser_objects.specs.declared.stat.ObjectStat.{ObjectStat}
-use Rattle.reiser_objects.specs.Keys.{root, same_key, items_of}
+use Rattle.reiser_volume_files.specs.Bytes.{target_bytes}
+use Rattle.reiser_volume.specs.reiser_volume_names.Names.{inode_of}
+use Rattle.reiser_volume_objects.specs.declared.key.ObjectKey.{ObjectKey}
+use Rattle.reiser_volume_objects.specs.declared.naming.Naming.{Naming}
+use Rattle.reiser_volume_objects.specs.declared.stat.ObjectStat.{ObjectStat}
+use Rattle.reiser_volume_objects.specs.Keys.{root, same_key, items_of}
 use Rattle.reiser_volume.specs.Inline.{is_inline}
 use Rattle.reiser_volume.specs.Made.{stat_at, kind_by}
 use Rattle.reiser_volume.specs.Opened.{links_in}
 use Rattle.reiser_volume.specs.Volume.{volume_items}
 use Rattle.reiser_volume.specs.declared.volume.Volume.{Volume}
-use Rattle.reiser_walk.specs.Items.{Item as ReiserItem}
+use Rattle.reiser_volume.specs.reiser_walk.Items.{Item as ReiserItem}
 use Rattle.unit_plan.specs.declared.piece.Piece.{Piece}
 use Rattle.reiser_volume.specs.Numbers.{by_inode}
 use Rattle.file_items.specs.Names.{inode_refs, extrefs, root_ref, indexed_in, letters, entry_items}
-use Rattle.item_list.specs.Extents.{inline_extent, extent_item}
-use Rattle.item_list.specs.Inodes.{inode_item}
+use Rattle.btr_item_list.specs.Extents.{inline_extent, extent_item}
+use Rattle.btr_item_list.specs.Inodes.{inode_item}
 use Rattle.file_items.specs.Extents.{pieces_of, file_block, piece_bytes, extents_at}
 use Rattle.file_items.specs.Inodes.{inode_from}
 

@@ -2,13 +2,13 @@
 ghost use Rattle.std.specs.Prelude.{◌≡◌, ◌≤◌, ◌<◌, ◌&&◌, nat_le, length, IfOk, IfErr, IfSome};
 ghost use Rattle.std.specs.Result.{MatchResult};
 ghost use Rattle.indexmap.specs.IndexMap.{keys};
-ghost use Rattle.object_files.specs.Answers.{IsFileAnswer, IsFaultOrMemory};
-ghost use Rattle.outside.specs.Fault.{HasCauseOf};
-ghost use Rattle.outside.specs.History.{OverTold};
-ghost use Rattle.reiser_files.specs.Bytes.{tail_block};
-ghost use Rattle.reiser_files.specs.Runs.{block_from};
-ghost use Rattle.reiser_objects.specs.declared.key.ObjectKey.{ObjectKey as KeyOf};
-ghost use Rattle.reiser_objects.specs.Keys.{items_of};
+ghost use Rattle.reiser_volume.specs.reiser_volume_contents.Answers.{IsFileAnswer, IsFaultOrMemory};
+ghost use Rattle.reiser_volume.specs.outside.Fault.{HasCauseOf};
+ghost use Rattle.reiser_volume.specs.outside.History.{OverTold};
+ghost use Rattle.reiser_volume_files.specs.Bytes.{tail_block};
+ghost use Rattle.reiser_volume_files.specs.Runs.{block_from};
+ghost use Rattle.reiser_volume_objects.specs.declared.key.ObjectKey.{ObjectKey as KeyOf};
+ghost use Rattle.reiser_volume_objects.specs.Keys.{items_of};
 ghost use Rattle.reiser_volume.specs.Inline.{is_inline, is_tail};
 ghost use Rattle.reiser_volume.specs.Made.{stat_at, kind_by};
 ghost use Rattle.reiser_volume.specs.Opened.{IsOpened};
@@ -17,11 +17,9 @@ ghost use Rattle.file_items.specs.Contents.{begins_in_tail, HoldsBytes, HoldsInl
 ghost use Rattle.file_items.specs.Spots.{IsAt};
 
 use fs_rows::Kind;
-use outside::{BlockSource, Rule, VolAnswer, VolumeRefusal};
-use reiser_files::{FileMap, RunFrom};
-use reiser_volume::Volume;
+use reiser_volume::{Block, BlockSource, Rule, VolAnswer, Volume, VolumeRefusal};
+use reiser_volume_files::{FileMap, RunFrom};
 use std::alloc::Global;
-use vol_block::Block;
 
 /// How many bytes an inline file has at most.
 const INLINE_LIMIT: u64 = 2048;

@@ -1,10 +1,10 @@
 ghost use Rattle.std.specs.Prelude.{◌≡◌, ◌<◌, ◌*◌, ◌^◌, ◌++◌, List, length, map, slice_get, Some, OnOk};
 ghost use Rattle.indexmap.specs.IndexMap.{keys};
-ghost use Rattle.outside.specs.History.{Image};
-ghost use Rattle.btr_keys.specs.DirEntry.{dir_entry_value};
-ghost use Rattle.reiser_names.specs.Names.{inode_of};
-ghost use Rattle.reiser_objects.specs.declared.key.ObjectKey.{ObjectKey as KeyOf};
-ghost use Rattle.reiser_objects.specs.declared.naming.Naming.{Naming as NamingOf};
+ghost use Rattle.reiser_volume.specs.outside.History.{Image};
+ghost use Rattle.unit_plan.specs.btr_keys.DirEntry.{dir_entry_value};
+ghost use Rattle.reiser_volume.specs.reiser_volume_names.Names.{inode_of};
+ghost use Rattle.reiser_volume_objects.specs.declared.key.ObjectKey.{ObjectKey as KeyOf};
+ghost use Rattle.reiser_volume_objects.specs.declared.naming.Naming.{Naming as NamingOf};
 ghost use Rattle.reiser_volume.specs.Made.{stat_at, kind_by};
 ghost use Rattle.reiser_volume.specs.Numbers.{AreNumbered};
 ghost use Rattle.reiser_volume.specs.Opened.{IsOpened, links_in};
@@ -14,14 +14,12 @@ ghost use Rattle.file_items.specs.Spots.{IsAt};
 ghost use Rattle.file_items.specs.Names.{entry_kind, entry_to, entry_items, Indexed, indexed, indexed_in, names_in, saved_entry};
 
 use crate::link_index::{LinkIndex, index_at};
-use btr_keys::{DirEntry, Key};
-use castagnoli::name_hash;
+use btr_item_list::{ItemList, key_of, put_dir_entry, short};
 use fs_rows::Kind;
-use item_list::{ItemList, key_of, put_dir_entry, short};
-use outside::Memory;
-use reiser_objects::kind_of_mode;
-use reiser_volume::{Numbers, Volume};
+use reiser_volume::{Memory, Numbers, Volume, name_hash};
+use reiser_volume_objects::kind_of_mode;
 use std::alloc::Global;
+use unit_plan::{DirEntry, Key};
 
 /// The name under which the root has the tree of the saved image.
 const SAVED: &[u8] = b"reiserfs_saved";

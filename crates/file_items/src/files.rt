@@ -3,13 +3,13 @@ ghost use Rattle.std.specs.Option.{option_map_or};
 ghost use Rattle.std.specs.Result.{MatchResult};
 ghost use Rattle.indexmap.specs.IndexMap.{keys, get};
 ghost use Rattle.fs_rows.specs.Kinds.{is_directory};
-ghost use Rattle.item_list.specs.Spots.{is_under};
-ghost use Rattle.object_files.specs.Answers.{IsFileAnswer, IsFaultOrMemory};
-ghost use Rattle.outside.specs.Fault.{HasCauseOf};
-ghost use Rattle.outside.specs.History.{Image, OverTold};
-ghost use Rattle.reiser_objects.specs.declared.key.ObjectKey.{ObjectKey as KeyOf};
-ghost use Rattle.reiser_objects.specs.Keys.{same_key, items_of};
-ghost use Rattle.reiser_objects.specs.declared.stat.ObjectStat.{ObjectStat as StatOf};
+ghost use Rattle.btr_item_list.specs.Spots.{is_under};
+ghost use Rattle.reiser_volume.specs.reiser_volume_contents.Answers.{IsFileAnswer, IsFaultOrMemory};
+ghost use Rattle.reiser_volume.specs.outside.Fault.{HasCauseOf};
+ghost use Rattle.reiser_volume.specs.outside.History.{Image, OverTold};
+ghost use Rattle.reiser_volume_objects.specs.declared.key.ObjectKey.{ObjectKey as KeyOf};
+ghost use Rattle.reiser_volume_objects.specs.Keys.{same_key, items_of};
+ghost use Rattle.reiser_volume_objects.specs.declared.stat.ObjectStat.{ObjectStat as StatOf};
 ghost use Rattle.reiser_volume.specs.Made.{stat_at, kind_by};
 ghost use Rattle.reiser_volume.specs.Opened.{IsOpened, links_in};
 ghost use Rattle.reiser_volume.specs.Volume.{IsAccepted, superblock, volume_items};
@@ -30,13 +30,12 @@ use crate::link_index::LinkIndex;
 use crate::names::Names;
 use crate::order::by_owner;
 use crate::small::add_root_ref;
+use btr_item_list::{Extent, ItemList, Spots, add_extent, add_inline, add_inode};
+use convert_options::Options;
 use fs_rows::Kind;
-use item_list::{Extent, ItemList, Spots, add_extent, add_inline, add_inode};
-use outside::{BlockSource, Memory, VolAnswer};
-use reiser_volume::{Numbers, Volume};
+use reiser_volume::{Block, BlockSource, Memory, Numbers, VolAnswer, Volume};
 use std::alloc::Global;
-use unit_plan::{Options, Piece, PieceList};
-use vol_block::Block;
+use unit_plan::{Piece, PieceList};
 
 /// What of a volume and its pieces the file tree is made by: the same as long as its items are given.
 #[derive(Drop)]

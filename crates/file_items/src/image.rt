@@ -4,8 +4,8 @@ ghost use Rattle.file_items.specs.Orders.{AreSources};
 ghost use Rattle.unit_plan.specs.Pieces.{ArePlaced};
 
 use crate::order::by_source;
-use item_list::{Extent, ItemList, Spots, add_extent};
-use outside::Memory;
+use btr_item_list::{Extent, ItemList, Spots, add_extent};
+use reiser_volume::Memory;
 use std::alloc::Global;
 use unit_plan::{Piece, PieceList};
 

@@ -2,10 +2,10 @@ ghost use Rattle.std.specs.Prelude.{◌≡◌, ◌≤◌, ◌<◌};
 ghost use Rattle.reiser_volume.specs.Rows.{flag};
 ghost use Rattle.file_items.specs.Inodes.{if_set, inode_flags, device_number, inode_from};
 
-use btr_keys::Inode;
+use btr_item_list::{new_inode, stamp_of};
 use fs_rows::Kind;
-use item_list::{new_inode, stamp_of};
-use reiser_objects::ObjectStat;
+use reiser_volume_objects::ObjectStat;
+use unit_plan::Inode;
 
 // Flags of an inode.
 const NO_DATASUM: u64 = 0x1;

@@ -1,9 +1,9 @@
 ghost use Rattle.std.specs.Prelude.{◌≡◌, ◌≤◌, ◌<◌, ◌^◌, ◌∷◌, [], true, false, List, is_err, length, IfOk, IfErr};
 ghost use Rattle.std.specs.Result.{MatchResult};
-ghost use Rattle.outside.specs.Fault.{HasCauseOf};
-ghost use Rattle.outside.specs.History.{Image, OverTold};
-ghost use Rattle.btr_node.specs.Leaf.{Item};
-ghost use Rattle.object_files.specs.Answers.{IsFileAnswer, IsFaultOrMemory};
+ghost use Rattle.reiser_volume.specs.outside.Fault.{HasCauseOf};
+ghost use Rattle.reiser_volume.specs.outside.History.{Image, OverTold};
+ghost use Rattle.unit_plan.specs.btr_node.Leaf.{Item};
+ghost use Rattle.reiser_volume.specs.reiser_volume_contents.Answers.{IsFileAnswer, IsFaultOrMemory};
 ghost use Rattle.reiser_volume.specs.Opened.{IsOpened};
 ghost use Rattle.reiser_volume.specs.Volume.{IsAccepted, superblock};
 ghost use Rattle.reiser_volume.specs.declared.volume.Volume.{Volume as VolumeOf};
@@ -15,12 +15,11 @@ ghost use Rattle.file_items.specs.Tree.{source_of, tree_items};
 use crate::files::FileTree;
 use crate::image::{ImageExtents, image_blocks};
 use crate::small::{image_head, relocation_items};
-use btr_keys::Key;
-use item_list::ItemList;
-use outside::{BlockSource, Memory, VolAnswer};
-use reiser_volume::Volume;
+use btr_item_list::ItemList;
+use convert_options::Options;
+use reiser_volume::{BlockSource, Memory, VolAnswer, Volume};
 use std::alloc::Global;
-use unit_plan::{Options, PieceList};
+use unit_plan::{Key, PieceList};
 
 /// What comes behind the items in hand.
 #[derive(Drop)]

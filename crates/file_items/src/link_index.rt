@@ -1,7 +1,7 @@
 ghost use Rattle.std.specs.Prelude.{◌≡◌, ◌<◌, ◌+◌, ◌^◌, ◌∷◌, ◌++◌, ◌&&◌, [], Bool, Contains, true, length, filter, map, count_by, nat_eq, nat_lt, slice_get, Some, IfOk, OnOk, AllPairs, if◌then◌else◌};
-ghost use Rattle.outside.specs.History.{Image};
-ghost use Rattle.item_list.specs.Spots.{is_under};
-ghost use Rattle.reiser_names.specs.Tally.{tally, capped};
+ghost use Rattle.reiser_volume.specs.outside.History.{Image};
+ghost use Rattle.btr_item_list.specs.Spots.{is_under};
+ghost use Rattle.reiser_volume.specs.reiser_volume_names.Tally.{tally, capped};
 ghost use Rattle.reiser_volume.specs.Opened.{IsOpened, links_in};
 ghost use Rattle.reiser_volume.specs.Volume.{IsAccepted};
 ghost use Rattle.file_items.specs.Spots.{AreBelow, TellsPlaces};
@@ -9,10 +9,9 @@ ghost use Rattle.file_items.specs.Names.{entries};
 ghost use Rattle.file_items.specs.Sizes.{same_names, AreSizes};
 ghost use Rattle.file_items.specs.declared.link_index.NamesIn.{NamesIn as NamesInOf};
 
+use btr_item_list::{Spot, Spots, count_before};
 use indexmap::IndexMap;
-use item_list::{Spot, Spots, count_before};
-use outside::Memory;
-use reiser_volume::Volume;
+use reiser_volume::{Memory, Volume};
 use std::alloc::Global;
 
 /// How many bytes an inode ref has at most in a converted volume.

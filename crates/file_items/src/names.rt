@@ -1,19 +1,17 @@
 ghost use Rattle.std.specs.Prelude.{◌≡◌, ◌<◌, ◌++◌, ◌∷◌, [], length, slice_get, Some, OnOk, if◌then◌else◌};
 ghost use Rattle.indexmap.specs.IndexMap.{keys};
-ghost use Rattle.outside.specs.History.{Image};
-ghost use Rattle.reiser_objects.specs.declared.key.ObjectKey.{ObjectKey as KeyOf};
+ghost use Rattle.reiser_volume.specs.outside.History.{Image};
+ghost use Rattle.reiser_volume_objects.specs.declared.key.ObjectKey.{ObjectKey as KeyOf};
 ghost use Rattle.reiser_volume.specs.Opened.{links_in};
 ghost use Rattle.file_items.specs.Known.{FitsIndex, IsKnown};
 ghost use Rattle.file_items.specs.Spots.{IsAt};
 ghost use Rattle.file_items.specs.Names.{Entry, entries, names_of, inode_refs, extrefs};
 
 use crate::link_index::LinkIndex;
-use btr_keys::{Extref, InodeRef};
-use castagnoli::extref_hash;
-use item_list::{ItemList, key_of, put_extref, put_inode_ref, short};
-use outside::Memory;
-use reiser_volume::{Numbers, Volume};
+use btr_item_list::{ItemList, key_of, put_extref, put_inode_ref, short};
+use reiser_volume::{Memory, Numbers, Volume, extref_hash};
 use std::alloc::Global;
+use unit_plan::{Extref, InodeRef};
 
 /// The names of one object.
 #[derive(Drop)]

@@ -3,8 +3,8 @@ ghost use Rattle.std.specs.Prelude.{◌≡◌, ◌<◌, filter, is_some, IfOk};
 ghost use Rattle.file_items.specs.Extents.{file_block, owner_inode, source_block, by_block};
 ghost use Rattle.file_items.specs.Orders.{Tells, AreOwners, AreSources};
 
-use item_list::{Spot, Spots};
-use outside::Memory;
+use btr_item_list::{Spot, Spots};
+use reiser_volume::Memory;
 use std::alloc::Global;
 use unit_plan::PieceList;
 

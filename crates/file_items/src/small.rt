@@ -4,12 +4,11 @@ ghost use Rattle.file_items.specs.Names.{root_ref, entry_items};
 ghost use Rattle.file_items.specs.Small.{relocation_items, image_head, image_entries, image_flags};
 
 use crate::directory::new_entry;
-use btr_keys::InodeRef;
-use castagnoli::name_hash;
+use btr_item_list::{ItemList, add_inode, add_ref, inode_made, key_of, put_dir_entry};
 use fs_rows::Kind;
-use item_list::{ItemList, add_inode, add_ref, inode_made, key_of, put_dir_entry};
-use outside::Memory;
+use reiser_volume::{Memory, name_hash};
 use std::alloc::Global;
+use unit_plan::InodeRef;
 
 /// The name of the image.
 const IMAGE: &[u8] = b"image";

@@ -3,7 +3,7 @@ use Rattle.std.proofs.Common.{◌≡◌, ℕ, ◌+◌, ◌*◌, ◌<◌, ◌≤�
 use Rattle.std.proofs.lemmas.Grind.{same_number_lists}
 use Rattle.std.proofs.lemmas.List.{length-replicate, get_or-replicate}
 use Rattle.std.proofs.lemmas.List.FromFn.{length-map-range_with_len, get_or-map-range_with_len}
-use Rattle.vol_block.specs.Volume.{zeros}
+use Rattle.sink_text.specs.vol_block.Volume.{zeros}
 use Rattle.fs_rows.specs.Bytes.{bytes_by, block_by}
 
 pub length_bytes : (n : ℕ) (f : ℕ → ℕ) (at : ℕ) → length (bytes_by n f at) ≡ n

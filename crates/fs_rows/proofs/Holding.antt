@@ -1,6 +1,6 @@
 -- How the bytes of a file go on.
 use Rattle.std.proofs.Common.{◌≡◌, ℕ, ◌+◌, ◌-◌, ◌*◌, ◌<◌, ◌≤◌, List, [], ◌∷◌, ◌++◌, sym, ap, subst, ◌∙◌, arith}
-use Rattle.vol_block.specs.Volume.{zeros}
+use Rattle.sink_text.specs.vol_block.Volume.{zeros}
 use Rattle.fs_rows.specs.Marker.{Marks}
 use Rattle.fs_rows.specs.declared.mark.Marker.{Marker}
 use Rattle.fs_rows.specs.declared.file.FileBytes.{FileBytes}

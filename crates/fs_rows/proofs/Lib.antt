@@ -1,10 +1,11 @@
+pub use Rattle.sink_text.proofs.outside as outside
+pub mod Comparing
+pub mod Copies
+pub mod FileMarks
+pub mod Functions
+pub mod Holding
+pub mod Joined
 pub mod LineLemmas
 pub mod MarkLemmas
-pub mod Functions
 pub mod Messages
-pub mod Joined
-pub mod Copies
-pub mod Holding
-pub mod FileMarks
-pub mod Comparing
 pub mod PathParts

@@ -4,7 +4,7 @@ use Rattle.std.specs.List.{flat_map}
 use Rattle.std.proofs.lemmas.Bool.{cases_lt}
 use Rattle.std.proofs.lemmas.List.{append-nil}
 use Rattle.std.proofs.lemmas.List.FromFn.{map-range_with_len_more}
-use Rattle.vol_block.specs.Volume.{zeros}
+use Rattle.sink_text.specs.vol_block.Volume.{zeros}
 use Rattle.fs_rows.specs.Mark.{marked_block, mark_of}
 use Rattle.fs_rows.specs.Marker.{Marks}
 use Rattle.fs_rows.specs.declared.mark.Marker.{Marker}

@@ -1,11 +1,12 @@
+pub use Rattle.sink_text.specs.outside as outside
+pub mod Bytes
 pub mod Content
+pub mod Held
 pub mod Kinds
 pub mod Mark
 pub mod Marker
-pub mod Rows
-pub mod Text
-pub mod Bytes
-pub mod Pieces
-pub mod Held
 pub mod Parts
+pub mod Pieces
+pub mod Rows
 pub mod Shared
+pub mod Text

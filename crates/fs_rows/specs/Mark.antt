@@ -6,7 +6,7 @@ use Rattle.std.specs.List.{flat_map, range_with_len}
 use Rattle.std.specs.Cmp.Lexicographic.{pointwise}
 use Rattle.byteorder.specs.Endian.{little_bytes}
 use Rattle.sha2.specs.Sha256.{sha256}
-use Rattle.vol_block.specs.Volume.{zeros}
+use Rattle.sink_text.specs.vol_block.Volume.{zeros}
 
 -- a block of zeros
 abbrev pub is_zeros : List ℕ → Bool

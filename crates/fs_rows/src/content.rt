@@ -1,7 +1,7 @@
 ghost use Rattle.std.specs.Prelude.{◌≡◌, [], replicate, IfOk};
 
 use crate::Name;
-use outside::Memory;
+use sink_text::Memory;
 use std::alloc::Global;
 
 /// What a row has of the bytes of its object.

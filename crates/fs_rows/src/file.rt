@@ -1,7 +1,7 @@
 ghost use Rattle.std.specs.Prelude.{◌≤◌, ◌-◌, ◌*◌};
 
 use crate::Marker;
-use vol_block::Block;
+use sink_text::Block;
 
 /// The bytes of a file below its size, as far as they were put, in order. What is not put is zeros.
 ///

@@ -6,7 +6,7 @@ ghost use Rattle.fs_rows.specs.Pieces.{Overlays, ReplacesBlock};
 
 use crate::pieces::{copy_piece, count_below, cut};
 use crate::{FileBytes, Marker};
-use vol_block::Block;
+use sink_text::Block;
 
 impl FileBytes {
     /// A file of `size` bytes of which nothing was put: zeros.

@@ -30,4 +30,5 @@ pub use pieces::{block_count, copy_piece, count_below};
 pub use place::Spot;
 pub use row::{Kind, Row, Time};
 pub use rows::Rows;
+pub use sink_text::{Access, Disk, Fault, Memory};
 pub use write::write_rows;

@@ -2,16 +2,15 @@
 ghost use Rattle.std.specs.Prelude.{◌≡◌, ◌++◌, ◌∷◌, [], codes, decimal, IsTrue};
 ghost use Rattle.std.specs.Fmt.{signed_decimal};
 ghost use Rattle.std.specs.List.{flat_map};
-ghost use Rattle.outside.specs.Fault.{HasCause};
+ghost use Rattle.sink_text.specs.outside.Fault.{HasCause};
 ghost use Rattle.sink_text.specs.Escape.{escaped};
 ghost use Rattle.sink_text.specs.Pushes.{Pushes};
 ghost use Rattle.sink_text.specs.Text.{piece_text};
-ghost use Rattle.fs_rows.specs.Text.{any_flag, device_by, end_by, ending_text, fields_by, flag, flags_text, kind_letter, known_fields, last_fields, least_text, length_text, mark_text, names_by, owner_fields, path_text, row_text, slashed, spaced, time_fields};
+ghost use Rattle.fs_rows.specs.Text.{any_flag, device_by, end_by, fields_by, flag, flags_text, kind_letter, known_fields, last_fields, least_text, length_text, mark_text, names_by, owner_fields, path_text, row_text, slashed, spaced, time_fields};
 
 use crate::{Kind, Name, Path, Row, Time};
-use outside::{Fault, Sink};
 use sink_text::Piece::{Decimal, Escaped, Fraction, Hex, Octal, Plain, Signed};
-use sink_text::{Buffered, Piece};
+use sink_text::{Buffered, Fault, Piece, Sink};
 
 /// Adds the line of a row.
 pub fn push_row<S: Sink>(row: &Row, text: &mut Buffered, out: &mut S) -> Result<(), Fault>
@@ -19,7 +18,9 @@ pub fn push_row<S: Sink>(row: &Row, text: &mut Buffered, out: &mut S) -> Result<
     ensures cause { HasCause (S.faults out.old) (S.faults out.new) result }
 {
     push_fields(row, text, out)?;
-    push_place(row, text, out)
+    push_path(&row.path, text, out)?;
+    push_least(row, text, out)?;
+    push_end(row.kind, row.target.bytes(), text, out)
 }
 
 /// Adds the fields before the path.
@@ -45,23 +46,7 @@ fn push_known<S: Sink>(row: &Row, text: &mut Buffered, out: &mut S) -> Result<()
     ensures cause { HasCause (S.faults out.old) (S.faults out.new) result }
 {
     push_owner(row, text, out)?;
-    push_from_times(row, text, out)
-}
-
-/// Adds the fields from the times on.
-fn push_from_times<S: Sink>(row: &Row, text: &mut Buffered, out: &mut S) -> Result<(), Fault>
-    ensures taken { IsTrue S.tells → Pushes (S.taken out.old) text.old (spaced (time_fields row.now ++ (flags_text row.now ∷ last_fields row.now))) result (S.taken out.new) text.new }
-    ensures cause { HasCause (S.faults out.old) (S.faults out.new) result }
-{
     push_times(row, text, out)?;
-    push_from_flags(row, text, out)
-}
-
-/// Adds the fields from the flags on.
-fn push_from_flags<S: Sink>(row: &Row, text: &mut Buffered, out: &mut S) -> Result<(), Fault>
-    ensures taken { IsTrue S.tells → Pushes (S.taken out.old) text.old (spaced (flags_text row.now ∷ last_fields row.now)) result (S.taken out.new) text.new }
-    ensures cause { HasCause (S.faults out.old) (S.faults out.new) result }
-{
     push_flags(row, text, out)?;
     push_last(row, text, out)
 }
@@ -247,42 +232,16 @@ fn mark_piece(kind: Kind, mark: &[u8; 32]) -> Piece<'_>
     }
 }
 
-/// Adds the path and what comes behind it.
-fn push_place<S: Sink>(row: &Row, text: &mut Buffered, out: &mut S) -> Result<(), Fault>
-    ensures taken { IsTrue S.tells → Pushes (S.taken out.old) text.old (path_text row.now.path ++ ending_text row.now) result (S.taken out.new) text.new }
-    ensures cause { HasCause (S.faults out.old) (S.faults out.new) result }
-{
-    push_path(&row.path, text, out)?;
-    push_ending(row, text, out)
-}
-
-/// Adds what comes behind the path.
-fn push_ending<S: Sink>(row: &Row, text: &mut Buffered, out: &mut S) -> Result<(), Fault>
-    ensures taken { IsTrue S.tells → Pushes (S.taken out.old) text.old (ending_text row.now) result (S.taken out.new) text.new }
-    ensures cause { HasCause (S.faults out.old) (S.faults out.new) result }
-{
-    push_least(row, text, out)?;
-    push_end(row.kind, row.target.bytes(), text, out)
-}
-
 /// Adds the least path where it is another one.
 fn push_least<S: Sink>(row: &Row, text: &mut Buffered, out: &mut S) -> Result<(), Fault>
     ensures taken { IsTrue S.tells → Pushes (S.taken out.old) text.old (least_text row.now) result (S.taken out.new) text.new }
     ensures cause { HasCause (S.faults out.old) (S.faults out.new) result }
 {
     if row.path == row.least {
-        return text.push(b"", out);
+        return Ok(());
     }
-    push_other(&row.least, text, out)
-}
-
-/// Adds another path of the object.
-fn push_other<S: Sink>(path: &Path, text: &mut Buffered, out: &mut S) -> Result<(), Fault>
-    ensures taken { IsTrue S.tells → Pushes (S.taken out.old) text.old (codes " = " ++ path_text path.now) result (S.taken out.new) text.new }
-    ensures cause { HasCause (S.faults out.old) (S.faults out.new) result }
-{
     text.push(b" = ", out)?;
-    push_path(path, text, out)
+    push_path(&row.least, text, out)
 }
 
 /// Adds the target of a symlink, and ends the line.

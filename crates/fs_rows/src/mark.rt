@@ -3,7 +3,7 @@ ghost use Rattle.fs_rows.specs.Mark.{mark_of};
 ghost use Rattle.fs_rows.specs.Marker.{Marks};
 
 use sha2::{Digest, Sha256};
-use vol_block::{Block, put_u64};
+use sink_text::{Block, put_u64};
 
 /// Makes the mark of a file from its blocks, which are added by rising index.
 ///

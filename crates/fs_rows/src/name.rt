@@ -3,7 +3,7 @@ ghost use Rattle.std.specs.Cmp as Cmp;
 ghost use Rattle.std.specs.Cmp.Lexicographic.{pointwise, nat_list_eq_equiv};
 
 use crate::shared::Shared;
-use outside::Memory;
+use sink_text::Memory;
 use std::alloc::{AllocError, Global};
 use std::marker::Model;
 

@@ -4,7 +4,7 @@ ghost use Rattle.std.specs.Cmp.Lexicographic.{pointwise, lists_per, nat_list_eq_
 
 use crate::Name;
 use crate::shared::Shared;
-use outside::Memory;
+use sink_text::Memory;
 use std::alloc::{AllocError, Global};
 use std::marker::Model;
 

@@ -4,7 +4,7 @@ ghost use Rattle.std.specs.Int.{div_ceil};
 ghost use Rattle.fs_rows.specs.Bytes.{block_by};
 ghost use Rattle.fs_rows.specs.Pieces.{Overlays, ReplacesBlock};
 
-use vol_block::Block;
+use sink_text::Block;
 
 /// How many of `len` things from number `first` on lie below number `end`.
 pub fn count_below(first: u64, len: usize, end: u64) -> usize

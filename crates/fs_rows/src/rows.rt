@@ -1,7 +1,7 @@
 ghost use Rattle.std.specs.Prelude.{◌≡◌, ◌<◌, ◌++◌, ◌∷◌, [], length, slice_get, Some, OnOk, OnErr};
 
 use crate::Row;
-use outside::Memory;
+use sink_text::Memory;
 use std::alloc::Global;
 use std::marker::Model;
 

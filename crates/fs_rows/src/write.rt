@@ -1,12 +1,11 @@
 ghost use Rattle.std.specs.Prelude.{IsTrue};
-ghost use Rattle.outside.specs.Fault.{HasCause, Takes};
+ghost use Rattle.sink_text.specs.outside.Fault.{HasCause, Takes};
 ghost use Rattle.sink_text.specs.Pushes.{Pushes};
 ghost use Rattle.fs_rows.specs.Text.{rows_text};
 
 use crate::Rows;
 use crate::line::push_row;
-use outside::{Fault, Sink};
-use sink_text::Buffered;
+use sink_text::{Buffered, Fault, Sink};
 
 /// Writes a line for each row: KIND MODE UID GID ATIME MTIME CTIME FLAGS DEVICE NAMES LENGTH MARK PATH, with a space
 /// between. After a fault the sink gained a first part of this text.

@@ -3,17 +3,17 @@ ghost use Rattle.outside.specs.Fault.{Rose};
 ghost use Rattle.outside.specs.History.{nothing};
 ghost use Rattle.host_edge.specs.FileDisk.{Kept, opened_for, length_of, kept_refl, kept_trans, closed_length, tells_nothing};
 
-use crate::opened::Opened;
+use crate::opened::{FailedWrite, Opened};
 use crate::status_line::StatusLine;
 use crate::trouble::{Call, Cause, Trouble};
-use crate::watch::Watch;
-use device_use::{Place, Use};
-use outside::{Access, BlockSource, Disk, Fault};
-use std::fs;
+use crate::watch::{Task, Watch};
+use crate::{Place, Signature, Use};
+use outside::{Access, Block, BlockNo, BlockSource, Disk, Fault, Format, format_of};
 use std::fs::{File, Files, OpenOptions};
+use std::io::ErrorKind;
 use std::os::unix::fs::FileTypeExt;
 use std::time::Clock;
-use vol_block::{Block, BlockNo};
+use std::{fs, io};
 
 /// A file or a device as a disk, read and written a whole block at a time at its place.
 ///
@@ -22,10 +22,14 @@ use vol_block::{Block, BlockNo};
 ///
 /// Only a plain file or a block device is opened. For writing it is not opened where it is in use: where it is mounted,
 /// swapped to, or below another device, where that is true of one of its partitions or of the device that it is a
-/// partition of, where it is the file of a loop device, or where another program holds a lock on it. Each of these counts as a
-/// failure too. Why the last failure came is kept.
+/// partition of, where it is the file of a loop device, or where another program holds a lock on it; nor where it is a block device and the system
+/// does not tell whether it is in use; nor where it is read-only. Each of these counts as a failure too. Why the last failure came is kept.
 ///
-/// On a terminal it shows how much was read and written.
+/// Where all that it holds is to be overwritten ([`FileDisk::expect_blank`]), it is not opened for writing either where something lies there that the
+/// rest of the program does not know: a table of partitions, another file system, swap space, a member of a RAID and the like. The rest of the
+/// program looks by itself for volumes of ReiserFS and Btrfs.
+///
+/// On a terminal it shows how far the command is ([`FileDisk::expect`]).
 #[derive(Drop)]
 pub struct FileDisk<'a, R: Files<File = File> + AllocGlobal + Clock + Clone + Drop> {
     files: R,
@@ -33,7 +37,11 @@ pub struct FileDisk<'a, R: Files<File = File> + AllocGlobal + Clock + Clone + Dr
     faults: u64,
     trouble: Option<Trouble>,
     watch: Watch<'a>,
+    is_overwritten: bool,
 }
+
+/// The block of the superblock of both formats that the rest of the program knows.
+const SUPERBLOCK: BlockNo = 16;
 
 impl<'a, R: Files<File = File> + AllocGlobal + Clock + Clone + Drop> FileDisk<'a, R> {
     /// A disk that is not open. It will find its file by these files, and show on this line what it does.
@@ -46,6 +54,7 @@ impl<'a, R: Files<File = File> + AllocGlobal + Clock + Clone + Drop> FileDisk<'a
             faults: 0,
             trouble: None,
             watch: Watch::new(line),
+            is_overwritten: false,
         }
     }
 
@@ -54,7 +63,21 @@ impl<'a, R: Files<File = File> + AllocGlobal + Clock + Clone + Drop> FileDisk<'a
         self.trouble
     }
 
-    /// How many blocks were to be written, whether that succeeded or not.
+    /// From now on it is opened for writing to be overwritten.
+    pub fn expect_blank(&mut self)
+        ensures { opened_for self.new ≡ opened_for self.old }
+    {
+        self.is_overwritten = true;
+    }
+
+    /// What it is opened for, as it is told on a terminal.
+    pub fn expect(&mut self, task: Task)
+        ensures { opened_for self.new ≡ opened_for self.old }
+    {
+        self.watch.expect(task);
+    }
+
+    /// How many blocks were written, whole or in part.
     pub fn written(&self) -> u64 {
         self.watch.written()
     }
@@ -67,18 +90,33 @@ impl<'a, R: Files<File = File> + AllocGlobal + Clock + Clone + Drop> FileDisk<'a
             return Err(Cause::Kind);
         }
         if access == Access::Write {
-            if let Some(found) = Use::of(&self.files, &Place::new(&self.files, path)?)? {
-                return Err(Cause::InUse(found));
-            }
+            self.check_free(path)?;
         }
         let file = OpenOptions::new()
             .read(true)
             .write(access == Access::Write)
-            .open(&self.files, path)?;
+            .open(&self.files, path)
+            .map_err(unopened)?;
         if access == Access::Write && file.try_lock().is_err() {
             return Err(Cause::InUse(Use::Locked));
         }
-        Ok(Opened::new(file, access)?)
+        let opened = Opened::new(file, access)?;
+        if access == Access::Write && self.is_overwritten {
+            check_blank(&opened)?;
+        }
+        Ok(opened)
+    }
+
+    /// Checks that nobody uses what stands at a path, and that it is not read-only.
+    fn check_free(&self, path: &str) -> Result<(), Cause> {
+        let place = Place::new(&self.files, path)?;
+        if let Some(found) = Use::of(&self.files, &place)? {
+            return Err(Cause::InUse(found));
+        }
+        if place.is_read_only(&self.files)? {
+            return Err(Cause::ReadOnly);
+        }
+        Ok(())
     }
 
     /// Counts a failure, and keeps why it came.
@@ -90,6 +128,30 @@ impl<'a, R: Files<File = File> + AllocGlobal + Clock + Clone + Drop> FileDisk<'a
         self.trouble = Some(Trouble { call, cause });
         self.faults = self.faults.saturating_add(1);
         Fault
+    }
+}
+
+/// Why a file could not be opened.
+fn unopened(e: io::Error) -> Cause {
+    if e.kind() == ErrorKind::ReadOnlyFilesystem {
+        Cause::ReadOnly
+    } else {
+        Cause::System(e)
+    }
+}
+
+/// Checks that nothing lies on a file but what the rest of the program knows.
+fn check_blank(opened: &Opened) -> Result<(), Cause> {
+    if opened.blocks > SUPERBLOCK {
+        let mut block = Block::zero();
+        opened.read(SUPERBLOCK, &mut block)?;
+        if format_of(&block) != Format::Neither {
+            return Ok(());
+        }
+    }
+    match Signature::of(&opened.file, opened.bytes)? {
+        Some(found) => Err(Cause::Holds(found)),
+        None => Ok(()),
     }
 }
 
@@ -128,9 +190,8 @@ impl<R: Files<File = File> + AllocGlobal + Clock + Clone + Drop> BlockSource for
         };
         match done {
             Ok(()) => {
-                self.watch.reads();
-                let blocks = self.len();
-                self.watch.look(&self.files, n, blocks);
+                self.watch.reads(n, into);
+                self.watch.look(&self.files);
                 Ok(())
             }
             Err(cause) => Err(self.fail(Call::Read(n), cause)),
@@ -171,18 +232,23 @@ impl<R: Files<File = File> + AllocGlobal + Clock + Clone + Drop> Disk for FileDi
     }
 
     fn write(&mut self, n: BlockNo, from: &Block) -> Result<(), Fault> {
-        self.watch.writes();
         let done = match &self.opened {
-            Some(file) => file.write(n, from).map_err(Cause::System),
-            None => Err(Cause::Closed),
+            Some(file) => file.write(n, from),
+            None => Err(FailedWrite {
+                cause: Cause::Closed,
+                is_begun: false,
+            }),
         };
         match done {
             Ok(()) => {
-                let blocks = self.len();
-                self.watch.look(&self.files, n, blocks);
+                self.watch.writes();
+                self.watch.look(&self.files);
                 Ok(())
             }
-            Err(cause) => Err(self.fail(Call::Write(n), cause)),
+            Err(failed) => {
+                self.watch.fails(failed.is_begun);
+                Err(self.fail(Call::Write(n), failed.cause))
+            }
         }
     }
 

@@ -4,15 +4,15 @@ use crate::std_sink::StdSink;
 use outside::{Fault, Sink};
 use std::io::Write;
 
-/// How many bytes of a line are kept. Each line of a program of this repository has fewer.
-const KEPT: usize = 160;
+/// How many bytes of a text are kept. Each line on standard error has fewer, and so has all that `inspect` prints.
+const KEPT: usize = 512;
 
 /// The first bytes of a text.
 #[derive(Drop)]
 struct Front {
     bytes: [u8; KEPT],
     length: usize,
-    ghost bounded: { length ≤ 160 },
+    ghost bounded: { length ≤ 512 },
 }
 
 impl Front {
@@ -25,7 +25,7 @@ impl Front {
     }
 }
 
-/// A sink over a stream that keeps what it passes on, up to the length of a line.
+/// A sink over a stream that keeps the first bytes of what it passes on.
 #[derive(Drop)]
 pub struct LineSink<'a, W: Write + Drop> {
     sink: StdSink<'a, W>,
@@ -44,7 +44,12 @@ impl<'a, W: Write + Drop> LineSink<'a, W> {
         }
     }
 
-    /// What was passed on.
+    /// Passes on what is not to be kept.
+    pub fn pass(&mut self, bytes: &[u8]) -> Result<(), Fault> {
+        self.sink.write(bytes)
+    }
+
+    /// What was passed on, as far as it is kept.
     pub fn line(&self) -> &[u8] {
         &self.front.bytes[..self.front.length]
     }

@@ -1,19 +1,28 @@
 ghost use Rattle.std.specs.Prelude.{◌≡◌, ◌≤◌, ◌<◌, ◌^◌, IfOk};
 
-use outside::Access;
+use crate::trouble::Cause;
+use outside::{Access, Block, BlockNo};
 use std::fs::File;
 use std::io;
 use std::io::{ErrorKind, Seek, SeekFrom};
 use std::os::unix::fs::FileExt;
-use vol_block::{Block, BlockNo};
 
 const BLOCK_BYTES: u64 = 4096;
 
-/// A file that was opened, and how many whole blocks it has.
+/// A write that failed.
+#[derive(Drop)]
+pub struct FailedWrite {
+    pub cause: Cause,
+    /// Whether a part of the block was written.
+    pub is_begun: bool,
+}
+
+/// A file that was opened, how many bytes it has, and how many whole blocks.
 #[derive(Drop)]
 pub struct Opened {
     pub file: File,
     pub access: Access,
+    pub bytes: u64,
     pub blocks: u64,
     ghost bounded: { blocks ≤ 2 ^ 52 },
 }
@@ -27,6 +36,7 @@ impl Opened {
         Ok(Opened {
             file,
             access,
+            bytes: end,
             blocks: end / BLOCK_BYTES,
         })
     }
@@ -50,7 +60,7 @@ impl Opened {
     }
 
     /// Writes a block at its place.
-    pub fn write(&self, n: BlockNo, from: &Block) -> io::Result<()>
+    pub fn write(&self, n: BlockNo, from: &Block) -> Result<(), FailedWrite>
         requires { n < self.now.blocks }
     {
         let mut at = 0;
@@ -59,11 +69,19 @@ impl Opened {
                 .file
                 .write_at(&from.bytes[at..], n * BLOCK_BYTES + at as u64)
             {
-                Ok(0) => return Err(io::Error::from(ErrorKind::WriteZero)),
-                Err(e) => return Err(e),
+                Ok(0) => return Err(unwritten(at, io::Error::from(ErrorKind::WriteZero))),
+                Err(e) => return Err(unwritten(at, e)),
                 Ok(count) => at += count,
             }
         }
         Ok(())
+    }
+}
+
+/// A write that failed behind so many bytes of its block.
+fn unwritten(count: usize, e: io::Error) -> FailedWrite {
+    FailedWrite {
+        cause: Cause::System(e),
+        is_begun: count > 0,
     }
 }

@@ -1,7 +1,7 @@
-use device_use::Use;
+use crate::{Signature, Use};
+use outside::BlockNo;
 use std::io;
 use thiserror::Error;
-use vol_block::BlockNo;
 
 /// What a disk was asked for.
 #[derive(Clone, Copy, Debug, PartialEq, Eq, Error)]
@@ -28,6 +28,12 @@ pub enum Cause {
     /// It is not opened for writing, since it is in use.
     #[error("{0}")]
     InUse(Use),
+    /// It is not opened for writing, since it is read-only.
+    #[error("it is read-only")]
+    ReadOnly,
+    /// It is not opened to be overwritten, since something lies there.
+    #[error("it holds {0}")]
+    Holds(Signature),
     /// No file was opened before.
     #[error("it is not open")]
     Closed,

@@ -1,5 +1,4 @@
-//! What the program sees of the world outside: sources of blocks, disks that may crash, and sinks of text; and the
-//! answers that everything above gives.
+//! What the program sees of the world outside: sources of blocks, disks that may crash, and sinks of text.
 //!
 //! A caller is generic over [`BlockSource`] where it reads, over [`Disk`] where it opens or writes, and over
 //! [`Sink`] where it prints. What a disk was asked to do is a list of calls that only contracts see, and what a
@@ -7,22 +6,25 @@
 //! that callers need of it.
 #![tactic(auto)]
 
-mod answer;
 mod cached;
 mod disk;
 mod fault;
 mod laws;
-mod refusal;
-mod rule;
+mod list;
 mod sink;
 mod source;
 
-pub use answer::{Answer, BtrAnswer, VolAnswer};
 pub use cached::{Cached, Room};
 pub use disk::{Access, Disk};
 pub use fault::{Fault, Memory};
 pub use laws::{crash_leaves_old_or_written, crash_leaves_settled, crash_splits_at_a_moment};
-pub use refusal::{BtrRefusal, VolumeRefusal};
-pub use rule::{BtrRule, Feature, Rule};
+pub use list::CopyList;
 pub use sink::Sink;
 pub use source::BlockSource;
+pub use vol_block::{
+    Block, BlockNo, Field, Format, Ids, array_at, format_of, has_magic, has_reiser_magic,
+    is_reserved, put_fields, put_u64, u16_at, u32_at, u64_at, usable_end,
+};
+
+#[cfg(test)]
+mod tests;

@@ -5,8 +5,8 @@ use Rattle.std.specs.List.{range_with_len, list_all}
 use Rattle.std.proofs.lemmas.Bool.{not-true, not_from_false, cases_Bool}
 use Rattle.std.proofs.lemmas.Bool.Decides.{Decides-and, Decides-not, Decides-ltb, Decides-like, Decides-by_and}
 use Rattle.std.proofs.lemmas.List.Elements.{All-contains}
-use Rattle.vol_block.specs.Volume.{IsReserved}
-use Rattle.vol_block.proofs.Reserved.{decides_reserved}
+use Rattle.refusals.specs.vol_block.Volume.{IsReserved}
+use Rattle.refusals.proofs.vol_block.Reserved.{decides_reserved}
 use Rattle.reiser_bitmap.specs.Bits.{bit_of, bits, has}
 use Rattle.reiser_bitmap.specs.Units.{IsFreeUnit, is_free_block, are_free_blocks, is_free_unit}
 use Rattle.reiser_bitmap.specs.Zeros.{HasNoBits}

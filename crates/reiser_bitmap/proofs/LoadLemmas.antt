@@ -7,7 +7,7 @@ use Rattle.std.proofs.lemmas.Bool.{cases_lt, cases_eq}
 use Rattle.std.proofs.lemmas.List.{ext_get_or, get_or-set_same, get_or-set_other, get_or_past, get_or-append_right, get_or_append_left, get_or-take, length-append, length-take, length-set}
 use Rattle.std.proofs.lemmas.List.FromFn.{length-map-range_with_len, get_or-map-range_with_len}
 use Rattle.std.proofs.lemmas.Nat.Bits.{bit_at-zero, bit_at-lt, bit_at_and, bit_at_ones, bit_at_ones_above}
-use Rattle.outside.specs.History.{Image, block_at}
+use Rattle.refusals.specs.outside.History.{Image, block_at}
 use Rattle.reiser_bitmap.specs.Bits.{bit_of, bits}
 use Rattle.reiser_bitmap.specs.Layout.{bitmap_block, is_marked, bitmap_of}
 use Rattle.reiser_bitmap.specs.Stored.{IsStored}

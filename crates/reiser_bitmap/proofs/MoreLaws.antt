@@ -4,7 +4,7 @@ use Rattle.std.specs.Prelude.{Contains, ◌↔◌}
 use Rattle.std.specs.List.{range_with_len}
 use Rattle.std.proofs.lemmas.Bool.{cases_lt, both_ways, eqb-true, eq-eqb, and_parts, and_from, or_cases, or_left, or_right, le-leb, leb-true}
 use Rattle.std.proofs.lemmas.List.{get_or_past}
-use Rattle.outside.specs.History.{Image, block_at}
+use Rattle.refusals.specs.outside.History.{Image, block_at}
 use Rattle.reiser_bitmap.specs.Bits.{bit_of, has, used_blocks}
 use Rattle.reiser_bitmap.specs.Layout.{bitmap_block, is_marked, bitmap_of}
 use Rattle.reiser_bitmap.specs.System.{is_bitmap_block, is_system, system_blocks}

@@ -4,9 +4,9 @@ use Rattle.std.specs.Prelude.{filter, Contains, All}
 use Rattle.std.specs.List.{range_with_len}
 use Rattle.std.proofs.lemmas.Bool.{ne_eqb, eq-eqb, eqb-true}
 use Rattle.std.proofs.lemmas.List.Elements.{Contains-append_left, Contains-append_right, Contains-append_cases}
-use Rattle.outside.specs.declared.refusal.VolumeRefusal.{VolumeRefusal}
-use Rattle.outside.specs.declared.refusal.VolumeRefusal.TheVariants.{Damaged}
-use Rattle.outside.specs.declared.rule.Rule.TheVariants.{SystemFree}
+use Rattle.refusals.specs.declared.refusal.VolumeRefusal.{VolumeRefusal}
+use Rattle.refusals.specs.declared.refusal.VolumeRefusal.TheVariants.{Damaged}
+use Rattle.refusals.specs.declared.rule.Rule.TheVariants.{SystemFree}
 use Rattle.reiser_bitmap.specs.Bits.{has}
 use Rattle.reiser_bitmap.specs.Layout.{bitmap_block}
 use Rattle.reiser_bitmap.specs.System.{is_bitmap_block, system_blocks, NamesFreeBlock}

@@ -1,6 +1,6 @@
 -- Answers of a call that reads and takes memory.
-use Rattle.outside.specs.declared.answer.VolAnswer.{VolAnswer}
-use Rattle.outside.specs.declared.answer.VolAnswer.TheVariants.{Refused, Fault, Memory}
+use Rattle.refusals.specs.declared.answer.VolAnswer.{VolAnswer}
+use Rattle.refusals.specs.declared.answer.VolAnswer.TheVariants.{Refused, Fault, Memory}
 
 -- the volume is not refused
 abbrev pub IsNoRefusal : VolAnswer → Type 0

@@ -1,7 +1,7 @@
 -- Where ReiserFS 3.6 keeps the bitmap of a volume.
 use Rattle.std.specs.Prelude.{ℕ, ◌*◌, ◌/◌, ◌%◌, ◌==◌, Bool, List, map, if◌then◌else◌}
 use Rattle.std.specs.List.{range_with_len}
-use Rattle.outside.specs.History.{Image, block_at}
+use Rattle.refusals.specs.outside.History.{Image, block_at}
 use Rattle.reiser_bitmap.specs.Bits.{bit_of}
 
 -- Bitmap block k holds the bits of 32768 blocks, from block 32768·k on, and is the first of these. Bitmap block 0 is block 17.

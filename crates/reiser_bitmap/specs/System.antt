@@ -1,9 +1,9 @@
 -- The blocks that a ReiserFS volume keeps for itself.
 use Rattle.std.specs.Prelude.{◌≡◌, ℕ, ◌+◌, ◌/◌, ◌==◌, nat_le, Bool, false, ◌&&◌, ◌||◌, List, ◌∷◌, ◌++◌, length, filter, Contains}
 use Rattle.std.specs.List.{range_with_len}
-use Rattle.outside.specs.declared.refusal.VolumeRefusal.{VolumeRefusal}
-use Rattle.outside.specs.declared.refusal.VolumeRefusal.TheVariants.{Damaged}
-use Rattle.outside.specs.declared.rule.Rule.TheVariants.{SystemFree}
+use Rattle.refusals.specs.declared.refusal.VolumeRefusal.{VolumeRefusal}
+use Rattle.refusals.specs.declared.refusal.VolumeRefusal.TheVariants.{Damaged}
+use Rattle.refusals.specs.declared.rule.Rule.TheVariants.{SystemFree}
 use Rattle.reiser_bitmap.specs.Bits.{has}
 use Rattle.reiser_bitmap.specs.Layout.{bitmap_block}
 

@@ -1,7 +1,7 @@
 -- Units of 256 blocks, that is of 1 MiB.
 use Rattle.std.specs.Prelude.{◌≡◌, ℕ, ◌+◌, ◌*◌, ◌/◌, ◌≤◌, nat_lt, Bool, false, not, ◌&&◌, List, length, filter}
 use Rattle.std.specs.List.{range_with_len, list_all}
-use Rattle.vol_block.specs.Volume.{IsReserved, is_reserved}
+use Rattle.refusals.specs.vol_block.Volume.{IsReserved, is_reserved}
 use Rattle.reiser_bitmap.specs.Bits.{has}
 
 -- Unit u is blocks 256·u to 256·u + 255. It is free where all of them lie in the volume, and each is unused and not

@@ -1,10 +1,9 @@
 ghost use Rattle.std.specs.Prelude.{◌≡◌, ◌<◌, replicate, length, false, true, slice_set, IfOk};
 ghost use Rattle.reiser_bitmap.specs.Bits.{has};
 
-use outside::Memory;
+use refusals::{BlockNo, Memory};
 use std::alloc::{AllocError, Global};
 use std::marker::Model;
-use vol_block::BlockNo;
 
 /// A set of blocks of a volume, as a bit for each, low first. A contract sees it as a list with whether each block of
 /// the volume is in it.

@@ -2,7 +2,7 @@ ghost use Rattle.std.specs.Prelude.{◌≡◌, ◌<◌, ◌*◌, ◌^◌};
 ghost use Rattle.reiser_bitmap.specs.Layout.{bitmap_block};
 ghost use Rattle.reiser_bitmap.specs.System.{is_system};
 
-use vol_block::BlockNo;
+use refusals::BlockNo;
 
 /// How many blocks have their bits in one bitmap block.
 pub const BITS_IN_BLOCK: u64 = 32768;

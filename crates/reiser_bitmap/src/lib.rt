@@ -21,4 +21,9 @@ pub use laws::{
     used_blocks_are_had,
 };
 pub use layout::{bitmap_block, is_system};
+pub use refusals::{
+    Access, Block, BlockNo, BlockSource, BtrAnswer, BtrRefusal, BtrRule, Cached, CopyList, Disk,
+    Fault, Format, Ids, Memory, Room, Rule, Sink, VolAnswer, VolumeRefusal, format_of, has_magic,
+    is_reserved, usable_end,
+};
 pub use runs::{Run, Runs};

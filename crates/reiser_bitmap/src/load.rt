@@ -1,6 +1,6 @@
 ghost use Rattle.std.specs.Prelude.{◌≡◌, ◌+◌, ◌/◌, ◌≤◌, ◌++◌, [], length, take, IfOk, IfErr, OnOk};
-ghost use Rattle.outside.specs.Fault.{HasCauseOf};
-ghost use Rattle.outside.specs.History.{OverTold};
+ghost use Rattle.refusals.specs.outside.Fault.{HasCauseOf};
+ghost use Rattle.refusals.specs.outside.History.{OverTold};
 ghost use Rattle.reiser_bitmap.specs.Answers.{IsNoRefusal};
 ghost use Rattle.reiser_bitmap.specs.Bits.{bits};
 ghost use Rattle.reiser_bitmap.specs.Layout.{bitmap_of};
@@ -8,9 +8,8 @@ ghost use Rattle.reiser_bitmap.specs.Stored.{IsStored};
 
 use crate::Bitmap;
 use crate::layout::{BITS_IN_BLOCK, bitmap_block};
-use outside::{BlockSource, Memory, VolAnswer};
+use refusals::{Block, BlockSource, Memory, VolAnswer};
 use std::alloc::Global;
-use vol_block::Block;
 
 /// How many bytes a block has.
 const BLOCK_SIZE: usize = 4096;
@@ -32,10 +31,8 @@ impl Bitmap {
         ensures size { IfOk result (λ m. length m ≡ blocks) }
         ensures loaded { OverTold S.tells (S.blocks src.old) (λ image. IfOk result (λ m. m ≡ bitmap_of blocks image)) }
     {
-        match read_bytes(alloc, src, blocks) {
-            Ok(bytes) => Ok(Bitmap::of_bytes(blocks, bytes)),
-            Err(e) => Err(e),
-        }
+        let bytes = read_bytes(alloc, src, blocks)?;
+        Ok(Bitmap::of_bytes(blocks, bytes))
     }
 
     /// The first bits of the bytes.

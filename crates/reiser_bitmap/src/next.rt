@@ -4,7 +4,7 @@ ghost use Rattle.reiser_bitmap.specs.Next.{next_used, next_unused, end_of_bits, 
 
 use crate::Bitmap;
 use crate::units::is_zero;
-use vol_block::{BlockNo, u64_at};
+use refusals::{BlockNo, u64_at};
 
 impl Bitmap {
     /// The first block of the set from `from` on; `end` where there is none before it.

@@ -1,4 +1,4 @@
-use copy_list::CopyList;
+use refusals::CopyList;
 
 /// A run of units.
 #[derive(Clone, Copy, Debug, PartialEq, Eq)]

@@ -4,8 +4,7 @@ ghost use Rattle.reiser_bitmap.specs.System.{system_blocks, NamesFreeBlock};
 
 use crate::Bitmap;
 use crate::layout::{BITS_IN_BLOCK, bitmap_block};
-use outside::{Rule, VolumeRefusal};
-use vol_block::BlockNo;
+use refusals::{BlockNo, Rule, VolumeRefusal};
 
 impl Bitmap {
     /// Whether the volume's own blocks are marked as used: the superblock, the bitmap blocks, and the journal whose log

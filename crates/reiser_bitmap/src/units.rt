@@ -4,9 +4,8 @@ ghost use Rattle.reiser_bitmap.specs.Zeros.{AreZeros, HasNoBits};
 ghost use Rattle.reiser_bitmap.specs.Runs.{free_runs};
 
 use crate::{Bitmap, Run, Runs};
-use outside::Memory;
+use refusals::{Memory, is_reserved, u64_at};
 use std::simd::u8x32;
-use vol_block::{is_reserved, u64_at};
 
 /// How many blocks a unit of 1 MiB has.
 const BLOCKS_IN_UNIT: u64 = 256;

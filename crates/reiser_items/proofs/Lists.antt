@@ -1,6 +1,6 @@
 -- The lists that bodies are, by index.
 use Rattle.std.proofs.Common.{◌≡◌, ℕ, zero, suc, ◌+◌, ◌*◌, ◌/◌, ◌<◌, ◌≤◌, List, length, Some, slice_get, refl, ap, ◌∙◌, arith}
-use Rattle.vol_block.specs.Volume.{field}
+use Rattle.reiser_node.specs.vol_block.Volume.{field}
 use Rattle.reiser_items.specs.Pointers.{numbers_at, pointers}
 use Rattle.reiser_items.specs.Entries.{entry_at, entries_from, entries}
 

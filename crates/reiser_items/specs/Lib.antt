@@ -1,3 +1,5 @@
+pub use Rattle.reiser_node.specs as reiser_node
+pub use Rattle.reiser_node.specs.vol_block as vol_block
 pub mod Entries
 pub mod Order
 pub mod Pointers

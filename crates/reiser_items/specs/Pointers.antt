@@ -1,6 +1,6 @@
 -- Bodies of indirect items, as ReiserFS has them: block numbers of 32 bits, 0 for a hole.
 use Rattle.std.specs.Prelude.{ℕ, zero, suc, ◌+◌, ◌/◌, ◌%◌, ◌==◌, List, [], ◌∷◌, length, Option, Some, None, if◌then◌else◌}
-use Rattle.vol_block.specs.Volume.{field}
+use Rattle.reiser_node.specs.vol_block.Volume.{field}
 
 -- n numbers of 32 bits, from a place on
 abbrev pub numbers_at : List ℕ → ℕ → ℕ → List ℕ

@@ -13,4 +13,8 @@ mod stat;
 pub use entries::{Entries, Entry};
 pub use order::key_order;
 pub use pointers::Pointers;
+pub use reiser_node::{
+    Block, BlockNo, Field, InnerView, ItemHead, ItemKind, LeafView, put_fields, put_u32, u16_at,
+    u32_at,
+};
 pub use stat::StatData;

@@ -1,8 +1,8 @@
 ghost use Rattle.std.specs.Prelude.{◌≡◌, ◌<◌, length, Some, slice_get};
 ghost use Rattle.reiser_items.specs.Pointers.{pointers_of};
 
+use reiser_node::u32_at;
 use std::marker::Model;
-use vol_block::u32_at;
 
 /// The pointers of a file's part: the body of an indirect item.
 #[derive(Debug, Drop)]

@@ -1,7 +1,7 @@
 ghost use Rattle.std.specs.Prelude.{◌≡◌, ◌≤◌, length};
 ghost use Rattle.reiser_items.specs.Stat.{new_stat, old_stat, stat_of};
 
-use vol_block::{u16_at, u32_at, u64_at};
+use reiser_node::{u16_at, u32_at, u64_at};
 
 /// The stat data of an object: the body of a stat item, in either version.
 ///

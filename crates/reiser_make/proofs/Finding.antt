@@ -1,7 +1,7 @@
 -- Leaves that are found by their numbers.
 use Rattle.std.proofs.Common.{◌≡◌, ◌≤◌, ◌<◌, ℕ, zero, suc, ◌+◌, List, [], ◌∷◌, length, take, drop, get_or, refl, sym, ap, ◌∙◌, arith, length-drop}
 use Rattle.std.proofs.lemmas.List.{get_or-drop}
-use Rattle.reiser_node.specs.declared.head.ItemHead.{ItemHead}
+use Rattle.reiser_items.specs.reiser_node.declared.head.ItemHead.{ItemHead}
 use Rattle.reiser_make.specs.Finding.{IsLeafOf}
 use Rattle.reiser_make.specs.Inner.{first_head, leaf_at, first_leaf, node_place, used_by, child}
 use Rattle.reiser_make.specs.declared.inner.Child.{Child}

@@ -3,9 +3,9 @@ use Rattle.std.proofs.Common.{◌≡◌, ◌≤◌, ◌<◌, ℕ, ◌+◌, List,
 use Rattle.std.specs.Prelude.{Option, Result, Ok, slice_set, true}
 use Rattle.std.specs.List.{range_with_len}
 use Rattle.std.proofs.lemmas.List.FromFn.{map-range_with_len_more}
-use Rattle.outside.specs.History.{History, Image, reads, after, wrote, WritesBlock, WritesOnly}
-use Rattle.outside.specs.declared.disk.Access.{Access}
-use Rattle.outside.proofs.Crash.{write_only, writes_none, writes_then}
+use Rattle.fs_rows.specs.outside.History.{History, Image, reads, after, wrote, WritesBlock, WritesOnly}
+use Rattle.fs_rows.specs.outside.declared.disk.Access.{Access}
+use Rattle.fs_rows.proofs.outside.Crash.{write_only, writes_none, writes_then}
 use Rattle.reiser_make.specs.Layout.{Placed, laid_over}
 
 pub laid_over-append : (ps qs : List Placed) (image : Image) → laid_over (ps ++ qs) image ≡ laid_over qs (laid_over ps image)

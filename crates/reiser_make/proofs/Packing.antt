@@ -10,7 +10,7 @@ use Rattle.reiser_make.specs.Walk.{items_behind, HasFirst, IsPacking, IsFirstLea
 use Rattle.reiser_make.specs.declared.item.Item.{Item}
 use Rattle.reiser_make.specs.declared.leaf.ItemPlace.{ItemPlace}
 use Rattle.reiser_make.specs.declared.leaf.Packed.{Packed}
-use Rattle.reiser_node.specs.declared.head.ItemHead.{ItemHead}
+use Rattle.reiser_items.specs.reiser_node.declared.head.ItemHead.{ItemHead}
 
 abbrev pub leaf_as : ItemHead → ℕ → ℕ → ItemPlace → Packed
 leaf_as first count used end = record { first = first; count = count; used = used; end = end }

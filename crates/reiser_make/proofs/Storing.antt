@@ -4,8 +4,8 @@ use Rattle.std.specs.List.{sum_by}
 use Rattle.std.proofs.lemmas.List.{append-nil, take-take}
 use Rattle.std.proofs.lemmas.List.Sums.{sum_by-append, sum_by-cons, sum_by-take-le}
 use borrow.Rule.Slice.PartMut.{put_mid}
-use Rattle.reiser_node.specs.declared.head.ItemHead.{ItemHead}
-use Rattle.reiser_node.specs.declared.head.ItemKind.{ItemKind}
+use Rattle.reiser_items.specs.reiser_node.declared.head.ItemHead.{ItemHead}
+use Rattle.reiser_items.specs.reiser_node.declared.head.ItemKind.{ItemKind}
 use Rattle.reiser_make.specs.Items.{body_bytes}
 use Rattle.reiser_make.specs.Leaf.{taken, taken_by, key_bytes, head_bytes, heads_bytes, bodies, node_room, leaf_contents}
 use Rattle.reiser_make.specs.Shape.{Shape}

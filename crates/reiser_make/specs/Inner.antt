@@ -4,8 +4,8 @@ use Rattle.std.specs.Prelude.{ℕ, zero, suc, ◌+◌, ◌-◌, ◌*◌, nat_le,
 use Rattle.std.specs.Int.{div_ceil}
 use Rattle.std.specs.List.{range_with_len, flat_map}
 use Rattle.byteorder.specs.Endian.{little_bytes}
-use Rattle.reiser_node.specs.declared.head.ItemHead.{ItemHead}
-use Rattle.reiser_node.specs.declared.head.ItemKind.TheVariants.{Stat}
+use Rattle.reiser_items.specs.reiser_node.declared.head.ItemHead.{ItemHead}
+use Rattle.reiser_items.specs.reiser_node.declared.head.ItemKind.TheVariants.{Stat}
 use Rattle.reiser_make.specs.Leaf.{leaves, taken, key_bytes, node_head, node_room}
 use Rattle.reiser_make.specs.Places.{place, end_of}
 use Rattle.reiser_make.specs.Shape.{Shape, stored_in}

@@ -1,8 +1,8 @@
 -- A sample volume: which blocks are written, and with what.
 use Rattle.std.specs.Prelude.{◌≡◌, ◌≤◌, ℕ, ◌+◌, ◌-◌, ◌*◌, ◌^◌, ◌==◌, nat_lt, Bool, ◌&&◌, List, [], ◌∷◌, ◌++◌, length, map, IsTrue, slice_index_or, slice_set, if◌then◌else◌}
 use Rattle.std.specs.List.{range_with_len, flat_map}
-use Rattle.vol_block.specs.Volume.{zeros}
-use Rattle.outside.specs.History.{Image}
+use Rattle.reiser_items.specs.vol_block.Volume.{zeros}
+use Rattle.fs_rows.specs.outside.History.{Image}
 use Rattle.reiser_make.specs.Bitmap.{bitmap_bytes}
 use Rattle.reiser_make.specs.Inner.{needed, node_place, root_level, level_nodes, children, inner_bytes, leaf_at}
 use Rattle.reiser_make.specs.Leaf.{leaves, leaf_bytes}

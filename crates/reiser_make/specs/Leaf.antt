@@ -1,9 +1,9 @@
 -- Leaves: items packed in order, each leaf as full as the next item lets it be.
 use Rattle.std.specs.Prelude.{ℕ, ◌+◌, ◌-◌, ◌*◌, ◌^◌, nat_le, Bool, true, false, List, [], ◌∷◌, ◌++◌, length, replicate, sum_by, if◌then◌else◌}
 use Rattle.byteorder.specs.Endian.{little_bytes}
-use Rattle.reiser_node.specs.declared.head.ItemHead.{ItemHead}
-use Rattle.reiser_node.specs.declared.head.ItemKind.{ItemKind}
-use Rattle.reiser_node.specs.declared.head.ItemKind.TheVariants.{Stat, Indirect, Direct, Directory}
+use Rattle.reiser_items.specs.reiser_node.declared.head.ItemHead.{ItemHead}
+use Rattle.reiser_items.specs.reiser_node.declared.head.ItemKind.{ItemKind}
+use Rattle.reiser_items.specs.reiser_node.declared.head.ItemKind.TheVariants.{Stat, Indirect, Direct, Directory}
 use Rattle.reiser_items.specs.Order.{kind_number}
 use Rattle.reiser_make.specs.Items.{items, body_bytes}
 use Rattle.reiser_make.specs.Shape.{Shape}

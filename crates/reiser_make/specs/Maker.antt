@@ -1,6 +1,6 @@
 -- What the maker answers, and what it leaves.
 use Rattle.std.specs.Prelude.{◌≡◌, ◌≤◌, ◌<◌, ℕ}
-use Rattle.outside.specs.History.{History}
+use Rattle.fs_rows.specs.outside.History.{History}
 use Rattle.reiser_make.specs.Inner.{needed}
 use Rattle.reiser_make.specs.Shape.{Shape}
 use Rattle.reiser_make.specs.declared.bitmap.Usage.{Usage}

@@ -2,7 +2,7 @@ ghost use Rattle.std.specs.Prelude.{◌≡◌, ◌≤◌, ◌<◌, ◌+◌, ◌*
 ghost use Rattle.reiser_make.specs.Bitmap.{bitmap_bytes, marks, byte_of, is_marked, bit};
 ghost use Rattle.reiser_make.specs.Places.{bitmap_blocks, free_blocks, is_taken};
 
-use vol_block::{Block, BlockNo};
+use reiser_items::{Block, BlockNo};
 
 /// How many blocks a bitmap block tells of.
 pub const BITS: u64 = 32768;

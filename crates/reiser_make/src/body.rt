@@ -11,8 +11,7 @@ use crate::item::{Body, Item};
 use crate::name::file_name;
 use crate::place::place;
 use crate::sample::Sample;
-use reiser_items::StatData;
-use vol_block::{Block, Field, put_fields, put_u32};
+use reiser_items::{Block, Field, StatData, put_fields, put_u32};
 
 impl Sample {
     /// Writes the body of an item into a slice of its length.

@@ -6,7 +6,7 @@ ghost use Rattle.reiser_make.specs.Shape.{directory_count, names_in};
 use crate::name::{directory_name, entry_offset, file_name};
 use crate::node::clear;
 use crate::object::{ObjectId, directory_count, named_by, names_in};
-use vol_block::{Field, put_fields};
+use reiser_items::{Field, put_fields};
 
 /// The bytes of an entry's head.
 const HEAD: usize = 16;

@@ -9,8 +9,7 @@ use crate::leaf::{ItemPlace, NODE_HEAD, NODE_ROOM};
 use crate::level::Level;
 use crate::node::{key_bytes, put_node_head};
 use crate::plan::Plan;
-use reiser_node::ItemHead;
-use vol_block::{Block, Field, put_fields};
+use reiser_items::{Block, Field, ItemHead, put_fields};
 
 /// A node as its parent names it.
 #[derive(Clone, Copy, Debug, PartialEq, Eq)]

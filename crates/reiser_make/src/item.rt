@@ -25,8 +25,7 @@ ghost use Rattle.reiser_make.specs.declared.content.Content.TheVariants as conte
 use crate::content::Content;
 use crate::object::{ObjectId, directory_count, name_count, names_in};
 use crate::sample::{Sample, stored_of};
-use reiser_items::StatData;
-use reiser_node::{ItemHead, ItemKind};
+use reiser_items::{ItemHead, ItemKind, StatData};
 
 /// What the body of an item is.
 #[derive(Clone, Copy, Debug, PartialEq, Eq)]

@@ -1,6 +1,6 @@
 ghost use Rattle.std.specs.Prelude.{◌≡◌, ◌≤◌, ◌<◌, ◌+◌, ◌*◌, ◌^◌, ℕ, length, drop, Some, IsTrue, OnOk};
-ghost use Rattle.outside.specs.Fault.{HasCause};
-ghost use Rattle.outside.specs.History.{reads, WritesOnly};
+ghost use Rattle.fs_rows.specs.outside.Fault.{HasCause};
+ghost use Rattle.fs_rows.specs.outside.History.{reads, WritesOnly};
 ghost use Rattle.reiser_make.specs.Content.{IsSmallContent};
 ghost use Rattle.reiser_make.specs.Inner.{level_nodes, root_level, leaf_at};
 ghost use Rattle.reiser_make.specs.Layout.{
@@ -32,8 +32,8 @@ use crate::level::Level;
 use crate::place::{FIRST, place};
 use crate::plan::Plan;
 use crate::sample::stored_of;
-use outside::{Access, Disk, Fault};
-use vol_block::Block;
+use fs_rows::{Access, Disk, Fault};
+use reiser_items::Block;
 
 /// Writes all blocks of a sample volume, each once, and no other one.
 pub fn write_volume<D: Disk>(plan: &Plan, usage: &Usage, disk: &mut D) -> Result<(), Fault>

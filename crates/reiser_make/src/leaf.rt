@@ -9,8 +9,7 @@ use crate::item::Item;
 use crate::node::{clear, put_head, put_node_head};
 use crate::object::object_count;
 use crate::sample::Sample;
-use reiser_node::ItemHead;
-use vol_block::Block;
+use reiser_items::{Block, ItemHead};
 
 /// The bytes of a node's head.
 pub const NODE_HEAD: usize = 24;

@@ -1,6 +1,6 @@
 ghost use Rattle.std.specs.Prelude.{◌≡◌, ◌≤◌, ◌^◌, true, false, Some, IsTrue, OnOk, IfErr};
-ghost use Rattle.outside.specs.Fault.{HasCauseOf};
-ghost use Rattle.outside.specs.History.{reads, WritesOnly};
+ghost use Rattle.fs_rows.specs.outside.Fault.{HasCauseOf};
+ghost use Rattle.fs_rows.specs.outside.History.{reads, WritesOnly};
 ghost use Rattle.reiser_make.specs.Inner.{needed};
 ghost use Rattle.reiser_make.specs.Layout.{IsUsed, laid_over, volume_blocks};
 ghost use Rattle.reiser_make.specs.Maker.{IsRight, Keeps, usage_of};
@@ -9,7 +9,7 @@ ghost use Rattle.reiser_make.specs.Shape.{shape};
 use crate::bitmap::Usage;
 use crate::layout::write_volume;
 use crate::plan::Plan;
-use outside::{Access, Disk, Fault, Memory};
+use fs_rows::{Access, Disk, Fault, Memory};
 use std::alloc::Global;
 use thiserror::Error;
 

@@ -2,8 +2,7 @@ ghost use Rattle.std.specs.Prelude.{◌≡◌, ◌≤◌, ◌<◌, ◌^◌, leng
 ghost use Rattle.reiser_items.specs.Order.{kind_number};
 ghost use Rattle.reiser_make.specs.Leaf.{key_bytes, head_bytes, node_head, old_code, place_bytes, version};
 
-use reiser_node::{ItemHead, ItemKind};
-use vol_block::{Field, put_fields};
+use reiser_items::{Field, ItemHead, ItemKind, put_fields};
 
 /// Writes zeros over bytes.
 pub fn clear(bytes: &mut [u8])

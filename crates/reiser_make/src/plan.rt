@@ -7,7 +7,7 @@ ghost use Rattle.reiser_make.specs.Shape.{shape};
 use crate::level::Level;
 use crate::place::place;
 use crate::sample::Sample;
-use outside::Memory;
+use fs_rows::Memory;
 use std::alloc::Global;
 
 /// A sample, and how many leaves its items take.

@@ -5,7 +5,7 @@ ghost use Rattle.reiser_make.specs.declared.content.Content.TheVariants.{Name};
 
 use crate::content::Content;
 use crate::draw::Draws;
-use outside::Memory;
+use fs_rows::Memory;
 use std::alloc::Global;
 use std::marker::Model;
 

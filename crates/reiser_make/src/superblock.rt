@@ -6,7 +6,7 @@ use crate::bitmap::Usage;
 use crate::level::Level;
 use crate::object::directory_count;
 use crate::plan::Plan;
-use vol_block::{Block, Field, put_fields};
+use reiser_items::{Block, Field, put_fields};
 
 /// What a superblock has of the volume that it begins.
 #[derive(Clone, Copy, Debug, PartialEq, Eq)]

@@ -14,3 +14,4 @@ mod leaf;
 pub use head::{ItemHead, ItemKind};
 pub use inner::InnerView;
 pub use leaf::LeafView;
+pub use vol_block::{Block, BlockNo, Field, put_fields, put_u32, u16_at, u32_at, u64_at};

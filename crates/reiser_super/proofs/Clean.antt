@@ -1,7 +1,7 @@
 -- No rule of the superblock fails exactly where each of its conditions holds.
 use Rattle.std.proofs.Common.{◌≡◌, ℕ, List, Bool, true, false, cond, refl}
 use Rattle.std.specs.Prelude.{Option, Some, None}
-use Rattle.outside.specs.declared.refusal.VolumeRefusal.{VolumeRefusal}
+use Rattle.refusals.specs.declared.refusal.VolumeRefusal.{VolumeRefusal}
 use Rattle.std.specs.Bool.{Decides}
 use Rattle.std.proofs.lemmas.Bool.{and_parts, and_from, not-true, leb-true, ltb-true, eqb-true, le-leb, lt-ltb, eq-eqb, not_from_false}
 use Rattle.reiser_super.specs.declared.superblock.Super.{Super}

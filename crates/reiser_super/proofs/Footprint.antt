@@ -6,7 +6,7 @@ use Rattle.std.proofs.lemmas.Bool.{and_parts, ltb-true}
 use Rattle.std.proofs.lemmas.List.{ext_get_or}
 use Rattle.std.proofs.lemmas.List.FromFn.{length-map-range_with_len, get_or-map-range_with_len}
 use Rattle.std.proofs.lemmas.Nat.{mod_below}
-use Rattle.outside.specs.History.{Image, block_at}
+use Rattle.refusals.specs.outside.History.{Image, block_at}
 use Rattle.reiser_super.specs.declared.superblock.Super.{Super}
 use Rattle.reiser_super.specs.Journal.{is_descriptor, transaction, transaction_length, log_block, commit_place, waiting_at, all_transactions, last_flushed, next_place, names_place, pending_transactions}
 

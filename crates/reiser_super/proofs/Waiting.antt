@@ -3,7 +3,7 @@ use Rattle.std.proofs.Common.{◌≡◌, ℕ, zero, suc, ◌+◌, ◌<◌, Bool,
 use Rattle.std.specs.Prelude.{filter, Contains}
 use Rattle.std.specs.List.{range_with_len}
 use Rattle.std.proofs.lemmas.List.FromFn.{length-map-range_with_len, get_or-map-range_with_len, filter_of_map_range_with_len_more}
-use Rattle.outside.specs.History.{Image, block_at}
+use Rattle.refusals.specs.outside.History.{Image, block_at}
 use Rattle.reiser_super.specs.declared.superblock.Super.{Super}
 use Rattle.reiser_super.specs.Journal.{is_descriptor, transaction, transaction_length, log_block, commit_place, is_newer, commits, waiting_at, all_transactions, last_flushed, next_place, names_place, pending_transactions}
 

@@ -1,9 +1,9 @@
 -- The transactions of a ReiserFS journal that wait, as the structures of its journal have them in the Linux headers.
 use Rattle.std.specs.Prelude.{◌≡◌, ℕ, ◌+◌, ◌%◌, ◌==◌, nat_lt, nat_le, Bool, ◌&&◌, List, [], ◌∷◌, length, map, filter, codes, if◌then◌else◌}
 use Rattle.std.specs.List.{range_with_len}
-use Rattle.outside.specs.History.{Image, block_at}
-use Rattle.vol_block.specs.Format.{has_bytes_at}
-use Rattle.vol_block.specs.Volume.{field}
+use Rattle.refusals.specs.outside.History.{Image, block_at}
+use Rattle.refusals.specs.vol_block.Format.{has_bytes_at}
+use Rattle.refusals.specs.vol_block.Volume.{field}
 use Rattle.reiser_super.specs.declared.superblock.Super.{Super}
 use Rattle.reiser_super.specs.Superblock.{super_of}
 use Rattle.reiser_super.specs.Rules.{IsCleanSuper}

@@ -1,6 +1,6 @@
 -- Laws of the superblock's rules and of the journal.
 use Rattle.std.specs.Prelude.{◌≡◌, ℕ, ◌+◌, ◌≤◌, ◌↔◌, List, None}
-use Rattle.outside.specs.History.{Image, block_at}
+use Rattle.refusals.specs.outside.History.{Image, block_at}
 use Rattle.reiser_super.specs.declared.superblock.Super.{Super}
 use Rattle.reiser_super.specs.Rules.{IsCleanSuper, superblock_refusal}
 use Rattle.reiser_super.specs.Journal.{pending_transactions}

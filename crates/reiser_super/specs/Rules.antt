@@ -1,10 +1,10 @@
 -- Which superblocks are those of a clean volume, and how each other one is refused.
 use Rattle.std.specs.Prelude.{◌≡◌, ℕ, ◌+◌, ◌^◌, ◌<◌, ◌≤◌, ◌==◌, nat_lt, nat_le, Bool, true, false, not, ◌&&◌, List, [], ◌∷◌, codes, Option, Some, None, if◌then◌else◌}
-use Rattle.outside.specs.declared.refusal.VolumeRefusal.{VolumeRefusal}
-use Rattle.outside.specs.declared.refusal.VolumeRefusal.TheVariants.{NotVolume, Unsupported, Unclean, Damaged, Short}
-use Rattle.outside.specs.declared.rule.Feature.TheVariants.{OldMagic, BlockSize, JournalDevice, FsState, BlockCount}
-use Rattle.outside.specs.declared.rule.Rule.TheVariants.{SuperField}
-use Rattle.vol_block.specs.Format.{has_bytes_at, has_reiser_magic}
+use Rattle.refusals.specs.declared.refusal.VolumeRefusal.{VolumeRefusal}
+use Rattle.refusals.specs.declared.refusal.VolumeRefusal.TheVariants.{NotVolume, Unsupported, Unclean, Damaged, Short}
+use Rattle.refusals.specs.declared.rule.Feature.TheVariants.{OldMagic, BlockSize, JournalDevice, FsState, BlockCount}
+use Rattle.refusals.specs.declared.rule.Rule.TheVariants.{SuperField}
+use Rattle.refusals.specs.vol_block.Format.{has_bytes_at, has_reiser_magic}
 use Rattle.reiser_super.specs.declared.superblock.Super.{Super}
 use Rattle.reiser_super.specs.Superblock.{super_of, journal_device, block_size, mount_state, checker_state}
 

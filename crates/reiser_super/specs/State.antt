@@ -1,8 +1,8 @@
 -- What a look at a journal answers.
 use Rattle.std.specs.Prelude.{ℕ, List, Contains}
-use Rattle.outside.specs.declared.answer.VolAnswer.{VolAnswer}
-use Rattle.outside.specs.declared.answer.VolAnswer.TheVariants.{Refused, Fault, Memory}
-use Rattle.outside.specs.declared.refusal.VolumeRefusal.TheVariants.{JournalPending}
+use Rattle.refusals.specs.declared.answer.VolAnswer.{VolAnswer}
+use Rattle.refusals.specs.declared.answer.VolAnswer.TheVariants.{Refused, Fault, Memory}
+use Rattle.refusals.specs.declared.refusal.VolumeRefusal.TheVariants.{JournalPending}
 
 -- the only refusal is that of a transaction that waits, and no memory is taken
 abbrev pub IsJournalAnswer : VolAnswer → Type 0

@@ -1,6 +1,6 @@
 -- The fields of the superblock of ReiserFS 3.6, as `struct reiserfs_super_block` of the Linux headers has them.
 use Rattle.std.specs.Prelude.{ℕ, List, slice_range}
-use Rattle.vol_block.specs.Volume.{field}
+use Rattle.refusals.specs.vol_block.Volume.{field}
 use Rattle.reiser_super.specs.declared.superblock.Super.{Super}
 
 abbrev pub super_of : List ℕ → Super

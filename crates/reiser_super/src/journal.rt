@@ -1,12 +1,11 @@
 ghost use Rattle.std.specs.Prelude.{◌≡◌, ◌+◌, ◌%◌, ◌<◌, ◌≤◌, [], IsTrue, OnOk, IfErr};
-ghost use Rattle.outside.specs.Fault.{HasCauseOf};
-ghost use Rattle.outside.specs.History.{OverTold};
+ghost use Rattle.refusals.specs.outside.Fault.{HasCauseOf};
+ghost use Rattle.refusals.specs.outside.History.{OverTold};
 ghost use Rattle.reiser_super.specs.Journal.{pending_transactions, waiting_at, all_transactions, commits, is_descriptor, is_newer, last_flushed, names_place, next_place, transaction, transaction_length};
 ghost use Rattle.reiser_super.specs.State.{IsJournalAnswer, IsPendingIn};
 
 use crate::Super;
-use outside::{BlockSource, VolAnswer, VolumeRefusal};
-use vol_block::{Block, has_magic, u32_at};
+use refusals::{Block, BlockSource, VolAnswer, VolumeRefusal, has_magic, u32_at};
 
 /// Whether the journal of a volume holds a transaction that waits to be written back.
 ///

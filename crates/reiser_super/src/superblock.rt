@@ -1,8 +1,9 @@
 ghost use Rattle.std.specs.Prelude.{◌≡◌, ◌+◌, ◌^◌, ◌≤◌, ◌↔◌, true, false, slice_range, IsOk, IfOk};
 ghost use Rattle.std.specs.Result.{MatchResult, result_err};
 
-use outside::{Feature, Rule, VolumeRefusal};
-use vol_block::{Block, BlockNo, has_magic, has_reiser_magic, u16_at, u32_at};
+use refusals::{
+    Block, BlockNo, Feature, Rule, VolumeRefusal, has_magic, has_reiser_magic, u16_at, u32_at,
+};
 
 /// The most blocks of a volume that is converted: 2 TiB.
 const MAX_BLOCKS: u64 = 1 << 29;
@@ -61,10 +62,8 @@ impl Super {
         ensures fits { IfOk result (λ s. s.blocks ≤ device) }
     {
         let found = Super::fields_of(block);
-        match found.check_rules(block, device) {
-            Ok(()) => Ok(found),
-            Err(refusal) => Err(refusal),
-        }
+        found.check_rules(block, device)?;
+        Ok(found)
     }
 
     /// The refusal of the first rule that fails.

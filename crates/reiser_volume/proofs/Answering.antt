@@ -1,9 +1,9 @@
 -- What is answered of a volume, by the parts of the reading.
 use Rattle.std.proofs.Common.{inl, inr}
-use Rattle.object_files.specs.Answers.{IsFileAnswer, IsFaultOrMemory}
-use Rattle.outside.specs.History.{Image}
-use Rattle.outside.specs.declared.answer.VolAnswer.{VolAnswer}
-use Rattle.outside.specs.declared.answer.VolAnswer.TheVariants.{Refused, Fault, Memory}
+use Rattle.reiser_volume_contents.specs.Answers.{IsFileAnswer, IsFaultOrMemory}
+use Rattle.reiser_bitmap.specs.outside.History.{Image}
+use Rattle.reiser_bitmap.specs.refusals.declared.answer.VolAnswer.{VolAnswer}
+use Rattle.reiser_bitmap.specs.refusals.declared.answer.VolAnswer.TheVariants.{Refused, Fault, Memory}
 use Rattle.reiser_volume.specs.Answers.{IsVolumeAnswer, RefusesVolume}
 use Rattle.reiser_volume.specs.Reading.{IsReadingAnswer}
 

@@ -8,36 +8,36 @@ use Rattle.std.proofs.lemmas.Map.Keys.{IsDistinct-from_apart}
 use Rattle.std.proofs.lemmas.Map.Made.{IsDistinct-from_AllPairs, is_member-Decides, length-le_from_is_member}
 use Rattle.std.proofs.lemmas.Map.Steps.{length-le_from_distinct_below}
 use Rattle.std.proofs.lemmas.Map.Views.{Contains-from_any}
-use Rattle.outside.specs.History.{Image, block_at}
-use Rattle.path_list.proofs.Counts.{sum_zero, sum_split}
-use Rattle.path_list.proofs.Lists.{at_head, in_tail, in_map, from_filter}
-use Rattle.reiser_node.specs.declared.head.ItemHead.{ItemHead}
-use Rattle.reiser_node.specs.declared.head.ItemKind.{ItemKind}
-use Rattle.reiser_node.specs.declared.head.ItemKind.TheVariants.{Stat, Indirect, Direct, Directory}
-use Rattle.reiser_node.specs.Head.{head_at}
-use Rattle.reiser_node.specs.Leaf.{IsLeaf, count, head_place, body_length, body_end, location, body_at}
-use Rattle.reiser_items.specs.Entries.{are_entries, entries}
-use Rattle.reiser_items.proofs.Grammar.{entries_decide}
-use Rattle.reiser_items.proofs.Lists.{entries_length}
-use Rattle.reiser_walk.specs.declared.pointer.Pointer.{Pointer}
-use Rattle.reiser_walk.specs.declared.tree.Tree.{Tree}
-use Rattle.reiser_walk.specs.Items.{Item, Event, item_of, item_at}
-use Rattle.reiser_walk.specs.Laws.{IsNode}
-use Rattle.reiser_walk.specs.Tree.{Visit, tree_events, visits_in, items_in, reached_in, items_of as items_of_tree}
-use Rattle.reiser_walk.proofs.Lists.{Each, each_from_all, all_from_each, all_pairs_from_pairs, pairs_from_all_pairs}
-use Rattle.reiser_walk.proofs.Rules.{sound_exactly}
-use Rattle.object_files.specs.Reads.{listed, items_from, leaf_items}
-use Rattle.object_files.proofs.Trees.{Distinct, leaf_blocks, each_leaf, leaves_distinct, each_is_leaf, items_by_leaves}
-use Rattle.reiser_objects.specs.declared.key.ObjectKey.{ObjectKey}
-use Rattle.reiser_objects.specs.declared.naming.Naming.{Naming}
-use Rattle.reiser_objects.specs.declared.stat.ObjectStat.{ObjectStat}
-use Rattle.reiser_objects.specs.Items.{first_stat, stat_of_object}
-use Rattle.reiser_objects.specs.Keys.{same_key, key_of, items_of}
-use Rattle.reiser_objects.specs.Names.{namings, namings_in, namings_by_kind, naming_by, is_listed, is_followed}
-use Rattle.reiser_objects.proofs.Tables.{same_key-true}
-use Rattle.reiser_names.specs.Links.{AreLinks, AreNamedKeys}
-use Rattle.reiser_names.specs.Names.{AreNames}
-use Rattle.reiser_names.proofs.Uniqueness.{same_decides, same_laws, links_one}
+use Rattle.reiser_bitmap.specs.outside.History.{Image, block_at}
+use Rattle.fs_paths.proofs.Counts.{sum_zero, sum_split}
+use Rattle.fs_paths.proofs.Lists.{at_head, in_tail, in_map, from_filter}
+use Rattle.reiser_volume_objects.specs.reiser_node.declared.head.ItemHead.{ItemHead}
+use Rattle.reiser_volume_objects.specs.reiser_node.declared.head.ItemKind.{ItemKind}
+use Rattle.reiser_volume_objects.specs.reiser_node.declared.head.ItemKind.TheVariants.{Stat, Indirect, Direct, Directory}
+use Rattle.reiser_volume_objects.specs.reiser_node.Head.{head_at}
+use Rattle.reiser_volume_objects.specs.reiser_node.Leaf.{IsLeaf, count, head_place, body_length, body_end, location, body_at}
+use Rattle.reiser_volume_objects.specs.reiser_items.Entries.{are_entries, entries}
+use Rattle.reiser_volume_objects.proofs.reiser_items.Grammar.{entries_decide}
+use Rattle.reiser_volume_objects.proofs.reiser_items.Lists.{entries_length}
+use Rattle.reiser_volume_objects.specs.reiser_walk.declared.pointer.Pointer.{Pointer}
+use Rattle.reiser_volume_objects.specs.reiser_walk.declared.tree.Tree.{Tree}
+use Rattle.reiser_volume_objects.specs.reiser_walk.Items.{Item, Event, item_of, item_at}
+use Rattle.reiser_volume_objects.specs.reiser_walk.Laws.{IsNode}
+use Rattle.reiser_volume_objects.specs.reiser_walk.Tree.{Visit, tree_events, visits_in, items_in, reached_in, items_of as items_of_tree}
+use Rattle.reiser_volume_objects.proofs.reiser_walk.Lists.{Each, each_from_all, all_from_each, all_pairs_from_pairs, pairs_from_all_pairs}
+use Rattle.reiser_volume_objects.proofs.reiser_walk.Rules.{sound_exactly}
+use Rattle.reiser_volume_contents.specs.Reads.{listed, items_from, leaf_items}
+use Rattle.reiser_volume_contents.proofs.Trees.{Distinct, leaf_blocks, each_leaf, leaves_distinct, each_is_leaf, items_by_leaves}
+use Rattle.reiser_volume_objects.specs.declared.key.ObjectKey.{ObjectKey}
+use Rattle.reiser_volume_objects.specs.declared.naming.Naming.{Naming}
+use Rattle.reiser_volume_objects.specs.declared.stat.ObjectStat.{ObjectStat}
+use Rattle.reiser_volume_objects.specs.Items.{first_stat, stat_of_object}
+use Rattle.reiser_volume_objects.specs.Keys.{same_key, key_of, items_of}
+use Rattle.reiser_volume_objects.specs.Names.{namings, namings_in, namings_by_kind, naming_by, is_listed, is_followed}
+use Rattle.reiser_volume_objects.proofs.Tables.{same_key-true}
+use Rattle.reiser_volume_names.specs.Links.{AreLinks, AreNamedKeys}
+use Rattle.reiser_volume_names.specs.Names.{AreNames}
+use Rattle.reiser_volume_names.proofs.Uniqueness.{same_decides, same_laws, links_one}
 use Rattle.reiser_volume.specs.Bounds.{item_bytes, direct_length, direct_bytes, AcceptedIsSmall}
 use Rattle.reiser_volume.specs.Volume.{superblock, used_of, tree_of, volume_items, IsAccepted}
 use Rattle.reiser_volume.proofs.Holding.{used_length}

@@ -3,13 +3,13 @@ use Rattle.std.proofs.Common.{◌≡◌, ℕ, true, List, [], ◌∷◌, Option,
 use Rattle.std.specs.Prelude.{slice_get}
 use Rattle.std.proofs.lemmas.Option.{slice_get_within, get_or_from_slice_get}
 use Rattle.indexmap.specs.IndexMap.{keys, get}
-use Rattle.outside.specs.History.{Image}
-use Rattle.reiser_objects.specs.declared.key.ObjectKey.{ObjectKey}
-use Rattle.reiser_objects.specs.declared.naming.Naming.{Naming}
-use Rattle.reiser_objects.specs.declared.stat.ObjectStat.{ObjectStat}
-use Rattle.reiser_objects.specs.Keys.{same_key}
-use Rattle.reiser_objects.specs.Names.{namings, is_followed, IsNamed}
-use Rattle.reiser_walk.specs.Items.{Item}
+use Rattle.reiser_bitmap.specs.outside.History.{Image}
+use Rattle.reiser_volume_objects.specs.declared.key.ObjectKey.{ObjectKey}
+use Rattle.reiser_volume_objects.specs.declared.naming.Naming.{Naming}
+use Rattle.reiser_volume_objects.specs.declared.stat.ObjectStat.{ObjectStat}
+use Rattle.reiser_volume_objects.specs.Keys.{same_key}
+use Rattle.reiser_volume_objects.specs.Names.{namings, is_followed, IsNamed}
+use Rattle.reiser_volume_objects.specs.reiser_walk.Items.{Item}
 use Rattle.reiser_volume.specs.declared.volume.Volume.{Volume}
 use Rattle.reiser_volume.specs.Made.{IsOf, no_stat, stat_at}
 use Rattle.reiser_volume.specs.Opened.{IsOpened, links_in}

@@ -3,29 +3,29 @@ use Rattle.std.proofs.Common.{◌≡◌, ℕ, List, [], true, false, length, Opt
 use Rattle.std.specs.List.{list_any, range_with_len}
 use Rattle.std.proofs.lemmas.List.{length-map}
 use Rattle.std.proofs.lemmas.List.FromFn.{length-range_with_len}
-use Rattle.outside.specs.History.{Image}
-use Rattle.outside.specs.declared.answer.VolAnswer.{VolAnswer}
-use Rattle.outside.specs.declared.answer.VolAnswer.TheVariants.{Refused, Fault, Memory}
+use Rattle.reiser_bitmap.specs.outside.History.{Image}
+use Rattle.reiser_bitmap.specs.refusals.declared.answer.VolAnswer.{VolAnswer}
+use Rattle.reiser_bitmap.specs.refusals.declared.answer.VolAnswer.TheVariants.{Refused, Fault, Memory}
 use Rattle.fs_rows.specs.Mark.{mark_of_bytes}
 use Rattle.fs_rows.specs.declared.row.Kind.{Kind}
 use Rattle.fs_rows.specs.declared.row.Kind.TheVariants.{File, Symlink}
 use Rattle.reiser_bitmap.specs.Layout.{is_marked}
-use Rattle.reiser_walk.specs.Bodies.{is_save_link}
-use Rattle.reiser_walk.specs.Items.{Item}
-use Rattle.reiser_walk.specs.Tree.{items_of as items_of_tree}
-use Rattle.reiser_files.specs.Bytes.{file_bytes, file_byte}
+use Rattle.reiser_volume_objects.specs.reiser_walk.Bodies.{is_save_link}
+use Rattle.reiser_volume_objects.specs.reiser_walk.Items.{Item}
+use Rattle.reiser_volume_objects.specs.reiser_walk.Tree.{items_of as items_of_tree}
+use Rattle.reiser_volume_files.specs.Bytes.{file_bytes, file_byte}
 use Rattle.fs_rows.proofs.Functions.{length_bytes}
-use Rattle.reiser_objects.specs.declared.key.ObjectKey.{ObjectKey}
-use Rattle.reiser_objects.specs.declared.stat.ObjectStat.{ObjectStat}
-use Rattle.reiser_files.specs.Laws.{AreApart}
-use Rattle.reiser_objects.specs.Items.{fits_kind, stat_of_object}
-use Rattle.reiser_objects.specs.Keys.{items_of}
-use Rattle.reiser_objects.specs.Kinds.{kind_of_mode}
-use Rattle.reiser_objects.specs.Rules.{IsObject}
-use Rattle.reiser_objects.specs.Table.{HasNoted}
-use Rattle.reiser_objects.proofs.Broken.{some_same}
-use Rattle.object_files.specs.Answers.{IsFault, IsFaultOrMemory}
-use Rattle.object_files.specs.Holds.{HoldsObject, HoldsLink, object_items}
+use Rattle.reiser_volume_objects.specs.declared.key.ObjectKey.{ObjectKey}
+use Rattle.reiser_volume_objects.specs.declared.stat.ObjectStat.{ObjectStat}
+use Rattle.reiser_volume_files.specs.Laws.{AreApart}
+use Rattle.reiser_volume_objects.specs.Items.{fits_kind, stat_of_object}
+use Rattle.reiser_volume_objects.specs.Keys.{items_of}
+use Rattle.reiser_volume_objects.specs.Kinds.{kind_of_mode}
+use Rattle.reiser_volume_objects.specs.Rules.{IsObject}
+use Rattle.reiser_volume_objects.specs.Table.{HasNoted}
+use Rattle.reiser_volume_objects.proofs.Broken.{some_same}
+use Rattle.reiser_volume_contents.specs.Answers.{IsFault, IsFaultOrMemory}
+use Rattle.reiser_volume_contents.specs.Holds.{HoldsObject, HoldsLink, object_items}
 use Rattle.reiser_volume.specs.declared.row.Known.{Known}
 use Rattle.reiser_volume.specs.declared.volume.Volume.{Volume}
 use Rattle.fs_rows.specs.Content.{IsContent}

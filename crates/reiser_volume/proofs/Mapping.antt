@@ -3,29 +3,29 @@ use Rattle.std.proofs.Common.{◌≡◌, ◌≢◌, ℕ, zero, suc, ◌+◌, ◌
 use Rattle.std.proofs.lemmas.Bool.{eqb-true, eqb-false, ltb-true, lt-ltb}
 use Rattle.std.proofs.lemmas.Bool.Decides.{nat_tests}
 use Rattle.std.proofs.lemmas.List.Elements.{All-contains}
-use Rattle.outside.specs.History.{Image}
+use Rattle.reiser_bitmap.specs.outside.History.{Image}
 use Rattle.fs_rows.specs.declared.row.Kind.{Kind}
 use Rattle.fs_rows.specs.declared.row.Kind.TheVariants.{Directory, File, Symlink, Character, Block, Fifo, Socket, Subvolume}
-use Rattle.path_list.proofs.Lists.{at_head, in_tail, from_filter}
-use Rattle.reiser_walk.specs.Items.{Item}
-use Rattle.reiser_walk.specs.Laws.{FitsHead}
-use Rattle.reiser_walk.specs.Tree.{items_of as items_of_tree}
-use Rattle.reiser_walk.proofs.Rules.{sound_exactly}
-use Rattle.reiser_files.specs.declared.map.FileRun.{FileRun}
-use Rattle.reiser_files.specs.declared.map.RunFrom.{RunFrom}
-use Rattle.reiser_files.specs.declared.map.RunFrom.TheVariants.{Disk, Tail}
-use Rattle.reiser_files.specs.Bytes.{named_block, IsAligned}
-use Rattle.reiser_files.specs.Runs.{is_held, disk_or_hole, block_from, next_from, is_in_run, lies_at, IsBefore, AreRunsOf, file_runs}
-use Rattle.reiser_files.proofs.Ascending.{in_run, past_run, lies_in, lies_on, file_runs_are}
-use Rattle.reiser_files.proofs.Sorts.{one_sort, items_name}
-use Rattle.object_files.proofs.Files.{aligned_by}
-use Rattle.reiser_objects.specs.declared.key.ObjectKey.{ObjectKey}
-use Rattle.reiser_objects.specs.declared.stat.ObjectStat.{ObjectStat}
-use Rattle.reiser_objects.specs.Items.{stat_of_object}
-use Rattle.reiser_objects.specs.Keys.{same_key, key_of, items_of}
-use Rattle.reiser_objects.specs.Kinds.{may_have, is_file}
-use Rattle.reiser_objects.specs.Names.{IsNamed}
-use Rattle.reiser_objects.specs.Rules.{IsObject}
+use Rattle.fs_paths.proofs.Lists.{at_head, in_tail, from_filter}
+use Rattle.reiser_volume_objects.specs.reiser_walk.Items.{Item}
+use Rattle.reiser_volume_objects.specs.reiser_walk.Laws.{FitsHead}
+use Rattle.reiser_volume_objects.specs.reiser_walk.Tree.{items_of as items_of_tree}
+use Rattle.reiser_volume_objects.proofs.reiser_walk.Rules.{sound_exactly}
+use Rattle.reiser_volume_files.specs.declared.map.FileRun.{FileRun}
+use Rattle.reiser_volume_files.specs.declared.map.RunFrom.{RunFrom}
+use Rattle.reiser_volume_files.specs.declared.map.RunFrom.TheVariants.{Disk, Tail}
+use Rattle.reiser_volume_files.specs.Bytes.{named_block, IsAligned}
+use Rattle.reiser_volume_files.specs.Runs.{is_held, disk_or_hole, block_from, next_from, is_in_run, lies_at, IsBefore, AreRunsOf, file_runs}
+use Rattle.reiser_volume_files.proofs.Ascending.{in_run, past_run, lies_in, lies_on, file_runs_are}
+use Rattle.reiser_volume_files.proofs.Sorts.{one_sort, items_name}
+use Rattle.reiser_volume_contents.proofs.Files.{aligned_by}
+use Rattle.reiser_volume_objects.specs.declared.key.ObjectKey.{ObjectKey}
+use Rattle.reiser_volume_objects.specs.declared.stat.ObjectStat.{ObjectStat}
+use Rattle.reiser_volume_objects.specs.Items.{stat_of_object}
+use Rattle.reiser_volume_objects.specs.Keys.{same_key, key_of, items_of}
+use Rattle.reiser_volume_objects.specs.Kinds.{may_have, is_file}
+use Rattle.reiser_volume_objects.specs.Names.{IsNamed}
+use Rattle.reiser_volume_objects.specs.Rules.{IsObject}
 use Rattle.reiser_volume.specs.Made.{no_stat, stat_at}
 use Rattle.reiser_volume.specs.Owners.{Owns, TellsOwned, MapsTellOwned}
 use Rattle.reiser_volume.specs.Volume.{superblock, used_of, tree_of, volume_items, IsAccepted}

@@ -9,13 +9,13 @@ use Rattle.std.proofs.lemmas.Bool.{cases_lt}
 use Rattle.std.proofs.lemmas.Bool.Decides.{nat_tests}
 use Rattle.std.proofs.lemmas.Map.Keys.{Less-from_sorted}
 use Rattle.std.proofs.lemmas.Option.{slice_get_within, unwrap_or-slice_get}
-use Rattle.reiser_objects.specs.declared.key.ObjectKey.{ObjectKey}
-use Rattle.reiser_objects.specs.Keys.{same_key, root}
-use Rattle.reiser_objects.proofs.Tables.{same_key-self}
-use Rattle.reiser_names.specs.Links.{object_cmp}
-use Rattle.reiser_names.specs.Names.{inode_of}
-use Rattle.reiser_names.proofs.Tabling.{object_ties, object_total}
-use Rattle.reiser_names.proofs.Numbering.{place_counts, root_apart}
+use Rattle.reiser_volume_objects.specs.declared.key.ObjectKey.{ObjectKey}
+use Rattle.reiser_volume_objects.specs.Keys.{same_key, root}
+use Rattle.reiser_volume_objects.proofs.Tables.{same_key-self}
+use Rattle.reiser_volume_names.specs.Links.{object_cmp}
+use Rattle.reiser_volume_names.specs.Names.{inode_of}
+use Rattle.reiser_volume_names.proofs.Tabling.{object_ties, object_total}
+use Rattle.reiser_volume_names.proofs.Numbering.{place_counts, root_apart}
 use Rattle.reiser_volume.specs.Numbers.{by_inode, AreNumbered}
 
 -- keys that ascend differ

@@ -3,20 +3,20 @@ use Rattle.std.proofs.Common.{◌≡◌, ℕ, List, [], ◌∷◌, get_or, Conta
 use Rattle.std.specs.Prelude.{◌≢◌}
 use Rattle.std.proofs.lemmas.Bool.{cases_lt}
 use Rattle.std.proofs.lemmas.List.{get_or_default}
-use Rattle.outside.specs.History.{Image}
+use Rattle.reiser_bitmap.specs.outside.History.{Image}
 use Rattle.fs_rows.specs.Rows.{NameList, WholeRow, name_count}
 use Rattle.fs_rows.specs.declared.row.Kind.{Kind}
-use Rattle.path_list.proofs.FirstPlaces.{neither_above}
-use Rattle.path_list.proofs.OneList.{rows_one}
-use Rattle.reiser_walk.specs.Items.{Item}
-use Rattle.reiser_objects.specs.declared.key.ObjectKey.{ObjectKey}
-use Rattle.reiser_objects.specs.declared.naming.Naming.{Naming}
-use Rattle.reiser_objects.specs.declared.stat.ObjectStat.{ObjectStat}
-use Rattle.reiser_objects.specs.Items.{stat_of_object}
-use Rattle.reiser_objects.specs.Keys.{root}
-use Rattle.reiser_objects.specs.Kinds.{kind_of_mode}
-use Rattle.reiser_names.specs.Names.{AreNames}
-use Rattle.reiser_names.proofs.Uniqueness.{links_one}
+use Rattle.fs_paths.proofs.FirstPlaces.{neither_above}
+use Rattle.fs_paths.proofs.OneList.{rows_one}
+use Rattle.reiser_volume_objects.specs.reiser_walk.Items.{Item}
+use Rattle.reiser_volume_objects.specs.declared.key.ObjectKey.{ObjectKey}
+use Rattle.reiser_volume_objects.specs.declared.naming.Naming.{Naming}
+use Rattle.reiser_volume_objects.specs.declared.stat.ObjectStat.{ObjectStat}
+use Rattle.reiser_volume_objects.specs.Items.{stat_of_object}
+use Rattle.reiser_volume_objects.specs.Keys.{root}
+use Rattle.reiser_volume_objects.specs.Kinds.{kind_of_mode}
+use Rattle.reiser_volume_names.specs.Names.{AreNames}
+use Rattle.reiser_volume_names.proofs.Uniqueness.{links_one}
 use Rattle.reiser_volume.specs.Laws.{RowsAreOne}
 use Rattle.reiser_volume.specs.Made.{row_by, bytes_at}
 use Rattle.reiser_volume.specs.Rows.{Leads, IsRow, IsLeastPath}

@@ -4,26 +4,26 @@ use Rattle.std.proofs.lemmas.Bool.{eqb-true, eq-eqb, cases_lt}
 use Rattle.std.proofs.lemmas.List.{get_or_default}
 use Rattle.std.proofs.lemmas.List.Elements.{All-contains}
 use Rattle.std.proofs.lemmas.List.Sums.{get_or-le-sum_by}
-use Rattle.outside.specs.History.{Image}
-use Rattle.path_list.proofs.Counts.{count_once, count_twice}
-use Rattle.path_list.proofs.Lists.{from_filter}
+use Rattle.reiser_bitmap.specs.outside.History.{Image}
+use Rattle.fs_paths.proofs.Counts.{count_once, count_twice}
+use Rattle.fs_paths.proofs.Lists.{from_filter}
 use Rattle.reiser_bitmap.specs.Bits.{has}
 use Rattle.reiser_bitmap.specs.System.{is_system}
 use Rattle.reiser_bitmap.proofs.MoreLaws.{system_pass}
-use Rattle.reiser_items.specs.Pointers.{pointers}
-use Rattle.reiser_items.proofs.Lists.{pointers_length}
-use Rattle.reiser_walk.specs.declared.pointer.Pointer.{Pointer}
-use Rattle.reiser_walk.specs.declared.tree.Tree.{Tree}
-use Rattle.reiser_walk.specs.Items.{Item, Event}
-use Rattle.reiser_walk.specs.Laws.{KeepsRules}
-use Rattle.reiser_walk.specs.Rules.{is_system_of}
-use Rattle.reiser_walk.specs.Tree.{tree_events, visits_in, reached_in}
-use Rattle.reiser_walk.proofs.Rules.{sound_exactly}
-use Rattle.reiser_files.specs.Bytes.{first_byte}
-use Rattle.reiser_files.proofs.Sorts.{NamesBlock, named_place}
-use Rattle.reiser_objects.specs.declared.key.ObjectKey.{ObjectKey}
-use Rattle.reiser_objects.specs.Keys.{same_key, key_of, items_of}
-use Rattle.reiser_objects.proofs.Tables.{same_key-true}
+use Rattle.reiser_volume_objects.specs.reiser_items.Pointers.{pointers}
+use Rattle.reiser_volume_objects.proofs.reiser_items.Lists.{pointers_length}
+use Rattle.reiser_volume_objects.specs.reiser_walk.declared.pointer.Pointer.{Pointer}
+use Rattle.reiser_volume_objects.specs.reiser_walk.declared.tree.Tree.{Tree}
+use Rattle.reiser_volume_objects.specs.reiser_walk.Items.{Item, Event}
+use Rattle.reiser_volume_objects.specs.reiser_walk.Laws.{KeepsRules}
+use Rattle.reiser_volume_objects.specs.reiser_walk.Rules.{is_system_of}
+use Rattle.reiser_volume_objects.specs.reiser_walk.Tree.{tree_events, visits_in, reached_in}
+use Rattle.reiser_volume_objects.proofs.reiser_walk.Rules.{sound_exactly}
+use Rattle.reiser_volume_files.specs.Bytes.{first_byte}
+use Rattle.reiser_volume_files.proofs.Sorts.{NamesBlock, named_place}
+use Rattle.reiser_volume_objects.specs.declared.key.ObjectKey.{ObjectKey}
+use Rattle.reiser_volume_objects.specs.Keys.{same_key, key_of, items_of}
+use Rattle.reiser_volume_objects.proofs.Tables.{same_key-true}
 use Rattle.reiser_volume.specs.Owners.{Owns, HoldsData, OwnersAreOne}
 use Rattle.reiser_volume.specs.Volume.{superblock, used_of, tree_of, volume_items, IsAccepted}
 use Rattle.reiser_volume.proofs.Holding.{used_length}

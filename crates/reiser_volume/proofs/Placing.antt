@@ -3,7 +3,7 @@ use Rattle.std.proofs.Common.{◌≡◌, ℕ, ◌+◌, ◌<◌, Bool, true, fals
 use Rattle.std.specs.Prelude.{slice_get}
 use Rattle.std.proofs.lemmas.List.{get_or-map, get_or_default, length-map, map-append, append-nil}
 use Rattle.std.proofs.lemmas.Option.{slice_get_read, slice_get_within, get_or_from_slice_get}
-use Rattle.reiser_names.proofs.Lists.{kept_step}
+use Rattle.reiser_volume_names.proofs.Lists.{kept_step}
 
 module _ {X : Type 0} (p : X → Bool) (xs : List X) (places : List ℕ) (i : ℕ) (x : X) (within : i < length xs) (at : x ≡ get_or xs i x)
     (before : map (slice_get xs) places ≡ map (λ (y : X). Some y) (filter p (take i xs))) where

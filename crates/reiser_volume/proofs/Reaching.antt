@@ -2,21 +2,21 @@
 use Rattle.std.proofs.Common.{◌≡◌, ◌≢◌, ℕ, zero, suc, ◌+◌, ◌<◌, ◌≤◌, ◌==◌, Bool, true, false, cond, ◌&&◌, not, nat_lt, List, [], ◌∷◌, ◌++◌, map, length, get_or, filter, sum_by, count_by, Contains, Option, Some, None, if◌then◌else◌, refl, ap, ◌∙◌, arith}
 use Rattle.std.proofs.lemmas.Bool.{eqb-true, and_parts, and_from, ne_eqb}
 use Rattle.std.proofs.lemmas.List.Sums.{sum_by-cons, sum_by-append, get_or-le-sum_by}
-use Rattle.outside.specs.History.{Image, block_at}
-use Rattle.path_list.proofs.Counts.{count_cons, count_append, count_filter, count_same}
-use Rattle.path_list.proofs.FirstPlaces.{both_ways}
-use Rattle.path_list.proofs.Lists.{at_head, in_tail}
-use Rattle.reiser_node.specs.declared.head.ItemKind.{ItemKind}
-use Rattle.reiser_node.specs.declared.head.ItemKind.TheVariants.{Indirect}
-use Rattle.reiser_node.specs.Leaf.{count, is_leaf}
-use Rattle.reiser_node.specs.Inner.{is_inner, children}
-use Rattle.reiser_items.specs.Pointers.{pointers}
-use Rattle.reiser_walk.specs.declared.pointer.Pointer.{Pointer}
-use Rattle.reiser_walk.specs.Bodies.{is_save_link}
-use Rattle.reiser_walk.specs.Items.{Item, Event, node, pointer, is_indirect, is_no_hole, held_by, blocks_named, item_at, events_of, leaf_events}
-use Rattle.reiser_walk.specs.Tree.{Visit, at_children, node_events, visits_in, items_in, reached_in}
-use Rattle.reiser_walk.proofs.Events.{visits_in-append, items_in-append, reached_in-append}
-use Rattle.object_files.proofs.Trees.{at_each}
+use Rattle.reiser_bitmap.specs.outside.History.{Image, block_at}
+use Rattle.fs_paths.proofs.Counts.{count_cons, count_append, count_filter, count_same}
+use Rattle.fs_paths.proofs.FirstPlaces.{both_ways}
+use Rattle.fs_paths.proofs.Lists.{at_head, in_tail}
+use Rattle.reiser_volume_objects.specs.reiser_node.declared.head.ItemKind.{ItemKind}
+use Rattle.reiser_volume_objects.specs.reiser_node.declared.head.ItemKind.TheVariants.{Indirect}
+use Rattle.reiser_volume_objects.specs.reiser_node.Leaf.{count, is_leaf}
+use Rattle.reiser_volume_objects.specs.reiser_node.Inner.{is_inner, children}
+use Rattle.reiser_volume_objects.specs.reiser_items.Pointers.{pointers}
+use Rattle.reiser_volume_objects.specs.reiser_walk.declared.pointer.Pointer.{Pointer}
+use Rattle.reiser_volume_objects.specs.reiser_walk.Bodies.{is_save_link}
+use Rattle.reiser_volume_objects.specs.reiser_walk.Items.{Item, Event, node, pointer, is_indirect, is_no_hole, held_by, blocks_named, item_at, events_of, leaf_events}
+use Rattle.reiser_volume_objects.specs.reiser_walk.Tree.{Visit, at_children, node_events, visits_in, items_in, reached_in}
+use Rattle.reiser_volume_objects.proofs.reiser_walk.Events.{visits_in-append, items_in-append, reached_in-append}
+use Rattle.reiser_volume_contents.proofs.Trees.{at_each}
 
 -- an element that passes, where one is counted
 pub count_some : {X : Type 0} (p : X → Bool) (xs : List X) → 1 ≤ count_by p xs → (x : X) × Contains xs x × (p x ≡ true)

@@ -3,14 +3,14 @@ use Rattle.std.proofs.Common.{◌≡◌, ℕ, ◌≤◌, ◌&&◌, Bool, true, f
 use Rattle.std.specs.Prelude.{nat_lt, Result, Err, IfErr}
 use Rattle.std.proofs.lemmas.Bool.Decides.{nat_tests}
 use Rattle.std.proofs.lemmas.List.Elements.{All-cons, All-contains}
-use Rattle.outside.specs.History.{Image, block_at}
-use Rattle.outside.specs.declared.answer.VolAnswer.{VolAnswer}
-use Rattle.outside.specs.declared.answer.VolAnswer.TheVariants.{Refused, Fault, Memory}
-use Rattle.outside.specs.declared.refusal.VolumeRefusal.{VolumeRefusal}
-use Rattle.outside.specs.declared.refusal.VolumeRefusal.TheVariants.{NotVolume, Unclean, Unsupported, Short, JournalPending, Damaged, HasAttributes, PendingLinks, NameTaken, NameTooLong, HashCrowd}
-use Rattle.outside.specs.declared.rule.Rule.{Rule}
-use Rattle.outside.specs.declared.rule.Rule.TheVariants.{SuperField, SystemFree, NodeHead, Layout, KeyOrder, BlockFree, BlockRange, BlockTwice, Body, EntryForm, ObjectForm, Overlap, NameTwice, DirTwice, SizeRange, Reread}
-use Rattle.vol_block.specs.Format.{has_reiser_magic}
+use Rattle.reiser_bitmap.specs.outside.History.{Image, block_at}
+use Rattle.reiser_bitmap.specs.refusals.declared.answer.VolAnswer.{VolAnswer}
+use Rattle.reiser_bitmap.specs.refusals.declared.answer.VolAnswer.TheVariants.{Refused, Fault, Memory}
+use Rattle.reiser_bitmap.specs.refusals.declared.refusal.VolumeRefusal.{VolumeRefusal}
+use Rattle.reiser_bitmap.specs.refusals.declared.refusal.VolumeRefusal.TheVariants.{NotVolume, Unclean, Unsupported, Short, JournalPending, Damaged, HasAttributes, PendingLinks, NameTaken, NameTooLong, HashCrowd}
+use Rattle.reiser_bitmap.specs.refusals.declared.rule.Rule.{Rule}
+use Rattle.reiser_bitmap.specs.refusals.declared.rule.Rule.TheVariants.{SuperField, SystemFree, NodeHead, Layout, KeyOrder, BlockFree, BlockRange, BlockTwice, Body, EntryForm, ObjectForm, Overlap, NameTwice, DirTwice, SizeRange, Reread}
+use Rattle.reiser_bitmap.specs.vol_block.Format.{has_reiser_magic}
 use Rattle.reiser_bitmap.specs.Bits.{has}
 use Rattle.reiser_bitmap.specs.Layout.{bitmap_of}
 use Rattle.reiser_bitmap.specs.System.{system_blocks, NamesFreeBlock}
@@ -21,22 +21,22 @@ use Rattle.reiser_super.specs.Journal.{IsClean, pending_transactions}
 use Rattle.reiser_super.specs.State.{IsPendingIn, IsJournalAnswer}
 use Rattle.reiser_super.proofs.Clean.{none_from_clean}
 use Rattle.reiser_bitmap.specs.Answers.{IsNoRefusal}
-use Rattle.reiser_walk.specs.Answers.{IsTreeRule}
-use Rattle.reiser_walk.specs.Rules.{tree_damages}
-use Rattle.reiser_walk.specs.Tree.{items_of}
-use Rattle.reiser_objects.specs.declared.table.Objects.{Objects}
-use Rattle.reiser_objects.specs.Table.{HasNoted}
-use Rattle.reiser_objects.specs.Read.{IsReadAnswer, BlamesTree}
-use Rattle.reiser_objects.specs.Reach.{Refuses, IsObjectsAnswer, object_rules}
-use Rattle.reiser_objects.specs.Rules.{AreObjects, IsObjectsRefusal}
-use Rattle.reiser_objects.proofs.Broken as objects
+use Rattle.reiser_volume_objects.specs.reiser_walk.Answers.{IsTreeRule}
+use Rattle.reiser_volume_objects.specs.reiser_walk.Rules.{tree_damages}
+use Rattle.reiser_volume_objects.specs.reiser_walk.Tree.{items_of}
+use Rattle.reiser_volume_objects.specs.declared.table.Objects.{Objects}
+use Rattle.reiser_volume_objects.specs.Table.{HasNoted}
+use Rattle.reiser_volume_objects.specs.Read.{IsReadAnswer, BlamesTree}
+use Rattle.reiser_volume_objects.specs.Reach.{Refuses, IsObjectsAnswer, object_rules}
+use Rattle.reiser_volume_objects.specs.Rules.{AreObjects, IsObjectsRefusal}
+use Rattle.reiser_volume_objects.proofs.Broken as objects
 use Rattle.reiser_volume.specs.Answers.{IsVolumeRule, IsVolumeAnswer, IsVerdict, RefusesVolume, IsSuperOf, IsBitmapOf}
 use Rattle.reiser_volume.specs.Opened.{IsFound}
-use Rattle.reiser_names.specs.Refuses.{RefusesNames, IsNamesRule, IsNamesAnswer}
+use Rattle.reiser_volume_names.specs.Refuses.{RefusesNames, IsNamesRule, IsNamesAnswer}
 use Rattle.reiser_volume.specs.declared.front.Front.{Front}
 use Rattle.reiser_volume.specs.Front.{IsFrontOf, IsFrontRule, NamesFrontRule, IsFrontAnswer, RefusesFront}
 use Rattle.reiser_volume.specs.Volume.{IsAccepted, IsRefusal, IsFrontAccepted, IsFrontRefusal, superblock, used_of, tree_of, volume_items, superblock_rule, journal_rule, bitmap_rule, front_rule, tree_rule, objects_rule, names_rule}
-use Rattle.reiser_names.proofs.Broken.{names_broken}
+use Rattle.reiser_volume_names.proofs.Broken.{names_broken}
 use Rattle.reiser_volume.proofs.Holding.{used_length}
 
 in_none : {X : Type 0} (xs : List X) (x : X) → xs ≡ [] → Contains xs x → ⊥

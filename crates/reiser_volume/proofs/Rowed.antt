@@ -10,28 +10,28 @@ use Rattle.std.specs.Prelude.{slice_get}
 use Rattle.std.proofs.lemmas.List.{get_or-map, length-map, length-take, get_or-take, map-append, take_more}
 use Rattle.std.proofs.lemmas.Option.{slice_get_within, get_or_from_slice_get}
 use Rattle.std.proofs.lemmas.List.Elements.{All-contains}
-use Rattle.outside.specs.History.{Image}
-use Rattle.outside.specs.declared.answer.VolAnswer.{VolAnswer}
-use Rattle.object_files.specs.Answers.{IsFaultOrMemory}
+use Rattle.reiser_bitmap.specs.outside.History.{Image}
+use Rattle.reiser_bitmap.specs.refusals.declared.answer.VolAnswer.{VolAnswer}
+use Rattle.reiser_volume_contents.specs.Answers.{IsFaultOrMemory}
 use Rattle.fs_rows.specs.Rows.{NameList, WholeRow, AscendsByPath, path_cmp, is_same_path, name_count, row_of}
 use Rattle.fs_rows.specs.declared.row.Row.{Row}
 use Rattle.fs_rows.specs.declared.row.Kind.{Kind}
 use Rattle.fs_rows.specs.declared.row.Kind.TheVariants.{File}
-use Rattle.path_list.specs.declared.link.PathTo.{PathTo}
-use Rattle.path_list.specs.declared.node.NodeId.{NodeId}
-use Rattle.path_list.specs.Paths.{ArePaths, first_path}
-use Rattle.path_list.proofs.FirstPlaces.{first_in, first_leads, first_before, is_least, names_counted}
-use Rattle.path_list.proofs.Counts.{count_map, count_same}
-use Rattle.path_list.proofs.Lists.{in_map}
-use Rattle.reiser_walk.specs.Items.{Item}
-use Rattle.reiser_objects.specs.declared.key.ObjectKey.{ObjectKey}
-use Rattle.reiser_objects.specs.declared.naming.Naming.{Naming}
-use Rattle.reiser_objects.specs.declared.stat.ObjectStat.{ObjectStat}
-use Rattle.reiser_objects.specs.Items.{stat_of_object}
-use Rattle.reiser_objects.specs.Keys.{root}
-use Rattle.reiser_objects.specs.Kinds.{kind_of_mode, is_directory}
-use Rattle.reiser_objects.specs.Names.{IsNamed}
-use Rattle.reiser_objects.specs.Rules.{IsObject}
+use Rattle.fs_paths.specs.declared.link.PathTo.{PathTo}
+use Rattle.fs_paths.specs.declared.node.NodeId.{NodeId}
+use Rattle.fs_paths.specs.Paths.{ArePaths, first_path}
+use Rattle.fs_paths.proofs.FirstPlaces.{first_in, first_leads, first_before, is_least, names_counted}
+use Rattle.fs_paths.proofs.Counts.{count_map, count_same}
+use Rattle.fs_paths.proofs.Lists.{in_map}
+use Rattle.reiser_volume_objects.specs.reiser_walk.Items.{Item}
+use Rattle.reiser_volume_objects.specs.declared.key.ObjectKey.{ObjectKey}
+use Rattle.reiser_volume_objects.specs.declared.naming.Naming.{Naming}
+use Rattle.reiser_volume_objects.specs.declared.stat.ObjectStat.{ObjectStat}
+use Rattle.reiser_volume_objects.specs.Items.{stat_of_object}
+use Rattle.reiser_volume_objects.specs.Keys.{root}
+use Rattle.reiser_volume_objects.specs.Kinds.{kind_of_mode, is_directory}
+use Rattle.reiser_volume_objects.specs.Names.{IsNamed}
+use Rattle.reiser_volume_objects.specs.Rules.{IsObject}
 use Rattle.reiser_volume.specs.declared.row.Known.{Known}
 use Rattle.reiser_volume.specs.declared.volume.Volume.{Volume}
 use Rattle.fs_rows.specs.Content.{IsContent}
@@ -40,8 +40,8 @@ use Rattle.reiser_volume.specs.Opened.{IsOpened, links_in}
 use Rattle.reiser_volume.specs.Rows.{Leads, IsLeastPath, IsRow}
 use Rattle.reiser_volume.specs.Volume.{IsAccepted, AreRowsOf, superblock, volume_items}
 use Rattle.reiser_volume.specs.Ways.{link_of, HasPaths}
-use Rattle.path_list.proofs.Lists.{from_map}
-use Rattle.reiser_objects.specs.Nodes.{node_of, key_at, Fits}
+use Rattle.fs_paths.proofs.Lists.{from_map}
+use Rattle.reiser_volume_objects.specs.Nodes.{node_of, key_at, Fits}
 use Rattle.reiser_volume.proofs.Leading.{up, down, leads_named}
 
 -- a node whose numbers have 32 bits stands for the object that it was made of

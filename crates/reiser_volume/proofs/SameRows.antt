@@ -4,30 +4,30 @@ use Rattle.std.specs.List.{list_any}
 use Rattle.std.proofs.lemmas.Bool.{false_from_ne_true, ne_eqb}
 use Rattle.std.proofs.lemmas.List.Elements.{All-contains}
 use Rattle.std.proofs.lemmas.List.Folds.{list_any-from_Any}
-use Rattle.outside.specs.History.{Image}
+use Rattle.reiser_bitmap.specs.outside.History.{Image}
 use Rattle.fs_rows.specs.Rows.{WholeRow}
 use Rattle.reiser_bitmap.specs.Bits.{has}
 use Rattle.reiser_bitmap.proofs.Ranges.{contains_filter, filter_contains}
-use Rattle.reiser_node.specs.declared.head.ItemKind.{ItemKind}
-use Rattle.reiser_node.specs.declared.head.ItemKind.TheVariants.{Indirect}
-use Rattle.reiser_items.specs.Pointers.{pointers}
-use Rattle.reiser_walk.specs.Bodies.{is_save_link}
-use Rattle.reiser_walk.specs.declared.pointer.Pointer.{Pointer}
-use Rattle.reiser_walk.specs.declared.tree.Tree.{Tree}
-use Rattle.reiser_walk.specs.Items.{Item, is_indirect, is_no_hole, blocks_named}
-use Rattle.reiser_walk.specs.Rules.{tree_damages}
-use Rattle.reiser_walk.specs.Tree.{tree_events, reached_in, items_of as items_of_tree}
-use Rattle.reiser_walk.proofs.Lists.{Each, each_from_all, all_from_each}
-use Rattle.reiser_walk.proofs.Rules.{sound_exactly}
-use Rattle.reiser_files.specs.Bytes.{named_block, file_bytes}
-use Rattle.reiser_files.proofs.Deciding.{named_decide}
-use Rattle.reiser_files.proofs.Sorts.{items_name}
-use Rattle.reiser_objects.specs.declared.key.ObjectKey.{ObjectKey}
-use Rattle.reiser_objects.specs.declared.naming.Naming.{Naming}
-use Rattle.reiser_objects.specs.Keys.{key_of, same_key, items_of}
+use Rattle.reiser_volume_objects.specs.reiser_node.declared.head.ItemKind.{ItemKind}
+use Rattle.reiser_volume_objects.specs.reiser_node.declared.head.ItemKind.TheVariants.{Indirect}
+use Rattle.reiser_volume_objects.specs.reiser_items.Pointers.{pointers}
+use Rattle.reiser_volume_objects.specs.reiser_walk.Bodies.{is_save_link}
+use Rattle.reiser_volume_objects.specs.reiser_walk.declared.pointer.Pointer.{Pointer}
+use Rattle.reiser_volume_objects.specs.reiser_walk.declared.tree.Tree.{Tree}
+use Rattle.reiser_volume_objects.specs.reiser_walk.Items.{Item, is_indirect, is_no_hole, blocks_named}
+use Rattle.reiser_volume_objects.specs.reiser_walk.Rules.{tree_damages}
+use Rattle.reiser_volume_objects.specs.reiser_walk.Tree.{tree_events, reached_in, items_of as items_of_tree}
+use Rattle.reiser_volume_objects.proofs.reiser_walk.Lists.{Each, each_from_all, all_from_each}
+use Rattle.reiser_volume_objects.proofs.reiser_walk.Rules.{sound_exactly}
+use Rattle.reiser_volume_files.specs.Bytes.{named_block, file_bytes}
+use Rattle.reiser_volume_files.proofs.Deciding.{named_decide}
+use Rattle.reiser_volume_files.proofs.Sorts.{items_name}
+use Rattle.reiser_volume_objects.specs.declared.key.ObjectKey.{ObjectKey}
+use Rattle.reiser_volume_objects.specs.declared.naming.Naming.{Naming}
+use Rattle.reiser_volume_objects.specs.Keys.{key_of, same_key, items_of}
 use Rattle.fs_rows.specs.Kinds.{has_bytes}
-use Rattle.object_files.specs.Laws.{SameUsed}
-use Rattle.object_files.proofs.Inside.{Names, named_inside}
+use Rattle.reiser_volume_contents.specs.Laws.{SameUsed}
+use Rattle.reiser_volume_contents.proofs.Inside.{Names, named_inside}
 use Rattle.reiser_volume.specs.Rows.{IsRow, AreReiserRows}
 
 pub none_saves : (items : List Item) (i : Item) → list_any (λ x. is_save_link x.head) items ≡ false → Contains items i → is_save_link i.head ≡ false

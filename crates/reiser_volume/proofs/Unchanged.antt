@@ -2,7 +2,7 @@
 use Rattle.std.proofs.Common.{◌≡◌, ◌≤◌, ◌↔◌, ◌+◌, ℕ, true, false, Bool, List, [], length, sym, ◌∙◌, ap, subst, arith}
 use Rattle.std.specs.Prelude.{Contains}
 use Rattle.std.specs.List.{list_any}
-use Rattle.outside.specs.History.{Image, block_at}
+use Rattle.reiser_bitmap.specs.outside.History.{Image, block_at}
 use Rattle.fs_rows.specs.Rows.{WholeRow}
 use Rattle.indexmap.specs.IndexMap.{keys}
 use Rattle.reiser_bitmap.specs.Bits.{has}
@@ -15,21 +15,21 @@ use Rattle.reiser_super.specs.Superblock.{super_of}
 use Rattle.reiser_super.specs.Rules.{IsCleanSuper}
 use Rattle.reiser_super.specs.Journal.{pending_transactions, IsClean}
 use Rattle.reiser_super.proofs.Footprint.{same_pending}
-use Rattle.reiser_walk.specs.declared.tree.Tree.{Tree}
-use Rattle.reiser_walk.specs.Bodies.{is_save_link}
-use Rattle.reiser_walk.specs.Items.{Item}
-use Rattle.reiser_walk.specs.Rules.{tree_damages}
-use Rattle.reiser_walk.specs.Tree.{items_in, items_of as items_of_tree}
-use Rattle.reiser_files.specs.Bytes.{file_bytes}
-use Rattle.object_files.specs.Laws.{SameUsed}
-use Rattle.object_files.proofs.Same.{same_tree}
-use Rattle.reiser_objects.specs.declared.key.ObjectKey.{ObjectKey}
-use Rattle.reiser_objects.specs.Items.{stat_of_object}
-use Rattle.reiser_objects.specs.Keys.{items_of}
-use Rattle.reiser_objects.specs.Rules.{AreObjects}
-use Rattle.reiser_objects.specs.Table.{HasNoted}
-use Rattle.reiser_names.specs.Links.{AreLinks, AreNamedKeys}
-use Rattle.reiser_names.specs.Names.{AreNames}
+use Rattle.reiser_volume_objects.specs.reiser_walk.declared.tree.Tree.{Tree}
+use Rattle.reiser_volume_objects.specs.reiser_walk.Bodies.{is_save_link}
+use Rattle.reiser_volume_objects.specs.reiser_walk.Items.{Item}
+use Rattle.reiser_volume_objects.specs.reiser_walk.Rules.{tree_damages}
+use Rattle.reiser_volume_objects.specs.reiser_walk.Tree.{items_in, items_of as items_of_tree}
+use Rattle.reiser_volume_files.specs.Bytes.{file_bytes}
+use Rattle.reiser_volume_contents.specs.Laws.{SameUsed}
+use Rattle.reiser_volume_contents.proofs.Same.{same_tree}
+use Rattle.reiser_volume_objects.specs.declared.key.ObjectKey.{ObjectKey}
+use Rattle.reiser_volume_objects.specs.Items.{stat_of_object}
+use Rattle.reiser_volume_objects.specs.Keys.{items_of}
+use Rattle.reiser_volume_objects.specs.Rules.{AreObjects}
+use Rattle.reiser_volume_objects.specs.Table.{HasNoted}
+use Rattle.reiser_volume_names.specs.Links.{AreLinks, AreNamedKeys}
+use Rattle.reiser_volume_names.specs.Names.{AreNames}
 use Rattle.reiser_volume.specs.Rows.{AreReiserRows}
 use Rattle.reiser_volume.specs.Laws.{IsSameVolume, UsedBlocksDecide}
 use Rattle.reiser_volume.specs.Opened.{IsOpened, links_in}

@@ -3,25 +3,25 @@ use Rattle.std.proofs.Common.{◌≡◌, ◌↔◌, ℕ, zero, suc, ◌/◌, ◌
 use Rattle.std.specs.Option.{option_map, option_or}
 use Rattle.std.proofs.lemmas.List.{map-append}
 use Rattle.std.proofs.lemmas.Simd.{map-map}
-use Rattle.outside.specs.History.{Image}
-use Rattle.path_list.proofs.Lists.{in_map, from_map}
-use Rattle.reiser_node.specs.declared.head.ItemKind.{ItemKind}
-use Rattle.reiser_node.specs.declared.head.ItemKind.TheVariants.{Stat, Indirect, Direct, Directory}
-use Rattle.reiser_items.specs.declared.stat.StatData.{StatData}
-use Rattle.reiser_items.specs.Stat.{stat_of}
-use Rattle.reiser_items.specs.Entries.{EntryValue, are_entries, entries}
-use Rattle.reiser_walk.specs.Items.{Item}
-use Rattle.reiser_files.specs.Bytes.{bytes_by, direct_by_kind, direct_byte, pointer_by_kind, named_block, file_byte, file_bytes, block_byte}
+use Rattle.reiser_bitmap.specs.outside.History.{Image}
+use Rattle.fs_paths.proofs.Lists.{in_map, from_map}
+use Rattle.reiser_volume_objects.specs.reiser_node.declared.head.ItemKind.{ItemKind}
+use Rattle.reiser_volume_objects.specs.reiser_node.declared.head.ItemKind.TheVariants.{Stat, Indirect, Direct, Directory}
+use Rattle.reiser_volume_objects.specs.reiser_items.declared.stat.StatData.{StatData}
+use Rattle.reiser_volume_objects.specs.reiser_items.Stat.{stat_of}
+use Rattle.reiser_volume_objects.specs.reiser_items.Entries.{EntryValue, are_entries, entries}
+use Rattle.reiser_volume_objects.specs.reiser_walk.Items.{Item}
+use Rattle.reiser_volume_files.specs.Bytes.{bytes_by, direct_by_kind, direct_byte, pointer_by_kind, named_block, file_byte, file_bytes, block_byte}
 use Rattle.fs_rows.specs.Rows.{NameList, WholeRow}
-use Rattle.reiser_objects.specs.declared.key.ObjectKey.{ObjectKey}
-use Rattle.reiser_objects.specs.declared.naming.Naming.{Naming}
-use Rattle.reiser_objects.specs.declared.stat.ObjectStat.{ObjectStat}
-use Rattle.reiser_objects.specs.Items.{stat_by_kind, first_stat, stat_of_object}
-use Rattle.reiser_objects.specs.Keys.{root, same_key, key_of, items_of}
+use Rattle.reiser_volume_objects.specs.declared.key.ObjectKey.{ObjectKey}
+use Rattle.reiser_volume_objects.specs.declared.naming.Naming.{Naming}
+use Rattle.reiser_volume_objects.specs.declared.stat.ObjectStat.{ObjectStat}
+use Rattle.reiser_volume_objects.specs.Items.{stat_by_kind, first_stat, stat_of_object}
+use Rattle.reiser_volume_objects.specs.Keys.{root, same_key, key_of, items_of}
 use Rattle.fs_rows.specs.Kinds.{has_bytes}
-use Rattle.reiser_objects.specs.Names.{is_listed, naming_by, namings_by_kind, namings_in, namings, is_followed, followed, IsReachedBy, IsNamed}
-use Rattle.reiser_names.specs.Links.{AreLinks}
-use Rattle.reiser_names.proofs.Uniqueness.{links_one}
+use Rattle.reiser_volume_objects.specs.Names.{is_listed, naming_by, namings_by_kind, namings_in, namings, is_followed, followed, IsReachedBy, IsNamed}
+use Rattle.reiser_volume_names.specs.Links.{AreLinks}
+use Rattle.reiser_volume_names.proofs.Uniqueness.{links_one}
 use Rattle.reiser_volume.specs.Laws.{unplaced}
 use Rattle.reiser_volume.specs.Rows.{Leads, HasStat, IsRow, AreReiserRows}
 

@@ -1,13 +1,13 @@
 -- How much an accepted volume can hold: its leaves are blocks of it, each once, and what a leaf holds fits into a block.
 use Rattle.std.specs.Prelude.{◌≢◌, ◌≤◌, ◌^◌, ℕ, ◌+◌, List, length, sum_by, AllPairs}
-use Rattle.outside.specs.History.{Image}
-use Rattle.reiser_node.specs.declared.head.ItemKind.{ItemKind}
-use Rattle.reiser_node.specs.declared.head.ItemKind.TheVariants.{Stat, Indirect, Direct, Directory}
-use Rattle.reiser_walk.specs.Items.{Item}
-use Rattle.reiser_objects.specs.declared.key.ObjectKey.{ObjectKey}
-use Rattle.reiser_objects.specs.declared.naming.Naming.{Naming}
-use Rattle.reiser_objects.specs.Keys.{items_of}
-use Rattle.reiser_names.specs.Links.{AreLinks, AreNamedKeys}
+use Rattle.reiser_bitmap.specs.outside.History.{Image}
+use Rattle.reiser_volume_objects.specs.reiser_node.declared.head.ItemKind.{ItemKind}
+use Rattle.reiser_volume_objects.specs.reiser_node.declared.head.ItemKind.TheVariants.{Stat, Indirect, Direct, Directory}
+use Rattle.reiser_volume_objects.specs.reiser_walk.Items.{Item}
+use Rattle.reiser_volume_objects.specs.declared.key.ObjectKey.{ObjectKey}
+use Rattle.reiser_volume_objects.specs.declared.naming.Naming.{Naming}
+use Rattle.reiser_volume_objects.specs.Keys.{items_of}
+use Rattle.reiser_volume_names.specs.Links.{AreLinks, AreNamedKeys}
 use Rattle.reiser_volume.specs.Volume.{superblock, volume_items, IsAccepted}
 
 -- the bytes that an item takes of a leaf: its head and its body

@@ -2,10 +2,10 @@
 use Rattle.std.specs.Prelude.{ℕ, nat_le, Bool, true, false, ◌&&◌, Option, Some, None, List}
 use Rattle.fs_rows.specs.declared.row.Kind.{Kind}
 use Rattle.fs_rows.specs.declared.row.Kind.TheVariants.{Directory, File, Symlink, Character, Block, Fifo, Socket, Subvolume}
-use Rattle.reiser_files.specs.declared.map.RunFrom.{RunFrom}
-use Rattle.reiser_files.specs.declared.map.RunFrom.TheVariants.{Disk, Tail}
-use Rattle.reiser_files.specs.Runs.{block_from}
-use Rattle.reiser_walk.specs.Items.{Item}
+use Rattle.reiser_volume_files.specs.declared.map.RunFrom.{RunFrom}
+use Rattle.reiser_volume_files.specs.declared.map.RunFrom.TheVariants.{Disk, Tail}
+use Rattle.reiser_volume_files.specs.Runs.{block_from}
+use Rattle.reiser_volume_objects.specs.reiser_walk.Items.{Item}
 
 -- a block of a file lies in direct items
 abbrev pub is_tail : Option RunFrom → Bool

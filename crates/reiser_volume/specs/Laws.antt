@@ -1,21 +1,21 @@
 -- Laws of the definitions.
 use Rattle.std.specs.Prelude.{◌≡◌, ◌≢◌, ◌≤◌, ◌<◌, ◌↔◌, ℕ, ◌*◌, true, List, length, map, Some}
 use Rattle.std.specs.Int.{bit_at}
-use Rattle.outside.specs.History.{Image, block_at}
-use Rattle.outside.specs.declared.refusal.VolumeRefusal.{VolumeRefusal}
+use Rattle.reiser_bitmap.specs.outside.History.{Image, block_at}
+use Rattle.reiser_bitmap.specs.refusals.declared.refusal.VolumeRefusal.{VolumeRefusal}
 use Rattle.fs_rows.specs.Rows.{WholeRow}
 use Rattle.fs_rows.specs.declared.row.Kind.{Kind}
-use Rattle.object_files.specs.Laws.{SameUsed}
+use Rattle.reiser_volume_contents.specs.Laws.{SameUsed}
 use Rattle.reiser_super.specs.Superblock.{attrs_cleared_bit}
-use Rattle.reiser_walk.specs.Items.{Item}
-use Rattle.reiser_files.specs.Bytes.{named_block}
-use Rattle.reiser_objects.specs.declared.key.ObjectKey.{ObjectKey}
-use Rattle.reiser_objects.specs.declared.stat.ObjectStat.{ObjectStat}
-use Rattle.reiser_objects.specs.Items.{stat_of_object}
-use Rattle.reiser_objects.specs.Keys.{items_of}
+use Rattle.reiser_volume_objects.specs.reiser_walk.Items.{Item}
+use Rattle.reiser_volume_files.specs.Bytes.{named_block}
+use Rattle.reiser_volume_objects.specs.declared.key.ObjectKey.{ObjectKey}
+use Rattle.reiser_volume_objects.specs.declared.stat.ObjectStat.{ObjectStat}
+use Rattle.reiser_volume_objects.specs.Items.{stat_of_object}
+use Rattle.reiser_volume_objects.specs.Keys.{items_of}
 use Rattle.fs_rows.specs.Kinds.{has_bytes}
-use Rattle.reiser_objects.specs.Kinds.{kind_of_mode}
-use Rattle.reiser_objects.specs.Names.{IsNamed}
+use Rattle.reiser_volume_objects.specs.Kinds.{kind_of_mode}
+use Rattle.reiser_volume_objects.specs.Names.{IsNamed}
 use Rattle.reiser_volume.specs.Rows.{AreReiserRows}
 use Rattle.reiser_volume.specs.Volume.{superblock, used_of, volume_items, AreRowsOf, IsAccepted, IsRefusal, IsFrontAccepted, IsFrontRefusal}
 

@@ -1,26 +1,26 @@
 -- The row that is made for each path of a volume.
 use Rattle.std.specs.Prelude.{◌≡◌, ℕ, ◌%◌, false, ◌&&◌, not, List, [], Some, unwrap_or, if◌then◌else◌}
-use Rattle.outside.specs.History.{Image}
+use Rattle.reiser_bitmap.specs.outside.History.{Image}
 use Rattle.fs_rows.specs.Rows.{NameList, WholeRow}
 use Rattle.fs_rows.specs.declared.row.Kind.{Kind}
 use Rattle.fs_rows.specs.declared.row.Kind.TheVariants.{File}
-use Rattle.path_list.specs.declared.link.PathTo.{PathTo}
-use Rattle.path_list.specs.Paths.{first_path}
-use Rattle.reiser_walk.specs.Items.{Item}
-use Rattle.reiser_files.specs.Bytes.{file_bytes}
-use Rattle.reiser_objects.specs.declared.key.ObjectKey.{ObjectKey}
-use Rattle.reiser_objects.specs.declared.stat.ObjectStat.{ObjectStat}
-use Rattle.reiser_objects.specs.Items.{stat_of_object}
-use Rattle.reiser_objects.specs.Keys.{items_of}
+use Rattle.fs_paths.specs.declared.link.PathTo.{PathTo}
+use Rattle.fs_paths.specs.Paths.{first_path}
+use Rattle.reiser_volume_objects.specs.reiser_walk.Items.{Item}
+use Rattle.reiser_volume_files.specs.Bytes.{file_bytes}
+use Rattle.reiser_volume_objects.specs.declared.key.ObjectKey.{ObjectKey}
+use Rattle.reiser_volume_objects.specs.declared.stat.ObjectStat.{ObjectStat}
+use Rattle.reiser_volume_objects.specs.Items.{stat_of_object}
+use Rattle.reiser_volume_objects.specs.Keys.{items_of}
 use Rattle.fs_rows.specs.Kinds.{is_directory, is_symlink, is_device, has_bytes}
-use Rattle.reiser_objects.specs.Kinds.{kind_of_mode}
-use Rattle.reiser_objects.specs.Names.{IsNamed}
+use Rattle.reiser_volume_objects.specs.Kinds.{kind_of_mode}
+use Rattle.reiser_volume_objects.specs.Names.{IsNamed}
 use Rattle.reiser_volume.specs.declared.row.Known.{Known}
 use Rattle.reiser_volume.specs.declared.volume.Volume.{Volume}
 use Rattle.reiser_volume.specs.Opened.{IsOpened}
 use Rattle.reiser_volume.specs.Rows.{flag, sync_bit, immutable_bit, append_bit, nodump_bit, noatime_bit, major_of, minor_of, time_of}
 use Rattle.reiser_volume.specs.Volume.{IsAccepted, volume_items, superblock}
-use Rattle.reiser_objects.specs.Nodes.{key_at}
+use Rattle.reiser_volume_objects.specs.Nodes.{key_at}
 
 -- the row of an object at a path
 abbrev pub row_by : ℕ → ObjectStat → Kind → NameList → NameList → ℕ → List ℕ → WholeRow

@@ -1,9 +1,9 @@
 -- The inodes of the named objects on the converted volume.
 use Rattle.std.specs.Prelude.{◌≡◌, ◌<◌, ℕ, ◌^◌, not, List, ◌∷◌, filter, length, slice_get, Some}
 use Rattle.std.specs.List.Sorted.{IsStrictlySortedBy}
-use Rattle.reiser_names.specs.Links.{object_cmp}
-use Rattle.reiser_objects.specs.declared.key.ObjectKey.{ObjectKey}
-use Rattle.reiser_objects.specs.Keys.{root, same_key}
+use Rattle.reiser_volume_names.specs.Links.{object_cmp}
+use Rattle.reiser_volume_objects.specs.declared.key.ObjectKey.{ObjectKey}
+use Rattle.reiser_volume_objects.specs.Keys.{root, same_key}
 
 -- the named objects by their inodes: the root, and the others by their keys
 abbrev pub by_inode : List ObjectKey → List ObjectKey

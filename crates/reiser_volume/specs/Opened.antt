@@ -2,18 +2,18 @@
 use Rattle.std.specs.Prelude.{◌≡◌, List, Bool, Contains}
 use Rattle.std.specs.List.Sorted.{IsStrictlySortedBy}
 use Rattle.indexmap.specs.IndexMap.{keys, get}
-use Rattle.outside.specs.History.{Image}
+use Rattle.reiser_bitmap.specs.outside.History.{Image}
 use Rattle.reiser_super.specs.declared.superblock.Super.{Super}
 use Rattle.reiser_super.specs.Journal.{IsClean}
-use Rattle.reiser_objects.specs.declared.key.ObjectKey.{ObjectKey}
-use Rattle.reiser_objects.specs.declared.naming.Naming.{Naming}
-use Rattle.reiser_objects.specs.Items.{stat_of_object}
-use Rattle.reiser_objects.specs.Keys.{same_key}
-use Rattle.reiser_objects.specs.Table.{HasNoted}
+use Rattle.reiser_volume_objects.specs.declared.key.ObjectKey.{ObjectKey}
+use Rattle.reiser_volume_objects.specs.declared.naming.Naming.{Naming}
+use Rattle.reiser_volume_objects.specs.Items.{stat_of_object}
+use Rattle.reiser_volume_objects.specs.Keys.{same_key}
+use Rattle.reiser_volume_objects.specs.Table.{HasNoted}
 use Rattle.reiser_volume.specs.declared.volume.Volume.{Volume}
-use Rattle.reiser_names.specs.Known.{is_known}
-use Rattle.reiser_names.specs.Passes.{link_list}
-use Rattle.reiser_names.specs.Links.{AreLinks, AreNamedKeys, object_cmp}
+use Rattle.reiser_volume_names.specs.Known.{is_known}
+use Rattle.reiser_volume_names.specs.Passes.{link_list}
+use Rattle.reiser_volume_names.specs.Links.{AreLinks, AreNamedKeys, object_cmp}
 use Rattle.reiser_volume.specs.Volume.{superblock, used_of, volume_items, MarksSystem, IsSoundTree}
 
 -- superblock, journal, bitmap and tree are in order, and these are the superblock's fields and the used blocks

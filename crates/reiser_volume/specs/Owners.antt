@@ -1,20 +1,20 @@
 -- Which file a block of a volume belongs to.
 use Rattle.std.specs.Prelude.{◌≡◌, ◌≢◌, ◌≤◌, ◌<◌, ℕ, ◌+◌, ◌-◌, ◌*◌, true, List, Some, Contains}
-use Rattle.outside.specs.History.{Image}
+use Rattle.reiser_bitmap.specs.outside.History.{Image}
 use Rattle.fs_rows.specs.declared.row.Kind.TheVariants.{File}
 use Rattle.reiser_bitmap.specs.Bits.{has}
 use Rattle.reiser_bitmap.specs.System.{system_blocks}
-use Rattle.reiser_walk.specs.Tree.{Visit, visits}
-use Rattle.reiser_files.specs.declared.map.FileRun.{FileRun}
-use Rattle.reiser_files.specs.declared.map.RunFrom.TheVariants.{Disk}
-use Rattle.reiser_files.specs.Bytes.{named_block}
-use Rattle.reiser_files.specs.Runs.{file_runs}
-use Rattle.reiser_objects.specs.declared.key.ObjectKey.{ObjectKey}
-use Rattle.reiser_objects.specs.declared.stat.ObjectStat.{ObjectStat}
-use Rattle.reiser_objects.specs.Items.{stat_of_object}
-use Rattle.reiser_objects.specs.Keys.{items_of}
-use Rattle.reiser_objects.specs.Kinds.{kind_of_mode}
-use Rattle.reiser_objects.specs.Names.{IsNamed}
+use Rattle.reiser_volume_objects.specs.reiser_walk.Tree.{Visit, visits}
+use Rattle.reiser_volume_files.specs.declared.map.FileRun.{FileRun}
+use Rattle.reiser_volume_files.specs.declared.map.RunFrom.TheVariants.{Disk}
+use Rattle.reiser_volume_files.specs.Bytes.{named_block}
+use Rattle.reiser_volume_files.specs.Runs.{file_runs}
+use Rattle.reiser_volume_objects.specs.declared.key.ObjectKey.{ObjectKey}
+use Rattle.reiser_volume_objects.specs.declared.stat.ObjectStat.{ObjectStat}
+use Rattle.reiser_volume_objects.specs.Items.{stat_of_object}
+use Rattle.reiser_volume_objects.specs.Keys.{items_of}
+use Rattle.reiser_volume_objects.specs.Kinds.{kind_of_mode}
+use Rattle.reiser_volume_objects.specs.Names.{IsNamed}
 use Rattle.reiser_volume.specs.Made.{stat_at}
 use Rattle.reiser_volume.specs.Volume.{superblock, used_of, tree_of, volume_items, IsAccepted}
 

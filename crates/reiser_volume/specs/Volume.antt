@@ -1,8 +1,8 @@
 -- Which ReiserFS volumes are accepted, and how each other one is refused: the groups of rules one after the other.
 use Rattle.std.specs.Prelude.{◌≡◌, ℕ, List, Bool, [], length, Some, Contains}
-use Rattle.outside.specs.History.{Image, block_at}
-use Rattle.outside.specs.declared.refusal.VolumeRefusal.{VolumeRefusal}
-use Rattle.outside.specs.declared.refusal.VolumeRefusal.TheVariants.{JournalPending}
+use Rattle.reiser_bitmap.specs.outside.History.{Image, block_at}
+use Rattle.reiser_bitmap.specs.refusals.declared.refusal.VolumeRefusal.{VolumeRefusal}
+use Rattle.reiser_bitmap.specs.refusals.declared.refusal.VolumeRefusal.TheVariants.{JournalPending}
 use Rattle.fs_rows.specs.Rows.{WholeRow}
 use Rattle.reiser_bitmap.specs.Layout.{bitmap_of}
 use Rattle.reiser_bitmap.specs.Bits.{has}
@@ -11,12 +11,12 @@ use Rattle.reiser_super.specs.declared.superblock.Super.{Super}
 use Rattle.reiser_super.specs.Superblock.{super_of}
 use Rattle.reiser_super.specs.Rules.{superblock_refusal, IsCleanSuper}
 use Rattle.reiser_super.specs.Journal.{pending_transactions, IsClean}
-use Rattle.reiser_walk.specs.declared.tree.Tree.{Tree}
-use Rattle.reiser_walk.specs.Items.{Item}
-use Rattle.reiser_walk.specs.Rules.{tree_damages}
-use Rattle.reiser_walk.specs.Tree.{items_of}
-use Rattle.reiser_objects.specs.Rules.{AreObjects, IsObjectsRefusal}
-use Rattle.reiser_names.specs.Names.{AreNames, IsNamesRefusal}
+use Rattle.reiser_volume_objects.specs.reiser_walk.declared.tree.Tree.{Tree}
+use Rattle.reiser_volume_objects.specs.reiser_walk.Items.{Item}
+use Rattle.reiser_volume_objects.specs.reiser_walk.Rules.{tree_damages}
+use Rattle.reiser_volume_objects.specs.reiser_walk.Tree.{items_of}
+use Rattle.reiser_volume_objects.specs.Rules.{AreObjects, IsObjectsRefusal}
+use Rattle.reiser_volume_names.specs.Names.{AreNames, IsNamesRefusal}
 use Rattle.reiser_volume.specs.Rows.{AreReiserRows}
 use Rattle.std.specs.Prelude.{true}
 

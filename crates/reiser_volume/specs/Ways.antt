@@ -1,12 +1,12 @@
 -- The links of a volume as those of a tree of paths.
 use Rattle.std.specs.Prelude.{List, map}
 use Rattle.std.specs.List.{All}
-use Rattle.path_list.specs.declared.link.Link.{Link}
-use Rattle.path_list.specs.declared.link.PathTo.{PathTo}
-use Rattle.path_list.specs.Paths.{ArePaths}
-use Rattle.reiser_objects.specs.declared.naming.Naming.{Naming}
-use Rattle.reiser_objects.specs.Keys.{root}
-use Rattle.reiser_objects.specs.Nodes.{node_of, Fits}
+use Rattle.fs_paths.specs.declared.link.Link.{Link}
+use Rattle.fs_paths.specs.declared.link.PathTo.{PathTo}
+use Rattle.fs_paths.specs.Paths.{ArePaths}
+use Rattle.reiser_volume_objects.specs.declared.naming.Naming.{Naming}
+use Rattle.reiser_volume_objects.specs.Keys.{root}
+use Rattle.reiser_volume_objects.specs.Nodes.{node_of, Fits}
 use Rattle.reiser_volume.specs.declared.volume.Volume.{Volume}
 use Rattle.reiser_volume.specs.Opened.{links_in}
 

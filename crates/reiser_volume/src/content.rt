@@ -1,10 +1,10 @@
 ghost use Rattle.std.specs.Prelude.{◌≡◌, List, ℕ, IfErr};
 ghost use Rattle.std.specs.Option.{MatchOption};
 ghost use Rattle.std.specs.Result.{MatchResult};
-ghost use Rattle.outside.specs.Fault.{HasCauseOf};
-ghost use Rattle.outside.specs.History.{OverTold};
+ghost use Rattle.reiser_bitmap.specs.outside.Fault.{HasCauseOf};
+ghost use Rattle.reiser_bitmap.specs.outside.History.{OverTold};
 ghost use Rattle.fs_rows.specs.declared.row.Kind.TheVariants.{File, Symlink};
-ghost use Rattle.object_files.specs.Answers.{IsFileAnswer, IsFaultOrMemory};
+ghost use Rattle.reiser_volume_contents.specs.Answers.{IsFileAnswer, IsFaultOrMemory};
 ghost use Rattle.fs_rows.specs.Content.{IsContent};
 ghost use Rattle.reiser_volume.specs.Made.{IsKnownAt, IsOf, bytes_at};
 ghost use Rattle.reiser_volume.specs.Volume.{volume_items};
@@ -13,9 +13,9 @@ use crate::Volume;
 use crate::row::{Known, same_content};
 use crate::rows::changed;
 use fs_rows::{Content, Kind, Name, Row, no_content};
-use object_files::{file_mark, link_target};
-use outside::{BlockSource, VolAnswer};
-use reiser_objects::ObjectKey;
+use reiser_bitmap::{BlockSource, VolAnswer};
+use reiser_volume_contents::{file_mark, link_target};
+use reiser_volume_objects::ObjectKey;
 use std::alloc::Global;
 
 /// What a row has of the bytes of an object. Where there is a row of the same object, it is what that row has.

@@ -1,24 +1,23 @@
 ghost use Rattle.std.specs.Prelude.{◌≡◌, ◌<◌, ◌*◌, ◌^◌, length, slice_get, Some, IfOk, IfErr};
 ghost use Rattle.std.specs.Result.{MatchResult};
 ghost use Rattle.indexmap.specs.IndexMap.{keys};
-ghost use Rattle.outside.specs.Fault.{HasCauseOf};
-ghost use Rattle.outside.specs.History.{OverTold};
-ghost use Rattle.object_files.specs.Answers.{IsFault, IsFaultOrMemory, IsReadAnswer, IsFileAnswer};
-ghost use Rattle.reiser_files.specs.Bytes.{tail_block};
-ghost use Rattle.reiser_files.specs.Runs.{file_runs};
-ghost use Rattle.reiser_objects.specs.declared.key.ObjectKey.{ObjectKey as KeyOf};
-ghost use Rattle.reiser_objects.specs.Keys.{items_of};
+ghost use Rattle.reiser_bitmap.specs.outside.Fault.{HasCauseOf};
+ghost use Rattle.reiser_bitmap.specs.outside.History.{OverTold};
+ghost use Rattle.reiser_volume_contents.specs.Answers.{IsFault, IsFaultOrMemory, IsReadAnswer, IsFileAnswer};
+ghost use Rattle.reiser_volume_files.specs.Bytes.{tail_block};
+ghost use Rattle.reiser_volume_files.specs.Runs.{file_runs};
+ghost use Rattle.reiser_volume_objects.specs.declared.key.ObjectKey.{ObjectKey as KeyOf};
+ghost use Rattle.reiser_volume_objects.specs.Keys.{items_of};
 ghost use Rattle.reiser_volume.specs.Made.{stat_at};
 ghost use Rattle.reiser_volume.specs.Opened.{IsOpened};
 ghost use Rattle.reiser_volume.specs.Owners.{TellsOwned};
 ghost use Rattle.reiser_volume.specs.Volume.{IsAccepted, volume_items};
 
 use crate::Volume;
-use object_files::{file_map, file_tail};
-use outside::{BlockSource, VolAnswer};
-use reiser_files::FileMap;
+use reiser_bitmap::{Block, BlockSource, VolAnswer};
+use reiser_volume_contents::{file_map, file_tail};
+use reiser_volume_files::FileMap;
 use std::alloc::Global;
-use vol_block::Block;
 
 impl Volume {
     /// Where the blocks of the file or symlink at this place lie, in runs: those that lie on the disk are exactly the blocks

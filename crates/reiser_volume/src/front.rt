@@ -1,15 +1,13 @@
 ghost use Rattle.std.specs.Prelude.{◌≡◌, ◌≤◌, length, IfOk, IfErr};
-ghost use Rattle.outside.specs.Fault.{HasCauseOf};
-ghost use Rattle.outside.specs.History.{OverTold};
+ghost use Rattle.reiser_bitmap.specs.outside.Fault.{HasCauseOf};
+ghost use Rattle.reiser_bitmap.specs.outside.History.{OverTold};
 ghost use Rattle.reiser_super.specs.Rules.{IsInBounds};
 ghost use Rattle.reiser_volume.specs.Answers.{IsSuperOf, IsBitmapOf};
 ghost use Rattle.reiser_volume.specs.Front.{IsFrontAnswer, IsFrontOf, RefusesFront};
 
-use outside::{BlockSource, VolAnswer, VolumeRefusal};
-use reiser_bitmap::Bitmap;
+use reiser_bitmap::{Bitmap, Block, BlockSource, VolAnswer, VolumeRefusal};
 use reiser_super::{Super, journal_state};
 use std::alloc::Global;
-use vol_block::Block;
 
 /// The block of the superblock.
 const SUPERBLOCK: u64 = 16;

@@ -3,26 +3,25 @@ ghost use Rattle.std.specs.Result.{MatchResult};
 ghost use Rattle.std.specs.List.Sorted.{IsStrictlySortedBy};
 ghost use Rattle.indexmap.specs.IndexMap.{keys, get, IsUnique};
 ghost use Rattle.indexmap.specs.IndexSet.{contains};
-ghost use Rattle.outside.specs.History.{Image};
-ghost use Rattle.reiser_walk.specs.Items.{Item};
-ghost use Rattle.reiser_objects.specs.declared.key.ObjectKey.{ObjectKey as KeyOf};
-ghost use Rattle.reiser_objects.specs.Keys.{same_key};
-ghost use Rattle.reiser_objects.specs.Table.{HasNoted};
+ghost use Rattle.reiser_bitmap.specs.outside.History.{Image};
+ghost use Rattle.reiser_volume_objects.specs.reiser_walk.Items.{Item};
+ghost use Rattle.reiser_volume_objects.specs.declared.key.ObjectKey.{ObjectKey as KeyOf};
+ghost use Rattle.reiser_volume_objects.specs.Keys.{same_key};
+ghost use Rattle.reiser_volume_objects.specs.Table.{HasNoted};
 ghost use Rattle.reiser_volume.specs.Answers.{IsVerdict, RefusesVolume};
-ghost use Rattle.reiser_names.specs.Known.{HasStats, is_known};
-ghost use Rattle.reiser_names.specs.Links.{object_cmp};
+ghost use Rattle.reiser_volume_names.specs.Known.{HasStats, is_known};
+ghost use Rattle.reiser_volume_names.specs.Links.{object_cmp};
 ghost use Rattle.reiser_volume.specs.Opened.{IsFound, IsOpened};
-ghost use Rattle.reiser_names.specs.Passes.{link_list};
+ghost use Rattle.reiser_volume_names.specs.Passes.{link_list};
 ghost use Rattle.reiser_volume.specs.Volume.{IsAccepted, volume_items};
 
 use crate::Volume;
 use crate::volume::is_link;
 use indexmap::{IndexMap, IndexSet};
-use outside::{Memory, VolAnswer};
-use reiser_bitmap::Bitmap;
-use reiser_names::check_all_names;
-use reiser_objects::{ObjectKey, ObjectStat, Objects};
+use reiser_bitmap::{Bitmap, Memory, VolAnswer};
 use reiser_super::Super;
+use reiser_volume_names::check_all_names;
+use reiser_volume_objects::{ObjectKey, ObjectStat, Objects};
 use std::alloc::Global;
 
 /// The volume of these objects, where they and their names keep all rules.

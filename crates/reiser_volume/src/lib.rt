@@ -24,4 +24,9 @@ pub use laws::{
 };
 pub use links::Link;
 pub use numbers::Numbers;
+pub use reiser_bitmap::{
+    Access, Block, BlockNo, BlockSource, BtrAnswer, Cached, Disk, Fault, Format, Ids, Memory, Room,
+    Rule, Sink, VolAnswer, VolumeRefusal, format_of,
+};
+pub use reiser_volume_names::{extref_hash, name_hash};
 pub use volume::Volume;

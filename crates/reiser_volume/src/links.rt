@@ -1,11 +1,11 @@
 ghost use Rattle.std.specs.Prelude.{◌≡◌, ◌<◌, ◌^◌, length, slice_get, Some, Contains};
 ghost use Rattle.indexmap.specs.IndexMap.{keys};
-ghost use Rattle.outside.specs.History.{Image};
-ghost use Rattle.reiser_objects.specs.declared.naming.Naming.{Naming as NamingOf};
+ghost use Rattle.reiser_bitmap.specs.outside.History.{Image};
+ghost use Rattle.reiser_volume_objects.specs.declared.naming.Naming.{Naming as NamingOf};
 ghost use Rattle.reiser_volume.specs.Opened.{IsOpened, links_in};
 
 use crate::Volume;
-use reiser_objects::ObjectKey;
+use reiser_volume_objects::ObjectKey;
 
 /// An entry that gives a named object a name.
 #[derive(Clone, Copy)]

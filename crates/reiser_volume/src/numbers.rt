@@ -1,14 +1,14 @@
 ghost use Rattle.std.specs.Prelude.{◌≡◌, ◌<◌, ◌^◌, ℕ, List, length, slice_get, Some};
 ghost use Rattle.indexmap.specs.IndexMap.{keys};
-ghost use Rattle.outside.specs.History.{Image};
-ghost use Rattle.reiser_objects.specs.declared.key.ObjectKey.{ObjectKey as KeyOf};
-ghost use Rattle.reiser_objects.specs.Keys.{root, same_key};
-ghost use Rattle.reiser_names.specs.Names.{inode_of};
+ghost use Rattle.reiser_bitmap.specs.outside.History.{Image};
+ghost use Rattle.reiser_volume_objects.specs.declared.key.ObjectKey.{ObjectKey as KeyOf};
+ghost use Rattle.reiser_volume_objects.specs.Keys.{root, same_key};
+ghost use Rattle.reiser_volume_names.specs.Names.{inode_of};
 ghost use Rattle.reiser_volume.specs.Numbers.{by_inode, AreNumbered};
 ghost use Rattle.reiser_volume.specs.Opened.{IsOpened};
 
 use crate::Volume;
-use reiser_objects::ROOT;
+use reiser_volume_objects::ROOT;
 
 /// Which inode is which named object of a volume: 256 is the root, and 257 and up are the others in the order of their keys.
 #[derive(Clone, Copy, Debug)]

@@ -1,6 +1,6 @@
 ghost use Rattle.std.specs.Prelude.{◌≡◌, IfOk, IfErr};
-ghost use Rattle.outside.specs.Fault.{HasCauseOf};
-ghost use Rattle.outside.specs.History.{OverTold};
+ghost use Rattle.reiser_bitmap.specs.outside.Fault.{HasCauseOf};
+ghost use Rattle.reiser_bitmap.specs.outside.History.{OverTold};
 ghost use Rattle.reiser_volume.specs.Answers.{IsVolumeAnswer, RefusesVolume};
 ghost use Rattle.reiser_volume.specs.Opened.{IsOpened};
 ghost use Rattle.reiser_volume.specs.Volume.{IsAccepted};
@@ -8,8 +8,8 @@ ghost use Rattle.reiser_volume.specs.Volume.{IsAccepted};
 use crate::Volume;
 use crate::front::Front;
 use crate::gather::gather;
-use outside::{BlockSource, VolAnswer};
-use reiser_objects::Objects;
+use reiser_bitmap::{BlockSource, VolAnswer};
+use reiser_volume_objects::Objects;
 use std::alloc::Global;
 
 impl Volume {

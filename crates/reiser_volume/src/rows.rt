@@ -1,30 +1,29 @@
 ghost use Rattle.std.specs.Prelude.{◌≡◌, ◌≤◌, ◌<◌, ℕ, List, [], map, take, length, slice_get, slice_index_or, Some, IfOk, IfErr};
 ghost use Rattle.std.specs.Option.{MatchOption};
 ghost use Rattle.std.specs.Result.{MatchResult};
-ghost use Rattle.outside.specs.Fault.{HasCauseOf};
-ghost use Rattle.outside.specs.History.{Image, OverTold};
-ghost use Rattle.outside.specs.declared.answer.VolAnswer.TheVariants.{Refused};
-ghost use Rattle.outside.specs.declared.refusal.VolumeRefusal.TheVariants.{Damaged};
-ghost use Rattle.outside.specs.declared.rule.Rule.TheVariants.{Reread};
+ghost use Rattle.reiser_bitmap.specs.outside.Fault.{HasCauseOf};
+ghost use Rattle.reiser_bitmap.specs.outside.History.{Image, OverTold};
+ghost use Rattle.reiser_bitmap.specs.refusals.declared.answer.VolAnswer.TheVariants.{Refused};
+ghost use Rattle.reiser_bitmap.specs.refusals.declared.refusal.VolumeRefusal.TheVariants.{Damaged};
+ghost use Rattle.reiser_bitmap.specs.refusals.declared.rule.Rule.TheVariants.{Reread};
 ghost use Rattle.fs_rows.specs.Rows.{WholeRow, row_of};
-ghost use Rattle.path_list.specs.declared.link.PathTo.{PathTo as PathOf};
-ghost use Rattle.object_files.specs.Answers.{IsFileAnswer, IsFaultOrMemory};
+ghost use Rattle.fs_paths.specs.declared.link.PathTo.{PathTo as PathOf};
+ghost use Rattle.reiser_volume_contents.specs.Answers.{IsFileAnswer, IsFaultOrMemory};
 ghost use Rattle.reiser_volume.specs.Made.{IsKnownAt, IsOf, whole_row};
 ghost use Rattle.reiser_volume.specs.Opened.{IsOpened};
 ghost use Rattle.reiser_volume.specs.Volume.{AreRowsOf, IsAccepted, volume_items};
-ghost use Rattle.reiser_objects.specs.Nodes.{key_at};
+ghost use Rattle.reiser_volume_objects.specs.Nodes.{key_at};
 ghost use Rattle.reiser_volume.specs.Ways.{HasPaths};
 
 use crate::Volume;
 use crate::content::content;
 use crate::row::{Known, make_row};
 use crate::ways::paths_of;
+use fs_paths::PathTo;
 use fs_rows::{Row, Rows, Spot};
-use outside::{BlockSource, Memory, Rule, VolAnswer, VolumeRefusal};
-use path_list::PathTo;
-use reiser_objects::{ObjectKey, key_at, kind_of_mode};
+use reiser_bitmap::{BlockNo, BlockSource, Memory, Rule, VolAnswer, VolumeRefusal};
+use reiser_volume_objects::{ObjectKey, key_at, kind_of_mode};
 use std::alloc::Global;
-use vol_block::BlockNo;
 
 impl Volume {
     /// The rows of the volume: one for each path, ascending.

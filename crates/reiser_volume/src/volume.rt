@@ -1,15 +1,15 @@
 ghost use Rattle.std.specs.Prelude.{◌≡◌, ◌<◌, ◌^◌, length, map, slice_get, Some, Contains};
 ghost use Rattle.std.specs.Option.{MatchOption};
 ghost use Rattle.indexmap.specs.IndexMap.{keys, get};
-ghost use Rattle.reiser_objects.specs.declared.key.ObjectKey.{ObjectKey as KeyOf};
-ghost use Rattle.reiser_objects.specs.Keys.{same_key};
-ghost use Rattle.reiser_names.specs.Known.{is_known};
-ghost use Rattle.reiser_names.specs.Passes.{is_link, link_list};
+ghost use Rattle.reiser_volume_objects.specs.declared.key.ObjectKey.{ObjectKey as KeyOf};
+ghost use Rattle.reiser_volume_objects.specs.Keys.{same_key};
+ghost use Rattle.reiser_volume_names.specs.Known.{is_known};
+ghost use Rattle.reiser_volume_names.specs.Passes.{is_link, link_list};
 
 use indexmap::IndexMap;
 use reiser_bitmap::Bitmap;
-use reiser_objects::{Naming, ObjectKey, ObjectStat, Objects, is_followed};
 use reiser_super::Super;
+use reiser_volume_objects::{Naming, ObjectKey, ObjectStat, Objects, is_followed};
 
 /// A ReiserFS volume that keeps all rules: what is known of it without further reads.
 ///

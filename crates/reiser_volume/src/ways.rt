@@ -1,17 +1,17 @@
 ghost use Rattle.std.specs.Prelude.{◌≡◌, ◌++◌, ◌∷◌, [], map, IfOk, OnOk, if◌then◌else◌};
 ghost use Rattle.std.specs.List.{All};
-ghost use Rattle.outside.specs.History.{Image};
-ghost use Rattle.reiser_names.specs.Known.{is_known};
+ghost use Rattle.reiser_bitmap.specs.outside.History.{Image};
+ghost use Rattle.reiser_volume_names.specs.Known.{is_known};
 ghost use Rattle.reiser_volume.specs.Opened.{IsOpened, links_in};
-ghost use Rattle.reiser_names.specs.Passes.{is_link};
+ghost use Rattle.reiser_volume_names.specs.Passes.{is_link};
 ghost use Rattle.reiser_volume.specs.Volume.{IsAccepted};
-ghost use Rattle.reiser_objects.specs.Nodes.{Fits};
+ghost use Rattle.reiser_volume_objects.specs.Nodes.{Fits};
 ghost use Rattle.reiser_volume.specs.Ways.{link_of, HasPaths};
 
 use crate::Volume;
-use outside::Memory;
-use path_list::{Link, PathTo, paths};
-use reiser_objects::{Naming, ROOT, node_of};
+use fs_paths::{Link, PathTo, paths};
+use reiser_bitmap::Memory;
+use reiser_volume_objects::{Naming, ROOT, node_of};
 use std::alloc::Global;
 
 /// The paths of the volume's tree, which ascend.

@@ -2,10 +2,10 @@
 use Rattle.std.proofs.Common.{◌≡◌, ℕ, Bool, List, [], ◌∷◌, ◌++◌, length, Option, Some, None, refl, sym, ◌∙◌, ap, append_assoc}
 use Rattle.std.specs.List.{flat_map}
 use Rattle.std.proofs.lemmas.List.Concat.{flat_map-append}
-use Rattle.outside.specs.History.{Image}
-use Rattle.reiser_node.specs.declared.head.ItemHead.{ItemHead}
-use Rattle.outside.specs.declared.refusal.VolumeRefusal.{VolumeRefusal}
-use Rattle.outside.specs.declared.rule.Rule.TheVariants.{KeyOrder}
+use Rattle.reiser_bitmap.specs.outside.History.{Image}
+use Rattle.reiser_items.specs.reiser_node.declared.head.ItemHead.{ItemHead}
+use Rattle.reiser_bitmap.specs.refusals.declared.refusal.VolumeRefusal.{VolumeRefusal}
+use Rattle.reiser_bitmap.specs.refusals.declared.rule.Rule.TheVariants.{KeyOrder}
 use Rattle.reiser_walk.specs.declared.pointer.Pointer.{Pointer}
 use Rattle.reiser_walk.specs.declared.tree.Tree.{Tree}
 use Rattle.reiser_walk.specs.Items.{Item, Event, node, item, pointer}

@@ -2,7 +2,7 @@
 use Rattle.std.proofs.Common.{◌≡◌, Bool, true, List, [], ◌++◌, None, length, All, AllPairs, sym, ◌∙◌, ap, subst}
 use Rattle.std.specs.List.{flat_map}
 use Rattle.std.specs.Ordering.{is_lt}
-use Rattle.outside.specs.History.{Image}
+use Rattle.reiser_bitmap.specs.outside.History.{Image}
 use Rattle.reiser_items.specs.Order.{key_order}
 use Rattle.reiser_walk.specs.declared.walker.Walker.{Walker}
 use Rattle.reiser_walk.specs.Items.{Item}

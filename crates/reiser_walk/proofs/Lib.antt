@@ -1,3 +1,4 @@
+pub use Rattle.reiser_items.proofs as reiser_items
 pub mod Claims
 pub mod Counting
 pub mod Damages

@@ -8,16 +8,16 @@ use Rattle.std.specs.Ordering.{is_lt}
 use Rattle.std.proofs.lemmas.Bool.Decides.{nat_tests, eqb_tells, Decides-and, Decides-or, Decides-eqb, Decides-like}
 use Rattle.std.specs.Cmp.{IsTotalOrder}
 use Rattle.std.proofs.lemmas.Cmp.{nat_cmp_total, on_total, then_total}
-use Rattle.outside.specs.History.{Image, block_at}
-use Rattle.outside.specs.declared.refusal.VolumeRefusal.{VolumeRefusal}
-use Rattle.outside.specs.declared.rule.Rule.{Rule}
-use Rattle.outside.specs.declared.rule.Rule.TheVariants.{KeyOrder, BlockFree, BlockTwice, Body}
-use Rattle.reiser_node.specs.declared.head.ItemHead.{ItemHead}
-use Rattle.reiser_node.specs.declared.head.ItemKind.{ItemKind}
-use Rattle.reiser_node.specs.declared.head.ItemKind.TheVariants.{Stat, Indirect, Direct, Directory}
-use Rattle.reiser_node.specs.Leaf.{is_leaf}
-use Rattle.reiser_node.specs.Inner.{is_inner}
-use Rattle.reiser_node.proofs.Grammar.{leaf_decides, inner_decides}
+use Rattle.reiser_bitmap.specs.outside.History.{Image, block_at}
+use Rattle.reiser_bitmap.specs.refusals.declared.refusal.VolumeRefusal.{VolumeRefusal}
+use Rattle.reiser_bitmap.specs.refusals.declared.rule.Rule.{Rule}
+use Rattle.reiser_bitmap.specs.refusals.declared.rule.Rule.TheVariants.{KeyOrder, BlockFree, BlockTwice, Body}
+use Rattle.reiser_items.specs.reiser_node.declared.head.ItemHead.{ItemHead}
+use Rattle.reiser_items.specs.reiser_node.declared.head.ItemKind.{ItemKind}
+use Rattle.reiser_items.specs.reiser_node.declared.head.ItemKind.TheVariants.{Stat, Indirect, Direct, Directory}
+use Rattle.reiser_items.specs.reiser_node.Leaf.{is_leaf}
+use Rattle.reiser_items.specs.reiser_node.Inner.{is_inner}
+use Rattle.reiser_items.proofs.reiser_node.Grammar.{leaf_decides, inner_decides}
 use Rattle.reiser_items.specs.Order.{kind_number, key_order}
 use Rattle.reiser_items.specs.Stat.{stat_length, stat_of, stat_fields}
 use Rattle.reiser_items.specs.Pointers.{pointers_of}

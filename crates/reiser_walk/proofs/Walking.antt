@@ -5,12 +5,12 @@ use Rattle.std.proofs.lemmas.List.{append-nil, length-replicate, get_or-replicat
 use Rattle.std.proofs.lemmas.List.Concat.{flat_map-append}
 use Rattle.std.proofs.lemmas.List.Elements.{Contains-append_left, Contains-append_right}
 use Rattle.std.proofs.lemmas.Bool.Decides.{nat_tests}
-use Rattle.outside.specs.History.{Image, block_at}
-use Rattle.reiser_node.specs.Leaf.{count, is_leaf}
-use Rattle.reiser_node.specs.Inner.{children, is_inner}
+use Rattle.reiser_bitmap.specs.outside.History.{Image, block_at}
+use Rattle.reiser_items.specs.reiser_node.Leaf.{count, is_leaf}
+use Rattle.reiser_items.specs.reiser_node.Inner.{children, is_inner}
 use Rattle.reiser_bitmap.specs.Bits.{has}
-use Rattle.outside.specs.declared.refusal.VolumeRefusal.{VolumeRefusal}
-use Rattle.outside.specs.declared.refusal.VolumeRefusal.TheVariants.{Damaged}
+use Rattle.reiser_bitmap.specs.refusals.declared.refusal.VolumeRefusal.{VolumeRefusal}
+use Rattle.reiser_bitmap.specs.refusals.declared.refusal.VolumeRefusal.TheVariants.{Damaged}
 use Rattle.reiser_walk.specs.declared.tree.Tree.{Tree}
 use Rattle.reiser_walk.specs.declared.hand.Step.{Step}
 use Rattle.reiser_walk.specs.declared.hand.LeafInHand.{LeafInHand}
@@ -22,7 +22,7 @@ use Rattle.reiser_walk.specs.Rules.{is_node, broken_rule, node_damage, visit_dam
 use Rattle.reiser_walk.specs.Marks.{Marks, seen_after}
 use Rattle.reiser_walk.specs.Hand.{leaf_rest, step_rest, path_rest}
 use Rattle.reiser_walk.specs.Walks.{pending, root_rest, rest, level_of, IsSound, Walks, IsAt}
-use Rattle.reiser_node.proofs.Grammar.{inner_decides}
+use Rattle.reiser_items.proofs.reiser_node.Grammar.{inner_decides}
 use Rattle.reiser_walk.proofs.Damages.{unless_in}
 use Rattle.reiser_walk.proofs.Events.{visits_in-append, items_in-append, reached_in-append, seen_after-append, reach_damages-append, sound_more}
 use Rattle.reiser_walk.proofs.Paths.{path_nil, path_last}

@@ -1,8 +1,8 @@
 -- Which bodies fit their heads, as ReiserFS 3.6 has them. What a directory item holds is not looked at here.
 use Rattle.std.specs.Prelude.{ℕ, ◌%◌, ◌^◌, ◌==◌, nat_le, Bool, true, ◌&&◌, ◌||◌, List, is_some}
-use Rattle.reiser_node.specs.declared.head.ItemHead.{ItemHead}
-use Rattle.reiser_node.specs.declared.head.ItemKind.{ItemKind}
-use Rattle.reiser_node.specs.declared.head.ItemKind.TheVariants.{Stat, Indirect, Direct, Directory}
+use Rattle.reiser_items.specs.reiser_node.declared.head.ItemHead.{ItemHead}
+use Rattle.reiser_items.specs.reiser_node.declared.head.ItemKind.{ItemKind}
+use Rattle.reiser_items.specs.reiser_node.declared.head.ItemKind.TheVariants.{Stat, Indirect, Direct, Directory}
 use Rattle.reiser_items.specs.Pointers.{pointers_of}
 use Rattle.reiser_items.specs.Stat.{stat_of}
 

@@ -1,10 +1,10 @@
 -- What a walk meets inside a leaf.
 use Rattle.std.specs.Prelude.{ℕ, zero, suc, ◌==◌, Bool, true, false, ◌&&◌, not, List, [], ◌∷◌, ◌++◌, map, filter, Option, Some, None, if◌then◌else◌}
-use Rattle.reiser_node.specs.declared.head.ItemHead.{ItemHead}
-use Rattle.reiser_node.specs.declared.head.ItemKind.{ItemKind}
-use Rattle.reiser_node.specs.declared.head.ItemKind.TheVariants.{Stat, Indirect, Direct, Directory}
-use Rattle.reiser_node.specs.Head.{head_at}
-use Rattle.reiser_node.specs.Leaf.{head_place, body_at}
+use Rattle.reiser_items.specs.reiser_node.declared.head.ItemHead.{ItemHead}
+use Rattle.reiser_items.specs.reiser_node.declared.head.ItemKind.{ItemKind}
+use Rattle.reiser_items.specs.reiser_node.declared.head.ItemKind.TheVariants.{Stat, Indirect, Direct, Directory}
+use Rattle.reiser_items.specs.reiser_node.Head.{head_at}
+use Rattle.reiser_items.specs.reiser_node.Leaf.{head_place, body_at}
 use Rattle.reiser_items.specs.Pointers.{pointers}
 use Rattle.reiser_walk.specs.declared.pointer.Pointer.{Pointer}
 use Rattle.reiser_walk.specs.Bodies.{is_save_link}

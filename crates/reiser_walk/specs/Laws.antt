@@ -1,12 +1,12 @@
 -- What it means that nothing is wrong with a tree.
 use Rattle.std.specs.Prelude.{◌≡◌, ◌≢◌, ◌⊎◌, ◌↔◌, ℕ, ◌%◌, ◌^◌, ◌≤◌, ◌<◌, Bool, true, false, List, [], length, All, AllPairs}
 use Rattle.std.specs.Ordering.{is_lt}
-use Rattle.outside.specs.History.{Image, block_at}
-use Rattle.reiser_node.specs.declared.head.ItemHead.{ItemHead}
-use Rattle.reiser_node.specs.declared.head.ItemKind.{ItemKind}
-use Rattle.reiser_node.specs.declared.head.ItemKind.TheVariants.{Stat, Indirect, Direct, Directory}
-use Rattle.reiser_node.specs.Leaf.{IsLeaf}
-use Rattle.reiser_node.specs.Inner.{IsInner}
+use Rattle.reiser_bitmap.specs.outside.History.{Image, block_at}
+use Rattle.reiser_items.specs.reiser_node.declared.head.ItemHead.{ItemHead}
+use Rattle.reiser_items.specs.reiser_node.declared.head.ItemKind.{ItemKind}
+use Rattle.reiser_items.specs.reiser_node.declared.head.ItemKind.TheVariants.{Stat, Indirect, Direct, Directory}
+use Rattle.reiser_items.specs.reiser_node.Leaf.{IsLeaf}
+use Rattle.reiser_items.specs.reiser_node.Inner.{IsInner}
 use Rattle.reiser_items.specs.Order.{key_order}
 use Rattle.reiser_items.specs.Stat.{stat_length}
 use Rattle.reiser_bitmap.specs.Bits.{has}

@@ -1,7 +1,7 @@
 -- Which blocks were reached.
 use Rattle.std.specs.Prelude.{◌≡◌, ◌<◌, ℕ, Bool, not, List, [], ◌∷◌, length, count_by, Result, Contains}
 use Rattle.std.specs.Result.{MatchResult}
-use Rattle.outside.specs.declared.refusal.VolumeRefusal.{VolumeRefusal}
+use Rattle.reiser_bitmap.specs.refusals.declared.refusal.VolumeRefusal.{VolumeRefusal}
 use Rattle.reiser_bitmap.specs.Bits.{has}
 use Rattle.reiser_walk.specs.declared.pointer.Pointer.{Pointer}
 use Rattle.reiser_walk.specs.Rules.{is_in}

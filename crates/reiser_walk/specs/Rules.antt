@@ -2,14 +2,14 @@
 use Rattle.std.specs.Prelude.{ℕ, ◌==◌, nat_lt, Bool, true, ◌||◌, ◌&&◌, not, List, [], ◌∷◌, ◌++◌, length, Option, Some, None, if◌then◌else◌}
 use Rattle.std.specs.List.{flat_map, list_any}
 use Rattle.std.specs.Ordering.{is_lt}
-use Rattle.outside.specs.History.{Image, block_at}
-use Rattle.outside.specs.declared.refusal.VolumeRefusal.{VolumeRefusal}
-use Rattle.outside.specs.declared.refusal.VolumeRefusal.TheVariants.{Damaged}
-use Rattle.outside.specs.declared.rule.Rule.{Rule}
-use Rattle.outside.specs.declared.rule.Rule.TheVariants.{NodeHead, Layout, KeyOrder, BlockFree, BlockRange, BlockTwice, Body}
-use Rattle.reiser_node.specs.declared.head.ItemHead.{ItemHead}
-use Rattle.reiser_node.specs.Leaf.{level, count, is_leaf}
-use Rattle.reiser_node.specs.Inner.{is_inner}
+use Rattle.reiser_bitmap.specs.outside.History.{Image, block_at}
+use Rattle.reiser_bitmap.specs.refusals.declared.refusal.VolumeRefusal.{VolumeRefusal}
+use Rattle.reiser_bitmap.specs.refusals.declared.refusal.VolumeRefusal.TheVariants.{Damaged}
+use Rattle.reiser_bitmap.specs.refusals.declared.rule.Rule.{Rule}
+use Rattle.reiser_bitmap.specs.refusals.declared.rule.Rule.TheVariants.{NodeHead, Layout, KeyOrder, BlockFree, BlockRange, BlockTwice, Body}
+use Rattle.reiser_items.specs.reiser_node.declared.head.ItemHead.{ItemHead}
+use Rattle.reiser_items.specs.reiser_node.Leaf.{level, count, is_leaf}
+use Rattle.reiser_items.specs.reiser_node.Inner.{is_inner}
 use Rattle.reiser_items.specs.Order.{key_order}
 use Rattle.reiser_bitmap.specs.Bits.{has}
 use Rattle.reiser_bitmap.specs.System.{is_system}

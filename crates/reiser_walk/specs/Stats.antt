@@ -1,8 +1,8 @@
 -- How many objects a tree has.
 use Rattle.std.specs.Prelude.{ℕ, Bool, true, false, count_by}
-use Rattle.outside.specs.History.{Image}
-use Rattle.reiser_node.specs.declared.head.ItemKind.{ItemKind}
-use Rattle.reiser_node.specs.declared.head.ItemKind.TheVariants.{Stat, Indirect, Direct, Directory}
+use Rattle.reiser_bitmap.specs.outside.History.{Image}
+use Rattle.reiser_items.specs.reiser_node.declared.head.ItemKind.{ItemKind}
+use Rattle.reiser_items.specs.reiser_node.declared.head.ItemKind.TheVariants.{Stat, Indirect, Direct, Directory}
 use Rattle.reiser_walk.specs.declared.tree.Tree.{Tree}
 use Rattle.reiser_walk.specs.Items.{Item}
 use Rattle.reiser_walk.specs.Tree.{items_of}

@@ -1,8 +1,8 @@
 -- The tree of a ReiserFS volume, as one list of what a walk meets: visits of nodes, items, and blocks that are reached.
 use Rattle.std.specs.Prelude.{ℕ, zero, suc, ◌-◌, nat_lt, ◌&&◌, List, [], ◌∷◌, ◌++◌, if◌then◌else◌}
-use Rattle.outside.specs.History.{Image, block_at}
-use Rattle.reiser_node.specs.Leaf.{count, is_leaf}
-use Rattle.reiser_node.specs.Inner.{is_inner, children, child_at}
+use Rattle.reiser_bitmap.specs.outside.History.{Image, block_at}
+use Rattle.reiser_items.specs.reiser_node.Leaf.{count, is_leaf}
+use Rattle.reiser_items.specs.reiser_node.Inner.{is_inner, children, child_at}
 use Rattle.reiser_walk.specs.declared.pointer.Pointer.{Pointer}
 use Rattle.reiser_walk.specs.declared.tree.Tree.{Tree}
 use Rattle.reiser_walk.specs.Items.{Item, Event, node, item, pointer, leaf_events}

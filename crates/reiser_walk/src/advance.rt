@@ -1,11 +1,11 @@
 ghost use Rattle.std.specs.Prelude.{◌≡◌, ◌≤◌, ◌<◌, ◌+◌, ◌-◌, ◌++◌, ℕ, ◌∷◌, [], List, true, false, length, Contains, Ok, Some, None, IsTrue, IfOk, IfErr, IfSome, IfNone, OnSome, OnOk, OnErr};
 ghost use Rattle.std.specs.Result.{MatchResult};
-ghost use Rattle.outside.specs.Fault.{HasCauseOf};
-ghost use Rattle.outside.specs.History.{Image, OverTold};
-ghost use Rattle.outside.specs.declared.rule.Rule.TheVariants.{KeyOrder, Body};
-ghost use Rattle.reiser_node.specs.declared.head.ItemHead.{ItemHead};
-ghost use Rattle.reiser_node.specs.Head.{head_at};
-ghost use Rattle.reiser_node.specs.Leaf.{head_place, body_at};
+ghost use Rattle.reiser_bitmap.specs.outside.Fault.{HasCauseOf};
+ghost use Rattle.reiser_bitmap.specs.outside.History.{Image, OverTold};
+ghost use Rattle.reiser_bitmap.specs.refusals.declared.rule.Rule.TheVariants.{KeyOrder, Body};
+ghost use Rattle.reiser_items.specs.reiser_node.declared.head.ItemHead.{ItemHead};
+ghost use Rattle.reiser_items.specs.reiser_node.Head.{head_at};
+ghost use Rattle.reiser_items.specs.reiser_node.Leaf.{head_place, body_at};
 ghost use Rattle.reiser_walk.specs.declared.pointer.Pointer.{Pointer};
 ghost use Rattle.reiser_walk.specs.declared.tree.Tree.{Tree};
 ghost use Rattle.reiser_walk.specs.Answers.{IsTreeAnswer, IsTreeRefusal, Blames};
@@ -23,11 +23,9 @@ use crate::hand::{LeafInHand, Place};
 use crate::path::next_child;
 use crate::pointer::Pointer;
 use crate::tree::Tree;
-use outside::{BlockSource, Fault, Memory, Rule, VolAnswer, VolumeRefusal};
-use reiser_bitmap::Bitmap;
-use reiser_node::{ItemHead, LeafView};
+use reiser_bitmap::{Bitmap, BlockSource, Fault, Memory, Rule, VolAnswer, VolumeRefusal};
+use reiser_items::{Block, BlockNo, ItemHead, LeafView};
 use std::alloc::Global;
-use vol_block::{Block, BlockNo};
 
 /// How many inner nodes lie above a leaf at most.
 const DEPTH: usize = 5;

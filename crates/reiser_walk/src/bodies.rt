@@ -2,8 +2,7 @@ ghost use Rattle.std.specs.Prelude.{◌≡◌};
 ghost use Rattle.reiser_walk.specs.Bodies.{fits_kind, is_save_link, is_body};
 ghost use Rattle.reiser_walk.specs.Rules.{is_above};
 
-use reiser_items::{Pointers, StatData, key_order};
-use reiser_node::{ItemHead, ItemKind};
+use reiser_items::{ItemHead, ItemKind, Pointers, StatData, key_order};
 
 /// The number of the directory that save links have.
 const SAVE_LINKS: u32 = 0xFFFF_FFFF;

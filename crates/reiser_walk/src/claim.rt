@@ -8,11 +8,8 @@ ghost use Rattle.reiser_walk.specs.Marks.{Marks, Claims, seen_after, unmarked};
 use crate::bodies::is_save_link;
 use crate::pointer::Pointer;
 use crate::tree::Tree;
-use outside::{Rule, VolumeRefusal};
-use reiser_bitmap::{Bitmap, is_system};
-use reiser_items::Pointers;
-use reiser_node::{ItemHead, ItemKind};
-use vol_block::BlockNo;
+use reiser_bitmap::{Bitmap, Rule, VolumeRefusal, is_system};
+use reiser_items::{BlockNo, ItemHead, ItemKind, Pointers};
 
 /// Marks a block as reached, if it may be.
 pub fn claim(

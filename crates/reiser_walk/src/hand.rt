@@ -1,8 +1,8 @@
 ghost use Rattle.std.specs.Prelude.{◌≡◌, ◌<◌, ◌+◌};
-ghost use Rattle.reiser_node.specs.Inner.{IsInner, children};
-ghost use Rattle.reiser_node.specs.Leaf.{IsLeaf, level, count};
+ghost use Rattle.reiser_items.specs.reiser_node.Inner.{IsInner, children};
+ghost use Rattle.reiser_items.specs.reiser_node.Leaf.{IsLeaf, level, count};
 
-use vol_block::{Block, BlockNo};
+use reiser_items::{Block, BlockNo};
 
 /// Which items or children of a node are still to come.
 #[derive(Clone, Copy, Debug)]

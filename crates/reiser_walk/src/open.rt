@@ -2,13 +2,12 @@ ghost use Rattle.std.specs.Prelude.{◌≡◌, ◌≢◌, ◌≤◌, IfErr};
 ghost use Rattle.reiser_walk.specs.Answers.{IsTreeRefusal, IsTreeRule};
 ghost use Rattle.reiser_walk.specs.Rules.{broken_rule};
 ghost use Rattle.reiser_walk.specs.Walks.{Opens, level_of};
-ghost use Rattle.outside.specs.declared.refusal.VolumeRefusal.TheVariants.{Damaged};
+ghost use Rattle.reiser_bitmap.specs.refusals.declared.refusal.VolumeRefusal.TheVariants.{Damaged};
 
 use crate::Walker;
 use crate::hand::{Place, Step};
-use outside::{Rule, VolumeRefusal};
-use reiser_node::{InnerView, LeafView};
-use vol_block::{Block, BlockNo, u16_at};
+use reiser_bitmap::{Rule, VolumeRefusal};
+use reiser_items::{Block, BlockNo, InnerView, LeafView, u16_at};
 
 impl Walker {
     /// Empties the leaf in hand, whose block is to be read.

@@ -1,12 +1,12 @@
 ghost use Rattle.std.specs.Prelude.{◌≡◌, ◌<◌, ◌≤◌, ◌+◌, ◌++◌, ℕ, suc, [], length, vec_capacity, IfSome, IfNone, OnSome};
-ghost use Rattle.outside.specs.History.{Image};
-ghost use Rattle.reiser_node.specs.Inner.{child_at};
+ghost use Rattle.reiser_bitmap.specs.outside.History.{Image};
+ghost use Rattle.reiser_items.specs.reiser_node.Inner.{child_at};
 ghost use Rattle.reiser_walk.specs.Hand.{path_rest};
 ghost use Rattle.reiser_walk.specs.Tree.{node_events};
 
 use crate::hand::{Place, Step};
 use crate::pointer::Pointer;
-use reiser_node::InnerView;
+use reiser_items::InnerView;
 
 /// Takes the next child off a path of inner nodes, the lowest last.
 pub fn next_child(path: &mut Vec<Step>) -> Option<Pointer>

@@ -1,4 +1,4 @@
-use vol_block::BlockNo;
+use reiser_items::BlockNo;
 
 /// A block that is reached, and the node that names it.
 #[derive(Clone, Copy, Debug, PartialEq, Eq)]

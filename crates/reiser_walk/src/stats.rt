@@ -1,15 +1,14 @@
 ghost use Rattle.std.specs.Prelude.{◌≡◌, ◌≤◌, ◌<◌, ◌^◌, [], false, length, IfOk, IfErr, OnOk};
-ghost use Rattle.outside.specs.Fault.{HasCauseOf};
-ghost use Rattle.outside.specs.History.{OverTold};
+ghost use Rattle.reiser_bitmap.specs.outside.Fault.{HasCauseOf};
+ghost use Rattle.reiser_bitmap.specs.outside.History.{OverTold};
 ghost use Rattle.reiser_walk.specs.Answers.{IsTreeAnswer, Blames};
 ghost use Rattle.reiser_walk.specs.Rules.{tree_damages};
 ghost use Rattle.reiser_walk.specs.Stats.{is_stat_kind, stat_count};
 ghost use Rattle.reiser_walk.specs.Walks.{Walks, block_count};
 
 use crate::Walker;
-use outside::{BlockSource, VolAnswer};
-use reiser_bitmap::Bitmap;
-use reiser_node::ItemKind;
+use reiser_bitmap::{Bitmap, BlockSource, VolAnswer};
+use reiser_items::ItemKind;
 
 /// How many stat items the tree has that a walker is about to walk, if it keeps each rule: one for each object.
 ///

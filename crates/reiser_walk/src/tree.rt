@@ -1,4 +1,4 @@
-use vol_block::BlockNo;
+use reiser_items::BlockNo;
 
 /// Where a volume keeps its tree and its journal, as its superblock says.
 #[derive(Clone, Copy, Debug, PartialEq, Eq)]

@@ -3,7 +3,7 @@ ghost use Rattle.std.specs.Prelude.{◌≡◌, ◌≤◌, ◌<◌, ◌+◌, ◌^
 use crate::hand::{LeafInHand, Step};
 use crate::tree::Tree;
 use reiser_bitmap::Bitmap;
-use reiser_node::ItemHead;
+use reiser_items::ItemHead;
 
 /// A walk over the items of the tree of a volume.
 ///

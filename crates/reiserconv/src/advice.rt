@@ -2,8 +2,11 @@
 use crate::paragraph::Paragraph;
 use crate::sentences::{
     Sentence, of_btrfs_rule, of_fault, of_feature, of_line, of_refusal, of_rule, of_safety,
-    of_trial,
+    of_start, of_trial,
 };
+use crate::space::Space;
+use crate::start::Missing;
+use crate::wrong_words::find;
 use host_edge::{Call, Cause, Trouble, Use};
 use std::alloc::{AllocError, Global};
 use std::str;
@@ -15,20 +18,42 @@ pub struct Outcome<'a> {
     pub line: &'a [u8],
     /// Why the last call of the device failed, if one did.
     pub trouble: Option<Trouble>,
-    /// Whether a block was to be written.
+    /// Whether a block was written, whole or in part.
     pub wrote: bool,
     /// Whether it was a trial, on a device that is to be overwritten.
     pub is_trial: bool,
+    /// The words, without the program's name.
+    pub words: &'a [String],
+    /// The path of the run, as a shell reads it.
+    pub path: &'a str,
+    /// The size of a node that was asked for.
+    pub size: &'a str,
 }
 
 /// The text for a person. It has a line feed at its end, and nothing where nothing is known of the line.
 pub fn advice(alloc: Global, outcome: &Outcome<'_>) -> Result<String, AllocError> {
-    let mut text = Paragraph::new(alloc);
+    let mut text = Paragraph::new(alloc, outcome.path);
     let line = str::from_utf8(outcome.line).unwrap_or("").trim_end();
     match line.strip_prefix("refused ") {
         Some(words) => tell_refusal(alloc, &mut text, words, outcome)?,
         None => tell_line(alloc, &mut text, line, outcome)?,
     }
+    Ok(text.into_text())
+}
+
+/// The text for a person where the program could not start.
+pub fn start_advice(alloc: Global, missing: Missing) -> Result<String, AllocError> {
+    let mut text = Paragraph::new(alloc, "");
+    let sentence = of_start(match missing {
+        Missing::Streams => "streams",
+        Missing::Text => "text",
+        Missing::Memory => "memory",
+        Missing::Time => "time",
+        Missing::Random => "random",
+    });
+    text.say(sentence.means, &[])?;
+    text.end()?;
+    tell_next(&mut text, sentence.next, &[])?;
     Ok(text.into_text())
 }
 
@@ -72,7 +97,7 @@ impl<'a> Refusal<'a> {
     }
 
     /// Tells what it means, and returns what to do.
-    fn tell(&self, text: &mut Paragraph, is_trial: bool) -> Result<&'static str, AllocError> {
+    fn tell(&self, text: &mut Paragraph<'_>, is_trial: bool) -> Result<&'static str, AllocError> {
         let sentence = self.sentence(is_trial);
         text.say(sentence.means, self.numbers)?;
         let mut next = sentence.next;
@@ -86,12 +111,15 @@ impl<'a> Refusal<'a> {
     }
 }
 
+/// The number of the refusal for want of space.
+const SPACE: u64 = 15;
+
 /// The number of the refusal of a saved image, behind whose word stands the image's own.
 const IMAGE: u64 = 19;
 
 fn tell_refusal(
     alloc: Global,
-    text: &mut Paragraph,
+    text: &mut Paragraph<'_>,
     line: &str,
     outcome: &Outcome<'_>,
 ) -> Result<(), AllocError> {
@@ -108,29 +136,39 @@ fn tell_refusal(
         }
         text.end()?;
         tell_safety(text, written(outcome, "free"))?;
-        tell_next(text, next, refusal.numbers)?;
+        match space_of(&refusal, outcome.is_trial) {
+            Some(space) => space.tell_what_helps(alloc, text, outcome.size)?,
+            None => tell_next(text, next, refusal.numbers)?,
+        }
     }
     Ok(())
+}
+
+/// The space of a conversion that is refused for want of it.
+fn space_of(refusal: &Refusal<'_>, is_trial: bool) -> Option<Space> {
+    if refusal.number == SPACE && !is_trial {
+        Space::refused(refusal.numbers)
+    } else {
+        None
+    }
 }
 
 /// Tells of a line that is no refusal.
 fn tell_line(
     alloc: Global,
-    text: &mut Paragraph,
+    text: &mut Paragraph<'_>,
     line: &str,
     outcome: &Outcome<'_>,
 ) -> Result<(), AllocError> {
-    let key = if line.starts_with("usage: ") {
-        "usage: .."
-    } else {
-        line
-    };
-    let sentence = of_line(key);
+    if line.starts_with("usage: ") {
+        return tell_wrong_words(alloc, text, outcome.words);
+    }
+    let sentence = of_line(line);
     let mut next = sentence.next;
-    match (key, outcome.trouble) {
+    match (line, outcome.trouble) {
         ("device fault", Some(trouble)) => {
             let fault = of_fault(cause(&trouble));
-            if let Cause::System(_) = trouble.cause {
+            if let Cause::System(_) | Cause::Holds(_) = trouble.cause {
                 let reason = format!(in alloc; "The reason: {}.", trouble)?;
                 text.say(reason.as_str(), &[])?;
             }
@@ -140,13 +178,31 @@ fn tell_line(
         _ => text.say(sentence.means, &[])?,
     }
     text.end()?;
-    match key {
+    match line {
         "device fault" => tell_safety(text, written(outcome, "cut"))?,
         "out of memory" => tell_safety(text, written(outcome, "free"))?,
         "output fault" => tell_safety(text, "done")?,
         _ => {}
     }
     tell_next(text, next, &[])
+}
+
+/// Tells what is wrong with words that are no command.
+fn tell_wrong_words(
+    alloc: Global,
+    text: &mut Paragraph<'_>,
+    words: &[String],
+) -> Result<(), AllocError> {
+    let sentence = of_line("usage: ..");
+    match find(alloc, words)? {
+        Some(finding) => {
+            let parts = [finding.first.as_str(), finding.second.as_str()];
+            text.say(finding.sentence, &parts)?;
+        }
+        None => text.say(sentence.means, &[])?,
+    }
+    text.end()?;
+    tell_next(text, sentence.next, &[])
 }
 
 /// The name of what is safe: this one where something was written, and it was no trial.
@@ -158,12 +214,12 @@ fn written(outcome: &Outcome<'_>, case: &'static str) -> &'static str {
     }
 }
 
-fn tell_safety(text: &mut Paragraph, case: &str) -> Result<(), AllocError> {
+fn tell_safety(text: &mut Paragraph<'_>, case: &str) -> Result<(), AllocError> {
     text.say(of_safety(case).means, &[])?;
     text.end()
 }
 
-fn tell_next(text: &mut Paragraph, next: &str, numbers: &[&str]) -> Result<(), AllocError> {
+fn tell_next(text: &mut Paragraph<'_>, next: &str, numbers: &[&str]) -> Result<(), AllocError> {
     if !next.is_empty() {
         text.say("What to do:", &[])?;
         text.say(next, numbers)?;
@@ -180,6 +236,9 @@ fn cause(trouble: &Trouble) -> &'static str {
         Cause::InUse(Use::Held) => "held",
         Cause::InUse(Use::Loop) => "loop",
         Cause::InUse(Use::Locked) => "locked",
+        Cause::InUse(Use::Unknown) => "unknown",
+        Cause::ReadOnly => "readonly",
+        Cause::Holds(_) => "holds",
         Cause::Kind => "kind",
         Cause::System(_) | Cause::Closed if trouble.call == Call::Open => "open",
         Cause::System(_) | Cause::Closed => "device",

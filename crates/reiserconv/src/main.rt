@@ -1,57 +1,118 @@
 //! The program `reiserconv`: it makes the disk, the sinks, the identifiers and the moment, calls `run`, and ends with
-//! its status. To a person at a terminal it also tells what the line of a run means, and what to do.
+//! its status. To a person at a terminal it also tells what the lines of a run mean, and what to do.
 #![tactic(auto)]
 
+ghost use Rattle.std.specs.Prelude.{◌≡◌, None};
+ghost use Rattle.host_edge.specs.FileDisk.{opened_for};
+
 mod advice;
+mod asked;
+mod finding;
+mod foreign;
+mod nearest;
+mod notices;
+mod options;
 mod paragraph;
 mod sentences;
+mod shell;
+mod space;
 mod start;
+mod talk;
+mod wrong_words;
 
-use advice::{Outcome, advice};
-use host_edge::{FileDisk, LineSink, StatusLine, StdSink};
-use outside::Sink;
-use start::Start;
+use asked::Asked;
+use host_edge::{FileDisk, LineSink, Sink, StatusLine, StdSink, hold_streams};
+use start::{Missing, Start};
+use std::env::Env;
+use std::fs::{File, Files};
+use std::io::Write;
 use std::process::ExitCode;
+use std::random::RandomSource;
+use std::time::Clock;
+use talk::{Ended, Talk, tell_start};
 use volume_app::run;
 
 /// The status where the arguments, the clock or the random source failed.
 const START_FAULT: u8 = 7;
 
 fn main(rt: HostRuntime) -> ExitCode {
-    let shown = StatusLine::new(rt.stderr());
+    let start = begin(&rt);
+    let shown = StatusLine::new(rt.stderr(), &rt);
     let mut err = LineSink::new(StdSink::new(rt.stderr(), &shown));
-    let mut out = StdSink::new(rt.stdout(), &shown);
-    let mut disk = FileDisk::new(&rt, &shown);
-    let mut is_trial = false;
-    let status = match Start::new(&rt) {
-        Ok(start) => {
-            is_trial = start.is_trial();
-            run(
-                rt.alloc(),
-                &start.words,
-                start.ids,
-                start.now,
-                &mut disk,
-                &mut out,
-                &mut err,
-            )
-        }
-        Err(_) => {
+    let mut out = LineSink::new(StdSink::new(rt.stdout(), &shown));
+    let status = match start {
+        Ok(start) => serve(&rt, &start, &shown, &mut out, &mut err),
+        Err(missing) => {
             let _ = err.write(b"start fault\n");
+            tell_start(rt.alloc(), missing, &shown, &mut err);
             START_FAULT
         }
     };
+    ExitCode::from(status)
+}
+
+/// What the run starts with, once no file that is opened can get the number of a standard stream.
+fn begin<R: Env + Clock + RandomSource + Files<File = File> + AllocGlobal>(
+    rt: &R,
+) -> Result<Start, Missing> {
+    if hold_streams(rt).is_err() {
+        return Err(Missing::Streams);
+    }
+    Start::new(rt)
+}
+
+/// Does what the words ask for, tells of it, and answers the status.
+fn serve<
+    R: Files<File = File> + AllocGlobal + Clock + Clone + Drop,
+    O: Write + Drop,
+    W: Write + Drop,
+>(
+    rt: R,
+    start: &Start,
+    shown: &StatusLine,
+    out: &mut LineSink<'_, O>,
+    err: &mut LineSink<'_, W>,
+) -> u8 {
+    let alloc = rt.alloc();
+    let asked = Asked::new(&start.words);
+    let talk = Talk::new(alloc, &start.words, asked, shown);
+    if let Some(talk) = &talk {
+        talk.begin(shown, err);
+    }
+    let mut disk = disk_for(rt, shown, &asked);
+    let status = run(
+        alloc,
+        &start.words,
+        start.ids,
+        start.now,
+        &mut disk,
+        out,
+        err,
+    );
     shown.wipe();
-    if shown.is_seen() {
-        let outcome = Outcome {
-            line: err.line(),
+    if let Some(talk) = &talk {
+        let ended = Ended {
+            status,
             trouble: disk.trouble(),
             wrote: disk.written() > 0,
-            is_trial,
         };
-        if let Ok(text) = advice(rt.alloc(), &outcome) {
-            let _ = err.write(text.as_bytes());
-        }
+        talk.end(&ended, out, err);
     }
-    ExitCode::from(status)
+    status
+}
+
+/// The disk of a run. That of a trial is to be overwritten.
+fn disk_for<'a, R: Files<File = File> + AllocGlobal + Clock + Clone + Drop>(
+    files: R,
+    line: &'a StatusLine,
+    asked: &Asked<'_>,
+) -> FileDisk<'a, R>
+    ensures { opened_for result ≡ None }
+{
+    let mut disk = FileDisk::new(files, line);
+    disk.expect(asked.task());
+    if asked.is_trial() {
+        disk.expect_blank();
+    }
+    disk
 }

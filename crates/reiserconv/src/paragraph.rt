@@ -5,25 +5,31 @@ const WIDTH: usize = 78;
 
 /// A text whose lines are broken between words.
 #[derive(Drop)]
-pub struct Paragraph {
+pub struct Paragraph<'p> {
     text: String,
     column: usize,
+    path: &'p str,
 }
 
-impl Paragraph {
-    /// An empty text.
-    pub fn new(alloc: Global) -> Paragraph {
+impl<'p> Paragraph<'p> {
+    /// An empty text. The path is that of the run, as a shell reads it.
+    pub fn new(alloc: Global, path: &'p str) -> Paragraph<'p> {
         Paragraph {
             text: String::new(alloc),
             column: 0,
+            path,
         }
     }
 
-    /// Appends words. `{1}` in one stands for the first of the numbers, and so on.
-    pub fn say<'a, 'b>(&mut self, words: &'a str, numbers: &[&'b str]) -> Result<(), AllocError> {
+    /// Appends words. `{1}` in one stands for the first of the parts, and so on, and `{path}` for the path.
+    pub fn say<'a, 'b>(&mut self, words: &'a str, parts: &[&'b str]) -> Result<(), AllocError> {
         for word in words.split(' ') {
-            match hole(word, numbers) {
-                Some((front, number, back)) => self.word(front, number, back)?,
+            match hole(word) {
+                Some((front, "path", back)) => {
+                    let path = self.path;
+                    self.word(front, path, back)?;
+                }
+                Some((front, place, back)) => self.word(front, part(place, parts), back)?,
                 None => self.word(word, "", "")?,
             }
         }
@@ -69,11 +75,20 @@ impl Paragraph {
     }
 }
 
-/// The parts of a word with a place for a number, with the number in its place.
-fn hole<'a, 'b>(word: &'a str, numbers: &[&'b str]) -> Option<(&'a str, &'b str, &'a str)> {
+/// The parts of a word with a place for another text: what stands before, the name of the place, and what stands behind.
+fn hole(word: &str) -> Option<(&str, &str, &str)> {
     let (front, rest) = word.split_once('{')?;
     let (place, back) = rest.split_once('}')?;
-    let place: usize = place.parse().ok()?;
-    let number = *numbers.get(place.checked_sub(1)?)?;
-    Some((front, number, back))
+    Some((front, place, back))
+}
+
+/// The part with this number, from 1 on; nothing where there is none.
+fn part<'b>(place: &str, parts: &[&'b str]) -> &'b str {
+    let Ok(number) = place.parse::<usize>() else {
+        return "";
+    };
+    match number.checked_sub(1) {
+        Some(index) => parts.get(index).copied().unwrap_or(""),
+        None => "",
+    }
 }

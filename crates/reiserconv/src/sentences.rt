@@ -1,7 +1,7 @@
 // Made by docs/refusals.py of docs/refusals.table: change that one, and not this file.
 
 /// What a line means, and what to do next, each empty where there is nothing to say. In the text of a refusal `{1}` stands for the first
-/// number of its line, and so on.
+/// number of its line, and so on, and `{path}` for the path of the run.
 #[derive(Clone, Copy)]
 pub struct Sentence {
     pub means: &'static str,
@@ -22,7 +22,7 @@ pub fn of_refusal(number: u64) -> Sentence {
         },
         2 => Sentence {
             means: "The volume was not unmounted, or is mounted right now: its superblock has the state {1}.",
-            next: "Mount it in Linux and unmount it, or run 'reiserfsck --check', which replays the journal.",
+            next: "Mount it in Linux and unmount it, or run 'reiserfsck --check {path}', which replays the journal.",
         },
         3 => Sentence {
             means: "The volume has something that is not supported: feature {1}, with the value {2}.",
@@ -34,15 +34,15 @@ pub fn of_refusal(number: u64) -> Sentence {
         },
         5 => Sentence {
             means: "The journal holds at least one transaction that is not in its place yet, number {1}.",
-            next: "Mount the volume in Linux and unmount it, or run 'reiserfsck --check', which replays the journal.",
+            next: "Mount the volume in Linux and unmount it, or run 'reiserfsck --check {path}', which replays the journal.",
         },
         6 => Sentence {
             means: "At block {1} a rule of the format is broken, rule {2}.",
-            next: "Run 'reiserfsck --check', and do what it says. With '--rebuild-tree' it writes a lot: have a copy before. Where it finds nothing and the line stays, mount the volume read-only in Linux, and copy its files to a new one.",
+            next: "Run 'reiserfsck --check {path}', and do what it says. With '--rebuild-tree' it writes a lot: have a copy before. Where it finds nothing and the line stays, mount the volume read-only in Linux, and copy its files to a new one.",
         },
         7 => Sentence {
             means: "There are extended attributes or access control lists, which the program does not carry over: those of {1} {2}.",
-            next: "Mount the volume in Linux with the options 'user_xattr,acl'. Keep what you need ('getfattr -R -d -m - /mnt/disk', 'getfacl -R /mnt/disk'), and remove the attributes ('setfattr -x NAME FILE', 'setfacl -R -b /mnt/disk'). Empty folders that stay behind in '.reiserfs_priv' do no harm.",
+            next: "Keep them in two files, remove them, and put them back on the new volume: the commands are in HOWTO.md, section 9. Where none is worth it, mount the volume in Linux with the options 'user_xattr,acl', and remove the attributes ('setfattr -x NAME FILE') and lists ('setfacl -R -b /mnt/disk'). Empty folders that stay behind in '.reiserfs_priv' do no harm.",
         },
         8 => Sentence {
             means: "A file was removed, or cut short, while a program had it open, and is still to be cleaned up: object {1}.",
@@ -62,15 +62,15 @@ pub fn of_refusal(number: u64) -> Sentence {
         },
         13 => Sentence {
             means: "At the address {1}, in bytes, a rule of the format is broken, rule {2}.",
-            next: "Run 'btrfs check --readonly'. Where it finds nothing, the volume may have something that this program does not know, and is sound all the same.",
+            next: "Run 'btrfs check --readonly {path}'. Where it finds nothing, the volume may have something that this program does not know, and is sound all the same.",
         },
         14 => Sentence {
             means: "The volume was not unmounted, and a log waits to be replayed, at the address {1}.",
             next: "Mount it in Linux and unmount it.",
         },
         15 => Sentence {
-            means: "A conversion needs {1} free units of 1 MiB, and {2} are free. {3} of them have to lie in one row, and the longest free row has {4}.",
-            next: "Remove or move away large files, take smaller nodes ('--nodesize 4096'), or make the volume larger: see HOWTO.md.",
+            means: "A conversion needs {1} free units of 1 MiB, with {3} in one row. Of units that are free as a whole there are {2}, with {4} in the longest row.",
+            next: "Remove or move away large files, or make the volume larger. Nodes of another size may need less: 'reiserconv inspect --nodesize 4096 {path}' tells how much. See HOWTO.md.",
         },
         16 => Sentence {
             means: "The volume already has the format that the command makes.",
@@ -101,7 +101,7 @@ pub fn of_trial(number: u64) -> Sentence {
     match number {
         4 => Sentence {
             means: "A trial takes {1} blocks of 4 KiB, which is 256 MiB, and the device has only {2} of them.",
-            next: "Take a longer file ('truncate -s 256M scratch.img' makes one) or device.",
+            next: "Take a longer file ('truncate -s 256M {path}' makes one so long) or device.",
         },
         15 => Sentence {
             means: "The sample is too large for its volume of 256 MiB, or leaves too little space for a conversion.",
@@ -109,7 +109,7 @@ pub fn of_trial(number: u64) -> Sentence {
         },
         16 => Sentence {
             means: "There is a volume of ReiserFS or Btrfs, which the trial would overwrite.",
-            next: "Take another file or device. Where it holds nothing but the sample of another trial, 'wipefs --all' takes away what tells of a volume.",
+            next: "Take another file or device. Where it holds nothing but the sample of another trial, 'wipefs --all {path}' takes away what tells of a volume.",
         },
         _ => NOTHING,
     }
@@ -309,15 +309,15 @@ pub fn of_line(line: &str) -> Sentence {
     match line {
         "usage: .." => Sentence {
             means: "The arguments are invalid, and nothing was opened.",
-            next: "'reiserconv --help' has the commands. A path may not begin with a dash: write './-name'.",
+            next: "'reiserconv --help' has the commands and their options.",
         },
         "device fault" => Sentence {
-            means: "A call of the system failed, or the device is in use.",
+            means: "A call of the system failed, or the device is in use, is read-only, or holds what a trial would overwrite.",
             next: "",
         },
         "out of memory" => Sentence {
             means: "The system gave no memory.",
-            next: "Close other programs, or add swap space.",
+            next: "Close other programs or add swap space, and begin again.",
         },
         "output fault" => Sentence {
             means: "The text could not be printed, for example since the disk that it goes to is full.",
@@ -325,7 +325,7 @@ pub fn of_line(line: &str) -> Sentence {
         },
         "start fault" => Sentence {
             means: "The arguments, the clock or the random numbers of the system could not be had, and nothing was opened.",
-            next: "See whether '/proc' is mounted, and whether each argument is text in UTF-8.",
+            next: "See whether each argument is text in UTF-8.",
         },
         _ => NOTHING,
     }
@@ -356,15 +356,54 @@ pub fn of_fault(cause: &str) -> Sentence {
         },
         "loop" => Sentence {
             means: "A loop device is attached to the file.",
-            next: "Unmount it if it is mounted, and detach it with 'losetup -d'; 'losetup -a' lists all. Or give the loop device in place of the file.",
+            next: "Unmount it if it is mounted, and detach it with 'losetup -d'; 'losetup -j {path}' tells which it is. Or give the loop device in place of the file.",
         },
         "locked" => Sentence {
             means: "Another program has locked it, such as another run of this one.",
-            next: "Wait until that program has ended; 'fuser -v' shows it.",
+            next: "Wait until that program has ended; 'fuser -v {path}' shows it.",
+        },
+        "unknown" => Sentence {
+            means: "Nobody can tell whether it is in use, since '/proc' or '/sys' can't be read.",
+            next: "Mount both: 'mount -t proc proc /proc' and 'mount -t sysfs sysfs /sys'. For a root folder that you enter with 'chroot' do that before, as in HOWTO.md for a root file system.",
+        },
+        "readonly" => Sentence {
+            means: "It is read-only.",
+            next: "See whether this is the right device: 'lsblk' shows in the column RO which are read-only. 'blockdev --setrw {path}' makes one writable, and a loop device is attached again without '--read-only'. A file has to lie on a file system that is mounted for writing.",
+        },
+        "holds" => Sentence {
+            means: "Something lies there that would be overwritten, such as partitions, another file system, swap space or a part of a RAID.",
+            next: "Take another file or device. Where nothing there is of any worth, 'wipefs -a {path}' takes away what tells of it, and a partition table with 'wipefs -a -f {path}'.",
         },
         "device" => Sentence {
             means: "Reading, writing or flushing failed.",
             next: "Look at 'dmesg' and at the state of the disk ('smartctl -a'). Where the disk fails, make a copy of it first ('ddrescue'), and go on with that.",
+        },
+        _ => NOTHING,
+    }
+}
+
+/// Of a program that does not start, by the cause.
+pub fn of_start(cause: &str) -> Sentence {
+    match cause {
+        "text" => Sentence {
+            means: "An argument is no text in UTF-8, and a path has to be. Nothing was opened.",
+            next: "Reach the file by a symbolic link with another name ('ln -s'), or give it another name.",
+        },
+        "memory" => Sentence {
+            means: "The system gave no memory for the arguments. Nothing was opened.",
+            next: "Close other programs, or add swap space.",
+        },
+        "time" => Sentence {
+            means: "The system does not tell the time, or tells one before 1970. Nothing was opened.",
+            next: "Set the clock ('date -s').",
+        },
+        "random" => Sentence {
+            means: "The system gives no random numbers, which a new volume needs for its identifiers. Nothing was opened.",
+            next: "See whether '/dev/urandom' is there.",
+        },
+        "streams" => Sentence {
+            means: "A standard stream is closed, and no file could be opened in its place. Nothing was opened but '/dev/null'.",
+            next: "Redirect the stream to a file, or to '/dev/null'.",
         },
         _ => NOTHING,
     }
@@ -382,7 +421,7 @@ pub fn of_safety(case: &str) -> Sentence {
             next: "",
         },
         "cut" => Sentence {
-            means: "Blocks were written. The volume is the old one or the new one, as after a power cut: 'reiserconv recover' says which, and can be called again.",
+            means: "Blocks were written. The volume is the old one or the new one, as after a power cut: 'reiserconv recover {path}' says which, and can be called again.",
             next: "",
         },
         "trial" => Sentence {

@@ -1,13 +1,12 @@
 ghost use Rattle.std.specs.Prelude.{◌<◌, ◌^◌, IfOk};
 
+use host_edge::Ids;
 use std::env::Env;
 use std::io::ErrorKind;
 use std::random::RandomSource;
 use std::time::{Clock, SystemTime};
 use std::{env, io};
 use uuid::Builder;
-use vol_block::Ids;
-use volume_app::{Command, read_words};
 
 /// What a run starts with, beside the disk and the sinks.
 #[derive(Drop)]
@@ -21,9 +20,24 @@ pub struct Start {
     ghost bounded: { now < 2 ^ 63 },
 }
 
+/// What could not be had of the system.
+#[derive(Clone, Copy, Debug, PartialEq, Eq)]
+pub enum Missing {
+    /// A file in the place of each standard stream that is closed.
+    Streams,
+    /// A word of the command line as text: it is not in UTF-8.
+    Text,
+    /// Memory for the words.
+    Memory,
+    /// The time.
+    Time,
+    /// Random numbers.
+    Random,
+}
+
 impl Start {
-    /// Asks the system for all of it. An error is one of the arguments, the clock or the random source.
-    pub fn new<R: Env + Clock + RandomSource + AllocGlobal>(rt: &R) -> io::Result<Start> {
+    /// Asks the system for all of it.
+    pub fn new<R: Env + Clock + RandomSource + AllocGlobal>(rt: &R) -> Result<Start, Missing> {
         Ok(Start {
             words: words(rt)?,
             ids: Ids {
@@ -35,36 +49,50 @@ impl Start {
             now: seconds(rt)?,
         })
     }
-
-    /// Whether the words ask for a trial.
-    pub fn is_trial(&self) -> bool {
-        matches!(read_words(&self.words), Some(Command::Trial(..)))
-    }
 }
 
 /// The words of the command line, without the program's name.
-fn words<R: Env + AllocGlobal>(rt: &R) -> io::Result<Vec<String>> {
+fn words<R: Env + AllocGlobal>(rt: &R) -> Result<Vec<String>, Missing> {
+    let args = match env::args(rt) {
+        Ok(args) => args,
+        Err(e) => return Err(wordless(e)),
+    };
     let mut words = Vec::new(rt.alloc());
-    for word in env::args(rt)?.skip(1) {
-        words.push(word)?;
+    for word in args.skip(1) {
+        if words.push(word).is_err() {
+            return Err(Missing::Memory);
+        }
     }
     Ok(words)
 }
 
+/// Why there are no words.
+fn wordless(e: io::Error) -> Missing {
+    if e.kind() == ErrorKind::InvalidData {
+        Missing::Text
+    } else {
+        Missing::Memory
+    }
+}
+
 /// A random identifier of version 4.
-fn random_id<R: RandomSource>(rt: &R) -> io::Result<[u8; 16]> {
+fn random_id<R: RandomSource>(rt: &R) -> Result<[u8; 16], Missing> {
     let mut bytes = [0; 16];
-    rt.fill_bytes(&mut bytes)?;
+    if rt.fill_bytes(&mut bytes).is_err() {
+        return Err(Missing::Random);
+    }
     Ok(Builder::from_random_bytes(bytes).into_uuid().into_bytes())
 }
 
 /// The seconds since 1970, where they are below 2^63.
-fn seconds<R: Clock>(rt: &R) -> io::Result<u64>
+fn seconds<R: Clock>(rt: &R) -> Result<u64, Missing>
     ensures { IfOk result (λ now. now < 2 ^ 63) }
 {
-    let since = SystemTime::now(rt)?.duration_since(SystemTime::UNIX_EPOCH);
-    match since {
+    let Ok(now) = SystemTime::now(rt) else {
+        return Err(Missing::Time);
+    };
+    match now.duration_since(SystemTime::UNIX_EPOCH) {
         Ok(since) if since.as_secs() < 1 << 63 => Ok(since.as_secs()),
-        _ => Err(io::Error::from(ErrorKind::InvalidData)),
+        _ => Err(Missing::Time),
     }
 }

@@ -1,18 +1,18 @@
 -- The used blocks decide superblock, journal and bitmap of a ReiserFS volume that has them in order.
 use Rattle.std.proofs.Common.{◌≡◌, ◌∙◌, ◌+◌, ℕ, true, Bool, List, [], length, sym, ap, subst, arith}
 use Rattle.std.specs.Prelude.{Contains}
-use Rattle.outside.specs.History.{Image, block_at}
-use Rattle.object_files.specs.Laws.{SameUsed}
+use Rattle.reiser_bitmap.specs.outside.History.{Image, block_at}
+use Rattle.reiser_volume.specs.reiser_volume_contents.Laws.{SameUsed}
 use Rattle.reiser_bitmap.specs.Bits.{has}
 use Rattle.reiser_bitmap.specs.Layout.{bitmap_block, bitmap_of}
 use Rattle.reiser_bitmap.specs.System.{system_blocks}
 use Rattle.reiser_bitmap.proofs.MoreLaws.{bitmap_decided}
 use Rattle.reiser_bitmap.proofs.SystemBlocks.{bitmap_in, journal_in, superblock_in}
-use Rattle.reiser_super.specs.declared.superblock.Super.{Super}
-use Rattle.reiser_super.specs.Superblock.{super_of}
-use Rattle.reiser_super.specs.Rules.{IsCleanSuper}
-use Rattle.reiser_super.specs.Journal.{IsClean, pending_transactions}
-use Rattle.reiser_super.proofs.Footprint.{same_pending}
+use Rattle.reiser_volume.specs.reiser_super.declared.superblock.Super.{Super}
+use Rattle.reiser_volume.specs.reiser_super.Superblock.{super_of}
+use Rattle.reiser_volume.specs.reiser_super.Rules.{IsCleanSuper}
+use Rattle.reiser_volume.specs.reiser_super.Journal.{IsClean, pending_transactions}
+use Rattle.reiser_volume.proofs.reiser_super.Footprint.{same_pending}
 use Rattle.reiser_volume.specs.Volume.{IsFrontAccepted, MarksSystem, superblock, used_of}
 
 -- the bitmap marks the blocks that a volume of this superblock keeps for itself

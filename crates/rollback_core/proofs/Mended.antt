@@ -2,16 +2,16 @@
 use Rattle.std.proofs.Common.{◌≡◌, ◌≢◌, ◌∙◌, ℕ, Bool, true, false, cond, not, ◌&&◌, nat_lt, List, [], ◌∷◌, length, Some, None, codes, refl, sym, ap, true≢false}
 use Rattle.std.specs.Prelude.{◌+◌, bytes_eq, filter}
 use Rattle.std.proofs.lemmas.Slice.Eq.{bytes_eq-Decides}
-use Rattle.outside.specs.History.{Image, block_at}
+use Rattle.reiser_bitmap.specs.outside.History.{Image, block_at}
 use Rattle.btr_super.specs.Super.{mirror_bytes}
 use Rattle.reiser_bitmap.specs.Bits.{has}
-use Rattle.reiser_super.specs.Superblock.{super_of}
+use Rattle.reiser_volume.specs.reiser_super.Superblock.{super_of}
 use Rattle.reiser_volume.specs.Volume.{superblock, used_of}
-use Rattle.vol_block.specs.Format.{has_bytes_at}
-use Rattle.vol_block.specs.Volume.{zeros}
-use Rattle.vol_block.specs.declared.block.Block.{Block}
-use Rattle.vol_block.specs.declared.format.Format.{Format}
-use Rattle.vol_block.specs.declared.format.Format.TheVariants.{Reiser, Btrfs, Neither}
+use Rattle.reiser_bitmap.specs.vol_block.Format.{has_bytes_at}
+use Rattle.reiser_bitmap.specs.vol_block.Volume.{zeros}
+use Rattle.reiser_bitmap.specs.vol_block.declared.block.Block.{Block}
+use Rattle.reiser_bitmap.specs.vol_block.declared.format.Format.{Format}
+use Rattle.reiser_bitmap.specs.vol_block.declared.format.Format.TheVariants.{Reiser, Btrfs, Neither}
 use Rattle.rollback_core.specs.Mending.{Gives, blocks_of, copied, mended_by, wiped}
 use Rattle.rollback_core.specs.Recovered.{copy_blocks}
 

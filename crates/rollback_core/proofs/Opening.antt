@@ -1,20 +1,20 @@
 -- A disk that can be opened stays one, with the same rows.
 use Rattle.std.proofs.Common.{◌≡◌, ◌∙◌, inl, List, [], ◌∷◌, Result, Err, refl, sym, ap, subst, arith}
 use Rattle.std.specs.Prelude.{Contains}
-use Rattle.outside.specs.Format.{format_in}
-use Rattle.outside.specs.History.{Image}
-use Rattle.outside.specs.declared.refusal.BtrRefusal.{BtrRefusal}
+use Rattle.reiser_bitmap.specs.outside.Format.{format_in}
+use Rattle.reiser_bitmap.specs.outside.History.{Image}
+use Rattle.reiser_bitmap.specs.refusals.declared.refusal.BtrRefusal.{BtrRefusal}
 use Rattle.btr_reader.specs.Opening.{opening_refusals, refusals_after, super_on}
 use Rattle.btr_reader.specs.Parts.{IsReadable, SavedImage, Superblock, Tree}
 use Rattle.btr_super.specs.declared.superblock.Super.{Super}
-use Rattle.fs_rows.specs.Rows.{WholeRow}
-use Rattle.vol_block.specs.declared.format.Format.{Format}
-use Rattle.vol_block.specs.declared.format.Format.TheVariants.{Reiser, Btrfs, Neither}
-use Rattle.rollback_core.specs.Laws.{RecoveryOpens}
+use Rattle.reiser_volume.specs.fs_rows.Rows.{WholeRow}
+use Rattle.reiser_bitmap.specs.vol_block.declared.format.Format.{Format}
+use Rattle.reiser_bitmap.specs.vol_block.declared.format.Format.TheVariants.{Reiser, Btrfs, Neither}
+use Rattle.rollback_core.specs.RecoveryLaws.{RecoveryOpens}
 use Rattle.rollback_core.specs.Opens.{OpensAs}
 use Rattle.rollback_core.specs.Recovered.{IsLeft, IsRecoverable}
-use Rattle.rollback_core.proofs.Formats.{has_format}
-use Rattle.rollback_core.proofs.Keeping.{keeps}
+use Rattle.rollback_core.proofs.RecoveryFormats.{has_format}
+use Rattle.rollback_core.proofs.RecoveryKeeping.{keeps}
 
 opening_refused : (image : Image) (r : BtrRefusal) → super_on image ≡ Err r → opening_refusals image ≡ r ∷ []
 unfolding opening_refusals

@@ -1,18 +1,18 @@
 -- What is planned is what is to be written.
 use Rattle.std.proofs.Common.{◌≡◌, ◌∙◌, ℕ, ◌/◌, Bool, List, length, sym, ap, subst, Ok}
-use Rattle.outside.specs.Format.{format_in}
-use Rattle.outside.specs.History.{Image, block_at}
-use Rattle.outside.specs.declared.answer.VolAnswer.{VolAnswer}
-use Rattle.outside.specs.declared.answer.VolAnswer.TheVariants as vol
+use Rattle.reiser_bitmap.specs.outside.Format.{format_in}
+use Rattle.reiser_bitmap.specs.outside.History.{Image, block_at}
+use Rattle.reiser_bitmap.specs.refusals.declared.answer.VolAnswer.{VolAnswer}
+use Rattle.reiser_bitmap.specs.refusals.declared.answer.VolAnswer.TheVariants as vol
 use Rattle.btr_super.specs.Rules.{super_of}
 use Rattle.btr_super.specs.declared.superblock.Super.{Super}
 use Rattle.convert_steps.specs.Prepared.{by_volume}
-use Rattle.reiser_super.specs.declared.superblock.Super.{Super as ReiserSuper}
+use Rattle.reiser_volume.specs.reiser_super.declared.superblock.Super.{Super as ReiserSuper}
 use Rattle.reiser_volume.specs.Front.{RefusesFront}
 use Rattle.reiser_volume.specs.Volume.{IsFrontAccepted, superblock, used_of}
-use Rattle.vol_block.specs.declared.format.Format.{Format}
-use Rattle.vol_block.specs.declared.format.Format.TheVariants.{Reiser, Btrfs}
-use Rattle.rollback_core.specs.Answers.{IsRefusedAs, RefusesRecover}
+use Rattle.reiser_bitmap.specs.vol_block.declared.format.Format.{Format}
+use Rattle.reiser_bitmap.specs.vol_block.declared.format.Format.TheVariants.{Reiser, Btrfs}
+use Rattle.rollback_core.specs.RecoveryAnswers.{IsRefusedAs, RefusesRecover}
 use Rattle.rollback_core.specs.Mending.{Gives, blocks_of, copied, mended, mended_by, wiped}
 use Rattle.rollback_core.specs.Planned.{IsPlanned}
 use Rattle.rollback_core.specs.Recovered.{IsInOrder}

@@ -1,13 +1,13 @@
 -- What is written, and what a crash leaves of it.
 use Rattle.std.proofs.Common.{◌≡◌, ◌∙◌, inl, inr, ⊎_elim, ℕ, true, ◌+◌, ◌<◌, List, length, Option, Some, None, Result, OnOk, refl, sym, ap, subst, arith}
 use Rattle.std.specs.Prelude.{IsSomeAnd, filter, is_some}
-use Rattle.outside.specs.Format.{format_in}
-use Rattle.outside.specs.History.{History, Image, IsSettled, LeftSince, WritesBlock, WritesOnly, block_at, clock, reads}
-use Rattle.outside.proofs.Crash.{left_each, reads_only, write_only, writes_length, writes_then, writes_weaker}
-use Rattle.outside.proofs.Phases.{set_stands, write_reads}
+use Rattle.reiser_bitmap.specs.outside.Format.{format_in}
+use Rattle.reiser_bitmap.specs.outside.History.{History, Image, IsSettled, LeftSince, WritesBlock, WritesOnly, block_at, clock, reads}
+use Rattle.reiser_bitmap.proofs.outside.Crash.{left_each, reads_only, write_only, writes_length, writes_then, writes_weaker}
+use Rattle.reiser_bitmap.proofs.outside.Phases.{set_stands, write_reads}
 use Rattle.convert_steps.specs.Switch.{IsMirror}
-use Rattle.vol_block.specs.declared.block.Block.{Block}
-use Rattle.vol_block.specs.declared.format.Format.{Format}
+use Rattle.reiser_bitmap.specs.vol_block.declared.block.Block.{Block}
+use Rattle.reiser_bitmap.specs.vol_block.declared.format.Format.{Format}
 use Rattle.rollback_core.specs.Mending.{given, is_torn, mended}
 use Rattle.rollback_core.specs.Planned.{IsGiven, IsGivenAt, IsPlanned, Stands, number_of}
 use Rattle.rollback_core.specs.Recovered.{IsMend, IsPartly, IsRecovered, copy_blocks, summary}

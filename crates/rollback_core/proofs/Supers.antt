@@ -3,10 +3,10 @@ use Rattle.std.proofs.Common.{◌≡◌, ℕ, ◌*◌, ◌/◌, ◌≤◌, eqb, 
 use Rattle.std.specs.Prelude.{is_some}
 use Rattle.std.proofs.lemmas.Bool.{and_parts}
 use Rattle.std.proofs.lemmas.Bool.Decides.{nat_tests}
-use Rattle.outside.specs.declared.refusal.BtrRefusal.{BtrRefusal}
-use Rattle.outside.specs.declared.refusal.BtrRefusal.TheVariants.{BadBtrfs, Unsupported}
-use Rattle.outside.specs.declared.rule.BtrRule.TheVariants.{SuperCsum}
-use Rattle.outside.specs.declared.rule.Feature.TheVariants.{ChecksumType}
+use Rattle.reiser_bitmap.specs.refusals.declared.refusal.BtrRefusal.{BtrRefusal}
+use Rattle.reiser_bitmap.specs.refusals.declared.refusal.BtrRefusal.TheVariants.{BadBtrfs, Unsupported}
+use Rattle.reiser_bitmap.specs.refusals.declared.rule.BtrRule.TheVariants.{SuperCsum}
+use Rattle.reiser_bitmap.specs.refusals.declared.rule.Feature.TheVariants.{ChecksumType}
 use Rattle.btr_super.specs.declared.superblock.Super.{Super}
 use Rattle.btr_super.specs.Sums.{known_kind, csum_type_of, has_sum}
 use Rattle.btr_super.specs.Super.{super_in}

@@ -1,8 +1,8 @@
 -- What is found of a disk before its volume is looked at.
 use Rattle.std.specs.Prelude.{◌≡◌}
-use Rattle.outside.specs.Format.{format_in}
-use Rattle.outside.specs.History.{Image, block_at}
-use Rattle.vol_block.specs.declared.format.Format.TheVariants.{Btrfs}
+use Rattle.reiser_bitmap.specs.outside.Format.{format_in}
+use Rattle.reiser_bitmap.specs.outside.History.{Image, block_at}
+use Rattle.reiser_bitmap.specs.vol_block.declared.format.Format.TheVariants.{Btrfs}
 use Rattle.rollback_core.specs.declared.finding.Found.{Found}
 
 -- the format is that of the disk, and of a Btrfs volume the block is block 16

@@ -1,15 +1,15 @@
 -- What is to stand at the places of the copies of a Btrfs superblock, and what is written there.
 use Rattle.std.specs.Prelude.{◌≡◌, ℕ, ◌/◌, nat_lt, Bool, ◌&&◌, not, List, bytes_eq, codes, Option, Some, None, is_some, if◌then◌else◌}
-use Rattle.outside.specs.Format.{format_in}
-use Rattle.outside.specs.History.{Image, block_at}
+use Rattle.reiser_bitmap.specs.outside.Format.{format_in}
+use Rattle.reiser_bitmap.specs.outside.History.{Image, block_at}
 use Rattle.btr_super.specs.Super.{mirror_bytes, super_in}
 use Rattle.reiser_bitmap.specs.Bits.{has}
 use Rattle.reiser_volume.specs.Volume.{superblock, used_of}
-use Rattle.vol_block.specs.Format.{has_bytes_at}
-use Rattle.vol_block.specs.Volume.{zeros}
-use Rattle.vol_block.specs.declared.block.Block.{Block}
-use Rattle.vol_block.specs.declared.format.Format.{Format}
-use Rattle.vol_block.specs.declared.format.Format.TheVariants.{Reiser, Btrfs, Neither}
+use Rattle.reiser_bitmap.specs.vol_block.Format.{has_bytes_at}
+use Rattle.reiser_bitmap.specs.vol_block.Volume.{zeros}
+use Rattle.reiser_bitmap.specs.vol_block.declared.block.Block.{Block}
+use Rattle.reiser_bitmap.specs.vol_block.declared.format.Format.{Format}
+use Rattle.reiser_bitmap.specs.vol_block.declared.format.Format.TheVariants.{Reiser, Btrfs, Neither}
 
 -- On a ReiserFS volume with these used blocks: zeros in place of a Btrfs superblock that lies in a block without use.
 unfoldable pub wiped : ℕ → List Bool → ℕ → List ℕ → List ℕ

@@ -1,13 +1,13 @@
 -- A disk whose volume can be opened, with its rows.
 use Rattle.std.specs.Prelude.{◌≡◌, List}
-use Rattle.outside.specs.Format.{format_in}
-use Rattle.outside.specs.History.{Image}
+use Rattle.reiser_bitmap.specs.outside.Format.{format_in}
+use Rattle.reiser_bitmap.specs.outside.History.{Image}
 use Rattle.btr_reader.specs.Parts.{AreRowsOfBtrfs, HasBtrfsRows, IsReadable, SavedImage}
-use Rattle.fs_rows.specs.Rows.{WholeRow}
-use Rattle.metadata_laws.specs.Apart.{IsReservedFree}
+use Rattle.reiser_volume.specs.fs_rows.Rows.{WholeRow}
+use Rattle.btr_reader.specs.Apart.{IsReservedFree}
 use Rattle.reiser_volume.specs.Volume.{AreRowsOf, IsAccepted}
-use Rattle.vol_block.specs.declared.format.Format.{Format}
-use Rattle.vol_block.specs.declared.format.Format.TheVariants.{Reiser, Btrfs, Neither}
+use Rattle.reiser_bitmap.specs.vol_block.declared.format.Format.{Format}
+use Rattle.reiser_bitmap.specs.vol_block.declared.format.Format.TheVariants.{Reiser, Btrfs, Neither}
 
 -- an accepted ReiserFS volume with these rows
 pub record OpensAsReiser (image : Image) (rows : List WholeRow) : Type 0 where

@@ -1,8 +1,8 @@
 -- What is to be written, and what was.
 use Rattle.std.specs.Prelude.{◌≡◌, ◌⊎◌, ℕ, ◌<◌, true, List, Option, is_some, IsSomeAnd, if◌then◌else◌}
-use Rattle.outside.specs.Format.{format_in}
-use Rattle.outside.specs.History.{Image, block_at}
-use Rattle.vol_block.specs.declared.block.Block.{Block}
+use Rattle.reiser_bitmap.specs.outside.Format.{format_in}
+use Rattle.reiser_bitmap.specs.outside.History.{Image, block_at}
+use Rattle.reiser_bitmap.specs.vol_block.declared.block.Block.{Block}
 use Rattle.rollback_core.specs.Mending.{Gives, given, mended}
 use Rattle.rollback_core.specs.Recovered.{IsRecoverable}
 use Rattle.rollback_core.specs.declared.mending.Mending.{Mending}

@@ -1,13 +1,13 @@
 -- What `recover` makes of a disk, and what a crash of it leaves.
 use Rattle.std.specs.Prelude.{◌≡◌, ◌⊎◌, ℕ, true, List, [], ◌∷◌, length, filter, Ok}
-use Rattle.outside.specs.Format.{format_in}
-use Rattle.outside.specs.History.{Image, block_at}
+use Rattle.reiser_bitmap.specs.outside.Format.{format_in}
+use Rattle.reiser_bitmap.specs.outside.History.{Image, block_at}
 use Rattle.btr_super.specs.Rules.{super_of}
 use Rattle.btr_super.specs.declared.superblock.Super.{Super}
 use Rattle.convert_steps.specs.Switch.{IsMirror}
 use Rattle.reiser_volume.specs.Volume.{IsFrontAccepted}
-use Rattle.vol_block.specs.declared.format.Format.{Format}
-use Rattle.vol_block.specs.declared.format.Format.TheVariants.{Reiser, Btrfs, Neither}
+use Rattle.reiser_bitmap.specs.vol_block.declared.format.Format.{Format}
+use Rattle.reiser_bitmap.specs.vol_block.declared.format.Format.TheVariants.{Reiser, Btrfs, Neither}
 use Rattle.rollback_core.specs.Mending.{is_torn, mended}
 use Rattle.rollback_core.specs.declared.recovery.RecoverSummary.{RecoverSummary}
 

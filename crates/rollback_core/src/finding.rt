@@ -1,11 +1,10 @@
 // The format of a disk.
 ghost use Rattle.std.specs.Prelude.{◌≡◌, IfOk};
-ghost use Rattle.outside.specs.Fault.{HasCause};
-ghost use Rattle.outside.specs.History.{OverTold};
+ghost use Rattle.reiser_bitmap.specs.outside.Fault.{HasCause};
+ghost use Rattle.reiser_bitmap.specs.outside.History.{OverTold};
 ghost use Rattle.rollback_core.specs.Found.{IsFoundOn};
 
-use outside::{BlockSource, Fault};
-use vol_block::{Block, BlockNo, Format, format_of};
+use reiser_bitmap::{Block, BlockNo, BlockSource, Fault, Format, format_of};
 
 /// The block of the superblock, of both formats.
 pub const SUPERBLOCK: BlockNo = 16;

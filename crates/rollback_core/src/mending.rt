@@ -1,22 +1,21 @@
 // What is to be written to the places of the copies of a Btrfs superblock.
 ghost use Rattle.std.specs.Prelude.{◌≡◌, ◌≤◌, ◌<◌, ◌^◌, true, is_some, IfErr, IfOk, Ok};
 ghost use Rattle.std.specs.Result.{MatchResult};
-ghost use Rattle.outside.specs.Fault.{HasCause, HasCauseOf};
-ghost use Rattle.outside.specs.Format.{format_in};
-ghost use Rattle.outside.specs.History.{OverTold, block_at};
-ghost use Rattle.vol_block.specs.declared.format.Format.TheVariants as formats;
-ghost use Rattle.rollback_core.specs.Answers.{IsRecoverAnswer, RefusesRecover};
+ghost use Rattle.reiser_bitmap.specs.outside.Fault.{HasCause, HasCauseOf};
+ghost use Rattle.reiser_bitmap.specs.outside.Format.{format_in};
+ghost use Rattle.reiser_bitmap.specs.outside.History.{OverTold, block_at};
+ghost use Rattle.reiser_bitmap.specs.vol_block.declared.format.Format.TheVariants as formats;
+ghost use Rattle.rollback_core.specs.RecoveryAnswers.{IsRecoverAnswer, RefusesRecover};
 ghost use Rattle.rollback_core.specs.Found.{IsFoundOn};
 ghost use Rattle.rollback_core.specs.Mending.{Gives, copied, wiped};
 ghost use Rattle.rollback_core.specs.Planned.{HasRoom, IsPlanned};
 
 use crate::finding::{Found, SUPERBLOCK, find_format};
 use btr_super::{Super, mirror};
-use convert_steps::volume_answer;
-use outside::{Answer, BlockSource, Fault, VolumeRefusal};
+use convert_steps::{Answer, volume_answer};
+use reiser_bitmap::{Block, BlockNo, BlockSource, Fault, Format, VolumeRefusal, has_magic};
 use reiser_volume::Front;
 use std::alloc::Global;
-use vol_block::{Block, BlockNo, Format, has_magic};
 
 /// The block of the first copy of a Btrfs superblock, as the Btrfs on-disk format documentation has it: at 64 MiB.
 pub const FIRST_COPY: BlockNo = 16384;

@@ -1,16 +1,16 @@
 // The recovery of a disk.
 ghost use Rattle.std.specs.Prelude.{◌≡◌, ◌≢◌, Some, IfErr, IfOk, IsTrue};
 ghost use Rattle.std.specs.Result.{MatchResult};
-ghost use Rattle.outside.specs.Fault.{HasCauseOf};
-ghost use Rattle.outside.specs.History.{EachCrash, IsSettled, OverTold, WritesOnly, reads};
-ghost use Rattle.rollback_core.specs.Answers.{IsRecoverAnswer, RefusesRecover};
+ghost use Rattle.reiser_bitmap.specs.outside.Fault.{HasCauseOf};
+ghost use Rattle.reiser_bitmap.specs.outside.History.{EachCrash, IsSettled, OverTold, WritesOnly, reads};
+ghost use Rattle.rollback_core.specs.RecoveryAnswers.{IsRecoverAnswer, RefusesRecover};
 ghost use Rattle.rollback_core.specs.Recovered.{IsLeft, IsMend, IsRecovered, summary};
 
 use crate::mending::plan;
 use crate::writing::write_mending;
-use outside::{Access, Answer, Disk, Fault};
+use convert_steps::Answer;
+use reiser_bitmap::{Access, Disk, Fault, Format};
 use std::alloc::Global;
-use vol_block::Format;
 
 /// What a recovery found and did.
 #[derive(Clone, Copy, Debug, PartialEq, Eq)]

@@ -1,13 +1,12 @@
 // The blocks of the copies of a Btrfs superblock are written.
 ghost use Rattle.std.specs.Prelude.{◌≡◌, ◌≢◌, ◌+◌, ◌<◌, true, is_some, Some, IfOk, IsTrue, OnOk};
-ghost use Rattle.outside.specs.Fault.{HasCause};
-ghost use Rattle.outside.specs.History.{IsSettled, WritesOnly, block_at, reads};
+ghost use Rattle.reiser_bitmap.specs.outside.Fault.{HasCause};
+ghost use Rattle.reiser_bitmap.specs.outside.History.{IsSettled, WritesOnly, block_at, reads};
 ghost use Rattle.rollback_core.specs.Mending.{given};
 ghost use Rattle.rollback_core.specs.Planned.{HasRoom, IsGiven, IsGivenAt, Stands, number_of};
 
 use crate::mending::{FIRST_COPY, Mending, SECOND_COPY};
-use outside::{Access, Disk, Fault};
-use vol_block::{Block, BlockNo};
+use reiser_bitmap::{Access, Block, BlockNo, Disk, Fault};
 
 /// Writes what is to be written, and syncs where that is anything. The number of blocks that were written.
 pub fn write_mending<D: Disk>(disk: &mut D, mending: &Mending) -> Result<u64, Fault>

@@ -14,4 +14,5 @@ mod piece;
 pub use buffered::Buffered;
 pub use escapes::{Spelling, escape};
 pub use label::label_piece;
+pub use outside::{Access, Block, Disk, Fault, Memory, Sink, put_u64};
 pub use piece::{Piece, write_pieces};

@@ -5,12 +5,12 @@ use Rattle.std.specs.List.{sum_by}
 use Rattle.std.proofs.lemmas.List.{map-append, take_all}
 use Rattle.std.proofs.lemmas.List.Sums.{sum_by-cons, sum_by_more, sum_by_more_le}
 use Rattle.std.proofs.lemmas.Option.{slice_get_within, get_or_from_slice_get}
-use Rattle.btr_keys.specs.declared.key.Key.{Key}
-use Rattle.btr_keys.specs.Key.{make_key}
-use Rattle.btr_node.specs.Leaf.{Item}
+use Rattle.btr_tree.specs.btr_keys.declared.key.Key.{Key}
+use Rattle.btr_tree.specs.btr_keys.Key.{make_key}
+use Rattle.btr_tree.specs.btr_node.Leaf.{Item}
 use Rattle.btr_space_items.specs.Device.{device_bytes}
 use Rattle.btr_space_items.specs.declared.device.Device.{Device}
-use Rattle.vol_block.specs.declared.ids.Ids.{Ids}
+use Rattle.btr_tree.specs.vol_block.declared.ids.Ids.{Ids}
 use Rattle.space_items.specs.Chunks.{chunk_item, chunk_items, device_body}
 use Rattle.unit_plan.specs.declared.chunk.Chunk.{Chunk}
 use Rattle.unit_plan.specs.declared.plan.Plan.{Plan}

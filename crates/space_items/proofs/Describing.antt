@@ -4,7 +4,7 @@ use Rattle.std.proofs.lemmas.Bool.{cases_lt}
 use Rattle.std.proofs.lemmas.Cmp.{nat_cmp_total, on_total}
 use Rattle.std.proofs.lemmas.List.{take_more, take_all, map_push, length-map, length-take}
 use Rattle.std.specs.Cmp.{IsTotalOrder}
-use Rattle.btr_node.specs.NodeSize.{IsNodeSize}
+use Rattle.btr_tree.specs.btr_node.NodeSize.{IsNodeSize}
 use Rattle.btr_tree.specs.Counting.{Counted, Tally, bytes_of, node_bound, tree_nodes}
 use Rattle.btr_tree.specs.Roots.{lengths_of}
 use Rattle.unit_plan.specs.declared.chunk.Chunk.{Chunk}

@@ -7,14 +7,14 @@ use Rattle.std.proofs.lemmas.Bool.{cases_lt}
 use Rattle.std.proofs.lemmas.List.{drop_more, drop_all, drop-drop, map-append, length_push}
 use Rattle.std.proofs.lemmas.List.Elements.{All-cons, All-nil}
 use Rattle.std.proofs.lemmas.List.Sums.{sum_by-cons}
-use Rattle.btr_node.specs.NodeSize.{IsNodeSize}
+use Rattle.btr_tree.specs.btr_node.NodeSize.{IsNodeSize}
 use Rattle.btr_tree.specs.Counting.{Tally, Counted}
 use Rattle.btr_tree.specs.Packing.{capacity, fan_out, leaves, weight, tree_levels, level_sizes}
 use Rattle.btr_tree.proofs.Climbing.{wide_fan}
 use Rattle.btr_tree.proofs.Groups.{ends_in}
 use Rattle.btr_tree.specs.Roots.{level_pointers}
 use Rattle.btr_tree.proofs.Sizes.{sizes-one, sizes-more, sizes-none, smaller}
-use Rattle.btr_walk.specs.declared.tree.Pointer.{Pointer}
+use Rattle.btr_tree.specs.btr_reader_walk.declared.tree.Pointer.{Pointer}
 use Rattle.space_items.specs.Nodes.{nodes_at}
 use Rattle.space_items.specs.declared.node.TreeNode.{TreeNode}
 

@@ -10,10 +10,10 @@ use Rattle.std.proofs.lemmas.Cmp.{nat_cmp_total, on_total, then_total}
 use Rattle.std.proofs.lemmas.List.{length-drop, take_all}
 use Rattle.std.proofs.lemmas.Map.Lookups.{exact_unsigned}
 use Rattle.std.proofs.lemmas.Option.{slice_get-get_or}
-use Rattle.btr_keys.specs.declared.key.Key.{Key}
-use Rattle.btr_keys.specs.Key.{key_cmp, IsBefore}
-use Rattle.btr_node.specs.Leaf.{Item}
-use Rattle.item_list.proofs.Joining.{no_item, range_push}
+use Rattle.btr_tree.specs.btr_keys.declared.key.Key.{Key}
+use Rattle.btr_tree.specs.btr_keys.Key.{key_cmp, IsBefore}
+use Rattle.btr_tree.specs.btr_node.Leaf.{Item}
+use Rattle.btr_item_list.proofs.Joining.{no_item, range_push}
 use Rattle.space_items.specs.Merging.{merged, item_cmp}
 use Rattle.space_items.proofs.Merges.{merge-nil, merge-less, merge-greater}
 

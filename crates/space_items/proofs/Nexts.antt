@@ -6,9 +6,9 @@ use Rattle.std.specs.Ordering.{nat_cmp, ordering_then, is_lt, match_ordering}
 use Rattle.std.specs.declared.cmp.Ordering.{Ordering}
 use Rattle.std.specs.declared.cmp.Ordering.TheVariants.{Less, Equal, Greater}
 use Rattle.std.proofs.lemmas.Option.{slice_get_within, MatchOption-at_some}
-use Rattle.btr_keys.specs.Key.{key_cmp}
-use Rattle.btr_node.specs.Leaf.{Item}
-use Rattle.btr_node.specs.Order.{is_before}
+use Rattle.btr_tree.specs.btr_keys.Key.{key_cmp}
+use Rattle.btr_tree.specs.btr_node.Leaf.{Item}
+use Rattle.btr_tree.specs.btr_node.Order.{is_before}
 use Rattle.unit_plan.specs.declared.piece.Piece.{Piece}
 use Rattle.space_items.specs.Extents.{node_item, piece_item}
 use Rattle.space_items.specs.Merging.{item_cmp, merged}

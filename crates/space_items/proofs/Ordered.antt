@@ -9,22 +9,22 @@ use Rattle.std.proofs.lemmas.Bool.{and_parts, and_from, false≢true}
 use Rattle.std.proofs.lemmas.Cmp.{on_total}
 use Rattle.std.proofs.lemmas.List.Elements.{All-cons, All-nil}
 use Rattle.std.proofs.lemmas.List.Kept.{AllPairs-cons}
-use Rattle.vol_block.specs.declared.ids.Ids.{Ids}
-use Rattle.btr_keys.specs.Key.{key_cmp, key_layout, IsBefore, make_key}
-use Rattle.btr_keys.specs.DirEntry.{dir_entry_head}
-use Rattle.btr_keys.specs.InodeRef.{inode_ref_bytes, inode_ref_head}
-use Rattle.btr_keys.specs.Stamp.{stamp_layout}
-use Rattle.item_list.specs.Inodes.{inode_made}
-use Rattle.btr_keys.specs.declared.inode.Inode.{Inode}
-use Rattle.btr_keys.specs.Inode.{inode_layout, inode_bytes}
+use Rattle.btr_tree.specs.vol_block.declared.ids.Ids.{Ids}
+use Rattle.btr_tree.specs.btr_keys.Key.{key_cmp, key_layout, IsBefore, make_key}
+use Rattle.btr_tree.specs.btr_keys.DirEntry.{dir_entry_head}
+use Rattle.btr_tree.specs.btr_keys.InodeRef.{inode_ref_bytes, inode_ref_head}
+use Rattle.btr_tree.specs.btr_keys.Stamp.{stamp_layout}
+use Rattle.btr_item_list.specs.Inodes.{inode_made}
+use Rattle.btr_tree.specs.btr_keys.declared.inode.Inode.{Inode}
+use Rattle.btr_tree.specs.btr_keys.Inode.{inode_layout, inode_bytes}
 use Rattle.btr_space_items.specs.Chunk.{chunk_layout}
 use Rattle.btr_space_items.specs.RootItem.{root_item_layout}
 use Rattle.btr_space_items.specs.RootRef.{root_ref_head}
 use Rattle.btr_space_items.specs.Stripe.{stripe_layout}
 use Rattle.btr_space_items.specs.DevExtent.{dev_extent_layout}
 use Rattle.btr_space_items.specs.Device.{device_layout, device_bytes}
-use Rattle.btr_node.specs.Leaf.{Item, keys_of}
-use Rattle.btr_node.specs.Order.{Ascends, ascends, is_before}
+use Rattle.btr_tree.specs.btr_node.Leaf.{Item, keys_of}
+use Rattle.btr_tree.specs.btr_node.Order.{Ascends, ascends, is_before}
 use Rattle.unit_plan.specs.declared.chunk.Chunk.{Chunk}
 use Rattle.unit_plan.specs.declared.plan.Plan.{Plan}
 use Rattle.unit_plan.specs.Chunks.{IsChunk, AreChunks, role_of, usable_end}

@@ -5,7 +5,7 @@ use Rattle.std.proofs.Math.Nat.{lt-div-mul-add}
 use Rattle.std.proofs.lemmas.Bool.{cases_lt}
 use Rattle.std.proofs.lemmas.Grind.{div_ceil_times}
 use Rattle.std.proofs.lemmas.Nat.{mul-le}
-use Rattle.btr_node.specs.NodeSize.{IsNodeSize}
+use Rattle.btr_tree.specs.btr_node.NodeSize.{IsNodeSize}
 use Rattle.btr_tree.specs.Counting.{leaf_bound, node_bound}
 use Rattle.btr_tree.specs.Packing.{capacity}
 

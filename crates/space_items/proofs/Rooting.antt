@@ -3,10 +3,10 @@ use Rattle.std.proofs.Common.{◌≡◌, ◌≢◌, ◌≤◌, ◌<◌, ℕ, zer
 use Rattle.std.specs.Prelude.{All, slice_get, slice_range}
 use Rattle.std.proofs.lemmas.List.{length-drop, drop-drop, get_or-drop}
 use Rattle.std.proofs.lemmas.Option.{slice_get_within, get_or_from_slice_get}
-use Rattle.vol_block.specs.declared.ids.Ids.{Ids}
-use Rattle.btr_keys.specs.declared.key.Key.{Key}
-use Rattle.btr_keys.specs.Key.{make_key, IsBefore}
-use Rattle.btr_node.specs.Leaf.{Item}
+use Rattle.btr_tree.specs.vol_block.declared.ids.Ids.{Ids}
+use Rattle.btr_tree.specs.btr_keys.declared.key.Key.{Key}
+use Rattle.btr_tree.specs.btr_keys.Key.{make_key, IsBefore}
+use Rattle.btr_tree.specs.btr_node.Leaf.{Item}
 use Rattle.space_items.specs.declared.node.TreeRoot.{TreeRoot}
 use Rattle.space_items.specs.Merging.{merged}
 use Rattle.space_items.specs.Roots.{AreBefore, root_item, other_root_items}

@@ -9,10 +9,10 @@ use Rattle.std.proofs.lemmas.Cmp.{nat_cmp_total, on_total, then_total}
 use Rattle.std.proofs.lemmas.List.{map-append, length-map}
 use Rattle.std.proofs.lemmas.List.Elements.{All-cons, All-nil}
 use Rattle.std.proofs.lemmas.List.Sums.{sum_by-cons, sum_by-le}
-use Rattle.btr_keys.specs.Key.{key_cmp, make_key}
-use Rattle.btr_keys.specs.declared.key.Key.{Key}
-use Rattle.btr_node.specs.Leaf.{Item}
-use Rattle.btr_node.specs.NodeSize.{IsNodeSize}
+use Rattle.btr_tree.specs.btr_keys.Key.{key_cmp, make_key}
+use Rattle.btr_tree.specs.btr_keys.declared.key.Key.{Key}
+use Rattle.btr_tree.specs.btr_node.Leaf.{Item}
+use Rattle.btr_tree.specs.btr_node.NodeSize.{IsNodeSize}
 use Rattle.btr_tree.specs.Counting.{bytes_of, tree_nodes}
 use Rattle.btr_tree.specs.Packing.{weight}
 use Rattle.btr_tree.specs.Roots.{lengths_of}

@@ -11,12 +11,12 @@ use Rattle.std.proofs.lemmas.Grind.{div_ceil_times}
 use Rattle.std.proofs.lemmas.List.FromFn.{get_or-range_with_len, length-range_with_len}
 use Rattle.std.proofs.lemmas.List.Elements.{All-append, All-cons, All-head, All-nil, All-tail, All-weaker}
 use Rattle.std.proofs.lemmas.List.Kept.{AllPairs-cons}
-use Rattle.outside.specs.History.{Image, block_at}
-use Rattle.btr_keys.specs.Key.{IsBefore}
-use Rattle.btr_node.specs.Leaf.{Item}
-use Rattle.csum_kinds.specs.Kind.{kind_sum, kind_width}
-use Rattle.csum_kinds.specs.declared.kind.SumKind.{SumKind}
-use Rattle.csum_kinds.specs.declared.kind.SumKind.TheVariants.{Crc32c}
+use Rattle.btr_tree.specs.outside.History.{Image, block_at}
+use Rattle.btr_tree.specs.btr_keys.Key.{IsBefore}
+use Rattle.btr_tree.specs.btr_node.Leaf.{Item}
+use Rattle.btr_tree.specs.csum_kinds.Kind.{kind_sum, kind_width}
+use Rattle.btr_tree.specs.csum_kinds.declared.kind.SumKind.{SumKind}
+use Rattle.btr_tree.specs.csum_kinds.declared.kind.SumKind.TheVariants.{Crc32c}
 use Rattle.unit_plan.specs.Chunks.{AreChunks, IsChunk, role_of, usable_end}
 use Rattle.unit_plan.specs.Sums.{sums_in_item}
 use Rattle.unit_plan.specs.declared.chunk.Chunk.{Chunk}

@@ -6,10 +6,10 @@ use Rattle.std.specs.List.{flat_map, range_with_len}
 use Rattle.std.proofs.Math.Nat.{add-div_left, div-eq_of_lt, div_self, eq-or-lt_of_le, mod-eq_of_lt, mod_self, mul-add, mul-add-mod_self_left, zero-div, zero-mod}
 use Rattle.std.proofs.lemmas.List.{append-nil}
 use Rattle.std.proofs.lemmas.Bool.{cases_lt}
-use Rattle.outside.specs.History.{Image}
-use Rattle.btr_node.specs.Leaf.{Item}
-use Rattle.csum_kinds.specs.declared.kind.SumKind.{SumKind}
-use Rattle.csum_kinds.specs.declared.kind.SumKind.TheVariants.{Crc32c}
+use Rattle.btr_tree.specs.outside.History.{Image}
+use Rattle.btr_tree.specs.btr_node.Leaf.{Item}
+use Rattle.btr_tree.specs.csum_kinds.declared.kind.SumKind.{SumKind}
+use Rattle.btr_tree.specs.csum_kinds.declared.kind.SumKind.TheVariants.{Crc32c}
 use Rattle.unit_plan.specs.Sums.{sums_in_item}
 use Rattle.unit_plan.specs.declared.piece.Piece.{Piece}
 use Rattle.space_items.specs.Stream.{IsTaken, behind, left_of, sum_standing, sums_ahead, taken}

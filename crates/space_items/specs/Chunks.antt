@@ -1,9 +1,9 @@
 -- The items of the chunk tree and of the device tree, as the Btrfs on-disk format documentation has them.
 use Rattle.std.specs.Prelude.{ℕ, ◌*◌, List, ◌∷◌, map}
 use Rattle.std.specs.List.{sum_by}
-use Rattle.vol_block.specs.declared.ids.Ids.{Ids}
-use Rattle.btr_keys.specs.Key.{make_key}
-use Rattle.btr_node.specs.Leaf.{Item}
+use Rattle.btr_tree.specs.vol_block.declared.ids.Ids.{Ids}
+use Rattle.btr_tree.specs.btr_keys.Key.{make_key}
+use Rattle.btr_tree.specs.btr_node.Leaf.{Item}
 use Rattle.btr_space_items.specs.Chunk.{chunk_bytes}
 use Rattle.btr_space_items.specs.DevExtent.{dev_extent_bytes}
 use Rattle.btr_space_items.specs.Device.{device_bytes}

@@ -1,9 +1,9 @@
 -- The extent tree: which ranges of the volume are taken, by what, and how much of each chunk.
 use Rattle.std.specs.Prelude.{ℕ, ◌+◌, ◌*◌, nat_le, nat_lt, Bool, ◌&&◌, if◌then◌else◌, Option, Some, None, List, [], ◌∷◌, ◌++◌, length, map, filter}
 use Rattle.std.specs.List.{flat_map, sum_by}
-use Rattle.castagnoli.specs.Castagnoli.{data_ref_hash}
-use Rattle.btr_keys.specs.Key.{make_key}
-use Rattle.btr_node.specs.Leaf.{Item}
+use Rattle.btr_tree.specs.castagnoli.Castagnoli.{data_ref_hash}
+use Rattle.btr_tree.specs.btr_keys.Key.{make_key}
+use Rattle.btr_tree.specs.btr_node.Leaf.{Item}
 use Rattle.btr_space_items.specs.BlockGroup.{block_group_bytes}
 use Rattle.btr_space_items.specs.ExtentHead.{extent_head_bytes}
 use Rattle.btr_space_items.specs.InlineRef.{inline_ref_bytes, ref_root, ref_objectid, ref_offset}

@@ -1,8 +1,8 @@
 -- What holds of the lists that the trees tell of.
 use Rattle.std.specs.Prelude.{◌≡◌, ℕ, ◌<◌, ◌≤◌, List, length, All, AllPairs}
-use Rattle.vol_block.specs.declared.ids.Ids.{Ids}
-use Rattle.btr_node.specs.Leaf.{Item, keys_of}
-use Rattle.btr_node.specs.Order.{Ascends}
+use Rattle.btr_tree.specs.vol_block.declared.ids.Ids.{Ids}
+use Rattle.btr_tree.specs.btr_node.Leaf.{Item, keys_of}
+use Rattle.btr_tree.specs.btr_node.Order.{Ascends}
 use Rattle.unit_plan.specs.Chunks.{AreChunks}
 use Rattle.unit_plan.specs.declared.chunk.Chunk.{Chunk}
 use Rattle.unit_plan.specs.declared.plan.Plan.{Plan}

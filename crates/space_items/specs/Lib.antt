@@ -1,3 +1,4 @@
+pub use Rattle.btr_space_items.specs as btr_space_items
 pub mod Chunks
 pub mod Extents
 pub mod Laws

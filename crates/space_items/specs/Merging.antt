@@ -2,8 +2,8 @@
 use Rattle.std.specs.Prelude.{List, true}
 use Rattle.std.specs.Set.{sorted_merge}
 use Rattle.std.specs.declared.cmp.Ordering.{Ordering}
-use Rattle.btr_keys.specs.Key.{key_cmp}
-use Rattle.btr_node.specs.Leaf.{Item}
+use Rattle.btr_tree.specs.btr_keys.Key.{key_cmp}
+use Rattle.btr_tree.specs.btr_node.Leaf.{Item}
 
 abbrev pub item_cmp : Item → Item → Ordering
 item_cmp a b = key_cmp a.0 b.0

@@ -2,7 +2,7 @@
 use Rattle.std.specs.Prelude.{◌<◌, ◌≤◌, ℕ, ◌+◌, ◌^◌, true, List, length, map, AllPairs}
 use Rattle.std.specs.Ordering.{nat_cmp}
 use Rattle.std.specs.Set.{sorted_merge}
-use Rattle.btr_node.specs.NodeSize.{IsNodeSize}
+use Rattle.btr_tree.specs.btr_node.NodeSize.{IsNodeSize}
 use Rattle.btr_tree.specs.Counting.{Tally, Counted, tree_nodes}
 use Rattle.btr_tree.specs.Packing.{leaves, tree_levels}
 use Rattle.btr_tree.specs.Roots.{level_pointers}

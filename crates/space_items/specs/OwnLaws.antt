@@ -1,10 +1,10 @@
 -- What holds of the bound of the extent tree's own nodes.
 use Rattle.std.specs.Prelude.{◌+◌, ◌≤◌, List, length}
-use Rattle.btr_node.specs.NodeSize.{IsNodeSize}
+use Rattle.btr_tree.specs.btr_node.NodeSize.{IsNodeSize}
 use Rattle.unit_plan.specs.Needed.{chunk_bound, chunk_nodes, extent_nodes, other_nodes}
 use Rattle.unit_plan.specs.declared.chunk.Chunk.{Chunk}
 use Rattle.unit_plan.specs.declared.counts.Counts.{Counts}
-use Rattle.unit_plan.specs.declared.options.Options.{Options}
+use Rattle.unit_plan.specs.convert_options.declared.options.Options.{Options}
 use Rattle.unit_plan.specs.declared.piece.Piece.{Piece}
 use Rattle.space_items.specs.Own.{own_bound}
 use Rattle.space_items.specs.declared.node.TreeNode.{TreeNode}

@@ -1,16 +1,16 @@
 -- The root tree: where each tree begins, and the subvolume of the saved image.
 use Rattle.std.specs.Prelude.{ℕ, ◌*◌, ◌^◌, ◌-◌, ◌==◌, ◌≤◌, ◌<◌, nat_le, Bool, ◌||◌, if◌then◌else◌, List, [], ◌∷◌, length, map, codes, replicate, slice_index_or}
-use Rattle.castagnoli.specs.Castagnoli.{name_hash}
-use Rattle.vol_block.specs.declared.ids.Ids.{Ids}
-use Rattle.btr_keys.specs.DirEntry.{dir_entry_bytes}
-use Rattle.btr_keys.specs.Key.{make_key, IsBefore}
-use Rattle.btr_keys.specs.declared.key.Key.{Key}
-use Rattle.btr_keys.specs.declared.inode.Inode.{Inode}
-use Rattle.btr_node.specs.Leaf.{Item}
+use Rattle.btr_tree.specs.castagnoli.Castagnoli.{name_hash}
+use Rattle.btr_tree.specs.vol_block.declared.ids.Ids.{Ids}
+use Rattle.btr_tree.specs.btr_keys.DirEntry.{dir_entry_bytes}
+use Rattle.btr_tree.specs.btr_keys.Key.{make_key, IsBefore}
+use Rattle.btr_tree.specs.btr_keys.declared.key.Key.{Key}
+use Rattle.btr_tree.specs.btr_keys.declared.inode.Inode.{Inode}
+use Rattle.btr_tree.specs.btr_node.Leaf.{Item}
 use Rattle.btr_space_items.specs.RootItem.{root_item_bytes}
 use Rattle.btr_space_items.specs.RootRef.{root_ref_bytes}
 use Rattle.btr_space_items.specs.declared.root_item.RootItem.{RootItem}
-use Rattle.item_list.specs.Inodes.{stamp_of, new_inode, inode_made, inode_item, ref_item}
+use Rattle.btr_item_list.specs.Inodes.{stamp_of, new_inode, inode_made, inode_item, ref_item}
 use Rattle.space_items.specs.Merging.{merged}
 use Rattle.space_items.specs.declared.node.TreeRoot.{TreeRoot}
 

@@ -1,10 +1,10 @@
 -- What is still to come of the streams, and when they fit the pieces and nodes that they were made from.
 use Rattle.std.specs.Prelude.{◌≡◌, ℕ, ◌+◌, ◌-◌, ◌*◌, ◌^◌, ◌==◌, min, ◌≤◌, ◌<◌, Bool, true, false, if◌then◌else◌, List, [], ◌∷◌, ◌++◌, length, map, take, drop, slice_get, Option, Some, None, All, AllPairs, MatchOption}
-use Rattle.outside.specs.History.{Image}
-use Rattle.btr_node.specs.Leaf.{Item}
-use Rattle.btr_node.specs.Order.{is_before}
-use Rattle.csum_kinds.specs.Kind.{kind_width}
-use Rattle.csum_kinds.specs.declared.kind.SumKind.{SumKind}
+use Rattle.btr_tree.specs.outside.History.{Image}
+use Rattle.btr_tree.specs.btr_node.Leaf.{Item}
+use Rattle.btr_tree.specs.btr_node.Order.{is_before}
+use Rattle.btr_tree.specs.csum_kinds.Kind.{kind_width}
+use Rattle.btr_tree.specs.csum_kinds.declared.kind.SumKind.{SumKind}
 use Rattle.space_items.specs.Merging.{merged}
 use Rattle.unit_plan.specs.Sums.{sums_in_item}
 use Rattle.unit_plan.specs.declared.chunk.Chunk.{Chunk}

@@ -1,9 +1,9 @@
 -- What holds of the items of the extent tree and of the checksum tree.
 use Rattle.std.specs.Prelude.{ℕ, ◌+◌, ◌≤◌, List, length, All}
-use Rattle.outside.specs.History.{Image}
-use Rattle.btr_node.specs.Leaf.{Item, keys_of}
-use Rattle.btr_node.specs.Order.{Ascends}
-use Rattle.csum_kinds.specs.declared.kind.SumKind.{SumKind}
+use Rattle.btr_tree.specs.outside.History.{Image}
+use Rattle.btr_tree.specs.btr_node.Leaf.{Item, keys_of}
+use Rattle.btr_tree.specs.btr_node.Order.{Ascends}
+use Rattle.btr_tree.specs.csum_kinds.declared.kind.SumKind.{SumKind}
 use Rattle.unit_plan.specs.Chunks.{AreChunks}
 use Rattle.unit_plan.specs.declared.chunk.Chunk.{Chunk}
 use Rattle.unit_plan.specs.declared.piece.Piece.{Piece}

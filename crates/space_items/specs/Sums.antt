@@ -2,11 +2,11 @@
 use Rattle.std.specs.Prelude.{ℕ, ◌+◌, ◌-◌, ◌*◌, ◌^◌, min, List, map, take}
 use Rattle.std.specs.Int.{div_ceil}
 use Rattle.std.specs.List.{flat_map, range_with_len}
-use Rattle.outside.specs.History.{Image, block_at}
-use Rattle.btr_keys.specs.Key.{make_key}
-use Rattle.btr_node.specs.Leaf.{Item}
-use Rattle.csum_kinds.specs.Kind.{kind_sum, kind_width}
-use Rattle.csum_kinds.specs.declared.kind.SumKind.{SumKind}
+use Rattle.btr_tree.specs.outside.History.{Image, block_at}
+use Rattle.btr_tree.specs.btr_keys.Key.{make_key}
+use Rattle.btr_tree.specs.btr_node.Leaf.{Item}
+use Rattle.btr_tree.specs.csum_kinds.Kind.{kind_sum, kind_width}
+use Rattle.btr_tree.specs.csum_kinds.declared.kind.SumKind.{SumKind}
 use Rattle.unit_plan.specs.Sums.{sums_in_item}
 use Rattle.unit_plan.specs.declared.piece.Piece.{Piece}
 

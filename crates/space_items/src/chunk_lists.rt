@@ -4,12 +4,11 @@ ghost use Rattle.unit_plan.specs.Chunks.{AreChunks, FitsVolume};
 ghost use Rattle.unit_plan.specs.declared.chunk.Chunk.{Chunk as ChunkOf};
 ghost use Rattle.space_items.specs.Chunks.{chunk_kind, chunk_body, chunk_item, chunk_items, device_body, dev_extent_item, device_items};
 
+use btr_item_list::{ItemList, key_of};
 use btr_space_items::{Chunk as ChunkBody, DevExtent, Device, Stripe};
-use item_list::{ItemList, key_of};
-use outside::Memory;
+use btr_tree::{Ids, Memory};
 use std::alloc::Global;
 use unit_plan::{Chunk, Chunks, Plan, Role, chunks_of};
-use vol_block::Ids;
 
 /// The number of a chunk's use.
 pub fn chunk_kind(role: Role) -> u64

@@ -1,7 +1,7 @@
 ghost use Rattle.std.specs.Prelude.{◌≡◌, ◌≤◌, ◌<◌, ◌+◌, ◌*◌, ◌^◌, ◌∷◌, [], List, map, slice_get, IfOk, IfSome};
 ghost use Rattle.std.specs.Option.{MatchOption, option_map};
 ghost use Rattle.std.specs.List.{sum_by};
-ghost use Rattle.btr_node.specs.NodeSize.{IsNodeSize};
+ghost use Rattle.btr_tree.specs.btr_node.NodeSize.{IsNodeSize};
 ghost use Rattle.unit_plan.specs.Chunks.{AreChunks, FitsVolume};
 ghost use Rattle.unit_plan.specs.declared.chunk.Chunk.{Chunk as ChunkOf};
 ghost use Rattle.space_items.specs.Extents.{extent_items, used_in};
@@ -11,9 +11,8 @@ ghost use Rattle.space_items.specs.Stream.{ArePieces, FitsExtents, IsSmallNext, 
 use crate::groups::{Group, Groups, groups_of};
 use crate::node::{NodeList, TreeNode};
 use crate::refs::{Body, node_body, piece_body};
-use btr_keys::Key;
-use item_list::key_of;
-use outside::Memory;
+use btr_item_list::key_of;
+use btr_tree::{Key, Memory};
 use std::alloc::Global;
 use unit_plan::{Piece, PieceList, Plan, chunks_of};
 

@@ -6,8 +6,7 @@ ghost use Rattle.space_items.specs.Stream.{ArePieces, IsSmallGroup, LieBefore, g
 use crate::chunk_lists::chunk_kind;
 use crate::node::NodeList;
 use btr_space_items::BlockGroup;
-use copy_list::CopyList;
-use outside::Memory;
+use btr_tree::{CopyList, Memory};
 use std::alloc::Global;
 use unit_plan::{Chunk, Chunks, PieceList};
 

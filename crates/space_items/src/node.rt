@@ -1,5 +1,4 @@
-use btr_tree::Root;
-use copy_list::CopyList;
+use btr_tree::{CopyList, Root};
 
 /// A node of a tree.
 #[derive(Clone, Copy, Debug, PartialEq, Eq)]

@@ -1,5 +1,5 @@
 ghost use Rattle.std.specs.Prelude.{◌≡◌, ◌≤◌, ◌<◌, ◌+◌, ◌^◌, ◌++◌, ◌∷◌, [], ℕ, List, length, take, drop, map, AllPairs, IfOk, OnOk};
-ghost use Rattle.btr_node.specs.NodeSize.{IsNodeSize};
+ghost use Rattle.btr_tree.specs.btr_node.NodeSize.{IsNodeSize};
 ghost use Rattle.btr_tree.specs.Counting.{Counted};
 ghost use Rattle.btr_tree.specs.Roots.{lengths_of};
 ghost use Rattle.unit_plan.specs.Chunks.{AreChunks, FitsVolume};
@@ -11,8 +11,7 @@ ghost use Rattle.space_items.specs.Stream.{ArePieces};
 
 use crate::extent_stream::extents;
 use crate::node::{NodeList, TreeNode};
-use btr_tree::{Counter, Slots};
-use outside::Memory;
+use btr_tree::{Counter, Memory, Slots};
 use std::alloc::Global;
 use unit_plan::{PieceList, Plan};
 

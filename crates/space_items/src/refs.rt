@@ -7,7 +7,7 @@ ghost use Rattle.space_items.specs.Stream.{IsSmallPiece};
 
 use crate::node::TreeNode;
 use btr_space_items::{ExtentHead, InlineRef};
-use castagnoli::data_ref_hash;
+use btr_tree::data_ref_hash;
 use std::marker::Model;
 use unit_plan::Piece;
 

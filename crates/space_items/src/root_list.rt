@@ -1,17 +1,14 @@
 ghost use Rattle.std.specs.Prelude.{◌≡◌, ◌≤◌, ◌<◌, ◌*◌, ◌^◌, ◌++◌, ◌∷◌, [], drop, slice_range, length, All, AllPairs, IfOk, OnOk};
-ghost use Rattle.item_list.specs.Inodes.{inode_item, ref_item};
+ghost use Rattle.btr_item_list.specs.Inodes.{inode_item, ref_item};
 ghost use Rattle.space_items.specs.Roots.{AreBefore, root_items, root_item, root_body, root_inode, root_dirid, tree_uuid, other_root_items, saved_ref, default_item};
 
 use crate::node::{RootList, TreeRoot};
-use btr_keys::{DirEntry, Inode, InodeRef, Key};
-use btr_space_items::{RootItem, RootRef};
-use castagnoli::name_hash;
-use item_list::{
+use btr_item_list::{
     ItemList, add_inode, add_ref, inode_made, key_of, new_inode, put_dir_entry, stamp_of,
 };
-use outside::Memory;
+use btr_space_items::{RootItem, RootRef};
+use btr_tree::{DirEntry, Ids, Inode, InodeRef, Key, Memory, name_hash};
 use std::alloc::Global;
-use vol_block::Ids;
 
 /// The entry of tree 5's root that names the subvolume with the image.
 const SAVED: &[u8] = b"reiserfs_saved";

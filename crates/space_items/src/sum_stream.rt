@@ -1,19 +1,16 @@
 ghost use Rattle.std.specs.Prelude.{◌≡◌, ◌≤◌, ◌<◌, ◌+◌, ◌*◌, ◌^◌, ◌++◌, false, is_err, length, take, All, IfOk, OnOk};
 ghost use Rattle.std.specs.List.{flat_map, range_with_len};
-ghost use Rattle.outside.specs.Fault.{HasCause};
-ghost use Rattle.outside.specs.History.{Image, OverTold};
-ghost use Rattle.csum_kinds.specs.Kind.{kind_sum, kind_width};
+ghost use Rattle.btr_tree.specs.outside.Fault.{HasCause};
+ghost use Rattle.btr_tree.specs.outside.History.{Image, OverTold};
+ghost use Rattle.btr_tree.specs.csum_kinds.Kind.{kind_sum, kind_width};
 ghost use Rattle.unit_plan.specs.Sums.{sums_in_item};
 ghost use Rattle.space_items.specs.Stream.{ArePieces, FitsSums, IsSmallPiece, sums_ahead};
 ghost use Rattle.space_items.specs.Sums.{block_sum, sum_items, sums_item};
 
-use btr_keys::Key;
-use csum_kinds::{SumKind, kind_sum, kind_width};
-use item_list::key_of;
-use outside::{BlockSource, Fault, Memory};
+use btr_item_list::key_of;
+use btr_tree::{Block, BlockSource, Fault, Key, Memory, SumKind, kind_sum, kind_width};
 use std::alloc::Global;
 use unit_plan::{Piece, PieceList, sums_in_item};
-use vol_block::Block;
 
 /// The object of all checksums of data.
 const SUMS: u64 = u64::MAX - 9;

@@ -1,4 +1,6 @@
 pub mod Bytes
+pub mod Marking
+pub mod Reading
 pub mod Refusing
 pub mod Rounds
 pub mod Tried

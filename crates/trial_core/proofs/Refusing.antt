@@ -1,26 +1,26 @@
 -- The answers of the steps, as those of a round and of a trial.
 use Rattle.std.proofs.Common.{◌≡◌, inl, inr, refl, sym, ◌∙◌, subst, None, Some}
 use Rattle.std.specs.Prelude.{◌≢◌}
-use Rattle.outside.specs.History.{History, Image}
-use Rattle.outside.specs.declared.answer.Answer.{Answer}
-use Rattle.outside.specs.declared.answer.Answer.TheVariants as answer
-use Rattle.outside.specs.declared.answer.BtrAnswer.{BtrAnswer}
-use Rattle.outside.specs.declared.answer.BtrAnswer.TheVariants as of_btr
-use Rattle.outside.specs.declared.answer.VolAnswer.{VolAnswer}
-use Rattle.outside.specs.declared.answer.VolAnswer.TheVariants as of_reiser
-use Rattle.outside.specs.declared.refusal.BtrRefusal.{BtrRefusal}
-use Rattle.vol_block.specs.declared.format.Format.TheVariants.{Btrfs, Reiser}
+use Rattle.reiser_bitmap.specs.outside.History.{History, Image}
+use Rattle.convert_core.specs.command_answers.declared.answer.Answer.{Answer}
+use Rattle.convert_core.specs.command_answers.declared.answer.Answer.TheVariants as answer
+use Rattle.reiser_bitmap.specs.refusals.declared.answer.BtrAnswer.{BtrAnswer}
+use Rattle.reiser_bitmap.specs.refusals.declared.answer.BtrAnswer.TheVariants as of_btr
+use Rattle.reiser_bitmap.specs.refusals.declared.answer.VolAnswer.{VolAnswer}
+use Rattle.reiser_bitmap.specs.refusals.declared.answer.VolAnswer.TheVariants as of_reiser
+use Rattle.reiser_bitmap.specs.refusals.declared.refusal.BtrRefusal.{BtrRefusal}
+use Rattle.reiser_bitmap.specs.vol_block.declared.format.Format.TheVariants.{Btrfs, Reiser}
 use Rattle.btr_reader.specs.Parts.{HasBtrfsRows, IsRowsRefusal, RefusesBtrfsRows, has_log, unreadable}
 use Rattle.convert_core.specs.Answers.{RefusesConvert}
-use Rattle.object_files.specs.Answers.{IsFaultOrMemory}
+use Rattle.reiser_volume.specs.reiser_volume_contents.Answers.{IsFaultOrMemory}
 use Rattle.reiser_volume.specs.Answers.{RefusesVolume}
 use Rattle.reiser_volume.specs.Front.{RefusesFront}
 use Rattle.reiser_volume.specs.Laws.{FrontsAreJudged, RefusalsBreakRules}
 use Rattle.reiser_volume.specs.Volume.{IsAccepted}
-use Rattle.rollback_core.specs.Laws.{InOrderHasFormat}
-use Rattle.rollback_steps.specs.Answers.{IsRollbackAnswer, RefusesRollback}
-use Rattle.rollback_steps.specs.Laws.{RefusalsAreOfTouched}
-use Rattle.saved_volume.specs.Untouched.{IsUntouched}
+use Rattle.rollback_core.specs.RecoveryLaws.{InOrderHasFormat}
+use Rattle.rollback_core.specs.RollbackAnswers.{IsRollbackAnswer, RefusesRollback}
+use Rattle.rollback_core.specs.RollbackLaws.{RefusalsAreOfTouched}
+use Rattle.rollback_core.specs.volume_state.Untouched.{IsUntouched}
 use Rattle.trial_core.specs.Answers.{IsReadAnswer, IsStop, LeavesRound, RefusesRound, StopsUnless, by_btrfs, by_step, by_volume}
 use Rattle.trial_core.specs.Round.{FreeAreBytes, plain}
 

@@ -2,24 +2,24 @@
 use Rattle.std.proofs.Common.{◌≡◌, inl, inr, Result, Ok, Err, ℕ, ◌<◌, ◌^◌, Bool, true, List, map, refl, sym, ◌∙◌, ap, subst}
 use Rattle.std.specs.Prelude.{IfErr}
 use Rattle.std.specs.Result.{MatchResult}
-use Rattle.vol_block.specs.declared.ids.Ids.{Ids}
-use Rattle.converted_laws.specs.going_back.Back.{ConvertedVolumesGoBack, GoesBack}
-use Rattle.btr_node.specs.NodeSize.{IsNodeSize}
+use Rattle.reiser_bitmap.specs.vol_block.declared.ids.Ids.{Ids}
+use Rattle.convert_core_laws.specs.going_back.Back.{ConvertedVolumesGoBack, GoesBack}
+use Rattle.btr_reader.specs.btr_node.NodeSize.{IsNodeSize}
 use Rattle.btr_reader.specs.Laws.{BtrfsRowsAreOne}
 use Rattle.btr_reader.specs.Parts.{ListsBtrfs}
 use Rattle.convert_core.specs.Converted.{IsConverted}
 use Rattle.fs_rows.specs.Rows.{WholeRow, row_of}
 use Rattle.fs_rows.specs.declared.row.Row.{Row}
-use Rattle.object_files.specs.Laws.{SameUsed}
-use Rattle.converted_laws.specs.opening.Opens.{ConvertedVolumesOpen, OpensAsBefore}
-use Rattle.outside.specs.History.{History, Image}
-use Rattle.outside.specs.declared.answer.Answer.{Answer}
+use Rattle.reiser_volume.specs.reiser_volume_contents.Laws.{SameUsed}
+use Rattle.convert_core_laws.specs.opening.Opens.{ConvertedVolumesOpen, OpensAsBefore}
+use Rattle.reiser_bitmap.specs.outside.History.{History, Image}
+use Rattle.convert_core.specs.command_answers.declared.answer.Answer.{Answer}
 use Rattle.reiser_bitmap.specs.Bits.{has}
 use Rattle.reiser_volume.specs.Volume.{used_of}
-use Rattle.rollback_steps.specs.RolledBack.{IsRolledBack}
-use Rattle.space_items.specs.Laws.{AreIds}
-use Rattle.trial_parts.specs.Parts.{summary_of, used_mark}
-use Rattle.trial_parts.specs.declared.summary.TrialSummary.{TrialSummary}
+use Rattle.rollback_core.specs.RolledBack.{IsRolledBack}
+use Rattle.convert_core.specs.space_items.Laws.{AreIds}
+use Rattle.trial_core.specs.Parts.{summary_of, used_mark}
+use Rattle.trial_core.specs.declared.summary.TrialSummary.{TrialSummary}
 use Rattle.trial_core.specs.Answers.{IsReadAnswer, LeavesRound, RefusesRound, StopsUnless}
 use Rattle.trial_core.specs.Round.{AreReiser, FreeAreBytes, IsKnown, IsRound, IsSummary, UsedAreBytes, plain}
 use Rattle.trial_core.specs.declared.known.Known.{Known}

@@ -4,12 +4,12 @@ use Rattle.std.specs.Prelude.{IfErr, IsTrue, nat_lt, slice_index}
 use Rattle.std.specs.Result.{MatchResult}
 use Rattle.std.proofs.lemmas.Bool.{and_parts}
 use Rattle.std.proofs.lemmas.Bool.Decides.{Decides-ltb}
-use Rattle.vol_block.specs.declared.ids.Ids.{Ids}
-use Rattle.converted_laws.specs.going_back.Back.{ConvertedVolumesGoBack}
-use Rattle.outside.specs.History.{History, Image, IsSettled, WritesOnly, after, block_at, reads, synced}
-use Rattle.outside.specs.declared.answer.Answer.{Answer}
-use Rattle.outside.specs.declared.answer.Answer.TheVariants as answer
-use Rattle.outside.proofs.Crash.{reads_only}
+use Rattle.reiser_bitmap.specs.vol_block.declared.ids.Ids.{Ids}
+use Rattle.convert_core_laws.specs.going_back.Back.{ConvertedVolumesGoBack}
+use Rattle.reiser_bitmap.specs.outside.History.{History, Image, IsSettled, WritesOnly, after, block_at, reads, synced}
+use Rattle.convert_core.specs.command_answers.declared.answer.Answer.{Answer}
+use Rattle.convert_core.specs.command_answers.declared.answer.Answer.TheVariants as answer
+use Rattle.reiser_bitmap.proofs.outside.Crash.{reads_only}
 use Rattle.fs_rows.specs.Rows.{WholeRow, row_of}
 use Rattle.fs_rows.specs.declared.row.Row.{Row}
 use Rattle.reiser_bitmap.specs.Bits.{has}
@@ -20,12 +20,12 @@ use Rattle.reiser_make.specs.Rows.{sample_rows}
 use Rattle.reiser_make.specs.Shape.{shape}
 use Rattle.reiser_volume.specs.Laws.{RowsAreOne}
 use Rattle.reiser_volume.specs.Volume.{used_of}
-use Rattle.rollback_steps.specs.Laws.{RollbackKeeps}
-use Rattle.row_laws.specs.Rows.{HasBytes}
-use Rattle.sample_laws.specs.Laws.{SamplesMarkUsed}
-use Rattle.sample_laws.specs.Rows.{IsAsDescribed, SamplesAreAsDescribed}
-use Rattle.trial_parts.specs.Parts.{summary_of}
-use Rattle.trial_parts.specs.declared.summary.TrialSummary.{TrialSummary}
+use Rattle.rollback_core.specs.RollbackLaws.{RollbackKeeps}
+use Rattle.convert_core.specs.convert_trees_laws.Rows.{HasBytes}
+use Rattle.reiser_make_laws.specs.Laws.{SamplesMarkUsed}
+use Rattle.reiser_make_laws.specs.Rows.{IsAsDescribed, SamplesAreAsDescribed}
+use Rattle.trial_core.specs.Parts.{summary_of}
+use Rattle.trial_core.specs.declared.summary.TrialSummary.{TrialSummary}
 use Rattle.trial_core.specs.Answers.{IsMakeAnswer, LeavesRefused, LeavesRound, RefusesRound, RefusesScratch, RefusesTrial}
 use Rattle.trial_core.specs.Laws.{TriesKeep}
 use Rattle.trial_core.specs.Round.{FreeAreBytes, IsRound, IsSummary}

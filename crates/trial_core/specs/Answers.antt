@@ -1,20 +1,20 @@
 -- What a trial and its steps may answer.
 use Rattle.std.specs.Prelude.{◌≡◌, ◌≢◌, ◌⊎◌, ◌≤◌, ◌<◌, ℕ, length}
-use Rattle.outside.specs.Format.{format_in}
-use Rattle.outside.specs.History.{History, Image, IsSettled, reads}
-use Rattle.outside.specs.declared.answer.Answer.{Answer}
-use Rattle.outside.specs.declared.answer.Answer.TheVariants as answer
-use Rattle.outside.specs.declared.answer.BtrAnswer.{BtrAnswer}
-use Rattle.outside.specs.declared.answer.BtrAnswer.TheVariants as of_btr
-use Rattle.outside.specs.declared.answer.VolAnswer.{VolAnswer}
-use Rattle.outside.specs.declared.answer.VolAnswer.TheVariants as of_reiser
-use Rattle.outside.specs.declared.refusal.VolumeRefusal.TheVariants.{Damaged, Short}
-use Rattle.outside.specs.declared.rule.Rule.TheVariants.{Reread}
-use Rattle.vol_block.specs.declared.format.Format.TheVariants.{Neither}
+use Rattle.reiser_bitmap.specs.outside.Format.{format_in}
+use Rattle.reiser_bitmap.specs.outside.History.{History, Image, IsSettled, reads}
+use Rattle.convert_core.specs.command_answers.declared.answer.Answer.{Answer}
+use Rattle.convert_core.specs.command_answers.declared.answer.Answer.TheVariants as answer
+use Rattle.reiser_bitmap.specs.refusals.declared.answer.BtrAnswer.{BtrAnswer}
+use Rattle.reiser_bitmap.specs.refusals.declared.answer.BtrAnswer.TheVariants as of_btr
+use Rattle.reiser_bitmap.specs.refusals.declared.answer.VolAnswer.{VolAnswer}
+use Rattle.reiser_bitmap.specs.refusals.declared.answer.VolAnswer.TheVariants as of_reiser
+use Rattle.reiser_bitmap.specs.refusals.declared.refusal.VolumeRefusal.TheVariants.{Damaged, Short}
+use Rattle.reiser_bitmap.specs.refusals.declared.rule.Rule.TheVariants.{Reread}
+use Rattle.reiser_bitmap.specs.vol_block.declared.format.Format.TheVariants.{Neither}
 use Rattle.reiser_make.specs.declared.maker.MakeAnswer.{MakeAnswer}
 use Rattle.reiser_make.specs.declared.maker.MakeAnswer.TheVariants as maker
-use Rattle.row_laws.specs.Rows.{HasBytes}
-use Rattle.convert_steps.specs.Prepared.{LacksSpace}
+use Rattle.convert_core.specs.convert_trees_laws.Rows.{HasBytes}
+use Rattle.convert_core.specs.convert_steps.Prepared.{LacksSpace}
 use Rattle.trial_core.specs.Round.{FreeAreBytes, plain}
 use Rattle.trial_core.specs.Trial.{IsScratch, needed_by, sample_on}
 

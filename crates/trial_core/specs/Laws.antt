@@ -1,12 +1,12 @@
 -- What a trial leaves.
 use Rattle.std.specs.Prelude.{◌≤◌, ◌<◌, ◌^◌, ℕ}
-use Rattle.object_files.specs.Laws.{SameUsed}
-use Rattle.outside.specs.History.{Image}
+use Rattle.reiser_volume.specs.reiser_volume_contents.Laws.{SameUsed}
+use Rattle.reiser_bitmap.specs.outside.History.{Image}
 use Rattle.reiser_make.specs.Rows.{sample_rows}
 use Rattle.reiser_volume.specs.Volume.{AreRowsOf, IsAccepted, used_of}
-use Rattle.row_laws.specs.Rows.{HasBytes}
-use Rattle.space_items.specs.Laws.{AreIds}
-use Rattle.vol_block.specs.declared.ids.Ids.{Ids}
+use Rattle.convert_core.specs.convert_trees_laws.Rows.{HasBytes}
+use Rattle.convert_core.specs.space_items.Laws.{AreIds}
+use Rattle.reiser_bitmap.specs.vol_block.declared.ids.Ids.{Ids}
 use Rattle.trial_core.specs.Trial.{IsTried, sample_on}
 
 -- The disk has the sample volume again: it is accepted, has the rows of the number, and each used block of the sample.

@@ -1,4 +1,6 @@
 pub mod Answers
 pub mod Laws
+pub mod Parts
 pub mod Round
+pub mod Same
 pub mod Trial

@@ -1,19 +1,19 @@
 -- A trial: the sample of a number, which is made, converted and rolled back on a device without a volume.
 use Rattle.std.specs.Prelude.{◌≡◌, ◌≤◌, ℕ, false, length, map}
 use Rattle.fs_rows.specs.Rows.{row_of}
-use Rattle.outside.specs.Format.{format_in}
-use Rattle.outside.specs.History.{History, Image, IsSettled, block_at, reads}
+use Rattle.reiser_bitmap.specs.outside.Format.{format_in}
+use Rattle.reiser_bitmap.specs.outside.History.{History, Image, IsSettled, block_at, reads}
 use Rattle.reiser_bitmap.specs.Bits.{has}
 use Rattle.reiser_volume.specs.Volume.{used_of}
-use Rattle.sample_laws.specs.Rows.{IsAsDescribed}
+use Rattle.reiser_make_laws.specs.Rows.{IsAsDescribed}
 use Rattle.reiser_make.specs.Inner.{needed}
 use Rattle.reiser_make.specs.Rows.{sample_rows}
 use Rattle.reiser_make.specs.Shape.{shape}
-use Rattle.sample_laws.specs.Laws.{made}
-use Rattle.vol_block.specs.declared.format.Format.TheVariants.{Neither}
-use Rattle.vol_block.specs.declared.ids.Ids.{Ids}
-use Rattle.trial_parts.specs.Parts.{summary_of}
-use Rattle.trial_parts.specs.declared.summary.TrialSummary.{TrialSummary}
+use Rattle.reiser_make_laws.specs.Laws.{made}
+use Rattle.reiser_bitmap.specs.vol_block.declared.format.Format.TheVariants.{Neither}
+use Rattle.reiser_bitmap.specs.vol_block.declared.ids.Ids.{Ids}
+use Rattle.trial_core.specs.Parts.{summary_of}
+use Rattle.trial_core.specs.declared.summary.TrialSummary.{TrialSummary}
 use Rattle.trial_core.specs.Round.{IsRound}
 
 -- how many blocks the sample takes

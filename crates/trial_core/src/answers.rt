@@ -2,7 +2,8 @@
 ghost use Rattle.std.specs.Prelude.{◌≡◌};
 ghost use Rattle.trial_core.specs.Answers.{by_btrfs, by_maker, by_step, by_volume, changed as change};
 
-use outside::{Answer, BtrAnswer, Fault, Rule, VolAnswer, VolumeRefusal};
+use convert_core::Answer;
+use reiser_bitmap::{BtrAnswer, Fault, Rule, VolAnswer, VolumeRefusal};
 use reiser_make::MakeAnswer;
 
 /// The answer where a call of the device failed.

@@ -1,17 +1,17 @@
 // The rows of the Btrfs volume in between.
 ghost use Rattle.std.specs.Prelude.{◌<◌, IfErr};
 ghost use Rattle.std.specs.Result.{MatchResult};
-ghost use Rattle.outside.specs.Fault.{HasCauseOf};
-ghost use Rattle.outside.specs.History.{OverTold};
+ghost use Rattle.reiser_bitmap.specs.outside.Fault.{HasCauseOf};
+ghost use Rattle.reiser_bitmap.specs.outside.History.{OverTold};
 ghost use Rattle.btr_reader.specs.Parts.{HasBtrfsRows, ListsBtrfs};
 ghost use Rattle.trial_core.specs.Answers.{IsReadAnswer, StopsUnless};
 
 use crate::answers::{btrfs_answer, fault_answer};
 use btr_reader::Btrfs;
+use convert_core::Answer;
 use fs_rows::Rows;
-use outside::{Answer, BlockSource};
+use reiser_bitmap::{Block, BlockNo, BlockSource};
 use std::alloc::Global;
-use vol_block::{Block, BlockNo};
 
 /// The block of the superblock.
 const SUPERBLOCK: BlockNo = 16;

@@ -1,19 +1,19 @@
 ghost use Rattle.std.specs.Prelude.{◌≡◌, ◌≤◌, IfErr, IfOk, length};
 ghost use Rattle.std.specs.Result.{MatchResult};
-ghost use Rattle.outside.specs.Fault.{HasCauseOf};
-ghost use Rattle.outside.specs.History.{OverTold};
+ghost use Rattle.reiser_bitmap.specs.outside.Fault.{HasCauseOf};
+ghost use Rattle.reiser_bitmap.specs.outside.History.{OverTold};
 ghost use Rattle.reiser_volume.specs.Volume.{IsAccepted, used_of};
 ghost use Rattle.trial_core.specs.Answers.{IsReadAnswer, IsStop, StopsUnless};
 ghost use Rattle.trial_core.specs.Round.{AreReiser, IsKnown};
-ghost use Rattle.trial_parts.specs.Parts.{used_mark};
+ghost use Rattle.trial_core.specs.Parts.{used_mark};
 
 use crate::answers::{changed, fault_answer, volume_answer};
+use crate::read_mark;
+use convert_core::Answer;
 use fs_rows::Rows;
-use outside::{Answer, BlockSource};
-use reiser_bitmap::Bitmap;
+use reiser_bitmap::{Bitmap, BlockSource};
 use reiser_volume::{Front, Volume, fronts_are_judged, refusals_break_rules};
 use std::alloc::Global;
-use trial_parts::read_mark;
 
 /// What is known of the ReiserFS volume before its conversion.
 #[derive(Drop)]

@@ -1,14 +1,15 @@
 // The sample of a trial.
 ghost use Rattle.std.specs.Prelude.{◌≡◌, ◌≤◌, Some, IfErr, IsTrue, OnOk};
-ghost use Rattle.outside.specs.Fault.{HasCauseOf};
+ghost use Rattle.reiser_bitmap.specs.outside.Fault.{HasCauseOf};
 ghost use Rattle.trial_core.specs.Answers.{IsMakeAnswer, LeavesRound};
 ghost use Rattle.trial_core.specs.Trial.{IsMade, needed_by};
 
 use crate::answers::{fault_answer, make_answer};
 use crate::scratch::BLOCKS;
-use outside::{Access, Answer, Disk};
+use convert_core::Answer;
+use reiser_bitmap::{Access, Disk};
 use reiser_make::make;
-use sample_laws::{samples_are_as_described, samples_mark_used};
+use reiser_make_laws::{samples_are_as_described, samples_mark_used};
 use std::alloc::Global;
 
 /// Makes the sample of a number in the first blocks of a disk, and waits until it has reached the device.

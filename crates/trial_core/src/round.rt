@@ -1,32 +1,31 @@
 // A volume that is converted and rolled back.
 ghost use Rattle.std.specs.Prelude.{◌≡◌, ◌≤◌, ◌<◌, ◌^◌, Some, IfErr, IsTrue, OnOk, length};
 ghost use Rattle.std.specs.Result.{MatchResult};
-ghost use Rattle.converted_laws.specs.going_back.Back.{GoesBack};
+ghost use Rattle.convert_core_laws.specs.going_back.Back.{GoesBack};
 ghost use Rattle.btr_reader.specs.Parts.{ListsBtrfs};
 ghost use Rattle.convert_core.specs.Converted.{IsConverted};
-ghost use Rattle.outside.specs.Fault.{HasCauseOf};
-ghost use Rattle.outside.specs.History.{Image, IsSettled, OverTold, reads};
+ghost use Rattle.reiser_bitmap.specs.outside.Fault.{HasCauseOf};
+ghost use Rattle.reiser_bitmap.specs.outside.History.{Image, IsSettled, OverTold, reads};
 ghost use Rattle.reiser_volume.specs.Volume.{IsAccepted, used_of};
-ghost use Rattle.rollback_steps.specs.RolledBack.{IsRolledBack};
-ghost use Rattle.saved_volume.specs.Untouched.{IsUntouched};
-ghost use Rattle.space_items.specs.Laws.{AreIds};
+ghost use Rattle.rollback_core.specs.RolledBack.{IsRolledBack};
+ghost use Rattle.rollback_core.specs.volume_state.Untouched.{IsUntouched};
+ghost use Rattle.convert_core.specs.space_items.Laws.{AreIds};
 ghost use Rattle.trial_core.specs.Answers.{IsReadAnswer, IsRoundAnswer, LeavesRound, RefusesRound, StopsUnless};
 ghost use Rattle.trial_core.specs.Round.{FreeAreBytes, IsKnown, IsRound, IsSummary, plain};
-ghost use Rattle.trial_parts.specs.Parts.{used_mark};
+ghost use Rattle.trial_core.specs.Parts.{used_mark};
 
 use crate::answers::{changed, step_answer};
 use crate::between::read_btrfs_rows;
 use crate::known::Known;
+use crate::{TrialSummary, same_rows, summary_of};
 use btr_reader::btrfs_rows_are_one;
-use converted_laws::{converted_volumes_go_back, converted_volumes_open};
-use outside::{Access, Answer, BlockSource, Disk};
+use convert_core::Answer;
+use convert_core_laws::{converted_volumes_go_back, converted_volumes_open};
+use convert_options::Options;
+use reiser_bitmap::{Access, BlockSource, Disk, Ids};
 use reiser_volume::refusals_break_rules;
-use rollback_core::in_order_has_format;
-use rollback_steps::refusals_are_of_touched;
+use rollback_core::{in_order_has_format, refusals_are_of_touched};
 use std::alloc::Global;
-use trial_parts::{TrialSummary, same_rows, summary_of};
-use unit_plan::Options;
-use vol_block::Ids;
 
 /// Converts the ReiserFS volume of a disk, which is accepted, and rolls it back. The rows before and in between are compared, and so are the
 /// used blocks before and in the end.
@@ -154,7 +153,7 @@ fn roll_back<D: Disk>(alloc: Global, disk: &mut D) -> Result<(), Answer>
     ensures answers { IfErr result IsReadAnswer }
 {
     refusals_are_of_touched();
-    match rollback_steps::rollback(alloc, disk) {
+    match rollback_core::rollback(alloc, disk) {
         Ok(_) => Ok(()),
         Err(answer) => Err(step_answer(answer)),
     }

@@ -1,15 +1,15 @@
 // Whether a device is one for a trial.
 ghost use Rattle.std.specs.Prelude.{◌≡◌, ◌≤◌, IfErr, IfOk, OnOk};
 ghost use Rattle.std.specs.Result.{MatchResult};
-ghost use Rattle.outside.specs.Fault.{HasCause, HasCauseOf};
-ghost use Rattle.outside.specs.Format.{format_in};
-ghost use Rattle.outside.specs.History.{OverTold};
+ghost use Rattle.reiser_bitmap.specs.outside.Fault.{HasCause, HasCauseOf};
+ghost use Rattle.reiser_bitmap.specs.outside.Format.{format_in};
+ghost use Rattle.reiser_bitmap.specs.outside.History.{OverTold};
 ghost use Rattle.trial_core.specs.Answers.{IsScratchAnswer, RefusesScratch};
 ghost use Rattle.trial_core.specs.Trial.{IsScratch};
 
 use crate::answers::fault_answer;
-use outside::{Answer, BlockSource, Fault, VolumeRefusal};
-use vol_block::{Block, BlockNo, Format, format_of};
+use convert_core::Answer;
+use reiser_bitmap::{Block, BlockNo, BlockSource, Fault, Format, VolumeRefusal, format_of};
 
 /// The block of the superblock, of both formats.
 const SUPERBLOCK: BlockNo = 16;

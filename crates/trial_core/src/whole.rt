@@ -1,18 +1,18 @@
 ghost use Rattle.std.specs.Prelude.{◌≡◌, ◌≤◌, ◌<◌, ◌^◌, Some, IfErr, IsTrue, OnOk};
 ghost use Rattle.std.specs.Result.{MatchResult};
-ghost use Rattle.outside.specs.Fault.{HasCauseOf};
-ghost use Rattle.outside.specs.History.{IsSettled, OverTold, reads};
+ghost use Rattle.reiser_bitmap.specs.outside.Fault.{HasCauseOf};
+ghost use Rattle.reiser_bitmap.specs.outside.History.{IsSettled, OverTold, reads};
 ghost use Rattle.trial_core.specs.Answers.{IsTrialAnswer, LeavesRefused, RefusesTrial};
 ghost use Rattle.trial_core.specs.Trial.{IsTried, summary};
 
+use crate::TrialSummary;
 use crate::making::make_sample;
 use crate::round::go_round;
 use crate::scratch::check_scratch;
-use outside::{Access, Answer, Disk};
+use convert_core::Answer;
+use reiser_bitmap::{Access, Disk, Ids};
 use reiser_volume::rows_are_one;
 use std::alloc::Global;
-use trial_parts::TrialSummary;
-use vol_block::Ids;
 
 /// Makes the sample of a number, of at most 4000, in the first 65,536 blocks of a disk, converts it and rolls it back. The disk is then the
 /// sample volume again.

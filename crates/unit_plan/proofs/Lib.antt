@@ -1,3 +1,4 @@
+pub use Rattle.btr_tree.proofs as btr_tree
 pub mod ChunkCount
 pub mod Counted
 pub mod Dividing

@@ -8,7 +8,7 @@ use Rattle.std.proofs.lemmas.List.{append-nil, map-append, take_more, get_or_app
 use Rattle.std.proofs.lemmas.List.Concat.{flat_map-append}
 use Rattle.std.proofs.lemmas.List.Elements.{All-append}
 use Rattle.std.proofs.lemmas.List.FromFn.{length-range_with_len, get_or-range_with_len}
-use Rattle.btr_node.specs.NodeSize.{IsNodeSize}
+use Rattle.btr_tree.specs.btr_node.NodeSize.{IsNodeSize}
 use Rattle.btr_tree.specs.Building.{AreSlots}
 use Rattle.unit_plan.specs.Needed.{nodes_in_unit}
 use Rattle.unit_plan.specs.Places.{places_in, node_places, ArePlaces, PlacesServe}

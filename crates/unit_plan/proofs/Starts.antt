@@ -6,8 +6,8 @@ use Rattle.std.proofs.lemmas.Bool.{cases_Bool, cases_lt, and_parts, and_from, an
 use Rattle.std.proofs.lemmas.List.{get_or_at, get_or-take, get_or-drop, get_or_default, get_or_past, length-take, length-drop}
 use Rattle.std.proofs.lemmas.List.Elements.{filter-append}
 use Rattle.std.proofs.lemmas.List.Folds.{Any-from_list_any, list_any_at, list_any_none}
-use Rattle.vol_block.specs.Volume.{IsReserved, is_reserved}
-use Rattle.vol_block.proofs.Reserved.{decides_reserved}
+use Rattle.reiser_bitmap.specs.vol_block.Volume.{IsReserved, is_reserved}
+use Rattle.reiser_bitmap.proofs.vol_block.Reserved.{decides_reserved}
 use Rattle.reiser_bitmap.specs.Bits.{has}
 use Rattle.reiser_bitmap.specs.Units.{IsFreeUnit, is_free_block, are_free_blocks, is_free_unit}
 use Rattle.reiser_bitmap.proofs.FreeUnits.{decides_free_unit}

@@ -2,7 +2,7 @@
 use Rattle.std.specs.Prelude.{◌≡◌, ℕ, ◌+◌, ◌*◌, ◌≤◌, ◌<◌, ◌^◌, max, nat_lt, nat_le, ◌==◌, Bool, not, ◌&&◌, ◌||◌, List, length, take, drop, slice_index_or}
 use Rattle.std.specs.List.{fold, filter, list_any, range_with_len}
 use Rattle.std.specs.Int.{div_ceil}
-use Rattle.vol_block.specs.Volume.{is_reserved}
+use Rattle.reiser_bitmap.specs.vol_block.Volume.{is_reserved}
 use Rattle.reiser_bitmap.specs.declared.runs.Run.{Run}
 use Rattle.reiser_bitmap.specs.Bits.{has}
 use Rattle.reiser_bitmap.specs.Units.{is_free_unit, free_units, unit_count}

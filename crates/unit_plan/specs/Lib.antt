@@ -1,7 +1,11 @@
+pub use Rattle.btr_tree.specs.btr_keys as btr_keys
+pub use Rattle.btr_tree.specs.btr_node as btr_node
+pub use Rattle.btr_tree.specs as btr_tree
+pub use Rattle.convert_options.specs as convert_options
+pub use Rattle.btr_tree.specs.csum_kinds as csum_kinds
 pub mod Choice
 pub mod Chunks
 pub mod Dividing
-pub mod Label
 pub mod Laws
 pub mod Needed
 pub mod Pieces

@@ -2,13 +2,13 @@
 -- by the counts alone.
 use Rattle.std.specs.Prelude.{ℕ, ◌+◌, ◌*◌, ◌/◌, ◌^◌, ◌<◌}
 use Rattle.std.specs.Int.{div_ceil}
-use Rattle.csum_kinds.specs.declared.kind.SumKind.{SumKind}
-use Rattle.csum_kinds.specs.Kind.{kind_width}
+use Rattle.btr_tree.specs.csum_kinds.declared.kind.SumKind.{SumKind}
+use Rattle.btr_tree.specs.csum_kinds.Kind.{kind_width}
 use Rattle.btr_tree.specs.Counting.{node_bound}
 use Rattle.unit_plan.specs.Sums.{sums_in_item}
 use Rattle.unit_plan.specs.declared.counts.Counts.{Counts}
 use Rattle.unit_plan.specs.declared.need.Need.{Need}
-use Rattle.unit_plan.specs.declared.options.Options.{Options}
+use Rattle.convert_options.specs.declared.options.Options.{Options}
 
 -- how many nodes fill a unit
 abbrev pub nodes_in_unit : ℕ → ℕ

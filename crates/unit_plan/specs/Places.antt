@@ -1,7 +1,7 @@
 -- Where the nodes of a plan's units lie, in bytes.
 use Rattle.std.specs.Prelude.{◌≡◌, ℕ, ◌+◌, ◌*◌, ◌^◌, ◌≤◌, ◌<◌, List, length, map, All, AllPairs}
 use Rattle.std.specs.List.{flat_map, range_with_len}
-use Rattle.btr_node.specs.NodeSize.{IsNodeSize}
+use Rattle.btr_tree.specs.btr_node.NodeSize.{IsNodeSize}
 use Rattle.btr_tree.specs.Building.{AreSlots}
 use Rattle.unit_plan.specs.Needed.{nodes_in_unit}
 

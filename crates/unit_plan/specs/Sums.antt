@@ -1,7 +1,7 @@
 -- Checksums of data.
 use Rattle.std.specs.Prelude.{ℕ}
-use Rattle.csum_kinds.specs.declared.kind.SumKind.{SumKind}
-use Rattle.csum_kinds.specs.declared.kind.SumKind.TheVariants.{Crc32c}
+use Rattle.btr_tree.specs.csum_kinds.declared.kind.SumKind.{SumKind}
+use Rattle.btr_tree.specs.csum_kinds.declared.kind.SumKind.TheVariants.{Crc32c}
 
 -- how many of them an item has at most, so that it fits into a leaf of any size
 abbrev pub sums_in_item : SumKind → ℕ

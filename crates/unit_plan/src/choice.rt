@@ -4,8 +4,7 @@ ghost use Rattle.unit_plan.specs.Choice.{HasEnoughSpace, IsPlan, IsPlanAt, IsAns
 
 use crate::unused::unallocated;
 use crate::{Need, Plan, PlanAnswer, Units};
-use outside::Memory;
-use reiser_bitmap::{Bitmap, Run, Runs};
+use reiser_bitmap::{Bitmap, Memory, Run, Runs};
 use std::alloc::Global;
 
 /// The blocks of a unit.

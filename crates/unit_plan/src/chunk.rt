@@ -1,5 +1,4 @@
-use copy_list::CopyList;
-use vol_block::BlockNo;
+use reiser_bitmap::{BlockNo, CopyList};
 
 /// What a unit, and so a chunk, is used for.
 #[derive(Clone, Copy, Debug, PartialEq, Eq)]

@@ -6,7 +6,7 @@ ghost use Rattle.unit_plan.specs.Roles.{role_in};
 use crate::Plan;
 use crate::chunk::{Chunk, Chunks};
 use crate::roles::Roles;
-use outside::Memory;
+use reiser_bitmap::Memory;
 use std::alloc::Global;
 
 /// The blocks of a unit.

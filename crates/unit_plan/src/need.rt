@@ -1,7 +1,7 @@
 ghost use Rattle.std.specs.Prelude.{◌≡◌, ◌+◌, ◌*◌, ◌≤◌, ◌<◌, ◌^◌};
-ghost use Rattle.btr_node.specs.NodeSize.{IsNodeSize};
+ghost use Rattle.btr_tree.specs.btr_node.NodeSize.{IsNodeSize};
 ghost use Rattle.btr_tree.specs.Counting.{node_bound};
-ghost use Rattle.csum_kinds.specs.Kind.{kind_width};
+ghost use Rattle.btr_tree.specs.csum_kinds.Kind.{kind_width};
 ghost use Rattle.unit_plan.specs.Choice.{IsSmall};
 ghost use Rattle.unit_plan.specs.Needed.{
   AreSmall,
@@ -16,10 +16,10 @@ ghost use Rattle.unit_plan.specs.Needed.{
   extent_nodes,
 };
 
+use crate::Counts;
 use crate::sums::{sum_width, sums_in_item};
-use crate::{Counts, Options};
-use btr_tree::node_bound;
-use csum_kinds::SumKind;
+use btr_tree::{SumKind, node_bound};
+use convert_options::Options;
 
 /// The bytes of a unit.
 const UNIT_SIZE: u64 = 1 << 20;

@@ -1,7 +1,7 @@
 ghost use Rattle.std.specs.Prelude.{◌≡◌, ◌<◌, List, length, slice_get, Some};
 ghost use Rattle.unit_plan.specs.declared.piece.Piece.{Piece as PieceOf};
 
-use vol_block::BlockNo;
+use reiser_bitmap::BlockNo;
 
 /// Blocks of a volume that become one extent of data.
 #[derive(Clone, Copy, Debug, PartialEq, Eq)]

@@ -1,12 +1,12 @@
 ghost use Rattle.std.specs.Prelude.{◌≡◌, ◌<◌, ◌+◌, ◌*◌, ◌^◌, ◌++◌, map, IfOk, OnOk};
 ghost use Rattle.std.specs.List.{All, range_with_len};
-ghost use Rattle.btr_node.specs.NodeSize.{IsNodeSize};
+ghost use Rattle.btr_tree.specs.btr_node.NodeSize.{IsNodeSize};
 ghost use Rattle.unit_plan.specs.Places.{node_places};
 
 use crate::Units;
 use crate::need::nodes_in_unit;
 use btr_tree::Slots;
-use outside::Memory;
+use reiser_bitmap::Memory;
 use std::alloc::Global;
 
 /// The bytes of a unit.

@@ -1,6 +1,5 @@
 use crate::Units;
-use outside::Memory as NoMemory;
-use reiser_bitmap::Runs;
+use reiser_bitmap::{Memory as NoMemory, Runs};
 use thiserror::Error;
 
 /// Which units of a volume get which use. The lists ascend, and no unit is in two of them.

@@ -8,8 +8,7 @@ ghost use Rattle.unit_plan.specs.Roles.{role_in};
 use crate::Plan;
 use crate::chunk::Role;
 use crate::unused::mark;
-use outside::Memory;
-use reiser_bitmap::{Bitmap, Run, Runs};
+use reiser_bitmap::{Bitmap, Memory, Run, Runs};
 use std::alloc::Global;
 use std::marker::Model;
 

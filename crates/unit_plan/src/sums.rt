@@ -1,8 +1,8 @@
 ghost use Rattle.std.specs.Prelude.{◌≡◌, ◌≤◌};
-ghost use Rattle.csum_kinds.specs.Kind.{kind_width};
+ghost use Rattle.btr_tree.specs.csum_kinds.Kind.{kind_width};
 ghost use Rattle.unit_plan.specs.Sums.{sums_in_item};
 
-use csum_kinds::SumKind;
+use btr_tree::SumKind;
 
 /// How many checksums of data an item of the checksum tree has at most.
 pub fn sums_in_item(kind: SumKind) -> u64
@@ -19,5 +19,5 @@ pub(crate) fn sum_width(kind: SumKind) -> u64
     ensures exact { result ≡ kind_width kind }
     ensures small { result ≤ 32 }
 {
-    csum_kinds::kind_width(kind) as u64
+    btr_tree::kind_width(kind) as u64
 }

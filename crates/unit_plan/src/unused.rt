@@ -4,10 +4,8 @@ ghost use Rattle.reiser_bitmap.specs.Bits.{has};
 ghost use Rattle.unit_plan.specs.Choice.{volume_units, is_among, is_data, holds_data, unallocated_runs};
 
 use crate::Units;
-use outside::Memory;
-use reiser_bitmap::{Bitmap, Run, Runs};
+use reiser_bitmap::{Bitmap, BlockNo, Memory, Run, Runs, is_reserved};
 use std::alloc::Global;
-use vol_block::{BlockNo, is_reserved};
 
 /// The blocks of a unit.
 const BLOCKS_IN_UNIT: u64 = 256;

@@ -5,14 +5,14 @@ use Rattle.std.proofs.lemmas.Bool.Decides.{Decides-eqb}
 use Rattle.std.proofs.lemmas.List.{drop-drop}
 use Rattle.std.proofs.lemmas.Slice.Eq.{starts_is}
 use Rattle.byteorder.specs.Endian.{little_number}
-use Rattle.vol_block.specs.Format.{has_bytes_at, has_reiser_magic}
-use Rattle.vol_block.specs.Volume.{field}
-use Rattle.vol_block.specs.declared.format.Format.TheVariants as formats
-use Rattle.vol_block.specs.declared.ids.Ids.{Ids}
-use Rattle.outside.specs.Format.{format_in}
-use Rattle.outside.specs.History.{Image, block_at}
+use Rattle.reiser_volume.specs.vol_block.Format.{has_bytes_at, has_reiser_magic}
+use Rattle.reiser_volume.specs.vol_block.Volume.{field}
+use Rattle.reiser_volume.specs.vol_block.declared.format.Format.TheVariants as formats
+use Rattle.reiser_volume.specs.vol_block.declared.ids.Ids.{Ids}
+use Rattle.reiser_volume.specs.outside.Format.{format_in}
+use Rattle.reiser_volume.specs.outside.History.{Image, block_at}
 use Rattle.reiser_volume.specs.Volume.{IsAccepted}
-use Rattle.unit_plan.specs.declared.options.Options.{Options}
+use Rattle.convert_options.specs.declared.options.Options.{Options}
 use Rattle.convert_core.specs.Converted.{IsConverted, IsConvertible}
 use Rattle.convert_core.proofs.Putting.{convertible}
 use Rattle.volume_app.proofs.Formats.{format_long}

@@ -2,12 +2,12 @@
 use Rattle.std.proofs.Common.{◌≡◌, ◌<◌, ◌≤◌, Bool, true, false, cond, length, refl, ◌∙◌, arith}
 use Rattle.std.specs.Prelude.{◌≢◌, nat_le}
 use Rattle.std.proofs.lemmas.Bool.Decides.{nat_tests}
-use Rattle.vol_block.specs.declared.format.Format.{Format}
-use Rattle.vol_block.specs.declared.format.Format.TheVariants as formats
-use Rattle.vol_block.specs.Format.{format, has_reiser_magic}
-use Rattle.outside.specs.History.{Image, block_at}
+use Rattle.reiser_volume.specs.vol_block.declared.format.Format.{Format}
+use Rattle.reiser_volume.specs.vol_block.declared.format.Format.TheVariants as formats
+use Rattle.reiser_volume.specs.vol_block.Format.{format, has_reiser_magic}
+use Rattle.reiser_volume.specs.outside.History.{Image, block_at}
 use Rattle.reiser_volume.specs.Volume.{IsAccepted}
-use Rattle.outside.specs.Format.{format_in}
+use Rattle.reiser_volume.specs.outside.Format.{format_in}
 
 format_cases : (btrfs reiser : Bool) → cond btrfs formats.Btrfs (cond reiser formats.Reiser formats.Neither) ≢ formats.Btrfs → reiser ≡ true
     → cond btrfs formats.Btrfs (cond reiser formats.Reiser formats.Neither) ≡ formats.Reiser

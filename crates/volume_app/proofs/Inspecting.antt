@@ -1,42 +1,43 @@
 -- What `inspect` answers.
 use Rattle.std.proofs.Common.{◌≡◌, refl, sym, ap, subst}
 use Rattle.std.specs.Prelude.{◌≢◌}
-use Rattle.vol_block.specs.declared.format.Format.{Format}
-use Rattle.vol_block.specs.declared.format.Format.TheVariants as formats
-use Rattle.outside.specs.History.{Image}
-use Rattle.outside.specs.declared.answer.BtrAnswer.{BtrAnswer}
-use Rattle.outside.specs.declared.answer.BtrAnswer.TheVariants as of_btr
-use Rattle.outside.specs.declared.answer.VolAnswer.{VolAnswer}
-use Rattle.outside.specs.declared.answer.VolAnswer.TheVariants as of_reiser
+use Rattle.reiser_volume.specs.vol_block.declared.format.Format.{Format}
+use Rattle.reiser_volume.specs.vol_block.declared.format.Format.TheVariants as formats
+use Rattle.reiser_volume.specs.outside.History.{Image}
+use Rattle.reiser_volume.specs.refusals.declared.answer.BtrAnswer.{BtrAnswer}
+use Rattle.reiser_volume.specs.refusals.declared.answer.BtrAnswer.TheVariants as of_btr
+use Rattle.reiser_volume.specs.refusals.declared.answer.VolAnswer.{VolAnswer}
+use Rattle.reiser_volume.specs.refusals.declared.answer.VolAnswer.TheVariants as of_reiser
 use Rattle.reiser_volume.specs.Answers.{RefusesVolume}
 use Rattle.reiser_volume.specs.Reading.{IsReadingAnswer}
 use Rattle.reiser_volume.specs.Volume.{IsAccepted}
-use Rattle.btr_summary.specs.declared.summary.Summary.{Summary}
+use Rattle.volume_app.specs.declared.summary.Summary.{Summary}
+use Rattle.convert_options.specs.declared.options.Options.{Options}
 use Rattle.btr_reader.specs.Opening.{NamesNoLogTree}
 use Rattle.btr_reader.specs.Parts.{SavedImage, IsReadable, RefusesPart}
-use Rattle.btr_summary.specs.Told.{summary_of}
-use Rattle.btr_summary.specs.Text.{summary_text as btrfs_summary_text}
+use Rattle.volume_app.specs.Told.{summary_of}
+use Rattle.volume_app.specs.Text.{summary_text as btrfs_summary_text}
 use Rattle.volume_app.specs.declared.inspect.Inspected.TheVariants.{Reiser, Btrfs}
 use Rattle.volume_app.specs.declared.reiser.ReiserSummary.{ReiserSummary}
 use Rattle.volume_app.specs.Answers.{of_volume, of_btrfs}
-use Rattle.outside.specs.Format.{format_in}
+use Rattle.reiser_volume.specs.outside.Format.{format_in}
 use Rattle.volume_app.specs.Inspect.{IsInspectable, IsInspectText, Inspects, InspectRefuses, IsInspectAnswer}
 use Rattle.volume_app.specs.Reiser.{IsReiserSummary, summary_text}
 use Rattle.volume_app.proofs.Formats.{reiser_found}
 
-pub reiser_inspected : (disk : Image) (told : ReiserSummary) → format_in disk ≢ formats.Btrfs → IsAccepted disk → IsReiserSummary disk told → Inspects disk (Reiser told)
-reiser_inspected disk told other accepted is =
+pub reiser_inspected : (o : Options) (disk : Image) (told : ReiserSummary) → format_in disk ≢ formats.Btrfs → IsAccepted disk → IsReiserSummary o disk told → Inspects o disk (Reiser told)
+reiser_inspected o disk told other accepted is =
     let format = sym (reiser_found disk accepted other) in
     record {
       inspectable = subst (λ (f : Format). IsInspectable f disk) format accepted;
-      text = subst (λ (f : Format). IsInspectText f disk (summary_text told)) format (record { told = told; summary = is; is = refl });
+      text = subst (λ (f : Format). IsInspectText o f disk (summary_text told)) format (record { told = told; summary = is; is = refl });
     }
 
-pub btrfs_inspected : (disk : Image) (told : Summary) → format_in disk ≡ formats.Btrfs → IsReadable disk SavedImage → told ≡ summary_of disk → Inspects disk (Btrfs told)
-btrfs_inspected disk told format readable is =
+pub btrfs_inspected : (o : Options) (disk : Image) (told : Summary) → format_in disk ≡ formats.Btrfs → IsReadable disk SavedImage → told ≡ summary_of disk → Inspects o disk (Btrfs told)
+btrfs_inspected o disk told format readable is =
     record {
       inspectable = subst (λ (f : Format). IsInspectable f disk) (sym format) readable;
-      text = subst (λ (f : Format). IsInspectText f disk (btrfs_summary_text told)) (sym format) (ap (λ (s : Summary). btrfs_summary_text s) is);
+      text = subst (λ (f : Format). IsInspectText o f disk (btrfs_summary_text told)) (sym format) (ap (λ (s : Summary). btrfs_summary_text s) is);
     }
 
 -- what is refused of a volume

@@ -7,5 +7,7 @@ pub mod OneText
 pub mod Outcomes
 pub mod Performing
 pub mod Promise
+pub mod Space
+pub mod Telling
 pub mod Trees
 pub mod Trials

@@ -1,22 +1,22 @@
 -- What `list` answers.
 use Rattle.std.proofs.Common.{◌≡◌, sym, ap, subst}
 use Rattle.std.specs.Prelude.{◌≢◌, List, map}
-use Rattle.vol_block.specs.declared.format.Format.{Format}
-use Rattle.vol_block.specs.declared.format.Format.TheVariants as formats
+use Rattle.reiser_volume.specs.vol_block.declared.format.Format.{Format}
+use Rattle.reiser_volume.specs.vol_block.declared.format.Format.TheVariants as formats
 use Rattle.fs_rows.specs.Rows.{WholeRow, row_of}
 use Rattle.fs_rows.specs.Text.{rows_text}
 use Rattle.fs_rows.specs.declared.row.Row.{Row}
-use Rattle.outside.specs.History.{Image}
-use Rattle.outside.specs.declared.answer.BtrAnswer.{BtrAnswer}
-use Rattle.outside.specs.declared.answer.BtrAnswer.TheVariants as of_btr
-use Rattle.outside.specs.declared.answer.VolAnswer.{VolAnswer}
-use Rattle.outside.specs.declared.answer.VolAnswer.TheVariants.{Refused, Fault, Memory}
+use Rattle.reiser_volume.specs.outside.History.{Image}
+use Rattle.reiser_volume.specs.refusals.declared.answer.BtrAnswer.{BtrAnswer}
+use Rattle.reiser_volume.specs.refusals.declared.answer.BtrAnswer.TheVariants as of_btr
+use Rattle.reiser_volume.specs.refusals.declared.answer.VolAnswer.{VolAnswer}
+use Rattle.reiser_volume.specs.refusals.declared.answer.VolAnswer.TheVariants.{Refused, Fault, Memory}
 use Rattle.reiser_volume.specs.Answers.{RefusesVolume}
 use Rattle.reiser_volume.specs.Reading.{IsReadingAnswer}
 use Rattle.reiser_volume.specs.Volume.{AreRowsOf, IsAccepted}
 use Rattle.volume_app.specs.Answers.{of_volume, of_btrfs}
 use Rattle.btr_reader.specs.Parts.{HasBtrfsRows, AreRowsOfBtrfs, RefusesBtrfsRows}
-use Rattle.outside.specs.Format.{format_in}
+use Rattle.reiser_volume.specs.outside.Format.{format_in}
 use Rattle.volume_app.specs.Listing.{IsListable, AreRowsIn, IsListText, Lists, ListRefuses, IsListAnswer}
 use Rattle.volume_app.proofs.Formats.{reiser_found}
 

@@ -1,44 +1,43 @@
 -- What an ending that is right for a disk comes to.
 use Rattle.std.proofs.Common.{◌≡◌, ◌⊎◌, inl, inr, ℕ, ◌-◌, ◌^◌, ◌<◌, List, refl, ap, subst, ⊎_elim, arith, Result, Ok, Err}
 use Rattle.std.specs.Prelude.{◌≢◌, Option, Some, None}
-use Rattle.vol_block.specs.declared.format.Format.{Format}
-use Rattle.vol_block.specs.declared.format.Format.TheVariants as formats
-use Rattle.outside.specs.Fault.{HasCause, Rose, Takes}
-use Rattle.outside.specs.History.{Image}
-use Rattle.outside.specs.declared.fault.Fault as faults
-use Rattle.outside.specs.declared.answer.Answer.{Answer}
-use Rattle.outside.specs.declared.answer.Answer.TheVariants.{Volume, Btr, NoSpace, WrongFormat, ImageMissing, ImageMoved, ImageDamaged, ReservedUsed, Fault, Memory}
+use Rattle.reiser_volume.specs.vol_block.declared.format.Format.{Format}
+use Rattle.reiser_volume.specs.vol_block.declared.format.Format.TheVariants as formats
+use Rattle.reiser_volume.specs.outside.Fault.{HasCause, Rose, Takes}
+use Rattle.reiser_volume.specs.outside.History.{Image}
+use Rattle.reiser_volume.specs.outside.declared.fault.Fault as faults
+use Rattle.convert_core.specs.command_answers.declared.answer.Answer.{Answer}
+use Rattle.convert_core.specs.command_answers.declared.answer.Answer.TheVariants.{Volume, Btr, NoSpace, WrongFormat, ImageMissing, ImageMoved, ImageDamaged, ReservedUsed, Fault, Memory}
 use Rattle.volume_app.specs.declared.ending.Ending.{Ending}
 use Rattle.volume_app.specs.declared.ending.Ending.TheVariants.{Done, Usage, Failed, OutputFault}
-use Rattle.vol_block.specs.declared.ids.Ids.{Ids}
+use Rattle.reiser_volume.specs.vol_block.declared.ids.Ids.{Ids}
 use Rattle.convert_core.specs.Answers.{RefusesConvert}
 use Rattle.convert_core.specs.Converted.{IsConvertible}
 use Rattle.convert_core.specs.Surveyed.{IsSurvey}
 use Rattle.convert_core.specs.declared.survey.Survey.{Survey}
-use Rattle.convert_core.proofs.One.{surveys_are_one}
-use Rattle.convert_steps.specs.Prepared.{LacksSpace}
-use Rattle.rollback_core.specs.Answers.{RefusesRecover}
+use Rattle.convert_core.specs.convert_steps.Prepared.{LacksSpace}
+use Rattle.rollback_core.specs.RecoveryAnswers.{RefusesRecover}
 use Rattle.rollback_core.specs.Recovered.{IsRecoverable}
-use Rattle.rollback_core.proofs.Keeping.{in_order_recovers}
-use Rattle.rollback_steps.specs.Answers.{RefusesRollback}
-use Rattle.rollback_steps.proofs.Refusing.{touched}
-use Rattle.row_laws.specs.Rows.{HasBytes}
-use Rattle.saved_volume.specs.Untouched.{IsUntouched}
+use Rattle.rollback_core.proofs.RecoveryKeeping.{in_order_recovers}
+use Rattle.rollback_core.specs.RollbackAnswers.{RefusesRollback}
+use Rattle.rollback_core.proofs.Refusing.{touched}
+use Rattle.convert_core.specs.convert_trees_laws.Rows.{HasBytes}
+use Rattle.volume_state.specs.Untouched.{IsUntouched}
 use Rattle.trial_core.specs.Answers.{RefusesTrial}
 use Rattle.trial_core.specs.Round as trial_round
 use Rattle.trial_core.specs.Trial.{sample_on}
-use Rattle.unit_plan.specs.Choice.{HasEnoughSpace}
 use Rattle.unit_plan.specs.Needed.{need}
-use Rattle.unit_plan.specs.declared.options.Options.{Options}
+use Rattle.convert_options.specs.declared.options.Options.{Options}
 use Rattle.volume_app.specs.Command.{Asked, inspect, list, convert, recover, rollback, trial, help, version}
 use Rattle.volume_app.specs.Ending.{status}
-use Rattle.reiser_volume.specs.Volume.{IsAccepted, used_of}
+use Rattle.reiser_volume.specs.Volume.{IsAccepted}
 use Rattle.reiser_volume.proofs.Refusals.{not_refused}
-use Rattle.outside.specs.Format.{format_in}
+use Rattle.reiser_volume.specs.outside.Format.{format_in}
 use Rattle.volume_app.specs.Inspect.{IsInspectable, InspectRefuses}
 use Rattle.volume_app.specs.Listing.{IsListable, ListRefuses}
 use Rattle.btr_reader.proofs.PartsRead.{rows_not_refused}
 use Rattle.volume_app.proofs.Convertible.{accepted_is_reiser}
+use Rattle.volume_app.proofs.Space.{missing}
 use Rattle.volume_app.specs.Outcome.{EndsRight, HasFaults, IsDoneWith, Prints, Reports, ending_of, meaning}
 use Rattle.volume_app.specs.Trying.{IsTriable}
 
@@ -99,7 +98,6 @@ list_done disk (ReservedUsed block) disk_old disk_new done refuses device same l
 lacks_none : (o : Options) (disk : Image) (needed free run_needed longest : ℕ) → IsConvertible o disk → LacksSpace disk o needed free run_needed longest → ⊥
 lacks_none o disk needed free run_needed longest c l =
     let told : Survey = record { counts = c.found.counts; need = need c.found.counts o } in
-    let other : Survey = record { counts = l.found.counts; need = need l.found.counts o } in
     let first : IsSurvey o disk told = record {
       keys = c.keys;
       are_keys = c.sorted.are_keys;
@@ -110,17 +108,7 @@ lacks_none o disk needed free run_needed longest c l =
       counts_are = c.found_.counts_are;
       need_is = refl;
     } in
-    let second : IsSurvey o disk other = record {
-      keys = l.keys;
-      are_keys = l.sorted.are_keys;
-      ascend = l.sorted.ascend;
-      visible = l.visible;
-      links = l.links;
-      are_links = l.are_links;
-      counts_are = l.found_.counts_are;
-      need_is = refl;
-    } in
-    l.space.missing (subst (λ (s : Survey). HasEnoughSpace (used_of disk) s.need) (surveys_are_one o disk told other first second) c.enough)
+    missing o disk needed free run_needed longest l told first c.enough
 
 convert_done : (o : Options) (disk : Image) (answer : Answer) (disk_old disk_new : ℕ) → IsConvertible o disk → RefusesConvert o disk answer
     → (answer ≡ Fault → Rose disk_old disk_new) → disk_new ≡ disk_old → disk_old < 2 ^ 64 - 1 → (status (Failed answer) ≡ 0) ⊎ (status (Failed answer) ≡ 4)
@@ -178,7 +166,7 @@ trial_done number disk (ReservedUsed block) disk_old disk_new due refuses device
 failed_done : (ids : Ids) (now : ℕ) (asked : Option Asked) (disk : Image) (answer : Answer) (disk_old disk_new : ℕ) → (meaning ids now asked).is_due disk → (meaning ids now asked).answers disk answer
     → (answer ≡ Fault → Rose disk_old disk_new) → disk_new ≡ disk_old → disk_old < 2 ^ 64 - 1 → (status (Failed answer) ≡ 0) ⊎ (status (Failed answer) ≡ 4)
 failed_done ids now None disk answer disk_old disk_new done right device same low = absurd done
-failed_done ids now (Some (inspect path)) disk answer disk_old disk_new done right device same low = inspect_done disk answer disk_old disk_new done right device same low
+failed_done ids now (Some (inspect o path)) disk answer disk_old disk_new done right device same low = inspect_done disk answer disk_old disk_new done right device same low
 failed_done ids now (Some (list path)) disk answer disk_old disk_new done right device same low = list_done disk answer disk_old disk_new done right device same low
 failed_done ids now (Some (convert o path)) disk answer disk_old disk_new done right device same low = convert_done o disk answer disk_old disk_new done right device same low
 failed_done ids now (Some (recover path)) disk answer disk_old disk_new done right device same low = recover_done disk answer disk_old disk_new done right device same low
@@ -189,7 +177,7 @@ failed_done ids now (Some version) disk answer disk_old disk_new done right devi
 
 usage_not_done : (ids : Ids) (now : ℕ) (asked : Option Asked) (disk : Image) → (meaning ids now asked).is_due disk → (meaning ids now asked).is_usage → ⊥
 usage_not_done ids now None disk done usage = done
-usage_not_done ids now (Some (inspect path)) disk done usage = usage
+usage_not_done ids now (Some (inspect o path)) disk done usage = usage
 usage_not_done ids now (Some (list path)) disk done usage = usage
 usage_not_done ids now (Some (convert o path)) disk done usage = usage
 usage_not_done ids now (Some (recover path)) disk done usage = usage

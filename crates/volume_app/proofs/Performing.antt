@@ -1,12 +1,12 @@
 -- What is said of a command that was done, or failed, from what is said of its parts.
 use Rattle.std.proofs.Common.{◌≡◌, ◌⊎◌, ⊎_elim, ℕ, Bool, List, Result, Ok, Err, refl, sym, ap, subst, arith}
 use Rattle.std.specs.Prelude.{IsTrue, Option, Some, None}
-use Rattle.outside.specs.Fault.{HasCause, HasCauseOf, Takes}
-use Rattle.outside.specs.History.{EachCrash, History, Image, IsSettled, reads}
-use Rattle.outside.specs.declared.answer.Answer.{Answer}
-use Rattle.outside.specs.declared.answer.Answer.TheVariants.{Fault, Memory}
-use Rattle.outside.specs.declared.fault.Fault as faults
-use Rattle.outside.proofs.Phases.{left_unwritten}
+use Rattle.reiser_volume.specs.outside.Fault.{HasCause, HasCauseOf, Takes}
+use Rattle.reiser_volume.specs.outside.History.{EachCrash, History, Image, IsSettled, reads}
+use Rattle.convert_core.specs.command_answers.declared.answer.Answer.{Answer}
+use Rattle.convert_core.specs.command_answers.declared.answer.Answer.TheVariants.{Fault, Memory}
+use Rattle.reiser_volume.specs.outside.declared.fault.Fault as faults
+use Rattle.reiser_volume.proofs.outside.Phases.{left_unwritten}
 use Rattle.volume_app.specs.Command.{Asked}
 use Rattle.volume_app.specs.Ending.{status}
 use Rattle.volume_app.specs.Meaning.{IsSame, Meaning, no_command, reads_disk, says}

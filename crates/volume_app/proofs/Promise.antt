@@ -1,8 +1,8 @@
 -- The promise of the program, from what is said of each command.
 use Rattle.std.proofs.Common.{◌≡◌, ◌<◌, ◌^◌, ◌-◌, ℕ, Bool, List, Some, None}
 use Rattle.std.specs.Prelude.{IsTrue, Option}
-use Rattle.outside.specs.History.{History, Image, IsSettled, LeftSince, clock, reads}
-use Rattle.vol_block.specs.declared.ids.Ids.{Ids}
+use Rattle.reiser_volume.specs.outside.History.{History, Image, IsSettled, LeftSince, clock, reads}
+use Rattle.reiser_volume.specs.vol_block.declared.ids.Ids.{Ids}
 use Rattle.volume_app.specs.Command.{Asked, inspect, list, convert, recover, rollback, trial, help, version}
 use Rattle.volume_app.specs.Ending.{status}
 use Rattle.volume_app.specs.Headline.{IsToBeDone, KeepsPromise, LeavesTree, MakesTree}
@@ -13,7 +13,7 @@ use Rattle.volume_app.proofs.Outcomes.{done_by, done_or_memory}
 
 to_be_done : (ids : Ids) (now : ℕ) (asked : Option Asked) (disk : Image) → AreBlocks disk → IsToBeDone asked disk → (meaning ids now asked).is_due disk
 to_be_done ids now None disk blocks is = absurd is
-to_be_done ids now (Some (inspect path)) disk blocks is = absurd is
+to_be_done ids now (Some (inspect o path)) disk blocks is = absurd is
 to_be_done ids now (Some (list path)) disk blocks is = absurd is
 to_be_done ids now (Some (convert o path)) disk blocks is = is
 to_be_done ids now (Some (recover path)) disk blocks is = is
@@ -24,7 +24,7 @@ to_be_done ids now (Some version) disk blocks is = absurd is
 
 makes : (ids : Ids) (now : ℕ) (asked : Option Asked) (disk other : Image) → AreBlocks disk → (meaning ids now asked).becomes disk other → MakesTree asked disk other
 makes ids now None disk other blocks becomes = becomes
-makes ids now (Some (inspect path)) disk other blocks becomes = becomes
+makes ids now (Some (inspect o path)) disk other blocks becomes = becomes
 makes ids now (Some (list path)) disk other blocks becomes = becomes
 makes ids now (Some (convert o path)) disk other blocks becomes = becomes.tree blocks
 makes ids now (Some (recover path)) disk other blocks becomes = becomes.tree
@@ -35,7 +35,7 @@ makes ids now (Some version) disk other blocks becomes = becomes
 
 leaves : (ids : Ids) (now : ℕ) (asked : Option Asked) (disk other : Image) → AreBlocks disk → (meaning ids now asked).leaves disk other → LeavesTree asked disk other
 leaves ids now None disk other blocks is = is
-leaves ids now (Some (inspect path)) disk other blocks is = is
+leaves ids now (Some (inspect o path)) disk other blocks is = is
 leaves ids now (Some (list path)) disk other blocks is = is
 leaves ids now (Some (convert o path)) disk other blocks is = is.tree blocks
 leaves ids now (Some (recover path)) disk other blocks is = is.tree

@@ -1,27 +1,27 @@
 -- What commands do to the tree of files, from the laws on what they do to the blocks.
 use Rattle.std.proofs.Common.{◌≡◌, inl, inr, ⊎_elim, ◌<◌, ◌^◌, ℕ, false, sym, subst, arith}
 use Rattle.std.specs.Prelude.{length}
-use Rattle.outside.specs.History.{Image}
-use Rattle.vol_block.specs.declared.ids.Ids.{Ids}
-use Rattle.converted_laws.specs.going_back.Back.{ConvertedVolumesGoBack}
-use Rattle.converted_laws.proofs.going_back.Crashing.{stands}
-use Rattle.btr_node.specs.NodeSize.{IsNodeSize}
+use Rattle.reiser_volume.specs.outside.History.{Image}
+use Rattle.reiser_volume.specs.vol_block.declared.ids.Ids.{Ids}
+use Rattle.convert_core_laws.specs.going_back.Back.{ConvertedVolumesGoBack}
+use Rattle.convert_core_laws.proofs.going_back.Crashing.{stands}
+use Rattle.btr_reader.specs.btr_node.NodeSize.{IsNodeSize}
 use Rattle.convert_core.specs.Converted.{IsConverted, IsConvertible, IsEither, IsSomeNew}
-use Rattle.convert_steps.specs.Switch.{IsMirror}
-use Rattle.converted_laws.specs.reading.Identifiers.{HasFsid}
-use Rattle.image_source.specs.Laws.{SpareBlocksDecideNothing, is_spare}
-use Rattle.converted_laws.specs.opening.Opens.{ConvertedVolumesOpen}
+use Rattle.convert_core.specs.convert_steps.Switch.{IsMirror}
+use Rattle.convert_core_laws.specs.reading.Identifiers.{HasFsid}
+use Rattle.volume_state.specs.Laws.{SpareBlocksDecideNothing, is_spare}
+use Rattle.convert_core_laws.specs.opening.Opens.{ConvertedVolumesOpen}
 use Rattle.reiser_volume.specs.Laws.{UsedBlocksDecide}
-use Rattle.rollback_core.specs.Laws.{RecoveryKeeps, RecoveryOpens}
+use Rattle.rollback_core.specs.RecoveryLaws.{RecoveryKeeps, RecoveryOpens}
 use Rattle.rollback_core.specs.Recovered.{IsRecovered}
 use Rattle.rollback_core.specs.Recovered as recovery
-use Rattle.rollback_steps.specs.Laws.{RollbackKeeps}
-use Rattle.rollback_steps.specs.RolledBack.{IsLeft, IsRolledBack}
-use Rattle.converted_laws.specs.soundness.Laws.{ConvertedVolumesAreSound}
-use Rattle.space_items.specs.Laws.{AreIds}
-use Rattle.unit_plan.specs.declared.options.Options.{Options}
-use Rattle.unit_plan.specs.declared.options.UuidChoice.{UuidChoice}
-use Rattle.unit_plan.specs.declared.options.UuidChoice.TheVariants.{New, Copy, Given}
+use Rattle.rollback_core.specs.RollbackLaws.{RollbackKeeps}
+use Rattle.rollback_core.specs.RolledBack.{IsLeft, IsRolledBack}
+use Rattle.convert_core_laws.specs.soundness.Laws.{ConvertedVolumesAreSound}
+use Rattle.convert_core.specs.space_items.Laws.{AreIds}
+use Rattle.convert_options.specs.declared.options.Options.{Options}
+use Rattle.convert_options.specs.declared.options.UuidChoice.{UuidChoice}
+use Rattle.convert_options.specs.declared.options.UuidChoice.TheVariants.{New, Copy, Given}
 use Rattle.volume_app.specs.Converting.{IsConvertedWhole, IsEitherWhole}
 use Rattle.volume_app.specs.Recovering as recovering
 use Rattle.volume_app.specs.RollingBack as rolling

@@ -1,16 +1,16 @@
 -- What a trial leaves.
 use Rattle.std.proofs.Common.{◌≡◌, inl, inr, ⊎_elim, ◌≤◌, ◌<◌, ◌^◌, ℕ, ap, subst, sym, arith, Result, Ok, Err}
-use Rattle.outside.specs.History.{History, Image, IsSettled, reads}
-use Rattle.outside.specs.declared.answer.Answer.{Answer}
-use Rattle.outside.specs.declared.answer.Answer.TheVariants.{Volume, Btr, NoSpace, WrongFormat, ImageMissing, ImageMoved, ImageDamaged, ReservedUsed, Fault, Memory}
-use Rattle.outside.specs.declared.fault.Fault as faults
-use Rattle.row_laws.specs.Rows.{HasBytes}
-use Rattle.space_items.specs.Laws.{AreIds}
+use Rattle.reiser_volume.specs.outside.History.{History, Image, IsSettled, reads}
+use Rattle.convert_core.specs.command_answers.declared.answer.Answer.{Answer}
+use Rattle.convert_core.specs.command_answers.declared.answer.Answer.TheVariants.{Volume, Btr, NoSpace, WrongFormat, ImageMissing, ImageMoved, ImageDamaged, ReservedUsed, Fault, Memory}
+use Rattle.reiser_volume.specs.outside.declared.fault.Fault as faults
+use Rattle.convert_core.specs.convert_trees_laws.Rows.{HasBytes}
+use Rattle.convert_core.specs.space_items.Laws.{AreIds}
 use Rattle.trial_core.specs.Answers.{LeavesRefused, RefusesTrial}
 use Rattle.trial_core.specs.Laws.{TriesKeep}
 use Rattle.trial_core.specs.Round.{plain}
 use Rattle.trial_core.specs.Trial.{IsTried, needed_by}
-use Rattle.vol_block.specs.declared.ids.Ids.{Ids}
+use Rattle.reiser_volume.specs.vol_block.declared.ids.Ids.{Ids}
 use Rattle.volume_app.specs.Ending.{status}
 use Rattle.volume_app.specs.Outcome.{ending_of}
 use Rattle.volume_app.specs.Trying.{IsTriable, IsTriedWhole, KeepsScratch, LeavesSample}

@@ -1,10 +1,10 @@
 -- The answers of commands that the volumes of the two formats give cause to.
-use Rattle.outside.specs.declared.answer.VolAnswer.{VolAnswer}
-use Rattle.outside.specs.declared.answer.VolAnswer.TheVariants as of_reiser
-use Rattle.outside.specs.declared.answer.BtrAnswer.{BtrAnswer}
-use Rattle.outside.specs.declared.answer.BtrAnswer.TheVariants as of_btr
-use Rattle.outside.specs.declared.answer.Answer.{Answer}
-use Rattle.outside.specs.declared.answer.Answer.TheVariants.{Volume, Btr, Fault, Memory}
+use Rattle.reiser_volume.specs.refusals.declared.answer.VolAnswer.{VolAnswer}
+use Rattle.reiser_volume.specs.refusals.declared.answer.VolAnswer.TheVariants as of_reiser
+use Rattle.reiser_volume.specs.refusals.declared.answer.BtrAnswer.{BtrAnswer}
+use Rattle.reiser_volume.specs.refusals.declared.answer.BtrAnswer.TheVariants as of_btr
+use Rattle.convert_core.specs.command_answers.declared.answer.Answer.{Answer}
+use Rattle.convert_core.specs.command_answers.declared.answer.Answer.TheVariants.{Volume, Btr, Fault, Memory}
 
 -- the answer of a command that a ReiserFS volume gives cause to
 abbrev pub of_volume : VolAnswer → Answer

@@ -4,9 +4,9 @@ use Rattle.convert_core.specs.Answers.{IsConvertAnswer, RefusesConvert}
 use Rattle.convert_core.specs.Converted.{DiffersInFree, IsConverted, IsConvertible, IsEither}
 use Rattle.convert_core.specs.Surveyed.{IsSummary}
 use Rattle.convert_core.specs.declared.summary.ConvertSummary.{ConvertSummary}
-use Rattle.outside.specs.History.{Image}
-use Rattle.unit_plan.specs.declared.options.Options.{Options}
-use Rattle.vol_block.specs.declared.ids.Ids.{Ids}
+use Rattle.reiser_volume.specs.outside.History.{Image}
+use Rattle.convert_options.specs.declared.options.Options.{Options}
+use Rattle.reiser_volume.specs.vol_block.declared.ids.Ids.{Ids}
 use Rattle.volume_app.specs.Meaning.{IsSame, Meaning}
 use Rattle.volume_app.specs.Texts.{text_of_lines}
 use Rattle.volume_app.specs.Trees.{AreBlocks, IsConvertedTree, LeavesConvertedTree}

@@ -2,7 +2,7 @@
 use Rattle.std.specs.Prelude.{ℕ, List, [], ◌∷◌, ◌++◌, codes}
 use Rattle.volume_app.specs.declared.ending.Ending.{Ending}
 use Rattle.volume_app.specs.declared.ending.Ending.TheVariants.{Done, Usage, Failed, OutputFault}
-use Rattle.app_words.specs.Lines.{answer_line, answer_status}
+use Rattle.program_words.specs.Lines.{answer_line, answer_status}
 use Rattle.volume_app.specs.Texts.{usage_line}
 
 abbrev pub status : Ending → ℕ

@@ -1,8 +1,8 @@
 -- What is found of a disk before its volume is read.
 use Rattle.std.specs.Prelude.{◌≡◌}
-use Rattle.outside.specs.Format.{format_in}
-use Rattle.outside.specs.History.{Image, block_at}
-use Rattle.vol_block.specs.declared.format.Format.TheVariants.{Btrfs}
+use Rattle.reiser_volume.specs.outside.Format.{format_in}
+use Rattle.reiser_volume.specs.outside.History.{Image, block_at}
+use Rattle.reiser_volume.specs.vol_block.declared.format.Format.TheVariants.{Btrfs}
 use Rattle.volume_app.specs.declared.format.Found.{Found}
 
 -- the format is that of the disk, and of a Btrfs volume the block is block 16

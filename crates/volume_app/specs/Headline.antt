@@ -1,9 +1,9 @@
 -- The promise of the program, in one place.
 use Rattle.std.specs.Prelude.{◌≡◌, ◌⊎◌, ℕ, Option, Some, None}
 use Rattle.convert_core.specs.Converted.{IsConvertible}
-use Rattle.outside.specs.History.{Image}
+use Rattle.reiser_volume.specs.outside.History.{Image}
 use Rattle.rollback_core.specs.Recovered.{IsRecoverable}
-use Rattle.saved_volume.specs.Untouched.{IsUntouched}
+use Rattle.volume_state.specs.Untouched.{IsUntouched}
 use Rattle.trial_core.specs.Laws.{IsSampleAgain}
 use Rattle.volume_app.specs.Command.{Asked, inspect, list, convert, recover, rollback, trial, help, version}
 use Rattle.volume_app.specs.Trees.{IsConvertedTree, IsRestoredTree, KeepsTree, LeavesConvertedTree, LeavesRestoredTree}
@@ -14,7 +14,7 @@ use Rattle.volume_app.specs.Trying.{IsTriable}
 -- the disk has no volume and blocks enough, and the sample has room and the space for a conversion.
 abbrev pub IsToBeDone : Option Asked → Image → Type 0
 IsToBeDone None disk = ⊥
-IsToBeDone (Some (inspect path)) disk = ⊥
+IsToBeDone (Some (inspect o path)) disk = ⊥
 IsToBeDone (Some (list path)) disk = ⊥
 IsToBeDone (Some (convert o path)) disk = IsConvertible o disk
 IsToBeDone (Some (recover path)) disk = IsRecoverable disk
@@ -26,7 +26,7 @@ IsToBeDone (Some version) disk = ⊥
 -- what a command that was done makes of the tree of a disk; a trial leaves that of its sample
 abbrev pub MakesTree : Option Asked → Image → Image → Type 0
 MakesTree None disk other = other ≡ disk
-MakesTree (Some (inspect path)) disk other = other ≡ disk
+MakesTree (Some (inspect o path)) disk other = other ≡ disk
 MakesTree (Some (list path)) disk other = other ≡ disk
 MakesTree (Some (convert o path)) disk other = IsConvertedTree disk other
 MakesTree (Some (recover path)) disk other = KeepsTree disk other
@@ -39,7 +39,7 @@ MakesTree (Some version) disk other = other ≡ disk
 -- is said.
 abbrev pub LeavesTree : Option Asked → Image → Image → Type 0
 LeavesTree None disk other = other ≡ disk
-LeavesTree (Some (inspect path)) disk other = other ≡ disk
+LeavesTree (Some (inspect o path)) disk other = other ≡ disk
 LeavesTree (Some (list path)) disk other = other ≡ disk
 LeavesTree (Some (convert o path)) disk other = LeavesConvertedTree disk other
 LeavesTree (Some (recover path)) disk other = KeepsTree disk other

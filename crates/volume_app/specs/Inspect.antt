@@ -1,19 +1,20 @@
 -- What `inspect` answers and prints, by the format of the disk.
-use Rattle.object_files.specs.Answers.{IsChanged}
+use Rattle.reiser_volume.specs.reiser_volume_contents.Answers.{IsChanged}
 use Rattle.std.specs.Prelude.{◌≡◌, ◌⊎◌, ◌≢◌, ℕ, List, []}
-use Rattle.vol_block.specs.declared.format.Format.{Format}
-use Rattle.vol_block.specs.declared.format.Format.TheVariants as formats
-use Rattle.outside.specs.History.{Image}
-use Rattle.outside.specs.declared.answer.Answer.{Answer}
-use Rattle.outside.specs.declared.answer.Answer.TheVariants.{Volume, Btr, NoSpace, WrongFormat, ImageMissing, ImageMoved, ImageDamaged, ReservedUsed, Fault, Memory}
+use Rattle.reiser_volume.specs.vol_block.declared.format.Format.{Format}
+use Rattle.reiser_volume.specs.vol_block.declared.format.Format.TheVariants as formats
+use Rattle.reiser_volume.specs.outside.History.{Image}
+use Rattle.convert_options.specs.declared.options.Options.{Options}
+use Rattle.convert_core.specs.command_answers.declared.answer.Answer.{Answer}
+use Rattle.convert_core.specs.command_answers.declared.answer.Answer.TheVariants.{Volume, Btr, NoSpace, WrongFormat, ImageMissing, ImageMoved, ImageDamaged, ReservedUsed, Fault, Memory}
 use Rattle.reiser_volume.specs.Answers.{NamesVolumeRule}
 use Rattle.reiser_volume.specs.Volume.{IsAccepted, IsRefusal}
 use Rattle.btr_reader.specs.Parts.{SavedImage, IsReadable, IsBtrfsRefusal}
 use Rattle.btr_super.specs.Rules.{NamesNoLog}
-use Rattle.btr_summary.specs.Text.{btrfs_text, summary_text as btrfs_summary_text}
+use Rattle.volume_app.specs.Text.{btrfs_text, summary_text as btrfs_summary_text}
 use Rattle.volume_app.specs.declared.inspect.Inspected.{Inspected}
 use Rattle.volume_app.specs.declared.inspect.Inspected.TheVariants.{Reiser, Btrfs}
-use Rattle.outside.specs.Format.{format_in}
+use Rattle.reiser_volume.specs.outside.Format.{format_in}
 use Rattle.volume_app.specs.Meaning.{Meaning, reads_disk}
 use Rattle.volume_app.specs.Reiser.{IsReiserText, summary_text}
 
@@ -23,11 +24,11 @@ IsInspectable formats.Reiser disk = IsAccepted disk
 IsInspectable formats.Btrfs disk = IsReadable disk SavedImage
 IsInspectable formats.Neither disk = ⊥
 
--- what it prints of a volume of this format
-abbrev pub IsInspectText : Format → Image → List ℕ → Type 0
-IsInspectText formats.Reiser disk text = IsReiserText disk text
-IsInspectText formats.Btrfs disk text = text ≡ btrfs_text disk
-IsInspectText formats.Neither disk text = text ≡ []
+-- what it prints of a volume of this format, for a conversion with these options
+abbrev pub IsInspectText : Options → Format → Image → List ℕ → Type 0
+IsInspectText o formats.Reiser disk text = IsReiserText o disk text
+IsInspectText o formats.Btrfs disk text = text ≡ btrfs_text disk
+IsInspectText o formats.Neither disk text = text ≡ []
 
 -- the text of what was found
 abbrev pub inspected_text : Inspected → List ℕ
@@ -35,9 +36,9 @@ inspected_text (Reiser told) = summary_text told
 inspected_text (Btrfs told) = btrfs_summary_text told
 
 -- what was found is what is to be printed of the disk
-pub record Inspects (disk : Image) (found : Inspected) : Type 0 where
+pub record Inspects (o : Options) (disk : Image) (found : Inspected) : Type 0 where
   pub inspectable : IsInspectable (format_in disk) disk
-  pub text : IsInspectText (format_in disk) disk (inspected_text found)
+  pub text : IsInspectText o (format_in disk) disk (inspected_text found)
 
 -- `inspect` may refuse a disk so; that a device failed or memory was short is said elsewhere
 abbrev pub InspectRefuses : Image → Answer → Type 0
@@ -66,7 +67,7 @@ IsInspectAnswer (ImageMoved block) = ⊥
 IsInspectAnswer (ImageDamaged refusal) = ⊥
 IsInspectAnswer (ReservedUsed block) = ⊥
 
--- what `inspect` means
-abbrev pub inspect_meaning : Meaning
-inspect_meaning =
-    reads_disk (λ disk. IsInspectable (format_in disk) disk) (λ disk text. IsInspectText (format_in disk) disk text) InspectRefuses IsInspectAnswer
+-- what `inspect` with these options means
+abbrev pub inspect_meaning : Options → Meaning
+inspect_meaning o =
+    reads_disk (λ disk. IsInspectable (format_in disk) disk) (λ disk text. IsInspectText o (format_in disk) disk text) InspectRefuses IsInspectAnswer

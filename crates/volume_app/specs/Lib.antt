@@ -12,6 +12,8 @@ pub mod Outcome
 pub mod Recovering
 pub mod Reiser
 pub mod RollingBack
+pub mod Text
 pub mod Texts
+pub mod Told
 pub mod Trees
 pub mod Trying

@@ -1,7 +1,7 @@
 -- What a command means.
 use Rattle.std.specs.Prelude.{◌≡◌, ℕ, List, []}
-use Rattle.outside.specs.History.{Image}
-use Rattle.outside.specs.declared.answer.Answer.{Answer}
+use Rattle.reiser_volume.specs.outside.History.{Image}
+use Rattle.convert_core.specs.command_answers.declared.answer.Answer.{Answer}
 
 -- All that is said of a command. A disk is seen as the blocks that it has when the command begins.
 pub record Meaning : Type 1 where

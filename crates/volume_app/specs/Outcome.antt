@@ -1,12 +1,12 @@
 -- What an ending means of the disk that was found, and what the sinks gained.
 use Rattle.std.specs.Prelude.{◌≡◌, ◌⊎◌, ℕ, ◌≤◌, Bool, IsTrue, List, ◌++◌, take, Option, Some, None, Result, Ok, Err}
-use Rattle.outside.specs.Fault.{Rose}
-use Rattle.outside.specs.History.{EachCrash, History, Image, IsSettled, reads}
-use Rattle.outside.specs.declared.fault.Fault as faults
-use Rattle.outside.specs.declared.answer.Answer.TheVariants.{Fault, Memory}
+use Rattle.reiser_volume.specs.outside.Fault.{Rose}
+use Rattle.reiser_volume.specs.outside.History.{EachCrash, History, Image, IsSettled, reads}
+use Rattle.reiser_volume.specs.outside.declared.fault.Fault as faults
+use Rattle.convert_core.specs.command_answers.declared.answer.Answer.TheVariants.{Fault, Memory}
 use Rattle.volume_app.specs.declared.ending.Ending.{Ending}
 use Rattle.volume_app.specs.declared.ending.Ending.TheVariants.{Done, Usage, Failed, OutputFault}
-use Rattle.vol_block.specs.declared.ids.Ids.{Ids}
+use Rattle.reiser_volume.specs.vol_block.declared.ids.Ids.{Ids}
 use Rattle.volume_app.specs.Command.{Asked, command, inspect, list, convert, recover, rollback, trial, help, version}
 use Rattle.volume_app.specs.Converting.{convert_meaning}
 use Rattle.volume_app.specs.Ending.{status, error_line}
@@ -21,7 +21,7 @@ use Rattle.volume_app.specs.Trying.{trial_meaning}
 -- what is asked for means, with these identifiers and at this time
 abbrev pub meaning : Ids → ℕ → Option Asked → Meaning
 meaning ids now None = no_command
-meaning ids now (Some (inspect path)) = inspect_meaning
+meaning ids now (Some (inspect o path)) = inspect_meaning o
 meaning ids now (Some (list path)) = list_meaning
 meaning ids now (Some (convert o path)) = convert_meaning ids now o
 meaning ids now (Some (recover path)) = recover_meaning

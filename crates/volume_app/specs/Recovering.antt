@@ -1,11 +1,11 @@
 -- What `recover` answers, prints and writes.
 use Rattle.std.specs.Prelude.{◌≡◌, ◌⊎◌, ℕ, List, [], ◌∷◌, codes, decimal}
-use Rattle.outside.specs.History.{Image}
-use Rattle.rollback_core.specs.Answers.{IsRecoverAnswer, RefusesRecover}
+use Rattle.reiser_volume.specs.outside.History.{Image}
+use Rattle.rollback_core.specs.RecoveryAnswers.{IsRecoverAnswer, RefusesRecover}
 use Rattle.rollback_core.specs.Recovered.{IsLeft, IsRecoverable, IsRecovered, summary}
 use Rattle.rollback_core.specs.declared.recovery.RecoverSummary.{RecoverSummary}
-use Rattle.vol_block.specs.declared.format.Format.{Format}
-use Rattle.vol_block.specs.declared.format.Format.TheVariants.{Reiser, Btrfs, Neither}
+use Rattle.reiser_volume.specs.vol_block.declared.format.Format.{Format}
+use Rattle.reiser_volume.specs.vol_block.declared.format.Format.TheVariants.{Reiser, Btrfs, Neither}
 use Rattle.volume_app.specs.Meaning.{IsSame, Meaning}
 use Rattle.volume_app.specs.Texts.{text_of_lines}
 use Rattle.volume_app.specs.Trees.{KeepsTree}

@@ -1,19 +1,16 @@
 -- What `inspect` tells of a ReiserFS volume and prints of it, and what `list` makes of one.
-use Rattle.std.specs.Prelude.{◌≡◌, ℕ, ◌+◌, Bool, true, List, [], ◌∷◌, length, map, codes, decimal, nat_eq}
+use Rattle.std.specs.Prelude.{◌≡◌, ℕ, ◌+◌, Bool, List, [], ◌∷◌, length, map, codes, decimal, nat_eq}
 use Rattle.std.specs.List.{before_first}
 use Rattle.uuid.specs.Text.{hyphenated_text, lower}
 use Rattle.fs_rows.specs.Rows.{WholeRow, row_of}
 use Rattle.fs_rows.specs.declared.row.Row.{Row}
-use Rattle.outside.specs.History.{Image}
+use Rattle.reiser_volume.specs.outside.History.{Image}
 use Rattle.reiser_super.specs.declared.superblock.Super.{Super}
-use Rattle.reiser_bitmap.specs.Bits.{used_blocks}
-use Rattle.reiser_bitmap.specs.Units.{free_units}
+use Rattle.reiser_volume.specs.reiser_bitmap.Bits.{used_blocks}
+use Rattle.reiser_volume.specs.reiser_bitmap.Units.{free_units}
 use Rattle.reiser_volume.specs.Volume.{superblock, used_of, AreRowsOf, IsAccepted}
-use Rattle.csum_kinds.specs.declared.kind.SumKind.TheVariants.{Crc32c}
 use Rattle.unit_plan.specs.declared.need.Need.{Need}
-use Rattle.unit_plan.specs.declared.options.Options.{Options}
-use Rattle.unit_plan.specs.declared.options.LabelChoice.TheVariants as LabelChoice
-use Rattle.unit_plan.specs.declared.options.UuidChoice.TheVariants as UuidChoice
+use Rattle.convert_options.specs.declared.options.Options.{Options}
 use Rattle.convert_core.specs.declared.survey.Survey.{Survey}
 use Rattle.convert_core.specs.Surveyed.{IsSurvey}
 use Rattle.volume_app.specs.declared.reiser.ReiserSummary.{ReiserSummary}
@@ -31,14 +28,10 @@ summary_with s used need =
       run = need.system;
     }
 
--- the space is that of a conversion for which nothing is asked
-abbrev pub plain : Options
-plain = record { nodesize = 16384; inline = true; datasum = true; label = LabelChoice.Empty; uuid = UuidChoice.New; sums = Crc32c }
-
--- what is told of a disk
-pub record IsReiserSummary (disk : Image) (told : ReiserSummary) : Type 0 where
+-- what is told of a disk: the space is that of a conversion with these options
+pub record IsReiserSummary (o : Options) (disk : Image) (told : ReiserSummary) : Type 0 where
   pub survey : Survey
-  pub surveyed : IsSurvey plain disk survey
+  pub surveyed : IsSurvey o disk survey
   pub is : told ≡ summary_with (superblock disk) (used_of disk) survey.need
 
 -- a label ends before its first zero byte
@@ -71,9 +64,9 @@ abbrev pub summary_text : ReiserSummary → List ℕ
 summary_text told = text_of_lines (summary_lines told)
 
 -- the text of a disk
-pub record IsReiserText (disk : Image) (text : List ℕ) : Type 0 where
+pub record IsReiserText (o : Options) (disk : Image) (text : List ℕ) : Type 0 where
   pub told : ReiserSummary
-  pub summary : IsReiserSummary disk told
+  pub summary : IsReiserSummary o disk told
   pub is : text ≡ summary_text told
 
 -- the volume is accepted, and these are its rows as the program has them

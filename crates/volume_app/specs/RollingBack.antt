@@ -1,13 +1,13 @@
 -- What `rollback` answers, prints and writes.
 use Rattle.std.specs.Prelude.{◌≡◌, ◌⊎◌, ℕ, List, [], ◌∷◌, codes, decimal}
-use Rattle.outside.specs.History.{Image}
-use Rattle.rollback_steps.specs.Answers.{IsRollbackAnswer, RefusesRollback}
-use Rattle.rollback_steps.specs.RolledBack.{IsLeft, IsRolledBack, summary}
-use Rattle.saved_volume.specs.Untouched.{IsUntouched}
+use Rattle.reiser_volume.specs.outside.History.{Image}
+use Rattle.rollback_core.specs.RollbackAnswers.{IsRollbackAnswer, RefusesRollback}
+use Rattle.rollback_core.specs.RolledBack.{IsLeft, IsRolledBack, summary}
+use Rattle.volume_state.specs.Untouched.{IsUntouched}
 use Rattle.volume_app.specs.Meaning.{IsSame, Meaning}
 use Rattle.volume_app.specs.Texts.{text_of_lines}
 use Rattle.volume_app.specs.Trees.{IsRestoredTree, LeavesRestoredTree}
-use Rattle.way_back.specs.declared.way.RollbackSummary.{RollbackSummary}
+use Rattle.rollback_core.specs.declared.way.RollbackSummary.{RollbackSummary}
 
 abbrev pub rollback_lines : RollbackSummary → List (List ℕ × List (List ℕ))
 rollback_lines told =

@@ -1,20 +1,20 @@
 -- What commands do to the tree of files of a disk.
 use Rattle.std.specs.Prelude.{◌≡◌, ◌⊎◌, ◌<◌, ℕ, List, length}
-use Rattle.outside.specs.History.{Image, block_at}
+use Rattle.reiser_volume.specs.outside.History.{Image, block_at}
 use Rattle.fs_rows.specs.Rows.{WholeRow}
-use Rattle.converted_laws.specs.going_back.Back.{GoesBack}
-use Rattle.btr_sound.specs.Sound.{IsSound}
-use Rattle.image_source.specs.Laws.{IsSameUntouched}
-use Rattle.object_files.specs.Laws.{SameUsed}
-use Rattle.converted_laws.specs.opening.Opens.{OpensAsBefore, StandsAsBefore}
+use Rattle.convert_core_laws.specs.going_back.Back.{GoesBack}
+use Rattle.convert_core_laws.specs.btr_check_rules.Sound.{IsSound}
+use Rattle.volume_state.specs.Laws.{IsSameUntouched}
+use Rattle.reiser_volume.specs.reiser_volume_contents.Laws.{SameUsed}
+use Rattle.convert_core_laws.specs.opening.Opens.{OpensAsBefore, StandsAsBefore}
 use Rattle.reiser_volume.specs.Laws.{IsSameVolume}
 use Rattle.rollback_core.specs.Opens.{OpensAs}
-use Rattle.row_laws.specs.Rows.{HasBytes}
-use Rattle.saved_volume.specs.Saved.{image_blocks}
-use Rattle.saved_volume.specs.Untouched.{IsUntouched, old_used}
-use Rattle.unit_plan.specs.declared.options.UuidChoice.{UuidChoice}
-use Rattle.unit_plan.specs.declared.options.UuidChoice.TheVariants.{New, Copy, Given}
-use Rattle.vol_block.specs.declared.format.Format.{Format}
+use Rattle.convert_core.specs.convert_trees_laws.Rows.{HasBytes}
+use Rattle.volume_state.specs.Saved.{image_blocks}
+use Rattle.volume_state.specs.Untouched.{IsUntouched, old_used}
+use Rattle.convert_options.specs.declared.options.UuidChoice.{UuidChoice}
+use Rattle.convert_options.specs.declared.options.UuidChoice.TheVariants.{New, Copy, Given}
+use Rattle.reiser_volume.specs.vol_block.declared.format.Format.{Format}
 
 -- Each block has 4096 bytes. A disk that tells its blocks tells lists of lists of numbers; those of every device are such.
 pub record AreBlocks (disk : Image) : Type 0 where

@@ -1,14 +1,14 @@
 -- What `trial` answers, prints and writes.
 use Rattle.std.specs.Prelude.{◌≡◌, ◌⊎◌, ◌≤◌, ◌<◌, ℕ, List, [], ◌∷◌, codes, decimal}
 use Rattle.convert_core.specs.Converted.{IsConvertible}
-use Rattle.outside.specs.History.{Image}
-use Rattle.row_laws.specs.Rows.{HasBytes}
+use Rattle.reiser_volume.specs.outside.History.{Image}
+use Rattle.convert_core.specs.convert_trees_laws.Rows.{HasBytes}
 use Rattle.trial_core.specs.Answers.{IsTrialAnswer, RefusesTrial}
 use Rattle.trial_core.specs.Laws.{IsSampleAgain}
 use Rattle.trial_core.specs.Round.{plain}
 use Rattle.trial_core.specs.Trial.{IsScratch, IsTried, needed_by, sample_on, summary}
-use Rattle.trial_parts.specs.declared.summary.TrialSummary.{TrialSummary}
-use Rattle.vol_block.specs.declared.ids.Ids.{Ids}
+use Rattle.trial_core.specs.declared.summary.TrialSummary.{TrialSummary}
+use Rattle.reiser_volume.specs.vol_block.declared.ids.Ids.{Ids}
 use Rattle.volume_app.specs.Meaning.{Meaning}
 use Rattle.volume_app.specs.Texts.{text_of_lines}
 

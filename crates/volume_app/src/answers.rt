@@ -1,7 +1,8 @@
 ghost use Rattle.std.specs.Prelude.{◌≡◌};
 ghost use Rattle.volume_app.specs.Answers.{of_volume, of_btrfs};
 
-use outside::{Answer, BtrAnswer, VolAnswer};
+use convert_core::Answer;
+use reiser_volume::{BtrAnswer, VolAnswer};
 
 /// The answer of a command that a ReiserFS volume gives cause to.
 pub fn of_volume(answer: VolAnswer) -> Answer

@@ -1,9 +1,10 @@
-ghost use Rattle.std.specs.Prelude.{◌≡◌, map, option_map, string_bytes, IfSome};
-ghost use Rattle.volume_app.specs.Command.{command, alone, IsInRange, begun_by, converting, named, numbered, seen, trying, with_path};
+ghost use Rattle.std.specs.Prelude.{◌≡◌, false, map, option_map, string_bytes, IfSome};
+ghost use Rattle.volume_app.specs.Command.{alone, asks_help, begun_by, command, converting, inspecting, is_help, is_name, is_version, line, named, numbered, plain_line, plain_words, seen, seen_line, trying, with_path, IsInRange};
 
-use app_words::{is_path, plain_number};
-use convert_words::read_options;
-use unit_plan::Options;
+use convert_options::{
+    AskedOptions, Options, is_verbose, read_convert_options, read_inspect_options,
+};
+use program_words::{is_path, plain_number};
 
 /// The largest number of a sample.
 const MOST_FILES: u64 = 4000;
@@ -11,8 +12,9 @@ const MOST_FILES: u64 = 4000;
 /// What the words of a command line ask for.
 #[derive(Drop, Debug)]
 pub enum Command<'a> {
-    /// To check the volume at a path, and print what is known of it.
-    Inspect(&'a str),
+    /// To check the volume at a path, and print what is known of it, and what a conversion with these options would need. They name no
+    /// label and no identifier.
+    Inspect(&'a str, Options),
     /// To print a line for each path of the volume at a path.
     List(&'a str),
     /// To turn the ReiserFS volume at a path into a Btrfs volume, with these options.
@@ -29,47 +31,178 @@ pub enum Command<'a> {
     Version,
 }
 
-/// Reads the words, without the program's name: a command, behind `convert` its options and behind `trial` a number, and a path that is not
-/// empty and does not begin with `-`; or `--help` or `--version` alone. None where they are anything else.
-pub fn read_words(words: &[String]) -> Option<Command<'_>>
-    ensures read { option_map seen result ≡ command (map string_bytes words.now) }
-    ensures range { IfSome result IsInRange }
+/// The words of a command line as they were read.
+#[derive(Drop, Debug)]
+pub struct CommandLine<'a> {
+    /// What they ask for.
+    pub command: Command<'a>,
+    /// Whether `--verbose` is among the options. It changes nothing of what is done and printed: it asks to be told, behind the line on
+    /// the error sink, what a person at a terminal is told.
+    pub verbose: bool,
+}
+
+/// Reads the words, without the program's name. None where they are no command.
+///
+/// | Words | Command |
+/// |---|---|
+/// | `inspect [OPTIONS] PATH` | [`Command::Inspect`], with the options of `convert` but for `--label`, `--copy-label` and `--uuid` |
+/// | `list PATH`, `recover PATH`, `rollback PATH` | [`Command::List`], [`Command::Recover`], [`Command::Rollback`] |
+/// | `convert [OPTIONS] PATH` | [`Command::Convert`] |
+/// | `trial N PATH` | [`Command::Trial`], with a number of at most 4000 without leading zeros |
+/// | `--help` or `-h`, alone or as the only word behind the name of one of these | [`Command::Help`] |
+/// | `--version` or `-V`, alone | [`Command::Version`] |
+///
+/// A path is not empty and does not begin with `-`. `--verbose` may stand once among the options, where there are no others right behind
+/// the command's name.
+pub fn read_words(words: &[String]) -> Option<CommandLine<'_>>
+    ensures read { option_map seen_line result ≡ line (map string_bytes words.now) }
+    ensures range { IfSome result (λ l. IsInRange l.command) }
 {
     let [name, rest @ ..] = words else {
         return None;
     };
     if rest.is_empty() {
-        return alone(name.as_str());
+        return Some(quiet(alone(name.as_str())?));
+    }
+    if asks_help(name.as_str(), rest) {
+        return Some(quiet(Command::Help));
     }
     begun_by(name.as_str(), rest)
+}
+
+/// What the words ask for, without more.
+pub fn read_command(words: &[String]) -> Option<Command<'_>>
+    ensures read { option_map seen result ≡ command (map string_bytes words.now) }
+    ensures range { IfSome result IsInRange }
+{
+    match read_words(words) {
+        Some(CommandLine { command, .. }) => Some(command),
+        None => None,
+    }
+}
+
+/// A command line without `--verbose`.
+fn quiet(command: Command<'_>) -> CommandLine<'_>
+    ensures { result ≡ record { command = command.entry; verbose = false } }
+{
+    CommandLine {
+        command,
+        verbose: false,
+    }
 }
 
 fn alone(word: &str) -> Option<Command<'static>>
     ensures read { option_map seen result ≡ alone word.now }
     ensures range { IfSome result IsInRange }
 {
-    match word {
-        "--help" => Some(Command::Help),
-        "--version" => Some(Command::Version),
-        _ => None,
+    if is_help(word) {
+        return Some(Command::Help);
     }
+    if is_version(word) {
+        return Some(Command::Version);
+    }
+    None
 }
 
-/// The command that begins with a word, and has these words behind it.
-fn begun_by<'a>(name: &str, words: &'a [String]) -> Option<Command<'a>>
-    ensures read { option_map seen result ≡ begun_by name.now (map string_bytes words.now) }
+/// Whether the words behind a command's name are one that asks for the help.
+fn asks_help(name: &str, words: &[String]) -> bool
+    ensures { result ≡ asks_help name.now (map string_bytes words.now) }
+{
+    let [word] = words else {
+        return false;
+    };
+    is_help(word.as_str()) && is_name(name)
+}
+
+fn is_help(word: &str) -> bool
+    ensures { result ≡ is_help word.now }
+{
+    word == "--help" || word == "-h"
+}
+
+fn is_version(word: &str) -> bool
+    ensures { result ≡ is_version word.now }
+{
+    word == "--version" || word == "-V"
+}
+
+/// Whether a word is the name of a command that has a path.
+fn is_name(name: &str) -> bool
+    ensures { result ≡ is_name name.now }
+{
+    matches!(
+        name,
+        "inspect" | "list" | "convert" | "recover" | "rollback" | "trial"
+    )
+}
+
+/// The command line that begins with a word, and has these words behind it.
+fn begun_by<'a>(name: &str, words: &'a [String]) -> Option<CommandLine<'a>>
+    ensures read { option_map seen_line result ≡ begun_by name.now (map string_bytes words.now) }
+    ensures range { IfSome result (λ l. IsInRange l.command) }
+{
+    if name != "convert" && name != "inspect" {
+        return plain_line(name, words);
+    }
+    let [options @ .., path] = words else {
+        return None;
+    };
+    if name == "convert" {
+        return converting(options, path.as_str());
+    }
+    inspecting(options, path.as_str())
+}
+
+fn converting<'a>(words: &[String], path: &'a str) -> Option<CommandLine<'a>>
+    ensures read { option_map seen_line result ≡ converting (map string_bytes words.now) path.now }
+    ensures range { IfSome result (λ l. IsInRange l.command) }
+{
+    if !is_path(path) {
+        return None;
+    }
+    let AskedOptions { options, verbose } = read_convert_options(words)?;
+    Some(CommandLine {
+        command: Command::Convert(path, options),
+        verbose,
+    })
+}
+
+fn inspecting<'a>(words: &[String], path: &'a str) -> Option<CommandLine<'a>>
+    ensures read { option_map seen_line result ≡ inspecting (map string_bytes words.now) path.now }
+    ensures range { IfSome result (λ l. IsInRange l.command) }
+{
+    if !is_path(path) {
+        return None;
+    }
+    let AskedOptions { options, verbose } = read_inspect_options(words)?;
+    Some(CommandLine {
+        command: Command::Inspect(path, options),
+        verbose,
+    })
+}
+
+/// The command line of a command that has no option but `--verbose`.
+fn plain_line<'a>(name: &str, words: &'a [String]) -> Option<CommandLine<'a>>
+    ensures read { option_map seen_line result ≡ plain_line name.now (map string_bytes words.now) }
+    ensures range { IfSome result (λ l. IsInRange l.command) }
+{
+    let [word, rest @ ..] = words else {
+        return None;
+    };
+    let verbose = is_verbose(word.as_str());
+    let others = if verbose { rest } else { words };
+    let command = plain_words(name, others)?;
+    Some(CommandLine { command, verbose })
+}
+
+fn plain_words<'a>(name: &str, words: &'a [String]) -> Option<Command<'a>>
+    ensures read { option_map seen result ≡ plain_words name.now (map string_bytes words.now) }
     ensures range { IfSome result IsInRange }
 {
     if name == "trial" {
         return trying(words);
     }
-    if name != "convert" {
-        return with_path(name, words);
-    }
-    let [options @ .., path] = words else {
-        return None;
-    };
-    converting(options, path.as_str())
+    with_path(name, words)
 }
 
 fn with_path<'a>(name: &str, words: &'a [String]) -> Option<Command<'a>>
@@ -83,17 +216,6 @@ fn with_path<'a>(name: &str, words: &'a [String]) -> Option<Command<'a>>
         return None;
     }
     named(name, path.as_str())
-}
-
-fn converting<'a>(words: &[String], path: &'a str) -> Option<Command<'a>>
-    ensures read { option_map seen result ≡ converting (map string_bytes words.now) path.now }
-    ensures range { IfSome result IsInRange }
-{
-    if !is_path(path) {
-        return None;
-    }
-    let options = read_options(words)?;
-    Some(Command::Convert(path, options))
 }
 
 fn trying(words: &[String]) -> Option<Command<'_>>
@@ -125,7 +247,6 @@ fn named<'a>(name: &str, path: &'a str) -> Option<Command<'a>>
     ensures range { IfSome result IsInRange }
 {
     match name {
-        "inspect" => Some(Command::Inspect(path)),
         "list" => Some(Command::List(path)),
         "recover" => Some(Command::Recover(path)),
         "rollback" => Some(Command::Rollback(path)),

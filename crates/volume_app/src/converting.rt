@@ -1,28 +1,26 @@
 ghost use Rattle.std.specs.Prelude.{◌≡◌, ◌≢◌, ◌<◌, ◌^◌, None, IfErr, IsTrue, OnOk};
 ghost use Rattle.std.specs.Result.{MatchResult};
-ghost use Rattle.btr_node.specs.NodeSize.{IsNodeSize};
+ghost use Rattle.btr_reader.specs.btr_node.NodeSize.{IsNodeSize};
 ghost use Rattle.convert_core.specs.Answers.{IsConvertAnswer, RefusesConvert};
 ghost use Rattle.convert_core.specs.Converted.{DiffersInFree, IsConverted, IsEither};
 ghost use Rattle.convert_core.specs.Surveyed.{IsSummary};
-ghost use Rattle.outside.specs.Fault.{HasCause, HasCauseOf, Takes};
-ghost use Rattle.outside.specs.History.{EachCrash, IsSettled, reads};
+ghost use Rattle.reiser_volume.specs.outside.Fault.{HasCause, HasCauseOf, Takes};
+ghost use Rattle.reiser_volume.specs.outside.History.{EachCrash, IsSettled, reads};
 ghost use Rattle.volume_app.specs.Converting.{convert_meaning, convert_text};
 ghost use Rattle.volume_app.specs.Outcome.{Performs};
 ghost use Rattle.volume_app.specs.Trees.{HasId};
-ghost use Rattle.space_items.specs.Laws.{AreIds};
+ghost use Rattle.convert_core.specs.space_items.Laws.{AreIds};
 
 use crate::ending::{Ending, printed};
-use convert_core::ConvertSummary;
-use converted_laws::{
+use convert_core::{Answer, ConvertSummary};
+use convert_core_laws::{
     converted_volumes_are_sound, converted_volumes_go_back, converted_volumes_open,
 };
-use outside::{Access, Answer, Disk, Fault, Sink};
-use reiser_volume::used_blocks_decide;
+use convert_options::{Options, UuidChoice};
+use reiser_volume::{Access, Disk, Fault, Ids, Sink, used_blocks_decide};
 use sink_text::Piece::{Decimal, Plain};
 use sink_text::write_pieces;
 use std::alloc::Global;
-use unit_plan::{Options, UuidChoice};
-use vol_block::Ids;
 
 /// Converts the ReiserFS volume at a path, and prints what was done.
 pub fn convert_volume<D: Disk, O: Sink>(

@@ -1,11 +1,12 @@
 ghost use Rattle.std.specs.Prelude.{◌≡◌, IsTrue};
-ghost use Rattle.outside.specs.Fault.{HasCause, Takes};
+ghost use Rattle.reiser_volume.specs.outside.Fault.{HasCause, Takes};
 ghost use Rattle.volume_app.specs.Ending.{status, error_line};
 ghost use Rattle.volume_app.specs.Outcome.{ending_of};
 
 use crate::texts::USAGE;
-use app_words::{answer_status, write_answer};
-use outside::{Answer, Fault, Sink};
+use convert_core::Answer;
+use program_words::{answer_status, write_answer};
+use reiser_volume::{Fault, Sink};
 
 /// How a run ended.
 #[derive(Clone, Copy, Debug, PartialEq, Eq)]

@@ -1,10 +1,9 @@
 ghost use Rattle.std.specs.Prelude.{◌≡◌, None, IfOk, OnOk, IsTrue};
-ghost use Rattle.outside.specs.Fault.{HasCause};
-ghost use Rattle.outside.specs.History.{reads};
+ghost use Rattle.reiser_volume.specs.outside.Fault.{HasCause};
+ghost use Rattle.reiser_volume.specs.outside.History.{reads};
 ghost use Rattle.volume_app.specs.Found.{IsFoundOn};
 
-use outside::{Access, BlockSource, Disk, Fault};
-use vol_block::{Block, BlockNo, Format, format_of};
+use reiser_volume::{Access, Block, BlockNo, BlockSource, Disk, Fault, Format, format_of};
 
 /// The block of the superblock, of both formats.
 const SUPERBLOCK: BlockNo = 16;

@@ -1,21 +1,23 @@
 ghost use Rattle.std.specs.Prelude.{◌≡◌, ◌≢◌, None, IfErr, IsTrue};
 ghost use Rattle.std.specs.Result.{MatchResult};
-ghost use Rattle.outside.specs.Fault.{HasCause, HasCauseOf, Takes};
-ghost use Rattle.outside.specs.History.{block_at, reads, OverTold};
-ghost use Rattle.vol_block.specs.declared.format.Format.TheVariants as formats;
-ghost use Rattle.outside.specs.Format.{format_in};
+ghost use Rattle.btr_reader.specs.btr_node.NodeSize.{IsNodeSize};
+ghost use Rattle.reiser_volume.specs.outside.Fault.{HasCause, HasCauseOf, Takes};
+ghost use Rattle.reiser_volume.specs.outside.History.{block_at, reads, OverTold};
+ghost use Rattle.reiser_volume.specs.vol_block.declared.format.Format.TheVariants as formats;
+ghost use Rattle.reiser_volume.specs.outside.Format.{format_in};
 ghost use Rattle.volume_app.specs.Found.{IsFoundOn};
 ghost use Rattle.volume_app.specs.Inspect.{inspect_meaning, inspected_text, Inspects, InspectRefuses, IsInspectAnswer};
 ghost use Rattle.volume_app.specs.Outcome.{Performs};
 
+use crate::Summary;
 use crate::answers::{of_btrfs, of_volume};
 use crate::ending::{Ending, printed};
 use crate::format::{Found, open_format};
 use crate::reiser::ReiserSummary;
-use btr_summary::Summary;
-use outside::{Access, Answer, BlockSource, Disk, Fault, Sink};
+use convert_core::Answer;
+use convert_options::Options;
+use reiser_volume::{Access, Block, BlockSource, Disk, Fault, Format, Sink};
 use std::alloc::Global;
-use vol_block::{Block, Format};
 
 /// What `inspect` prints of a volume.
 #[derive(Clone, Copy, Debug)]
@@ -39,35 +41,43 @@ impl Inspected {
     }
 }
 
-/// Inspects the volume at a path, and prints what it is.
+/// Inspects the volume at a path, and prints what it is, and what a conversion with these options would need.
 pub fn inspect_volume<D: Disk, O: Sink>(
     alloc: Global,
     path: &str,
+    options: &Options,
     disk: &mut D,
     out: &mut O,
 ) -> Ending
     requires closed { D.opened disk.old ≡ None }
     requires wanted { D.wants path.now Access.Read }
-    ensures { Performs inspect_meaning D.tells (D.history disk.old) (D.history disk.new) (D.faults disk.old) (D.faults disk.new)
+    requires size { IsNodeSize options.now.nodesize }
+    ensures { Performs (inspect_meaning options.now) D.tells (D.history disk.old) (D.history disk.new) (D.faults disk.old) (D.faults disk.new)
         O.tells (O.taken out.old) (O.taken out.new) (O.faults out.old) (O.faults out.new) result }
 {
-    match inspect(alloc, path, disk) {
+    match inspect(alloc, path, options, disk) {
         Ok(found) => printed(found.print(out)),
         Err(answer) => Ending::Failed(answer),
     }
 }
 
 /// Opens the disk for reading, checks the volume, and reads what is printed of it.
-fn inspect<D: Disk>(alloc: Global, path: &str, disk: &mut D) -> Result<Inspected, Answer>
+fn inspect<D: Disk>(
+    alloc: Global,
+    path: &str,
+    options: &Options,
+    disk: &mut D,
+) -> Result<Inspected, Answer>
     requires closed { D.opened disk.old ≡ None }
     requires wanted { D.wants path.now Access.Read }
+    requires size { IsNodeSize options.now.nodesize }
     ensures unchanged { IsTrue D.tells → D.history disk.new ≡ D.history disk.old }
     ensures cause { HasCauseOf Answer.Fault (D.faults disk.old) (D.faults disk.new) result }
-    ensures right { IsTrue D.tells → MatchResult result (Inspects (reads (D.history disk.old))) (InspectRefuses (reads (D.history disk.old))) }
+    ensures right { IsTrue D.tells → MatchResult result (Inspects options.now (reads (D.history disk.old))) (InspectRefuses (reads (D.history disk.old))) }
     ensures known { IfErr result IsInspectAnswer }
 {
     match open_format(path, disk) {
-        Ok(found) => inspect_as(&found, alloc, disk),
+        Ok(found) => inspect_as(&found, alloc, options, disk),
         Err(Fault) => Err(Answer::Fault),
     }
 }
@@ -76,33 +86,40 @@ fn inspect<D: Disk>(alloc: Global, path: &str, disk: &mut D) -> Result<Inspected
 fn inspect_as<S: BlockSource>(
     found: &Found,
     alloc: Global,
+    options: &Options,
     source: &mut S,
 ) -> Result<Inspected, Answer>
+    requires size { IsNodeSize options.now.nodesize }
     ensures kept { S.kept source.old source.new }
     ensures cause { HasCauseOf Answer.Fault (S.faults source.old) (S.faults source.new) result }
-    ensures right { OverTold S.tells (S.blocks source.old) (λ image. IsFoundOn image found.now → MatchResult result (Inspects image) (InspectRefuses image)) }
+    ensures right { OverTold S.tells (S.blocks source.old) (λ image. IsFoundOn image found.now → MatchResult result (Inspects options.now image) (InspectRefuses image)) }
     ensures known { IfErr result IsInspectAnswer }
 {
     match found.format {
         Format::Btrfs => inspect_btrfs(alloc, source, &found.block),
-        Format::Reiser | Format::Neither => inspect_reiser(alloc, source),
+        Format::Reiser | Format::Neither => inspect_reiser(alloc, options, source),
     }
 }
 
 /// Checks a volume that is not one of Btrfs.
-fn inspect_reiser<S: BlockSource>(alloc: Global, source: &mut S) -> Result<Inspected, Answer>
+fn inspect_reiser<S: BlockSource>(
+    alloc: Global,
+    options: &Options,
+    source: &mut S,
+) -> Result<Inspected, Answer>
+    requires size { IsNodeSize options.now.nodesize }
     ensures kept { S.kept source.old source.new }
     ensures cause { HasCauseOf Answer.Fault (S.faults source.old) (S.faults source.new) result }
-    ensures right { OverTold S.tells (S.blocks source.old) (λ image. format_in image ≢ formats.Btrfs → MatchResult result (Inspects image) (InspectRefuses image)) }
+    ensures right { OverTold S.tells (S.blocks source.old) (λ image. format_in image ≢ formats.Btrfs → MatchResult result (Inspects options.now image) (InspectRefuses image)) }
     ensures known { IfErr result IsInspectAnswer }
 {
-    match ReiserSummary::read(alloc, source) {
+    match ReiserSummary::read(alloc, options, source) {
         Ok(summary) => Ok(Inspected::Reiser(summary)),
         Err(answer) => Err(of_volume(answer)),
     }
 }
 
-/// Checks a Btrfs volume, by its block 16.
+/// Checks a Btrfs volume, by its block 16. What is printed of it is the same for all options of a conversion.
 fn inspect_btrfs<S: BlockSource>(
     alloc: Global,
     source: &mut S,
@@ -110,7 +127,7 @@ fn inspect_btrfs<S: BlockSource>(
 ) -> Result<Inspected, Answer>
     ensures kept { S.kept source.old source.new }
     ensures cause { HasCauseOf Answer.Fault (S.faults source.old) (S.faults source.new) result }
-    ensures right { OverTold S.tells (S.blocks source.old) (λ image. format_in image ≡ formats.Btrfs → block.now.bytes ≡ block_at image 16 → MatchResult result (Inspects image) (InspectRefuses image)) }
+    ensures right { OverTold S.tells (S.blocks source.old) (λ image. format_in image ≡ formats.Btrfs → block.now.bytes ≡ block_at image 16 → (o : Options) → MatchResult result (Inspects o image) (InspectRefuses image)) }
     ensures known { IfErr result IsInspectAnswer }
 {
     match Summary::read(alloc, source, block) {

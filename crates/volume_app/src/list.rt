@@ -1,9 +1,9 @@
 ghost use Rattle.std.specs.Prelude.{◌≡◌, ◌≢◌, None, IfErr, IsTrue};
 ghost use Rattle.std.specs.Result.{MatchResult};
-ghost use Rattle.outside.specs.Fault.{HasCauseOf};
-ghost use Rattle.outside.specs.History.{block_at, reads, OverTold};
-ghost use Rattle.vol_block.specs.declared.format.Format.TheVariants as formats;
-ghost use Rattle.outside.specs.Format.{format_in};
+ghost use Rattle.reiser_volume.specs.outside.Fault.{HasCauseOf};
+ghost use Rattle.reiser_volume.specs.outside.History.{block_at, reads, OverTold};
+ghost use Rattle.reiser_volume.specs.vol_block.declared.format.Format.TheVariants as formats;
+ghost use Rattle.reiser_volume.specs.outside.Format.{format_in};
 ghost use Rattle.volume_app.specs.Found.{IsFoundOn};
 ghost use Rattle.volume_app.specs.Listing.{Lists, ListRefuses, IsListAnswer, list_meaning};
 ghost use Rattle.volume_app.specs.Outcome.{Performs};
@@ -13,10 +13,10 @@ use crate::ending::{Ending, printed};
 use crate::format::{Found, open_format};
 use crate::reiser::reiser_rows;
 use btr_reader::Btrfs;
+use convert_core::Answer;
 use fs_rows::{Rows, write_rows};
-use outside::{Access, Answer, BlockSource, Disk, Fault, Sink};
+use reiser_volume::{Access, Block, BlockSource, Disk, Fault, Format, Sink};
 use std::alloc::Global;
-use vol_block::{Block, Format};
 
 /// Lists the volume at a path: prints a line for each of its paths.
 pub fn list_volume<D: Disk, O: Sink>(alloc: Global, path: &str, disk: &mut D, out: &mut O) -> Ending

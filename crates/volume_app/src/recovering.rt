@@ -1,20 +1,20 @@
 ghost use Rattle.std.specs.Prelude.{◌≡◌, ◌≢◌, None, IfErr, IsTrue, OnOk};
 ghost use Rattle.std.specs.Result.{MatchResult};
-ghost use Rattle.outside.specs.Fault.{HasCause, HasCauseOf, Takes};
-ghost use Rattle.outside.specs.History.{EachCrash, IsSettled, reads};
-ghost use Rattle.rollback_core.specs.Answers.{IsRecoverAnswer, RefusesRecover};
+ghost use Rattle.reiser_volume.specs.outside.Fault.{HasCause, HasCauseOf, Takes};
+ghost use Rattle.reiser_volume.specs.outside.History.{EachCrash, IsSettled, reads};
+ghost use Rattle.rollback_core.specs.RecoveryAnswers.{IsRecoverAnswer, RefusesRecover};
 ghost use Rattle.rollback_core.specs.Recovered.{IsLeft, IsRecovered, summary};
 ghost use Rattle.volume_app.specs.Outcome.{Performs};
 ghost use Rattle.volume_app.specs.Recovering.{format_word, recover_meaning, recover_text};
 
 use crate::ending::{Ending, printed};
-use image_source::spare_blocks_decide_nothing;
-use outside::{Access, Answer, Disk, Fault, Sink};
+use convert_core::Answer;
+use reiser_volume::{Access, Disk, Fault, Format, Sink};
 use rollback_core::{RecoverSummary, recovery_keeps, recovery_opens};
 use sink_text::Piece::{Decimal, Plain};
 use sink_text::write_pieces;
 use std::alloc::Global;
-use vol_block::Format;
+use volume_state::spare_blocks_decide_nothing;
 
 /// Finishes what was interrupted on the volume at a path, and prints its format and what was written.
 pub fn recover_volume<D: Disk, O: Sink>(

@@ -1,23 +1,24 @@
 ghost use Rattle.std.specs.Prelude.{◌≡◌, [], IfOk, IfErr, IsTrue};
 ghost use Rattle.std.specs.Result.{MatchResult};
-ghost use Rattle.outside.specs.Fault.{HasCause, HasCauseOf, Takes};
-ghost use Rattle.outside.specs.History.{OverTold};
+ghost use Rattle.reiser_volume.specs.outside.Fault.{HasCause, HasCauseOf, Takes};
+ghost use Rattle.reiser_volume.specs.outside.History.{OverTold};
 ghost use Rattle.reiser_volume.specs.Answers.{RefusesVolume};
 ghost use Rattle.reiser_volume.specs.Reading.{IsReadingAnswer};
 ghost use Rattle.unit_plan.specs.Choice.{IsSmall};
+ghost use Rattle.unit_plan.specs.btr_node.NodeSize.{IsNodeSize};
 ghost use Rattle.reiser_volume.specs.Volume.{IsAccepted};
 ghost use Rattle.sink_text.specs.Text.{piece_text};
 ghost use Rattle.volume_app.specs.Reiser.{label_of, label_text, IsReiserSummary, summary_text, summary_with, ListsReiser};
 
 use convert_core::Survey;
+use convert_options::Options;
 use fs_rows::Rows;
-use outside::{BlockSource, Fault, Sink, VolAnswer};
 use reiser_super::Super;
-use reiser_volume::Volume;
+use reiser_volume::{BlockSource, Fault, Sink, VolAnswer, Volume};
 use sink_text::Piece::{Decimal, Escaped, Hyphenated, Plain};
 use sink_text::{Piece, write_pieces};
 use std::alloc::Global;
-use unit_plan::{Need, Options};
+use unit_plan::Need;
 
 /// What is told of a ReiserFS volume.
 #[derive(Clone, Copy, Debug)]
@@ -28,24 +29,29 @@ pub struct ReiserSummary {
     pub used: u64,
     /// The number of free units of 256 blocks.
     pub units: u64,
-    /// The units that a conversion needs.
+    /// The units that a conversion needs, by the options that it was asked for.
     pub needed: u64,
     /// Those of them that are to lie in one run.
     pub run: u64,
 }
 
 impl ReiserSummary {
-    /// Checks the volume of a source, and reads what is told of it.
-    pub fn read<S: BlockSource>(alloc: Global, source: &mut S) -> Result<ReiserSummary, VolAnswer>
+    /// Checks the volume of a source, and reads what is told of it, for a conversion with these options.
+    pub fn read<S: BlockSource>(
+        alloc: Global,
+        options: &Options,
+        source: &mut S,
+    ) -> Result<ReiserSummary, VolAnswer>
+        requires size { IsNodeSize options.now.nodesize }
         ensures kept { S.kept source.old source.new }
         ensures cause { HasCauseOf VolAnswer.Fault (S.faults source.old) (S.faults source.new) result }
         ensures accepted { OverTold S.tells (S.blocks source.old) (λ image. IfOk result (λ s. IsAccepted image)) }
-        ensures told { OverTold S.tells (S.blocks source.old) (λ image. IfOk result (IsReiserSummary image)) }
+        ensures told { OverTold S.tells (S.blocks source.old) (λ image. IfOk result (IsReiserSummary options.now image)) }
         ensures refused { OverTold S.tells (S.blocks source.old) (λ image. IfErr result (RefusesVolume image)) }
         ensures answers { IfErr result IsReadingAnswer }
     {
         let volume = Volume::open(alloc, source)?;
-        let survey = Survey::of(alloc, source, &volume, &Options::plain())?;
+        let survey = Survey::of(alloc, source, &volume, options)?;
         Ok(summary_of(&volume, &survey.need))
     }
 

@@ -1,19 +1,19 @@
 ghost use Rattle.std.specs.Prelude.{◌≡◌, ◌≢◌, None, IfErr, IsTrue, OnOk};
 ghost use Rattle.std.specs.Result.{MatchResult};
-ghost use Rattle.outside.specs.Fault.{HasCause, HasCauseOf, Takes};
-ghost use Rattle.outside.specs.History.{EachCrash, IsSettled, reads};
-ghost use Rattle.rollback_steps.specs.Answers.{IsRollbackAnswer, RefusesRollback};
-ghost use Rattle.rollback_steps.specs.RolledBack.{IsLeft, IsRolledBack, summary};
+ghost use Rattle.reiser_volume.specs.outside.Fault.{HasCause, HasCauseOf, Takes};
+ghost use Rattle.reiser_volume.specs.outside.History.{EachCrash, IsSettled, reads};
+ghost use Rattle.rollback_core.specs.RollbackAnswers.{IsRollbackAnswer, RefusesRollback};
+ghost use Rattle.rollback_core.specs.RolledBack.{IsLeft, IsRolledBack, summary};
 ghost use Rattle.volume_app.specs.Outcome.{Performs};
 ghost use Rattle.volume_app.specs.RollingBack.{rollback_meaning, rollback_text};
 
 use crate::ending::{Ending, printed};
-use outside::{Access, Answer, Disk, Fault, Sink};
-use rollback_steps::rollback_keeps;
+use convert_core::Answer;
+use reiser_volume::{Access, Disk, Fault, Sink};
+use rollback_core::{RollbackSummary, rollback_keeps};
 use sink_text::Piece::{Decimal, Plain};
 use sink_text::write_pieces;
 use std::alloc::Global;
-use way_back::RollbackSummary;
 
 /// Turns the Btrfs volume at a path back into the ReiserFS volume that it was made from, and prints what was restored.
 pub fn roll_back_volume<D: Disk, O: Sink>(
@@ -47,7 +47,7 @@ fn roll_back<D: Disk>(alloc: Global, path: &str, disk: &mut D) -> Result<Rollbac
     ensures known { IfErr result IsRollbackAnswer }
 {
     match disk.open(path, Access::Write) {
-        Ok(()) => rollback_steps::rollback(alloc, disk),
+        Ok(()) => rollback_core::rollback(alloc, disk),
         Err(Fault) => Err(Answer::Fault),
     }
 }

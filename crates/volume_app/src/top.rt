@@ -1,12 +1,12 @@
 ghost use Rattle.std.specs.Prelude.{◌≡◌, ◌≢◌, ◌↔◌, ◌<◌, ◌-◌, ◌^◌, ◌⊎◌, map, None, IfSome, IsTrue, string_bytes, option_and_then};
-ghost use Rattle.outside.specs.Fault.{Rose};
-ghost use Rattle.outside.specs.History.{EachCrash, IsSettled, LeftSince, clock, reads};
+ghost use Rattle.reiser_volume.specs.outside.Fault.{Rose};
+ghost use Rattle.reiser_volume.specs.outside.History.{EachCrash, IsSettled, LeftSince, clock, reads};
 ghost use Rattle.volume_app.specs.Command.{command, opens};
 ghost use Rattle.volume_app.specs.Headline.{KeepsPromise};
 ghost use Rattle.volume_app.specs.Outcome.{Performs, Runs, meant};
 ghost use Rattle.volume_app.specs.Trees.{AreBlocks};
 
-use crate::command::{Command, read_words};
+use crate::command::{Command, read_command};
 use crate::converting::convert_volume;
 use crate::ending::{Ending, printed};
 use crate::inspect::inspect_volume;
@@ -15,9 +15,8 @@ use crate::recovering::recover_volume;
 use crate::rolling_back::roll_back_volume;
 use crate::texts::{HELP, VERSION};
 use crate::trying::try_on_path;
-use outside::{Disk, Sink};
+use reiser_volume::{Disk, Ids, Sink};
 use std::alloc::Global;
-use vol_block::Ids;
 
 /// Does what the words ask for, and answers the status of the program.
 ///
@@ -95,9 +94,11 @@ fn perform<D: Disk, O: Sink>(
     ensures performs { Performs (meant ids.now now (map string_bytes words.now)) D.tells (D.history disk.old) (D.history disk.new) (D.faults disk.old) (D.faults disk.new)
         O.tells (O.taken out.old) (O.taken out.new) (O.faults out.old) (O.faults out.new) result }
 {
-    match read_words(words) {
+    match read_command(words) {
         None => Ending::Usage,
-        Some(Command::Inspect(path)) => inspect_volume(alloc, path, disk, out),
+        Some(Command::Inspect(path, options)) => {
+            inspect_volume(alloc, path, &options, disk, out)
+        }
         Some(Command::List(path)) => list_volume(alloc, path, disk, out),
         Some(Command::Convert(path, options)) => {
             convert_volume(alloc, path, ids, now, &options, disk, out)

@@ -1,7 +1,7 @@
 ghost use Rattle.std.specs.Prelude.{◌≡◌, ◌≤◌, ◌<◌, ◌^◌, None, IfErr, IsTrue, OnOk};
 ghost use Rattle.std.specs.Result.{MatchResult};
-ghost use Rattle.outside.specs.Fault.{HasCause, HasCauseOf, Takes};
-ghost use Rattle.outside.specs.History.{IsSettled, reads};
+ghost use Rattle.reiser_volume.specs.outside.Fault.{HasCause, HasCauseOf, Takes};
+ghost use Rattle.reiser_volume.specs.outside.History.{IsSettled, reads};
 ghost use Rattle.trial_core.specs.Answers.{IsTrialAnswer, LeavesRefused, RefusesTrial};
 ghost use Rattle.trial_core.specs.Trial.{IsTried, summary};
 ghost use Rattle.volume_app.specs.Outcome.{Performs};
@@ -9,13 +9,12 @@ ghost use Rattle.volume_app.specs.Trying.{trial_meaning, trial_text};
 
 use crate::converting::know_ids;
 use crate::ending::{Ending, printed};
-use outside::{Access, Answer, Disk, Fault, Sink};
+use convert_core::Answer;
+use reiser_volume::{Access, Disk, Fault, Ids, Sink};
 use sink_text::Piece::{Decimal, Plain};
 use sink_text::write_pieces;
 use std::alloc::Global;
-use trial_core::tries_keep;
-use trial_parts::TrialSummary;
-use vol_block::Ids;
+use trial_core::{TrialSummary, tries_keep};
 
 /// Makes the sample of a number on the device at a path, converts it and rolls it back, and prints what was seen.
 pub fn try_on_path<D: Disk, O: Sink>(

@@ -1,6 +1,6 @@
 use Rattle.std.proofs.Common.{◌≡◌, ℕ, List, [], ◌∷◌, ◌++◌, ap, ◌∙◌}
-use Rattle.vol_block.specs.Field.{fields_bytes}
-use Rattle.vol_block.specs.declared.field.Field.TheVariants.{U64}
+use Rattle.refusals.specs.vol_block.Field.{fields_bytes}
+use Rattle.refusals.specs.vol_block.declared.field.Field.TheVariants.{U64}
 use Rattle.btr_keys.specs.Layout.{spelling}
 use Rattle.btr_node.specs.Inner.{child_layout}
 use Rattle.btr_node.proofs.Putting.{put_child_is}

@@ -1,6 +1,6 @@
 use Rattle.std.proofs.Common.{◌≡◌, ℕ, ◌+◌, ◌-◌, ◌*◌, List, [], ◌∷◌, ◌++◌, length, refl, ap, ◌∙◌}
-use Rattle.vol_block.specs.Field.{fields_bytes}
-use Rattle.vol_block.specs.declared.field.Field.TheVariants.{U32}
+use Rattle.refusals.specs.vol_block.Field.{fields_bytes}
+use Rattle.refusals.specs.vol_block.declared.field.Field.TheVariants.{U32}
 use borrow.Rule.Slice.PartMut.{put_mid}
 use Rattle.btr_keys.specs.Layout.{spelling}
 use Rattle.btr_node.specs.Leaf.{item_layout}

@@ -1,5 +1,5 @@
 use Rattle.std.proofs.Common.{◌≡◌, [], take, drop, map}
-use Rattle.btr_walk.specs.Walks.{LieOn}
+use Rattle.btr_reader_walk.specs.Walks.{LieOn}
 use Rattle.btr_reader.specs.Chunks.{range_of, chunks_refusals}
 use Rattle.btr_reader.proofs.chunk.add_chunks.Given as goal
 

@@ -1,12 +1,12 @@
 use Rattle.std.proofs.Common.{◌≡◌, ◌==◌, ◌&&◌, Bool, true, false, List, Some, option_map, sym, ◌∙◌, ap, subst, arith}
 use Rattle.std.proofs.lemmas.Bool.Decides.{nat_tests}
 use Rattle.std.proofs.lemmas.Result.{err_from_is_err_and}
-use Rattle.outside.specs.declared.refusal.BtrRefusal.{BtrRefusal}
-use Rattle.btr_keys.specs.declared.key.Key.{Key}
-use Rattle.btr_keys.specs.DirEntry.{DirEntryValue, dir_entry_value}
-use Rattle.btr_names.specs.declared.naming.Naming.{Naming}
-use Rattle.btr_names.specs.Links.{is_index, index_entry, naming_of, namings}
-use Rattle.btr_names.specs.Passes.{HasSeen}
+use Rattle.btr_reader_walk.specs.refusals.declared.refusal.BtrRefusal.{BtrRefusal}
+use Rattle.btr_reader_walk.specs.btr_keys.declared.key.Key.{Key}
+use Rattle.btr_reader_walk.specs.btr_keys.DirEntry.{DirEntryValue, dir_entry_value}
+use Rattle.btr_reader_names.specs.declared.naming.Naming.{Naming}
+use Rattle.btr_reader_names.specs.Links.{is_index, index_entry, naming_of, namings}
+use Rattle.btr_reader_names.specs.Passes.{HasSeen}
 use Rattle.btr_reader.specs.Image.{is_root_directory}
 use Rattle.btr_reader.specs.Opening.{IsAmong}
 use Rattle.btr_reader.proofs.RootNames.{passed_over, right_entry, in_root, with_entry, refused_entry}

@@ -1,13 +1,13 @@
 use Rattle.std.proofs.Common.{◌≡◌, ℕ, ◌<◌, ◌^◌, List, [], ◌∷◌, ◌++◌, sym, ◌∙◌, ap, subst, arith, refl}
 use Rattle.std.proofs.lemmas.Result.{err_from_is_err_and}
-use Rattle.outside.specs.History.{Image}
-use Rattle.outside.specs.declared.refusal.BtrRefusal.{BtrRefusal}
-use Rattle.btr_walk.specs.declared.map.MapRange.{MapRange}
-use Rattle.btr_walk.specs.declared.tree.Tree.{Tree}
-use Rattle.btr_walk.specs.Events.{TreeItem}
-use Rattle.btr_walk.specs.Walks.{Blames, found, wrong}
-use Rattle.btr_walk.proofs.Walking.{blames_among, given_first}
-use Rattle.btr_files.specs.Extents.{extents_of, extents_refusals}
+use Rattle.btr_reader_walk.specs.outside.History.{Image}
+use Rattle.btr_reader_walk.specs.refusals.declared.refusal.BtrRefusal.{BtrRefusal}
+use Rattle.btr_reader_walk.specs.declared.map.MapRange.{MapRange}
+use Rattle.btr_reader_walk.specs.declared.tree.Tree.{Tree}
+use Rattle.btr_reader_walk.specs.Events.{TreeItem}
+use Rattle.btr_reader_walk.specs.Walks.{Blames, found, wrong}
+use Rattle.btr_reader_walk.proofs.Walking.{blames_among, given_first}
+use Rattle.btr_reader_contents.specs.Extents.{extents_of, extents_refusals}
 use Rattle.btr_reader.specs.Opening.{IsAmong}
 use Rattle.btr_reader.specs.Pieces.{Gathers}
 use Rattle.btr_reader.proofs.Among.{among_left, among_right}

@@ -1,7 +1,7 @@
 use Rattle.std.proofs.Common.{◌≡◌, ◌<◌, ◌^◌, List, false, IsTrue}
-use Rattle.btr_walk.specs.Events.{TreeItem}
-use Rattle.btr_walk.specs.Walks.{Walks, fuel}
-use Rattle.btr_files.specs.Extents.{extents_of}
+use Rattle.btr_reader_walk.specs.Events.{TreeItem}
+use Rattle.btr_reader_walk.specs.Walks.{Walks, fuel}
+use Rattle.btr_reader_contents.specs.Extents.{extents_of}
 use Rattle.btr_reader.specs.Pieces.{Gathers, IsInOrder}
 use Rattle.btr_reader.proofs.gather.gather_extents.Given as goal
 

@@ -1,10 +1,10 @@
 use Rattle.std.proofs.Common.{◌≡◌, true, Some, None, sym, ◌∙◌, ap, arith}
 use Rattle.std.specs.Option.{option_map}
-use Rattle.outside.specs.declared.refusal.BtrRefusal.TheVariants.{BadBtrfs}
-use Rattle.outside.specs.declared.rule.BtrRule.TheVariants.{Body}
-use Rattle.btr_keys.specs.FileExtent.{file_extent_value, file_extent_of}
-use Rattle.btr_keys.specs.declared.key.Key.{Key}
-use Rattle.btr_files.specs.Extents.{is_extent_key, is_extent_of}
+use Rattle.btr_reader_walk.specs.refusals.declared.refusal.BtrRefusal.TheVariants.{BadBtrfs}
+use Rattle.btr_reader_walk.specs.refusals.declared.rule.BtrRule.TheVariants.{Body}
+use Rattle.btr_reader_walk.specs.btr_keys.FileExtent.{file_extent_value, file_extent_of}
+use Rattle.btr_reader_walk.specs.btr_keys.declared.key.Key.{Key}
+use Rattle.btr_reader_contents.specs.Extents.{is_extent_key, is_extent_of}
 use Rattle.btr_reader.proofs.NoLogs.{of_extent}
 use Rattle.btr_reader.proofs.OneExtent.{item_refused, gathers_one}
 use Rattle.btr_reader.proofs.gather.gather_item.Goals as goal

@@ -1,5 +1,5 @@
 use Rattle.std.proofs.Common.{◌≡◌, length, sym, ◌∙◌, ap, arith}
-use Rattle.outside.specs.History.{block_at}
+use Rattle.btr_reader_walk.specs.outside.History.{block_at}
 use Rattle.btr_super.specs.Rules.{super_of}
 use Rattle.btr_reader.proofs.Supers.{no_super}
 use Rattle.btr_reader.proofs.open.read_super.Goals as goal

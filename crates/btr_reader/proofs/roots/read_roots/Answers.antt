@@ -1,6 +1,6 @@
 use Rattle.std.proofs.Common.{sym, subst}
 use Rattle.std.proofs.lemmas.Result.{err_from_is_err_and}
-use Rattle.btr_walk.specs.Walks.{wrong}
+use Rattle.btr_reader_walk.specs.Walks.{wrong}
 use Rattle.btr_reader.specs.Opening.{IsAmong}
 use Rattle.btr_reader.proofs.roots.read_roots.Goals as goal
 

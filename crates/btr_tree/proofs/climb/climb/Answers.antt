@@ -1,7 +1,7 @@
 use Rattle.std.proofs.Common.{◌≡◌, ℕ, ◌+◌, ◌<◌, Err, length, take, refl, ◌∙◌, ap, subst, arith}
 use Rattle.std.specs.Int.{div_ceil}
-use Rattle.outside.specs.History.{reads}
-use Rattle.outside.proofs.Crash.{writes_none}
+use Rattle.btr_node.specs.outside.History.{reads}
+use Rattle.btr_node.proofs.outside.Crash.{writes_none}
 use Rattle.btr_node.specs.Inner.{first_keys}
 use Rattle.btr_node.specs.Order.{ascends}
 use Rattle.btr_tree.specs.Building.{Goes, taken}

@@ -1,6 +1,6 @@
 use Rattle.std.proofs.Common.{◌≡◌, ℕ, ◌+◌, ◌-◌, ◌≤◌, List, Err, length, take, drop, min, ◌∙◌, ap, refl, arith, length-take, length-drop}
-use Rattle.outside.specs.History.{reads}
-use Rattle.outside.proofs.Crash.{writes_none}
+use Rattle.btr_node.specs.outside.History.{reads}
+use Rattle.btr_node.proofs.outside.Crash.{writes_none}
 use Rattle.btr_node.specs.declared.child.Child.{Child}
 use Rattle.btr_tree.specs.Building.{taken}
 use Rattle.btr_tree.specs.Packing.{fan_out}

@@ -1,5 +1,5 @@
 use Rattle.std.proofs.Common.{◌≡◌, ◌-◌, length, take, IsTrue}
-use Rattle.outside.specs.History.{reads, WritesOnly}
+use Rattle.btr_node.specs.outside.History.{reads, WritesOnly}
 use Rattle.btr_tree.specs.Building.{Goes, IsLater, taken}
 use Rattle.btr_tree.specs.Writing.{IsInSlots}
 use Rattle.btr_tree.proofs.RaisingLoop.{IsRaising}

@@ -1,6 +1,6 @@
 use Rattle.std.proofs.Common.{◌≡◌, ◌<◌, ◌+◌, ◌/◌, length, sym, ◌∙◌, ap, subst, arith}
-use Rattle.outside.specs.History.{reads}
-use Rattle.outside.proofs.Crash.{write_only, writes_then}
+use Rattle.btr_node.specs.outside.History.{reads}
+use Rattle.btr_node.proofs.outside.Crash.{write_only, writes_then}
 use Rattle.btr_tree.specs.Writing.{IsInNode, HoldBytes}
 use Rattle.btr_tree.proofs.OnDisk.{hold_more}
 use Rattle.btr_tree.proofs.write.write_node.Goals as goal

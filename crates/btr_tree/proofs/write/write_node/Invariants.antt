@@ -1,5 +1,5 @@
 use Rattle.std.proofs.Common.{◌≡◌, ◌/◌, length, IsTrue}
-use Rattle.outside.specs.History.{reads, WritesOnly}
+use Rattle.btr_node.specs.outside.History.{reads, WritesOnly}
 use Rattle.btr_tree.specs.Writing.{IsInNode, HoldBytes}
 use Rattle.btr_tree.proofs.write.write_node.Given as goal
 

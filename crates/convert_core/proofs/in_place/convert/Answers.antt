@@ -1,11 +1,11 @@
 use Rattle.std.proofs.Common.{◌≡◌, ◌≢◌, ◌∙◌, inl, refl, sym, ap, subst}
 use Rattle.std.proofs.lemmas.Bool.{both_ways}
 use Rattle.std.proofs.lemmas.Result.{err_from_is_err_and}
-use Rattle.vol_block.specs.declared.format.Format.TheVariants.{Btrfs}
-use Rattle.outside.specs.Format.{format_in}
-use Rattle.outside.specs.History.{History, reads}
-use Rattle.outside.proofs.Crash.{reads_only}
-use Rattle.outside.proofs.Phases.{left_unwritten}
+use Rattle.reiser_volume.specs.vol_block.declared.format.Format.TheVariants.{Btrfs}
+use Rattle.reiser_volume.specs.outside.Format.{format_in}
+use Rattle.reiser_volume.specs.outside.History.{History, reads}
+use Rattle.reiser_volume.proofs.outside.Crash.{reads_only}
+use Rattle.reiser_volume.proofs.outside.Phases.{left_unwritten}
 use Rattle.convert_steps.specs.Switch.{IsPart}
 use Rattle.convert_core.specs.Answers.{RefusesConvert}
 use Rattle.convert_core.proofs.Crashing.{MayWrite, behind_for, converted, early_crash, keeps_behind, may_keep, switch_crash}

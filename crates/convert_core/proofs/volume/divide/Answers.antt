@@ -1,5 +1,5 @@
 use Rattle.std.proofs.Common.{subst, sym}
-use Rattle.reiser_super.specs.declared.superblock.Super.{Super}
+use Rattle.reiser_volume.specs.reiser_super.declared.superblock.Super.{Super}
 use Rattle.unit_plan.specs.Chunks.{FitsVolume}
 use Rattle.convert_core.proofs.Nodes.{units_fit}
 use Rattle.convert_core.proofs.volume.divide.Goals as goal

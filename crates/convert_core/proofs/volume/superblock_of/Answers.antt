@@ -1,7 +1,7 @@
 use Rattle.std.proofs.Common.{◌∙◌, ℕ, refl, sym, ap, subst}
-use Rattle.reiser_super.specs.declared.superblock.Super.{Super}
-use Rattle.space_items.specs.Chunks.{chunk_item}
-use Rattle.space_laws.proofs.Booting.{boot_fits_by}
+use Rattle.reiser_volume.specs.reiser_super.declared.superblock.Super.{Super}
+use Rattle.convert_steps.specs.space_items.Chunks.{chunk_item}
+use Rattle.convert_trees_laws.proofs.Booting.{boot_fits_by}
 use Rattle.unit_plan.specs.Chunks.{AreChunks, FitsVolume}
 use Rattle.unit_plan.specs.declared.chunk.Chunk.{Chunk}
 use Rattle.convert_steps.specs.Superblock.{is_system_role, record_bytes}

@@ -1,6 +1,6 @@
 use Rattle.std.proofs.Common.{◌≡◌, ◌⊎◌, sym, subst}
-use Rattle.outside.specs.declared.answer.Answer.{Answer}
-use Rattle.outside.specs.declared.answer.Answer.TheVariants as answer
+use Rattle.convert_steps.specs.command_answers.declared.answer.Answer.{Answer}
+use Rattle.convert_steps.specs.command_answers.declared.answer.Answer.TheVariants as answer
 use Rattle.convert_steps.specs.Prepared.{IsPrepareAnswer}
 use Rattle.convert_core.proofs.Answering.{failure_of_writer, prepares_by_writer}
 use Rattle.convert_core.proofs.Nodes.{places_end, units_fit, units_sound}

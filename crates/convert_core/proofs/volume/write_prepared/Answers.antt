@@ -1,8 +1,8 @@
 use Rattle.std.proofs.Common.{◌∙◌, inl, ap}
-use Rattle.outside.specs.History.{reads}
-use Rattle.outside.proofs.Crash.{sync_only, writes_none, writes_then}
-use Rattle.outside.proofs.Phases.{sync_reads}
-use Rattle.reiser_super.specs.declared.superblock.Super.{Super}
+use Rattle.reiser_volume.specs.outside.History.{reads}
+use Rattle.reiser_volume.proofs.outside.Crash.{sync_only, writes_none, writes_then}
+use Rattle.reiser_volume.proofs.outside.Phases.{sync_reads}
+use Rattle.reiser_volume.specs.reiser_super.declared.superblock.Super.{Super}
 use Rattle.unit_plan.specs.declared.counts.Counts.{Counts}
 use Rattle.convert_core.specs.Converted.{IsFree}
 use Rattle.convert_core.specs.Surveyed.{summary_by}

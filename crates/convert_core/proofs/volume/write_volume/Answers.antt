@@ -1,6 +1,6 @@
 use Rattle.std.proofs.Common.{◌≡◌, ◌∙◌, length, inl, inr, sym, ap, subst, true≢false, rules}
 use Rattle.std.proofs.lemmas.Result.{MatchResult-weaker, err_from_is_err_and}
-use Rattle.outside.specs.History.{History, Image, WritesOnly, reads}
+use Rattle.reiser_volume.specs.outside.History.{History, Image, WritesOnly, reads}
 use Rattle.convert_steps.specs.Prepared.{RefusesConversion}
 use Rattle.convert_core.specs.Converted.{IsFree}
 use Rattle.convert_core.proofs.Ending.{failed_so, fails, keeps_cause}

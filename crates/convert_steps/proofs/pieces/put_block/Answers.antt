@@ -1,5 +1,5 @@
 use Rattle.std.proofs.Common.{◌≡◌, refl}
-use Rattle.outside.proofs.Crash.{write_only}
+use Rattle.command_answers.proofs.outside.Crash.{write_only}
 use Rattle.convert_steps.proofs.pieces.put_block.Goals as goal
 
 pub returns-in_err-write-clause-only : goal.returns-in_err-write-clause-only

@@ -1,5 +1,5 @@
 use Rattle.std.proofs.Common.{◌≡◌, IsTrue}
-use Rattle.outside.specs.History.{Image, reads, WritesOnly}
+use Rattle.command_answers.specs.outside.History.{Image, reads, WritesOnly}
 use Rattle.convert_steps.specs.Moved.{CanMove, IsPlace}
 use Rattle.convert_steps.proofs.Turning.{Held}
 use Rattle.convert_steps.proofs.pieces.write_moved.Given as goal

@@ -1,5 +1,5 @@
 use Rattle.std.proofs.Common.{Bool, List, sym, ap, subst, ◌∙◌}
-use Rattle.conversion.specs.Making.{ids_by, label_by, label_field}
+use Rattle.convert_steps.specs.Making.{ids_by, label_by, label_field}
 use Rattle.reiser_super.specs.declared.superblock.Super.{Super}
 use Rattle.unit_plan.specs.Choice.{HasEnoughSpace, IsPlan}
 use Rattle.unit_plan.specs.Needed.{need}

@@ -1,6 +1,6 @@
 use Rattle.std.proofs.Common.{sym, subst}
-use Rattle.outside.proofs.Crash.{sync_only, writes_then}
-use Rattle.outside.proofs.Phases.{on_ok, sync_reads}
+use Rattle.command_answers.proofs.outside.Crash.{sync_only, writes_then}
+use Rattle.command_answers.proofs.outside.Phases.{on_ok, sync_reads}
 use Rattle.convert_steps.specs.Switch.{IsCopy, HasCopies}
 use Rattle.convert_steps.proofs.Phases.{copy_part, both_stand}
 use Rattle.convert_steps.proofs.switch.write_copies.Goals as goal

@@ -1,5 +1,5 @@
 use Rattle.std.proofs.Common.{◌≡◌, ◌<◌, length, arith}
-use Rattle.outside.specs.History.{reads}
+use Rattle.command_answers.specs.outside.History.{reads}
 use Rattle.convert_steps.proofs.Phases.{copy_only, copy_stands}
 use Rattle.convert_steps.proofs.switch.write_copy.Goals as goal
 

@@ -1,6 +1,6 @@
 use Rattle.std.proofs.Common.{refl}
-use Rattle.outside.specs.History.{IsBlock}
-use Rattle.outside.proofs.Crash.{write_only, sync_only, writes_then}
+use Rattle.command_answers.specs.outside.History.{IsBlock}
+use Rattle.command_answers.proofs.outside.Crash.{write_only, sync_only, writes_then}
 use Rattle.convert_steps.proofs.switch.write_superblock.Goals as goal
 
 pub returns-in_err-write-clause-only : goal.returns-in_err-write-clause-only

@@ -1,5 +1,5 @@
 use Rattle.std.proofs.Common.{◌≡◌, ◌-◌, ◌≤◌, ◌<◌, true, length}
-use Rattle.vol_block.specs.Volume.{is_reserved}
+use Rattle.reiser_bitmap.specs.vol_block.Volume.{is_reserved}
 use Rattle.extent_pieces.specs.Owned.{TellOwners}
 use Rattle.extent_pieces.specs.Pieces.{Owners}
 use Rattle.extent_pieces.proofs.Copying.{Copies}

@@ -1,6 +1,6 @@
 use Rattle.std.proofs.Common.{◌-◌, ◌%◌, ◌<◌, ◌≤◌, not, refl, arith, ⊎_elim}
 use Rattle.std.proofs.lemmas.Bool.{cases_lt}
-use Rattle.vol_block.specs.Volume.{IsReserved, is_reserved}
+use Rattle.reiser_bitmap.specs.vol_block.Volume.{IsReserved, is_reserved}
 use Rattle.reiser_bitmap.proofs.Ends.{end_is}
 use Rattle.extent_pieces.proofs.Reserving.{at_last, at_second, at_third, last_order, next_here, next_is}
 use Rattle.extent_pieces.proofs.copies.next_reserved.Goals as goal

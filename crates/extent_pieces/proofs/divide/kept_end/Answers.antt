@@ -1,6 +1,6 @@
 use Rattle.std.proofs.Common.{◌≡◌, ◌<◌, ◌-◌, Bool, List, true, not, length, sym, arith, subst, ℕ}
 use Rattle.std.proofs.lemmas.Bool.{not_from_false}
-use Rattle.vol_block.specs.Volume.{is_reserved}
+use Rattle.reiser_bitmap.specs.vol_block.Volume.{is_reserved}
 use Rattle.reiser_bitmap.specs.Bits.{has}
 use Rattle.reiser_bitmap.specs.Next.{end_of_run, next_unused}
 use Rattle.reiser_bitmap.proofs.Ends.{IsEnd, end_facts, end_is}

@@ -1,5 +1,5 @@
 use Rattle.std.proofs.Common.{◌≡◌, ◌+◌, ◌∙◌, true, not, length, arith, ap, sym}
-use Rattle.vol_block.specs.Volume.{is_reserved}
+use Rattle.reiser_bitmap.specs.vol_block.Volume.{is_reserved}
 use Rattle.unit_plan.specs.Choice.{is_data}
 use Rattle.reiser_bitmap.specs.Bits.{has}
 use Rattle.reiser_bitmap.proofs.Ends.{end_is}

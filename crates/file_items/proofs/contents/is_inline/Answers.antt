@@ -1,5 +1,5 @@
 use Rattle.std.proofs.lemmas.Result.{MatchResult-weaker}
-use Rattle.reiser_objects.specs.Keys.{items_of}
+use Rattle.reiser_volume_objects.specs.Keys.{items_of}
 use Rattle.reiser_volume.specs.Made.{stat_at}
 use Rattle.reiser_volume.specs.Volume.{volume_items}
 use Rattle.file_items.proofs.Held.{file_inline}

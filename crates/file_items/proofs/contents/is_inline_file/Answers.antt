@@ -1,9 +1,9 @@
 use Rattle.std.proofs.Common.{sym, ap, subst, ◌∙◌, arith}
 use Rattle.std.proofs.lemmas.Result.{err_from_is_err_and}
-use Rattle.object_files.specs.Answers.{IsFaultOrMemory}
-use Rattle.reiser_files.specs.Runs.{block_from}
-use Rattle.reiser_objects.specs.Keys.{items_of}
-use Rattle.reiser_objects.specs.declared.stat.ObjectStat.{ObjectStat}
+use Rattle.reiser_volume.specs.reiser_volume_contents.Answers.{IsFaultOrMemory}
+use Rattle.reiser_volume_files.specs.Runs.{block_from}
+use Rattle.reiser_volume_objects.specs.Keys.{items_of}
+use Rattle.reiser_volume_objects.specs.declared.stat.ObjectStat.{ObjectStat}
 use Rattle.reiser_volume.specs.Inline.{is_tail}
 use Rattle.reiser_volume.specs.Made.{stat_at}
 use Rattle.reiser_volume.specs.Volume.{volume_items}

@@ -1,9 +1,9 @@
 use Rattle.std.proofs.Common.{◌<◌, ◌∙◌, length, ap, arith}
 use Rattle.indexmap.specs.IndexMap.{keys}
-use Rattle.reiser_names.specs.Names.{inode_of}
+use Rattle.reiser_volume.specs.reiser_volume_names.Names.{inode_of}
 use Rattle.reiser_volume.specs.Made.{stat_at, kind_by}
 use Rattle.reiser_volume.specs.Volume.{volume_items}
-use Rattle.btr_keys.specs.DirEntry.{dir_entry_value}
+use Rattle.unit_plan.specs.btr_keys.DirEntry.{dir_entry_value}
 use Rattle.file_items.specs.Names.{entry_kind}
 use Rattle.file_items.proofs.Named.{name_short, entry_made}
 use Rattle.file_items.proofs.directory.entry_of.Goals as goal

@@ -1,5 +1,5 @@
 use Rattle.std.proofs.Common.{take}
-use Rattle.outside.specs.History.{Image}
+use Rattle.reiser_volume.specs.outside.History.{Image}
 use Rattle.reiser_volume.specs.Opened.{IsOpened, links_in}
 use Rattle.file_items.specs.Spots.{AreBelow, TellsPlaces}
 use Rattle.file_items.proofs.link_index.dir_spots.Given as goal

@@ -2,8 +2,8 @@ use Rattle.std.proofs.Common.{◌≡◌, ◌+◌, List, length, map, get_or, nat
 use Rattle.std.specs.Prelude.{slice_get}
 use Rattle.std.proofs.lemmas.List.{take_all}
 use Rattle.indexmap.specs.IndexMap.{keys}
-use Rattle.reiser_names.specs.Tally.{capped}
-use Rattle.reiser_objects.specs.declared.naming.Naming.{Naming}
+use Rattle.reiser_volume.specs.reiser_volume_names.Tally.{capped}
+use Rattle.reiser_volume_objects.specs.declared.naming.Naming.{Naming}
 use Rattle.reiser_volume.specs.Opened.{links_in}
 use Rattle.file_items.specs.Names.{entries}
 use Rattle.file_items.proofs.Linked.{no_naming, link_there, sizes_more, flags_more}

@@ -1,6 +1,6 @@
 use Rattle.std.proofs.Common.{◌≡◌, length, map, take}
 use Rattle.indexmap.specs.IndexMap.{keys}
-use Rattle.outside.specs.History.{Image}
+use Rattle.reiser_volume.specs.outside.History.{Image}
 use Rattle.reiser_volume.specs.Opened.{IsOpened, links_in}
 use Rattle.file_items.specs.Names.{entries}
 use Rattle.file_items.specs.Sizes.{AreSizes}

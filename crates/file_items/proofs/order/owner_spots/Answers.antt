@@ -2,8 +2,8 @@ use Rattle.std.proofs.Common.{◌∙◌, List, ap, sym, subst, arith}
 use Rattle.std.specs.Prelude.{slice_get}
 use Rattle.std.proofs.lemmas.List.{take_all}
 use Rattle.std.proofs.lemmas.Option.{slice_get_within}
-use Rattle.item_list.specs.declared.spot.Spot.{Spot}
-use Rattle.item_list.proofs.Placing.{told_long}
+use Rattle.btr_item_list.specs.declared.spot.Spot.{Spot}
+use Rattle.btr_item_list.proofs.Placing.{told_long}
 use Rattle.unit_plan.specs.declared.piece.Piece.{Piece}
 use Rattle.file_items.specs.Orders.{Tells}
 use Rattle.file_items.specs.Extents.{file_block, owner_inode, by_block}

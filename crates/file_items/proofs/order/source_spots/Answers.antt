@@ -1,6 +1,6 @@
 use Rattle.std.proofs.Common.{◌+◌, Bool, List, filter, is_some, take, ap, sym, subst, arith}
 use Rattle.std.proofs.lemmas.List.{take_all}
-use Rattle.item_list.specs.declared.spot.Spot.{Spot}
+use Rattle.btr_item_list.specs.declared.spot.Spot.{Spot}
 use Rattle.unit_plan.specs.declared.piece.Piece.{Piece}
 use Rattle.file_items.specs.Extents.{source_block}
 use Rattle.file_items.specs.Orders.{Tells}

@@ -1,6 +1,6 @@
 use Rattle.std.proofs.Common.{◌≡◌, ◌+◌, ◌*◌, ◌++◌, ℕ, take, drop, ap, sym, ◌∙◌, refl, arith}
 use Rattle.byteorder.specs.Endian.{little_bytes}
-use Rattle.vol_block.proofs.Fronts.{front_of_new}
+use Rattle.reiser_items.proofs.vol_block.Fronts.{front_of_new}
 use Rattle.reiser_make.specs.Items.{pointers_bytes}
 use Rattle.reiser_make.specs.Shape.{pointer}
 use Rattle.reiser_make.proofs.Lists.{flat_map_more}

@@ -1,7 +1,7 @@
 use Rattle.std.proofs.Common.{◌≡◌, ◌≤◌, ◌<◌, ◌+◌, ◌-◌, ◌*◌, ℕ, map, ap, ◌∙◌, arith}
 use Rattle.std.specs.Int.{div_ceil}
 use Rattle.std.specs.List.{range_with_len}
-use Rattle.outside.specs.History.{reads}
+use Rattle.fs_rows.specs.outside.History.{reads}
 use Rattle.reiser_make.specs.Layout.{IsUsed, laid_over, bitmap_placed}
 use Rattle.reiser_make.proofs.Laying.{goes_more_to, only_more}
 use Rattle.reiser_make.proofs.Placed.{used_bitmap}

@@ -1,6 +1,6 @@
 use Rattle.std.proofs.Common.{◌≡◌, ◌≤◌, ◌+◌, ◌-◌, ◌++◌, ℕ, length, sym, ap, ◌∙◌, arith}
 use Rattle.std.specs.List.{range_with_len, flat_map}
-use Rattle.outside.specs.History.{reads}
+use Rattle.fs_rows.specs.outside.History.{reads}
 use Rattle.reiser_make.specs.Inner.{root_level}
 use Rattle.reiser_make.specs.Layout.{IsUsed, laid_over, level_part}
 use Rattle.reiser_make.specs.Leaf.{leaves}

@@ -1,7 +1,7 @@
 use Rattle.std.proofs.Common.{◌≡◌, ◌<◌, ℕ, length, map, ap, ◌∙◌, arith}
 use Rattle.std.specs.List.{range_with_len}
 use Rattle.reiser_make.specs.Inner.{needed, node_place}
-use Rattle.outside.specs.History.{reads}
+use Rattle.fs_rows.specs.outside.History.{reads}
 use Rattle.reiser_make.specs.Layout.{IsUsed, laid_over, leaf_placed}
 use Rattle.reiser_make.specs.Leaf.{leaves}
 use Rattle.reiser_make.specs.declared.level.Level.{Level}

@@ -1,6 +1,6 @@
 use Rattle.std.proofs.Common.{◌≡◌, ◌+◌, length, map, sym, ap, ◌∙◌, arith}
 use Rattle.std.specs.List.{range_with_len}
-use Rattle.outside.specs.History.{reads}
+use Rattle.fs_rows.specs.outside.History.{reads}
 use Rattle.reiser_make.specs.Inner.{needed, node_place, level_nodes}
 use Rattle.reiser_make.specs.Layout.{IsUsed, laid_over, inner_placed}
 use Rattle.reiser_make.specs.Leaf.{leaves}

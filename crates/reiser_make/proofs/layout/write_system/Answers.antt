@@ -1,5 +1,5 @@
 use Rattle.std.proofs.Common.{◌≡◌, ap, ◌∙◌, arith}
-use Rattle.outside.specs.History.{reads}
+use Rattle.fs_rows.specs.outside.History.{reads}
 use Rattle.reiser_make.specs.Inner.{needed, total}
 use Rattle.reiser_make.specs.Layout.{IsUsed, laid_over, system_placed, system_row}
 use Rattle.reiser_make.proofs.Laying.{goes_none, goes_more, only_more, in_range}

@@ -1,5 +1,5 @@
 use Rattle.std.proofs.Common.{ℕ, ap, subst, ◌∙◌}
-use Rattle.outside.specs.History.{WritesOnly}
+use Rattle.fs_rows.specs.outside.History.{WritesOnly}
 use Rattle.reiser_make.specs.Inner.{needed}
 use Rattle.reiser_make.specs.Layout.{IsUsed}
 use Rattle.reiser_make.specs.declared.bitmap.Usage.{Usage}

@@ -1,7 +1,7 @@
 use Rattle.std.proofs.Common.{List, take}
-use Rattle.reiser_walk.specs.Items.{Item}
-use Rattle.reiser_objects.specs.Table.{HasNoted}
-use Rattle.reiser_names.specs.Known.{HasStats}
+use Rattle.reiser_volume_objects.specs.reiser_walk.Items.{Item}
+use Rattle.reiser_volume_objects.specs.Table.{HasNoted}
+use Rattle.reiser_volume_names.specs.Known.{HasStats}
 use Rattle.reiser_volume.proofs.gather.table_of.Given as goal
 
 abbrev pub invariant-loop-key : goal.invariant-loop-key

@@ -1,7 +1,7 @@
 use Rattle.std.proofs.Common.{sym, ap, subst}
 use Rattle.std.proofs.lemmas.Result.{err_from_is_err_and}
-use Rattle.object_files.specs.Answers.{IsFaultOrMemory}
-use Rattle.reiser_objects.specs.declared.key.ObjectKey.{ObjectKey}
+use Rattle.reiser_volume_contents.specs.Answers.{IsFaultOrMemory}
+use Rattle.reiser_volume_objects.specs.declared.key.ObjectKey.{ObjectKey}
 use Rattle.reiser_super.specs.declared.superblock.Super.{Super}
 use Rattle.reiser_volume.specs.Made.{IsKnownAt, IsOf, bytes_at}
 use Rattle.reiser_volume.specs.Volume.{volume_items}

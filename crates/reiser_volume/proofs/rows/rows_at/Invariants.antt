@@ -1,5 +1,5 @@
 use Rattle.std.proofs.Common.{◌≡◌, map, take, IsTrue}
-use Rattle.outside.specs.History.{Image}
+use Rattle.reiser_bitmap.specs.outside.History.{Image}
 use Rattle.fs_rows.specs.Rows.{row_of}
 use Rattle.reiser_volume.specs.Made.{whole_row}
 use Rattle.reiser_volume.specs.Opened.{IsOpened}

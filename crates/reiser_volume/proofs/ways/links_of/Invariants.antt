@@ -1,8 +1,8 @@
 use Rattle.std.proofs.Common.{◌≡◌, map, take}
 use Rattle.std.specs.List.{All}
-use Rattle.reiser_names.specs.Known.{is_known}
-use Rattle.reiser_names.specs.Passes.{link_list}
-use Rattle.reiser_objects.specs.Nodes.{Fits}
+use Rattle.reiser_volume_names.specs.Known.{is_known}
+use Rattle.reiser_volume_names.specs.Passes.{link_list}
+use Rattle.reiser_volume_objects.specs.Nodes.{Fits}
 use Rattle.reiser_volume.specs.Ways.{link_of}
 use Rattle.reiser_volume.proofs.ways.links_of.Given as goal
 

@@ -1,5 +1,5 @@
 use Rattle.std.proofs.Common.{◌≡◌, ◌≤◌, ◌+◌, [], false, List, length, count_by, IsTrue}
-use Rattle.outside.specs.History.{Image}
+use Rattle.reiser_bitmap.specs.outside.History.{Image}
 use Rattle.reiser_walk.specs.Items.{Item}
 use Rattle.reiser_walk.specs.Stats.{is_stat}
 use Rattle.reiser_walk.specs.Walks.{Walks, block_count, fuel}

@@ -1,7 +1,7 @@
 use Rattle.std.proofs.Common.{◌≡◌, ◌≢◌, ◌∙◌, nat_lt, true, false, sym, ap, arith, true≢false}
 use Rattle.std.proofs.lemmas.Bool.Decides.{nat_tests}
 use Rattle.std.proofs.lemmas.Slice.Eq.{bytes_eq-Decides}
-use Rattle.outside.specs.History.{Image, block_at}
+use Rattle.reiser_bitmap.specs.outside.History.{Image, block_at}
 use Rattle.rollback_core.specs.Mending.{copied}
 use Rattle.rollback_core.proofs.Mended.{copy_beyond, copy_wanted, gives_other, gives_same}
 use Rattle.rollback_core.proofs.mending.copy.Goals as goal

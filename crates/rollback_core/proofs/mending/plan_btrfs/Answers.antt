@@ -1,5 +1,5 @@
 use Rattle.std.proofs.Common.{◌≡◌, ◌∙◌, ◌≤◌, ◌/◌, ℕ, List, length, Ok, sym, ap, subst}
-use Rattle.outside.specs.History.{Image, block_at}
+use Rattle.reiser_bitmap.specs.outside.History.{Image, block_at}
 use Rattle.btr_super.specs.Rules.{super_of}
 use Rattle.rollback_core.proofs.Plans.{btrfs_planned}
 use Rattle.rollback_core.proofs.Supers.{super_fits}

@@ -1,6 +1,6 @@
 use Rattle.std.proofs.Common.{◌∙◌, sym, subst}
-use Rattle.outside.specs.declared.answer.Answer.{Answer}
-use Rattle.rollback_core.specs.Answers.{RefusesRecover}
+use Rattle.convert_steps.specs.command_answers.declared.answer.Answer.{Answer}
+use Rattle.rollback_core.specs.RecoveryAnswers.{RefusesRecover}
 use Rattle.rollback_core.proofs.Plans.{front_refused, reiser_planned}
 use Rattle.rollback_core.proofs.mending.plan_reiser.Goals as goal
 

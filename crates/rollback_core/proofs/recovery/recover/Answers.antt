@@ -1,10 +1,10 @@
 use Rattle.std.proofs.Common.{◌≡◌, ◌∙◌, inl, inr, refl, sym, subst}
 use Rattle.std.proofs.lemmas.Result.{err_from_is_err_and}
-use Rattle.outside.specs.History.{History, WritesOnly, reads}
-use Rattle.outside.specs.declared.answer.Answer.{Answer}
-use Rattle.outside.proofs.Crash.{writes_none}
-use Rattle.outside.proofs.Phases.{left_unwritten}
-use Rattle.rollback_core.specs.Answers.{RefusesRecover}
+use Rattle.reiser_bitmap.specs.outside.History.{History, WritesOnly, reads}
+use Rattle.convert_steps.specs.command_answers.declared.answer.Answer.{Answer}
+use Rattle.reiser_bitmap.proofs.outside.Crash.{writes_none}
+use Rattle.reiser_bitmap.proofs.outside.Phases.{left_unwritten}
+use Rattle.rollback_core.specs.RecoveryAnswers.{RefusesRecover}
 use Rattle.rollback_core.specs.Planned.{IsGiven, Stands}
 use Rattle.rollback_core.specs.Recovered.{IsMend}
 use Rattle.rollback_core.proofs.Standing.{crash_partly, mends_only, recovers, summary_is}

@@ -1,6 +1,6 @@
 use Rattle.std.proofs.Common.{sym, subst, Option}
-use Rattle.outside.specs.History.{WritesOnly}
-use Rattle.vol_block.specs.declared.block.Block.{Block}
+use Rattle.reiser_bitmap.specs.outside.History.{WritesOnly}
+use Rattle.reiser_bitmap.specs.vol_block.declared.block.Block.{Block}
 use Rattle.rollback_core.specs.Planned.{IsGivenAt}
 use Rattle.rollback_core.proofs.Standing.{some_only}
 use Rattle.rollback_core.proofs.writing.write_given.Goals as goal

@@ -1,7 +1,7 @@
 use Rattle.std.proofs.Common.{sym, subst}
-use Rattle.outside.specs.History.{Image, reads}
-use Rattle.outside.proofs.Crash.{sync_only, writes_then}
-use Rattle.outside.proofs.Phases.{sync_reads}
+use Rattle.reiser_bitmap.specs.outside.History.{Image, reads}
+use Rattle.reiser_bitmap.proofs.outside.Crash.{sync_only, writes_then}
+use Rattle.reiser_bitmap.proofs.outside.Phases.{sync_reads}
 use Rattle.rollback_core.specs.Planned.{IsGiven, Stands}
 use Rattle.rollback_core.proofs.Standing.{both_parts, both_stand, first_part}
 use Rattle.rollback_core.proofs.writing.write_mending.Goals as goal

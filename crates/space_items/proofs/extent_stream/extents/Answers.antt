@@ -1,12 +1,12 @@
 use Rattle.std.proofs.Common.{◌≡◌, ◌<◌, ◌≤◌, ◌∙◌, ℕ, ◌+◌, ◌^◌, List, [], ◌∷◌, map, refl, sym, ap, subst, sum_by, arith}
 use Rattle.std.specs.Prelude.{All}
 use Rattle.std.proofs.lemmas.List.Elements.{All-map}
-use Rattle.btr_node.proofs.NodeBack.{size_within}
+use Rattle.btr_tree.proofs.btr_node.NodeBack.{size_within}
 use Rattle.unit_plan.specs.Chunks.{AreChunks}
 use Rattle.unit_plan.specs.declared.chunk.Chunk.{Chunk}
 use Rattle.unit_plan.specs.declared.piece.Piece.{Piece}
 use Rattle.unit_plan.specs.declared.plan.Plan.{Plan}
-use Rattle.btr_node.specs.Leaf.{Item}
+use Rattle.btr_tree.specs.btr_node.Leaf.{Item}
 use Rattle.space_items.specs.Extents.{group_item, node_item, piece_item, used_in}
 use Rattle.space_items.specs.Merging.{merged}
 use Rattle.space_items.specs.Stream.{IsSmallGroup, group_of, item_of_group}

@@ -1,5 +1,5 @@
 use Rattle.std.proofs.Common.{◌≡◌, ℕ, List, ◌++◌, ◌≤◌, Result, Ok, Err, IfOk, length, arith, subst, sym, ◌∙◌, ap}
-use Rattle.btr_node.specs.NodeSize.{IsNodeSize}
+use Rattle.btr_tree.specs.btr_node.NodeSize.{IsNodeSize}
 use Rattle.btr_tree.specs.Counting.{Counted, Tally, tree_nodes}
 use Rattle.btr_tree.specs.Roots.{lengths_of}
 use Rattle.unit_plan.specs.declared.chunk.Chunk.{Chunk}
@@ -8,7 +8,7 @@ use Rattle.space_items.specs.Extents.{extent_items}
 use Rattle.space_items.specs.Nodes.{AreNodes, HasSlots, merged_nodes, nodes_of_tree}
 use Rattle.space_items.specs.Own.{IsOwnCount, own_at, own_lengths}
 use Rattle.space_items.specs.declared.node.TreeNode.{TreeNode}
-use Rattle.outside.specs.declared.fault.Memory.{Memory}
+use Rattle.btr_tree.specs.outside.declared.fault.Memory.{Memory}
 use Rattle.space_items.proofs.Ascending.{addresses, with_leaves, with_others, tree_at}
 use Rattle.space_items.proofs.ChunksExist.{the_chunks, are_the_chunks}
 use Rattle.space_items.proofs.own_count.with_own.Goals as goal

@@ -1,7 +1,7 @@
 use Rattle.std.proofs.Common.{sym, ◌∙◌, ap, subst}
 use Rattle.btr_reader.specs.Parts.{HasBtrfsRows}
-use Rattle.outside.specs.History.{Image, block_at}
-use Rattle.outside.specs.declared.answer.Answer.{Answer}
+use Rattle.reiser_bitmap.specs.outside.History.{Image, block_at}
+use Rattle.convert_core.specs.command_answers.declared.answer.Answer.{Answer}
 use Rattle.trial_core.specs.Answers.{StopsUnless}
 use Rattle.trial_core.proofs.Refusing.{btrfs_refused}
 use Rattle.trial_core.proofs.between.read_btrfs_rows.Goals as goal

@@ -1,5 +1,5 @@
 use Rattle.std.proofs.Common.{◌≡◌, length, arith}
-use Rattle.outside.specs.History.{reads}
+use Rattle.reiser_bitmap.specs.outside.History.{reads}
 use Rattle.trial_core.proofs.Tried.{made_whole}
 use Rattle.trial_core.proofs.making.make_sample.Goals as goal
 

@@ -1,9 +1,9 @@
 use Rattle.std.proofs.Common.{sym, subst}
 use Rattle.convert_core.specs.Answers.{RefusesConvert}
 use Rattle.convert_core.specs.Converted.{IsConverted}
-use Rattle.outside.specs.History.{Image, reads}
-use Rattle.outside.specs.declared.answer.Answer.{Answer}
-use Rattle.unit_plan.specs.declared.options.Options.{Options}
+use Rattle.reiser_bitmap.specs.outside.History.{Image, reads}
+use Rattle.convert_core.specs.command_answers.declared.answer.Answer.{Answer}
+use Rattle.convert_options.specs.declared.options.Options.{Options}
 use Rattle.trial_core.specs.Answers.{LeavesRound, RefusesRound}
 use Rattle.trial_core.proofs.Refusing.{convert_leaves, convert_refused}
 use Rattle.trial_core.proofs.round.convert.Goals as goal

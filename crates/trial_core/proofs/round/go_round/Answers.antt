@@ -1,7 +1,7 @@
 use Rattle.std.proofs.Common.{◌≡◌, refl, sym, ◌∙◌, ap, subst}
 use Rattle.std.proofs.lemmas.Result.{err_from_is_err_and}
-use Rattle.outside.specs.History.{History, reads}
-use Rattle.outside.specs.declared.answer.Answer.{Answer}
+use Rattle.reiser_bitmap.specs.outside.History.{History, reads}
+use Rattle.convert_core.specs.command_answers.declared.answer.Answer.{Answer}
 use Rattle.trial_core.specs.Answers.{LeavesRound, RefusesRound}
 use Rattle.trial_core.proofs.Refusing.{stop_refuses}
 use Rattle.trial_core.proofs.Rounds.{round}

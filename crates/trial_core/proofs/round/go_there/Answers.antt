@@ -1,6 +1,6 @@
 use Rattle.std.proofs.Common.{◌≡◌, sym, ◌∙◌, subst}
 use Rattle.std.proofs.lemmas.Result.{err_from_is_err_and}
-use Rattle.outside.specs.declared.answer.Answer.{Answer}
+use Rattle.convert_core.specs.command_answers.declared.answer.Answer.{Answer}
 use Rattle.trial_core.specs.Answers.{LeavesRound, RefusesRound}
 use Rattle.trial_core.proofs.Rounds.{reading_leaves, there}
 use Rattle.trial_core.proofs.round.go_there.Goals as goal

@@ -1,6 +1,6 @@
 use Rattle.std.proofs.Common.{sym, subst}
-use Rattle.outside.specs.declared.answer.Answer.{Answer}
-use Rattle.saved_volume.specs.Untouched.{IsUntouched}
+use Rattle.convert_core.specs.command_answers.declared.answer.Answer.{Answer}
+use Rattle.rollback_core.specs.volume_state.Untouched.{IsUntouched}
 use Rattle.trial_core.specs.Answers.{IsReadAnswer, StopsUnless}
 use Rattle.trial_core.proofs.Refusing.{rollback_known, rollback_refused}
 use Rattle.trial_core.proofs.round.roll_back.Goals as goal

@@ -1,8 +1,8 @@
 use Rattle.std.proofs.Common.{◌≡◌, refl, sym, ◌∙◌, subst}
 use Rattle.std.specs.Result.{MatchResult}
 use Rattle.std.proofs.lemmas.Result.{err_from_is_err_and}
-use Rattle.outside.specs.History.{History, Image, reads}
-use Rattle.outside.specs.declared.answer.Answer.{Answer}
+use Rattle.reiser_bitmap.specs.outside.History.{History, Image, reads}
+use Rattle.convert_core.specs.command_answers.declared.answer.Answer.{Answer}
 use Rattle.trial_core.specs.Answers.{RefusesTrial}
 use Rattle.trial_core.specs.Trial.{IsMade, IsTried, summary}
 use Rattle.trial_core.proofs.Tried.{leaves_result, make_refuses, scratch_refuses, tried_result}

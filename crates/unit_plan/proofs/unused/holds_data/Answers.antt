@@ -2,7 +2,7 @@ use Rattle.std.proofs.Common.{◌≡◌, ℕ, ◌+◌, ◌-◌, ◌*◌, ◌≤�
 use Rattle.std.specs.List.{list_any, range_with_len}
 use Rattle.std.proofs.lemmas.Bool.{and_left, cases_lt}
 use Rattle.std.proofs.lemmas.List.{get_or_past}
-use Rattle.vol_block.specs.Volume.{is_reserved}
+use Rattle.reiser_bitmap.specs.vol_block.Volume.{is_reserved}
 use Rattle.reiser_bitmap.specs.Bits.{has}
 use Rattle.unit_plan.specs.Choice.{is_data, holds_data}
 use Rattle.unit_plan.proofs.Lists.{any_range_more, any_range_passes, any_range_past}

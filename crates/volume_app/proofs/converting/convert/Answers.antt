@@ -1,6 +1,6 @@
 use Rattle.std.proofs.Common.{inl, subst}
-use Rattle.outside.specs.History.{History, IsSettled, LeftSince, clock, reads}
-use Rattle.outside.proofs.Phases.{left_unwritten}
+use Rattle.reiser_volume.specs.outside.History.{History, IsSettled, LeftSince, clock, reads}
+use Rattle.reiser_volume.proofs.outside.Phases.{left_unwritten}
 use Rattle.convert_core.specs.Converted.{IsEither}
 use Rattle.volume_app.proofs.converting.convert.Goals as goal
 

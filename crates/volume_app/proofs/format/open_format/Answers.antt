@@ -1,5 +1,5 @@
 use Rattle.std.proofs.Common.{◌≡◌, ◌∙◌, ap, subst, IfOk}
-use Rattle.outside.specs.History.{Image, History, reads}
+use Rattle.reiser_volume.specs.outside.History.{Image, History, reads}
 use Rattle.volume_app.specs.Found.{IsFoundOn}
 use Rattle.volume_app.proofs.format.open_format.Goals as goal
 

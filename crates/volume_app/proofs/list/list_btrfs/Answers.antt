@@ -1,5 +1,5 @@
 use Rattle.std.proofs.Common.{subst, sym}
-use Rattle.outside.specs.declared.answer.Answer.{Answer}
+use Rattle.convert_core.specs.command_answers.declared.answer.Answer.{Answer}
 use Rattle.volume_app.specs.Listing.{ListRefuses, IsListAnswer}
 use Rattle.volume_app.proofs.Listing.{btrfs_listed, btrfs_refused, btrfs_known}
 use Rattle.volume_app.proofs.list.list_btrfs.Goals as goal

@@ -1,6 +1,6 @@
 use Rattle.std.proofs.Common.{ap, inl, subst}
-use Rattle.outside.specs.History.{History, IsSettled, LeftSince, clock, reads}
-use Rattle.outside.proofs.Phases.{left_unwritten}
+use Rattle.reiser_volume.specs.outside.History.{History, IsSettled, LeftSince, clock, reads}
+use Rattle.reiser_volume.proofs.outside.Phases.{left_unwritten}
 use Rattle.rollback_core.specs.Recovered.{IsLeft}
 use Rattle.volume_app.proofs.recovering.recover.Goals as goal
 

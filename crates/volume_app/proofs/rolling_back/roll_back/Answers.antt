@@ -1,7 +1,7 @@
 use Rattle.std.proofs.Common.{ap, inl, subst}
-use Rattle.outside.specs.History.{History, IsSettled, LeftSince, clock, reads}
-use Rattle.outside.proofs.Phases.{left_unwritten}
-use Rattle.rollback_steps.specs.RolledBack.{IsLeft}
+use Rattle.reiser_volume.specs.outside.History.{History, IsSettled, LeftSince, clock, reads}
+use Rattle.reiser_volume.proofs.outside.Phases.{left_unwritten}
+use Rattle.rollback_core.specs.RolledBack.{IsLeft}
 use Rattle.volume_app.proofs.rolling_back.roll_back.Goals as goal
 
 pub returns-in-Ok-clause-right : goal.returns-in-Ok-clause-right

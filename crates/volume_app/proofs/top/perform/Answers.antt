@@ -19,7 +19,7 @@ returns-in-None-clause-performs g c =
 
 pub returns-in-Some-Inspect-clause-performs : goal.returns-in-Some-Inspect-clause-performs
 returns-in-Some-Inspect-clause-performs g c =
-    let asked : command (map string_bytes c.args.words.now) ≡ Some (inspect c.in-Some-Inspect.path.now) =
+    let asked : command (map string_bytes c.args.words.now) ≡ Some (inspect c.in-Some-Inspect.options c.in-Some-Inspect.path.now) =
     sym c.in-Some-Inspect.ensures.read ∙ ap (λ (k : Command). Some (seen k)) c.in-Some-Inspect.field-0-is in
     rw asked c.inspect_volume.ensures
 
@@ -67,9 +67,9 @@ returns-in-Some-Version-clause-performs g c =
 
 pub returns-in-Some-Inspect-clause-usage : goal.returns-in-Some-Inspect-clause-usage
 returns-in-Some-Inspect-clause-usage g c =
-    let asked : command (map string_bytes c.args.words.now) ≡ Some (inspect c.in-Some-Inspect.path.now) =
+    let asked : command (map string_bytes c.args.words.now) ≡ Some (inspect c.in-Some-Inspect.options c.in-Some-Inspect.path.now) =
     sym c.in-Some-Inspect.ensures.read ∙ ap (λ (k : Command). Some (seen k)) c.in-Some-Inspect.field-0-is in
-    (λ is. absurd (subst (Knows inspect_meaning) is c.inspect_volume.ensures.known), λ none. absurd (some_is_not _ _ asked none))
+    (λ is. absurd (subst (Knows (inspect_meaning c.in-Some-Inspect.options)) is c.inspect_volume.ensures.known), λ none. absurd (some_is_not _ _ asked none))
 
 pub returns-in-Some-List-clause-usage : goal.returns-in-Some-List-clause-usage
 returns-in-Some-List-clause-usage g c =

@@ -1,5 +1,5 @@
 use Rattle.std.proofs.Common.{◌≡◌, ◌⊎◌, ℕ, map, string_bytes, subst}
-use Rattle.outside.specs.History.{reads}
+use Rattle.reiser_volume.specs.outside.History.{reads}
 use Rattle.volume_app.specs.Command.{command}
 use Rattle.volume_app.specs.Outcome.{meaning}
 use Rattle.volume_app.proofs.Outcomes.{done_by, done_or_memory, reported_by}

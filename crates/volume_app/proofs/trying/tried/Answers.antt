@@ -1,5 +1,5 @@
 use Rattle.std.proofs.Common.{ap, subst, IfErr}
-use Rattle.outside.specs.History.{History, reads}
+use Rattle.reiser_volume.specs.outside.History.{History, reads}
 use Rattle.trial_core.specs.Answers.{LeavesRefused}
 use Rattle.volume_app.proofs.trying.tried.Goals as goal
 

@@ -1,5 +1,5 @@
 use Rattle.std.proofs.Common.{ap}
-use Rattle.trial_parts.specs.declared.summary.TrialSummary.{TrialSummary}
+use Rattle.trial_core.specs.declared.summary.TrialSummary.{TrialSummary}
 use Rattle.volume_app.specs.Trying.{trial_meaning, trial_text}
 use Rattle.volume_app.proofs.Performing.{failed, ok_kept, performed, printed_lacks}
 use Rattle.volume_app.proofs.Trials.{refused_keeps, refused_lacks, triable_was, tried_keeps, tried_whole}

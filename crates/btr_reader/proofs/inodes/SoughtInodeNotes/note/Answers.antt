@@ -1,6 +1,6 @@
 use Rattle.std.proofs.Common.{ℕ, Some, None, if◌then◌else◌, sym, subst}
-use Rattle.btr_names.specs.Inodes.{first_item, inode_item, is_inode_of, TellsInode}
-use Rattle.btr_names.proofs.InodeItems.{inode_item-push}
+use Rattle.btr_reader_names.specs.Inodes.{first_item, inode_item, is_inode_of, TellsInode}
+use Rattle.btr_reader_names.proofs.InodeItems.{inode_item-push}
 use Rattle.btr_reader.proofs.inodes.SoughtInodeNotes.note.Goals as goal
 
 pub returns : goal.returns

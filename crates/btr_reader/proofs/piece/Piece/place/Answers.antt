@@ -1,5 +1,5 @@
 use Rattle.std.proofs.Common.{◌<◌, ◌*◌, sym, ◌∙◌, arith}
-use Rattle.btr_walk.proofs.Mapping.{place_within}
+use Rattle.btr_reader_walk.proofs.Mapping.{place_within}
 use Rattle.btr_reader.proofs.piece.Piece.place.Goals as goal
 
 pub overflow_cast-result : goal.overflow_cast-result

@@ -1,6 +1,6 @@
 use Rattle.std.proofs.Common.{◌≡◌, ◌==◌, ◌∙◌, true, false, ap, sym, arith}
 use Rattle.std.proofs.lemmas.Bool.Decides.{nat_tests}
-use Rattle.btr_keys.specs.declared.key.Key.{Key}
+use Rattle.btr_reader_walk.specs.btr_keys.declared.key.Key.{Key}
 use Rattle.btr_reader.specs.Roots.{pointer_of}
 use Rattle.btr_reader.proofs.NotedRoots.{passed_over, noted}
 use Rattle.btr_reader.proofs.roots.RootItemsNotes.note.Goals as goal

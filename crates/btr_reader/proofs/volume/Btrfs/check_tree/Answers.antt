@@ -1,12 +1,12 @@
 use Rattle.std.proofs.Common.{◌≡◌, ℕ, List, [], sym, subst, ap, ◌∙◌}
 use Rattle.std.proofs.lemmas.Result.{err_from_is_err_and}
 use Rattle.indexmap.specs.IndexSet.{contains}
-use Rattle.path_list.specs.Links.{same_node}
-use Rattle.btr_walk.specs.declared.map.MapRange.{MapRange}
-use Rattle.btr_walk.specs.declared.tree.Tree.{Tree}
-use Rattle.btr_walk.specs.Walks.{LieOn, found, wrong}
-use Rattle.btr_names.specs.Roots.{has_root}
-use Rattle.btr_names.specs.Table.{HasNoted}
+use Rattle.fs_paths.specs.Links.{same_node}
+use Rattle.btr_reader_walk.specs.declared.map.MapRange.{MapRange}
+use Rattle.btr_reader_walk.specs.declared.tree.Tree.{Tree}
+use Rattle.btr_reader_walk.specs.Walks.{LieOn, found, wrong}
+use Rattle.btr_reader_names.specs.Roots.{has_root}
+use Rattle.btr_reader_names.specs.Table.{HasNoted}
 use Rattle.btr_reader.specs.Made.{IsChecked, RefusesChecked, RefusesTree}
 use Rattle.btr_reader.specs.Opening.{tree_of}
 use Rattle.btr_reader.specs.Rows.{roots_on}

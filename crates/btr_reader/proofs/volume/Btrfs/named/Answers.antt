@@ -1,7 +1,7 @@
 use Rattle.std.proofs.Common.{nat_eq}
 use Rattle.indexmap.specs.IndexSet.{contains}
-use Rattle.btr_names.specs.Roots.{has_root}
-use Rattle.path_list.specs.Links.{same_node}
+use Rattle.btr_reader_names.specs.Roots.{has_root}
+use Rattle.fs_paths.specs.Links.{same_node}
 use Rattle.btr_reader.specs.Rows.{roots_on}
 use Rattle.btr_reader.proofs.Answered.{checked_by}
 use Rattle.btr_reader.proofs.volume.Btrfs.named.Goals as goal

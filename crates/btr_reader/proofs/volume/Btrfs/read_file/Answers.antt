@@ -1,6 +1,6 @@
 use Rattle.std.proofs.Common.{◌∙◌, sym, subst}
 use Rattle.std.proofs.lemmas.Result.{err_from_is_err_and}
-use Rattle.btr_names.specs.Inodes.{inode_item}
+use Rattle.btr_reader_names.specs.Inodes.{inode_item}
 use Rattle.btr_reader.specs.Image.{file_refusals}
 use Rattle.btr_reader.specs.Opening.{IsAmong}
 use Rattle.btr_reader.proofs.Stages.{walk_refused, inode_refused, file_refused, file_read}

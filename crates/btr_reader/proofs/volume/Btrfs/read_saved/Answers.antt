@@ -1,6 +1,6 @@
 use Rattle.std.proofs.Common.{Option, Ok, Err, Some, refl, sym, ◌∙◌, subst}
 use Rattle.std.proofs.lemmas.Result.{err_from_is_err_and}
-use Rattle.btr_walk.specs.Events.{TreeItem}
+use Rattle.btr_reader_walk.specs.Events.{TreeItem}
 use Rattle.btr_reader.specs.Image.{entry_refusals, image_refusals_in, items_at, refusals_below}
 use Rattle.btr_reader.specs.Opening.{IsAmong, tree_of, or_later}
 use Rattle.btr_reader.specs.Reading.{FindsTree}

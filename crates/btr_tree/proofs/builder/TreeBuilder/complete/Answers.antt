@@ -1,5 +1,5 @@
 use Rattle.std.proofs.Common.{◌≡◌, ◌<◌, length, refl, sym, ◌∙◌, ap, subst}
-use Rattle.outside.specs.History.{reads}
+use Rattle.btr_node.specs.outside.History.{reads}
 use Rattle.btr_tree.specs.Building.{Goes, taken}
 use Rattle.btr_tree.specs.Builder.{Building, Standing}
 use Rattle.btr_tree.specs.Counting.{nodes_above}

@@ -1,5 +1,5 @@
 use Rattle.std.proofs.Common.{take, subst}
-use Rattle.outside.specs.History.{WritesOnly}
+use Rattle.btr_node.specs.outside.History.{WritesOnly}
 use Rattle.btr_tree.specs.Building.{taken}
 use Rattle.btr_tree.specs.Builder.{Building}
 use Rattle.btr_tree.specs.Writing.{IsInSlots}

@@ -1,6 +1,6 @@
 use Rattle.std.proofs.Common.{◌++◌, ◌∷◌, [], List, Result, Ok, Err, sym, ap, subst}
 use Rattle.std.specs.Prelude.{OnOk}
-use Rattle.outside.specs.History.{reads}
+use Rattle.btr_node.specs.outside.History.{reads}
 use Rattle.btr_node.specs.Leaf.{Item}
 use Rattle.btr_tree.specs.Building.{Made}
 use Rattle.btr_tree.specs.Builder.{Building, Holds, IsReady, Stands, all_made, told_nodes}

@@ -1,5 +1,5 @@
 use Rattle.std.proofs.Common.{◌<◌, ◌≤◌, List, ◌++◌, ◌∷◌, [], Err, IsTrue, length, take, sym, ap, subst}
-use Rattle.outside.specs.History.{reads, WritesOnly}
+use Rattle.btr_node.specs.outside.History.{reads, WritesOnly}
 use Rattle.btr_node.specs.Leaf.{Item}
 use Rattle.btr_tree.specs.Building.{taken}
 use Rattle.btr_tree.specs.Builder.{Building, Holds, pushed_on, leaves_of}

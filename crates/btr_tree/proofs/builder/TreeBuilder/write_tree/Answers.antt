@@ -1,5 +1,5 @@
 use Rattle.std.proofs.Common.{◌≡◌, List, IsTrue, sym, ap, subst}
-use Rattle.outside.specs.History.{reads}
+use Rattle.btr_node.specs.outside.History.{reads}
 use Rattle.btr_node.specs.Leaf.{Item}
 use Rattle.btr_tree.specs.Building.{Made, Goes, IsLater}
 use Rattle.btr_tree.specs.Builder.{Building, Holds, HasTree, pushed_on}

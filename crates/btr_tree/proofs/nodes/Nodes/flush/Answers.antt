@@ -1,5 +1,5 @@
 use Rattle.std.proofs.Common.{take, sym, subst}
-use Rattle.outside.specs.History.{reads, WritesOnly}
+use Rattle.btr_node.specs.outside.History.{reads, WritesOnly}
 use Rattle.btr_tree.specs.Writing.{IsInSlots}
 use Rattle.btr_tree.proofs.Fronts.{goes_flushed, flushed_taken}
 use Rattle.btr_tree.proofs.nodes.Nodes.flush.Goals as goal

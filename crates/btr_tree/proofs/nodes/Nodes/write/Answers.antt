@@ -1,10 +1,10 @@
 use Rattle.std.proofs.Common.{◌≡◌, ℕ, ◌+◌, ◌-◌, ◌/◌, ◌<◌, List, [], ◌++◌, length, take, get_or, sym, ◌∙◌, ap, subst, arith, length-append}
 use Rattle.std.proofs.Math.Seq.{get_or-append_right}
 use Rattle.std.proofs.lemmas.Option.{get_or_from_slice_get}
-use Rattle.outside.specs.History.{block_at, reads, WritesOnly}
-use Rattle.outside.proofs.Crash.{writes_then, writes_weaker}
-use Rattle.outside.proofs.Phases.{reads_outside}
-use Rattle.btr_walk.specs.Map.{identity, node_at}
+use Rattle.btr_node.specs.outside.History.{block_at, reads, WritesOnly}
+use Rattle.btr_node.proofs.outside.Crash.{writes_then, writes_weaker}
+use Rattle.btr_node.proofs.outside.Phases.{reads_outside}
+use Rattle.btr_reader_walk.specs.Map.{identity, node_at}
 use Rattle.btr_tree.specs.Building.{Made, AreSlots, pieces_of, slot, taken}
 use Rattle.btr_tree.specs.Writing.{IsInNode, IsInSlots, HoldBytes}
 use Rattle.btr_tree.proofs.OnDisk.{stand_more, in_first, node_part, part_long, part_is}

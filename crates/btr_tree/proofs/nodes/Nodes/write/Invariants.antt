@@ -1,6 +1,6 @@
 use Rattle.std.proofs.Common.{◌≡◌, ℕ, ◌+◌, ◌<◌, List, [], ◌++◌, length, take, get_or, IsTrue}
-use Rattle.outside.specs.History.{reads, WritesOnly}
-use Rattle.btr_walk.specs.Map.{identity, node_at}
+use Rattle.btr_node.specs.outside.History.{reads, WritesOnly}
+use Rattle.btr_reader_walk.specs.Map.{identity, node_at}
 use Rattle.btr_tree.specs.Building.{StandAt, slot, taken}
 use Rattle.btr_tree.specs.Writing.{IsInSlots}
 use Rattle.btr_tree.proofs.nodes.Nodes.write.Given as goal

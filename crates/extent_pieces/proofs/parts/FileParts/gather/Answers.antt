@@ -2,8 +2,8 @@ use Rattle.std.proofs.Common.{◌∙◌, ◌≤◌, List, length, refl, sym, sub
 use Rattle.std.proofs.lemmas.List.{take_all}
 use Rattle.std.proofs.lemmas.Result.{err_from_is_err_and}
 use Rattle.indexmap.specs.IndexMap.{keys}
-use Rattle.object_files.specs.Answers.{IsFaultOrMemory}
-use Rattle.reiser_objects.specs.declared.key.ObjectKey.{ObjectKey}
+use Rattle.reiser_volume.specs.reiser_volume_contents.Answers.{IsFaultOrMemory}
+use Rattle.reiser_volume_objects.specs.declared.key.ObjectKey.{ObjectKey}
 use Rattle.reiser_volume.specs.Volume.{volume_items}
 use Rattle.extent_pieces.specs.Parts.{Gathers}
 use Rattle.extent_pieces.proofs.parts.FileParts.gather.Goals as goal

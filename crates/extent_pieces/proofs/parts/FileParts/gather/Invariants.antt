@@ -1,6 +1,6 @@
 use Rattle.std.proofs.Common.{◌≡◌, take, IsTrue}
 use Rattle.indexmap.specs.IndexMap.{keys}
-use Rattle.outside.specs.History.{Image}
+use Rattle.reiser_bitmap.specs.outside.History.{Image}
 use Rattle.reiser_volume.specs.Opened.{IsOpened}
 use Rattle.reiser_volume.specs.Volume.{IsAccepted, volume_items}
 use Rattle.extent_pieces.specs.Parts.{Gathers}

@@ -1,10 +1,10 @@
 use Rattle.std.proofs.Common.{◌≡◌, ◌++◌, ◌∷◌, [], ◌∙◌, ℕ, List, true, map, refl, sym, subst, arith}
 use Rattle.fs_rows.specs.declared.row.Kind.{Kind}
 use Rattle.indexmap.specs.IndexMap.{keys}
-use Rattle.btr_keys.specs.DirEntry.{DirEntryValue, dir_entry_value}
-use Rattle.reiser_objects.specs.declared.key.ObjectKey.{ObjectKey}
-use Rattle.reiser_objects.specs.declared.naming.Naming.{Naming}
-use Rattle.reiser_objects.specs.Keys.{root, same_key}
+use Rattle.unit_plan.specs.btr_keys.DirEntry.{DirEntryValue, dir_entry_value}
+use Rattle.reiser_volume_objects.specs.declared.key.ObjectKey.{ObjectKey}
+use Rattle.reiser_volume_objects.specs.declared.naming.Naming.{Naming}
+use Rattle.reiser_volume_objects.specs.Keys.{root, same_key}
 use Rattle.reiser_volume.specs.Made.{stat_at, kind_by}
 use Rattle.reiser_volume.specs.Opened.{links_in}
 use Rattle.reiser_volume.specs.Volume.{volume_items}

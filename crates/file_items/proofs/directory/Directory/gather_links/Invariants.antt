@@ -1,7 +1,7 @@
 use Rattle.std.proofs.Common.{map, take}
 use Rattle.indexmap.specs.IndexMap.{keys}
-use Rattle.outside.specs.History.{Image}
-use Rattle.reiser_objects.specs.declared.key.ObjectKey.{ObjectKey}
+use Rattle.reiser_volume.specs.outside.History.{Image}
+use Rattle.reiser_volume_objects.specs.declared.key.ObjectKey.{ObjectKey}
 use Rattle.reiser_volume.specs.Made.{stat_at, kind_by}
 use Rattle.reiser_volume.specs.Opened.{links_in}
 use Rattle.reiser_volume.specs.Volume.{volume_items}

@@ -1,5 +1,5 @@
 use Rattle.std.proofs.Common.{◌≡◌, sum_by, take}
-use Rattle.reiser_names.specs.Tally.{capped}
+use Rattle.reiser_volume.specs.reiser_volume_names.Tally.{capped}
 use Rattle.file_items.specs.Extents.{pieces_of}
 use Rattle.file_items.proofs.files.Basis.piece_blocks.Given as goal
 

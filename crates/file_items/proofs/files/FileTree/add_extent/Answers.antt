@@ -1,10 +1,10 @@
 use Rattle.std.proofs.Common.{◌≡◌, ◌+◌, ◌-◌, ◌∷◌, ◌++◌, [], ◌∙◌, ℕ, List, length, drop, map, get_or, ap, sym, arith}
 use Rattle.std.specs.Prelude.{slice_get}
 use Rattle.std.proofs.lemmas.Option.{slice_get_within, slice_get-get_or}
-use Rattle.item_list.specs.Extents.{extent_item, regular_extent}
-use Rattle.item_list.specs.declared.extent.Extent.{Extent}
-use Rattle.item_list.specs.declared.spot.Spot.{Spot}
-use Rattle.item_list.proofs.Placing.{told_long}
+use Rattle.btr_item_list.specs.Extents.{extent_item, regular_extent}
+use Rattle.btr_item_list.specs.declared.extent.Extent.{Extent}
+use Rattle.btr_item_list.specs.declared.spot.Spot.{Spot}
+use Rattle.btr_item_list.proofs.Placing.{told_long}
 use Rattle.unit_plan.specs.declared.piece.Piece.{Piece}
 use Rattle.file_items.specs.Extents.{file_block, pieces_of, extents_at}
 use Rattle.file_items.proofs.Ordering.{piece_at, piece_same, bounded}

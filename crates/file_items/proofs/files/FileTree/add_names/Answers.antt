@@ -1,6 +1,6 @@
 use Rattle.std.proofs.Common.{◌++◌, ◌∙◌, List, ap, sym}
 use Rattle.std.proofs.lemmas.Result.{on_ok_weaker}
-use Rattle.btr_node.specs.Leaf.{Item}
+use Rattle.unit_plan.specs.btr_node.Leaf.{Item}
 use Rattle.indexmap.specs.IndexMap.{keys}
 use Rattle.reiser_volume.specs.Opened.{links_in}
 use Rattle.file_items.proofs.Named.{name_items_root, name_items_other}

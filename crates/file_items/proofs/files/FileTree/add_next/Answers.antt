@@ -1,7 +1,7 @@
 use Rattle.std.proofs.Common.{◌≡◌, ◌<◌, ◌∙◌, Bool, List, length, ap, sym, subst, arith}
 use Rattle.std.proofs.lemmas.Result.{err_from_is_err_and}
 use Rattle.indexmap.specs.IndexMap.{keys}
-use Rattle.object_files.specs.Answers.{IsFaultOrMemory}
+use Rattle.reiser_volume.specs.reiser_volume_contents.Answers.{IsFaultOrMemory}
 use Rattle.reiser_volume.proofs.Bounds.{accepted_is_small}
 use Rattle.reiser_volume.specs.Volume.{superblock}
 use Rattle.reiser_volume.specs.declared.volume.Volume.{Volume}

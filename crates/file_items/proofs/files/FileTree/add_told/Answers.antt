@@ -6,12 +6,12 @@ use Rattle.fs_rows.specs.Kinds.{is_directory}
 use Rattle.fs_rows.specs.declared.row.Kind.{Kind}
 use Rattle.fs_rows.specs.declared.row.Kind.TheVariants.{Directory}
 use Rattle.indexmap.specs.IndexMap.{keys}
-use Rattle.item_list.specs.Spots.{is_under}
-use Rattle.item_list.specs.declared.spot.Spot.{Spot}
-use Rattle.item_list.proofs.Placing.{told_long}
-use Rattle.reiser_objects.specs.Keys.{same_key, items_of}
-use Rattle.reiser_objects.specs.declared.stat.ObjectStat.{ObjectStat}
-use Rattle.reiser_super.specs.declared.superblock.Super.{Super}
+use Rattle.btr_item_list.specs.Spots.{is_under}
+use Rattle.btr_item_list.specs.declared.spot.Spot.{Spot}
+use Rattle.btr_item_list.proofs.Placing.{told_long}
+use Rattle.reiser_volume_objects.specs.Keys.{same_key, items_of}
+use Rattle.reiser_volume_objects.specs.declared.stat.ObjectStat.{ObjectStat}
+use Rattle.reiser_volume.specs.reiser_super.declared.superblock.Super.{Super}
 use Rattle.reiser_volume.proofs.Bounds.{accepted_is_small}
 use Rattle.reiser_volume.specs.Opened.{links_in}
 use Rattle.reiser_volume.specs.Volume.{superblock}

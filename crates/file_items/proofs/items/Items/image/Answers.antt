@@ -1,6 +1,6 @@
 use Rattle.std.proofs.Common.{◌≡◌, ◌++◌, ◌∙◌, ℕ, List, filter, is_some, drop, ap, arith}
-use Rattle.item_list.proofs.Sorting.{ascending_sum}
-use Rattle.reiser_super.specs.declared.superblock.Super.{Super}
+use Rattle.btr_item_list.proofs.Sorting.{ascending_sum}
+use Rattle.reiser_volume.specs.reiser_super.declared.superblock.Super.{Super}
 use Rattle.unit_plan.specs.declared.piece.Piece.{Piece}
 use Rattle.file_items.specs.Extents.{source_block, pieces_of_volume, piece_bytes, extents_at}
 use Rattle.file_items.specs.Small.{image_items}

@@ -1,5 +1,5 @@
 use Rattle.std.proofs.Common.{◌++◌, List, ap, refl, arith}
-use Rattle.btr_node.specs.Leaf.{Item}
+use Rattle.unit_plan.specs.btr_node.Leaf.{Item}
 use Rattle.reiser_volume.specs.declared.volume.Volume.{Volume}
 use Rattle.unit_plan.specs.declared.piece.Piece.{Piece}
 use Rattle.file_items.specs.Stream.{rest_ahead}

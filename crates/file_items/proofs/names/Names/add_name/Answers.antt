@@ -1,12 +1,12 @@
 use Rattle.std.proofs.Common.{◌≡◌, ◌<◌, ◌++◌, ◌∷◌, [], ◌∙◌, Bool, List, ℕ, true, false, length, ap, sym, refl, if◌then◌else◌, arith}
 use Rattle.std.proofs.lemmas.List.{append-nil}
 use Rattle.std.proofs.lemmas.Result.{on_ok_weaker}
-use Rattle.btr_keys.specs.Extref.{extref_bytes}
-use Rattle.btr_keys.specs.InodeRef.{inode_ref_bytes}
-use Rattle.btr_keys.specs.declared.key.Key.{Key}
+use Rattle.unit_plan.specs.btr_keys.Extref.{extref_bytes}
+use Rattle.unit_plan.specs.btr_keys.InodeRef.{inode_ref_bytes}
+use Rattle.unit_plan.specs.btr_keys.declared.key.Key.{Key}
 use Rattle.indexmap.specs.IndexMap.{keys}
-use Rattle.reiser_objects.specs.declared.key.ObjectKey.{ObjectKey}
-use Rattle.reiser_objects.specs.declared.naming.Naming.{Naming}
+use Rattle.reiser_volume_objects.specs.declared.key.ObjectKey.{ObjectKey}
+use Rattle.reiser_volume_objects.specs.declared.naming.Naming.{Naming}
 use Rattle.reiser_volume.specs.Opened.{links_in}
 use Rattle.file_items.specs.Names.{ref_record, far_record}
 use Rattle.file_items.proofs.Linked.{entry_at}

@@ -3,9 +3,9 @@ use Rattle.std.specs.Prelude.{slice_get}
 use Rattle.std.proofs.lemmas.List.{take_all}
 use Rattle.std.proofs.lemmas.Option.{slice_get-get_or}
 use Rattle.indexmap.specs.IndexMap.{keys}
-use Rattle.item_list.specs.declared.spot.Spot.{Spot}
-use Rattle.item_list.proofs.Placing.{told_long}
-use Rattle.reiser_objects.specs.declared.naming.Naming.{Naming}
+use Rattle.btr_item_list.specs.declared.spot.Spot.{Spot}
+use Rattle.btr_item_list.proofs.Placing.{told_long}
+use Rattle.reiser_volume_objects.specs.declared.naming.Naming.{Naming}
 use Rattle.reiser_volume.specs.Opened.{links_in}
 use Rattle.file_items.specs.Gathered.{HasNames}
 use Rattle.file_items.specs.Names.{Entry, entries, names_of}

@@ -1,7 +1,7 @@
 use Rattle.std.proofs.Common.{take}
 use Rattle.indexmap.specs.IndexMap.{keys}
-use Rattle.outside.specs.History.{Image}
-use Rattle.reiser_objects.specs.declared.key.ObjectKey.{ObjectKey}
+use Rattle.reiser_volume.specs.outside.History.{Image}
+use Rattle.reiser_volume_objects.specs.declared.key.ObjectKey.{ObjectKey}
 use Rattle.reiser_volume.specs.Opened.{links_in}
 use Rattle.file_items.specs.Gathered.{HasNames}
 use Rattle.file_items.specs.Known.{IsKnown}

@@ -1,7 +1,7 @@
 use Rattle.std.proofs.Common.{◌∙◌, ◌++◌, ◌∷◌, [], length, ap, sym, arith}
-use Rattle.btr_keys.specs.declared.key.Key.{Key}
-use Rattle.item_list.specs.Groups.{ascending}
-use Rattle.item_list.specs.Lists.{offset_of}
+use Rattle.unit_plan.specs.btr_keys.declared.key.Key.{Key}
+use Rattle.btr_item_list.specs.Groups.{ascending}
+use Rattle.btr_item_list.specs.Lists.{offset_of}
 use Rattle.file_items.proofs.Referring.{far_moved}
 use Rattle.file_items.proofs.names.Names.order_far.Goals as goal
 

@@ -1,7 +1,7 @@
 use Rattle.std.proofs.Common.{◌≡◌, map, take}
-use Rattle.btr_keys.specs.Key.{make_key}
-use Rattle.item_list.specs.Groups.{ascending}
-use Rattle.item_list.specs.Lists.{offset_of}
+use Rattle.unit_plan.specs.btr_keys.Key.{make_key}
+use Rattle.btr_item_list.specs.Groups.{ascending}
+use Rattle.btr_item_list.specs.Lists.{offset_of}
 use Rattle.file_items.proofs.names.Names.order_far.Given as goal
 
 abbrev pub invariant-loop-i : goal.invariant-loop-i

@@ -1,6 +1,6 @@
 use Rattle.std.proofs.Common.{◌≡◌, ◌+◌, ◌<◌, ◌≤◌, ◌/◌, ℕ, length, true, sym, ◌∙◌, ap, arith}
-use Rattle.outside.specs.declared.refusal.VolumeRefusal.TheVariants.{Damaged}
-use Rattle.outside.specs.declared.rule.Rule.TheVariants.{SystemFree}
+use Rattle.refusals.specs.declared.refusal.VolumeRefusal.TheVariants.{Damaged}
+use Rattle.refusals.specs.declared.rule.Rule.TheVariants.{SystemFree}
 use Rattle.reiser_bitmap.specs.Bits.{has}
 use Rattle.reiser_bitmap.specs.Layout.{bitmap_block}
 use Rattle.reiser_bitmap.proofs.SystemBlocks.{superblock_in, bitmap_in, journal_in, all_system, names_free}

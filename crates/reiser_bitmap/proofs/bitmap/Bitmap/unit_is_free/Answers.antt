@@ -1,6 +1,6 @@
 use Rattle.std.proofs.Common.{◌≡◌, ◌*◌, false, Bool, List, length, refl, sym, ◌∙◌, ap, subst, arith, ℕ}
 use Rattle.std.proofs.lemmas.Bool.Decides.{same_from_decides}
-use Rattle.vol_block.specs.Volume.{IsReserved}
+use Rattle.refusals.specs.vol_block.Volume.{IsReserved}
 use Rattle.reiser_bitmap.specs.Units.{IsFreeUnit}
 use Rattle.reiser_bitmap.specs.Zeros.{HasNoBits}
 use Rattle.reiser_bitmap.proofs.BitLemmas.{length-bits}

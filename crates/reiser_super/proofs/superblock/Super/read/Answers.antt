@@ -1,17 +1,23 @@
-use Rattle.std.proofs.Common.{◌≤◌, ◌^◌, refl, sym, subst}
+use Rattle.std.proofs.Common.{◌≤◌, ◌^◌, refl, sym, subst, ◌∙◌}
+use Rattle.std.proofs.lemmas.Result.{err_from_is_err_and}
 use Rattle.reiser_super.specs.declared.superblock.Super.{Super}
 use Rattle.reiser_super.specs.Rules.{IsInBounds}
-use Rattle.reiser_super.proofs.Clean.{clean_from_none}
+use Rattle.reiser_super.proofs.Clean.{clean_from_none, none_from_clean}
 use Rattle.reiser_super.proofs.superblock.Super.read.Goals as goal
 
-pub returns-in-Ok-clause-clean : goal.returns-in-Ok-clause-clean
-returns-in-Ok-clause-clean c = (λ _. clean_from_none c.args.block.now.bytes c.args.device (sym c.in-Ok.ensures), λ _. refl)
+pub returns-clause-clean : goal.returns-clause-clean
+returns-clause-clean c = (λ _. clean_from_none c.args.block.now.bytes c.args.device (sym c.in_ok-check_rules.ensures), λ _. refl)
 
-pub returns-in-Ok-clause-bounds : goal.returns-in-Ok-clause-bounds
-returns-in-Ok-clause-bounds c = subst IsInBounds (sym c.fields_of-found.ensures) (clean_from_none c.args.block.now.bytes c.args.device (sym c.in-Ok.ensures)).bounds
+pub returns-clause-bounds : goal.returns-clause-bounds
+returns-clause-bounds c = subst IsInBounds (sym c.fields_of-found.ensures) (clean_from_none c.args.block.now.bytes c.args.device (sym c.in_ok-check_rules.ensures)).bounds
 
-pub returns-in-Ok-clause-few : goal.returns-in-Ok-clause-few
-returns-in-Ok-clause-few c = subst (λ (s : Super). s.blocks ≤ 2 ^ 29) (sym c.fields_of-found.ensures) (clean_from_none c.args.block.now.bytes c.args.device (sym c.in-Ok.ensures)).count
+pub returns-clause-few : goal.returns-clause-few
+returns-clause-few c = subst (λ (s : Super). s.blocks ≤ 2 ^ 29) (sym c.fields_of-found.ensures) (clean_from_none c.args.block.now.bytes c.args.device (sym c.in_ok-check_rules.ensures)).count
 
-pub returns-in-Ok-clause-fits : goal.returns-in-Ok-clause-fits
-returns-in-Ok-clause-fits c = subst (λ (s : Super). s.blocks ≤ c.args.device) (sym c.fields_of-found.ensures) (clean_from_none c.args.block.now.bytes c.args.device (sym c.in-Ok.ensures)).fits
+pub returns-clause-fits : goal.returns-clause-fits
+returns-clause-fits c = subst (λ (s : Super). s.blocks ≤ c.args.device) (sym c.fields_of-found.ensures) (clean_from_none c.args.block.now.bytes c.args.device (sym c.in_ok-check_rules.ensures)).fits
+
+pub returns-in_err-check_rules-clause-clean : goal.returns-in_err-check_rules-clause-clean
+returns-in_err-check_rules-clause-clean c =
+    let err = err_from_is_err_and c.from_residual.result c.from_residual.ensures.1 in
+    rw err.1 (λ ok. cc, λ clean. let none = c.in_err-check_rules.ensures ∙ none_from_clean c.args.block.now.bytes c.args.device clean in cc)

@@ -1,6 +1,6 @@
 use Rattle.std.proofs.Common.{arith, Contains, refl}
 use Rattle.indexmap.specs.IndexMap.{keys}
-use Rattle.reiser_objects.specs.Keys.{root}
+use Rattle.reiser_volume_objects.specs.Keys.{root}
 use Rattle.reiser_volume.proofs.numbers.Numbers.new.Goals as goal
 
 pub returns-clause-numbered : goal.returns-clause-numbered

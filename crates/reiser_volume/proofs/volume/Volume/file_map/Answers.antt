@@ -1,14 +1,14 @@
 use Rattle.std.proofs.Common.{◌≡◌, List, sym, ap, subst, ◌∙◌}
 use Rattle.std.proofs.lemmas.Result.{MatchResult-weaker}
-use Rattle.object_files.specs.Holds.{HoldsObject, object_items}
-use Rattle.reiser_walk.specs.Items.{Item}
-use Rattle.object_files.specs.Answers.{IsFaultOrMemory}
-use Rattle.reiser_files.specs.declared.map.FileRun.{FileRun}
-use Rattle.reiser_files.specs.Runs.{file_runs}
-use Rattle.reiser_objects.specs.declared.key.ObjectKey.{ObjectKey}
-use Rattle.reiser_objects.specs.Keys.{items_of}
-use Rattle.reiser_objects.proofs.Broken.{some_same}
-use Rattle.reiser_names.proofs.Eaches.{match_ok}
+use Rattle.reiser_volume_contents.specs.Holds.{HoldsObject, object_items}
+use Rattle.reiser_volume_objects.specs.reiser_walk.Items.{Item}
+use Rattle.reiser_volume_contents.specs.Answers.{IsFaultOrMemory}
+use Rattle.reiser_volume_files.specs.declared.map.FileRun.{FileRun}
+use Rattle.reiser_volume_files.specs.Runs.{file_runs}
+use Rattle.reiser_volume_objects.specs.declared.key.ObjectKey.{ObjectKey}
+use Rattle.reiser_volume_objects.specs.Keys.{items_of}
+use Rattle.reiser_volume_objects.proofs.Broken.{some_same}
+use Rattle.reiser_volume_names.proofs.Eaches.{match_ok}
 use Rattle.reiser_volume.specs.Made.{stat_at}
 use Rattle.reiser_volume.specs.Owners.{TellsOwned}
 use Rattle.reiser_volume.specs.Volume.{superblock, used_of, tree_of, volume_items}

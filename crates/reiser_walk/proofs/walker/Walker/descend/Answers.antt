@@ -1,5 +1,5 @@
 use Rattle.std.proofs.Common.{Contains, refl, ◌∙◌, ap, subst}
-use Rattle.outside.specs.History.{Image, block_at}
+use Rattle.reiser_bitmap.specs.outside.History.{Image, block_at}
 use Rattle.reiser_walk.specs.declared.pointer.Pointer.{Pointer}
 use Rattle.reiser_walk.specs.declared.tree.Tree.{Tree}
 use Rattle.reiser_walk.specs.declared.walker.Walker.{Walker}

@@ -1,6 +1,6 @@
 use Rattle.std.proofs.Common.{◌≡◌, ◌≢◌, ℕ, true, false, Contains, refl, sym, ◌∙◌, ap, subst, arith}
-use Rattle.outside.specs.History.{block_at}
-use Rattle.reiser_node.specs.Inner.{children, is_inner}
+use Rattle.reiser_bitmap.specs.outside.History.{block_at}
+use Rattle.reiser_items.specs.reiser_node.Inner.{children, is_inner}
 use Rattle.reiser_walk.specs.Rules.{node_damage}
 use Rattle.reiser_walk.specs.Walks.{level_of}
 use Rattle.reiser_walk.proofs.Walking.{inner_put, inner_off}

@@ -1,7 +1,7 @@
 use Rattle.std.proofs.Common.{◌≡◌, false, Contains, refl, sym, ◌∙◌, ap, subst, arith}
-use Rattle.outside.specs.History.{block_at}
-use Rattle.reiser_node.specs.Leaf.{count, is_leaf}
-use Rattle.reiser_node.proofs.Grammar.{heads_within}
+use Rattle.reiser_bitmap.specs.outside.History.{block_at}
+use Rattle.reiser_items.specs.reiser_node.Leaf.{count, is_leaf}
+use Rattle.reiser_items.proofs.reiser_node.Grammar.{heads_within}
 use Rattle.reiser_walk.specs.Rules.{node_damage}
 use Rattle.reiser_walk.specs.Walks.{level_of}
 use Rattle.reiser_walk.proofs.Walking.{leaf_put, leaf_off}

@@ -1,5 +1,5 @@
 use Rattle.std.proofs.Common.{false, ◌∙◌, subst}
-use Rattle.outside.specs.declared.answer.VolAnswer.TheVariants.{Refused}
+use Rattle.reiser_bitmap.specs.refusals.declared.answer.VolAnswer.TheVariants.{Refused}
 use Rattle.reiser_walk.specs.declared.tree.Tree.{Tree}
 use Rattle.reiser_walk.specs.Answers.{Blames}
 use Rattle.reiser_walk.specs.Walks.{Moves}

@@ -1,5 +1,5 @@
 use Rattle.std.proofs.Common.{◌≡◌, ◌≤◌, List, IsTrue}
-use Rattle.outside.specs.History.{Image}
+use Rattle.reiser_bitmap.specs.outside.History.{Image}
 use Rattle.reiser_walk.specs.Items.{Item}
 use Rattle.reiser_walk.specs.Walks.{Walks, IsDone, block_count, fuel}
 use Rattle.reiser_walk.proofs.walker.Walker.step.Given as goal

@@ -1,7 +1,7 @@
 use Rattle.std.proofs.Common.{◌≡◌, ℕ, suc, ◌-◌, List, [], Contains, refl, ◌∙◌, ap, subst, arith, add-one}
-use Rattle.reiser_node.specs.declared.head.ItemHead.{ItemHead}
-use Rattle.reiser_node.specs.Leaf.{body_at}
-use Rattle.reiser_node.proofs.Grammar.{heads_within}
+use Rattle.reiser_items.specs.reiser_node.declared.head.ItemHead.{ItemHead}
+use Rattle.reiser_items.specs.reiser_node.Leaf.{body_at}
+use Rattle.reiser_items.proofs.reiser_node.Grammar.{heads_within}
 use Rattle.reiser_walk.specs.declared.hand.LeafInHand.{LeafInHand}
 use Rattle.reiser_walk.specs.Items.{blocks_named, held_by, leaf_events}
 use Rattle.reiser_walk.specs.Hand.{item_before}

@@ -1,8 +1,8 @@
 use Rattle.std.proofs.Common.{◌≡◌, ◌∙◌, ℕ, ◌+◌, ◌-◌, ◌++◌, List, take, sym, ap, arith}
 use Rattle.std.specs.List.{flat_map, range_with_len}
-use Rattle.outside.specs.History.{Image, block_at}
-use Rattle.csum_kinds.specs.Kind.{kind_sum, kind_width}
-use Rattle.csum_kinds.specs.declared.kind.SumKind.{SumKind}
+use Rattle.btr_tree.specs.outside.History.{Image, block_at}
+use Rattle.btr_tree.specs.csum_kinds.Kind.{kind_sum, kind_width}
+use Rattle.btr_tree.specs.csum_kinds.declared.kind.SumKind.{SumKind}
 use Rattle.space_items.specs.Sums.{block_sum}
 use Rattle.space_items.proofs.Summing.{parts_long, parts_more}
 use Rattle.space_items.proofs.sum_stream.SumStream.fill.Goals as goal

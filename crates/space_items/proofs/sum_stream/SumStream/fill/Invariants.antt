@@ -1,6 +1,6 @@
 use Rattle.std.proofs.Common.{◌≡◌, ◌-◌, ◌*◌, take}
 use Rattle.std.specs.List.{flat_map, range_with_len}
-use Rattle.outside.specs.History.{OverTold}
+use Rattle.btr_tree.specs.outside.History.{OverTold}
 use Rattle.space_items.specs.Stream.{IsAsBefore}
 use Rattle.space_items.specs.Sums.{block_sum}
 use Rattle.space_items.proofs.sum_stream.SumStream.fill.Given as goal

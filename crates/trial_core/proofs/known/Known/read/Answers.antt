@@ -1,9 +1,9 @@
 use Rattle.std.proofs.Common.{◌≡◌, Bool, true, List, sym, ◌∙◌, ap, subst}
 use Rattle.std.proofs.lemmas.Result.{err_from_is_err_and}
-use Rattle.outside.specs.declared.answer.Answer.{Answer}
+use Rattle.convert_core.specs.command_answers.declared.answer.Answer.{Answer}
 use Rattle.reiser_bitmap.specs.Bits.{has}
 use Rattle.reiser_volume.specs.Volume.{used_of}
-use Rattle.trial_parts.specs.Parts.{used_mark}
+use Rattle.trial_core.specs.Parts.{used_mark}
 use Rattle.trial_core.specs.Answers.{IsStop}
 use Rattle.trial_core.proofs.known.Known.read.Goals as goal
 

@@ -1,5 +1,5 @@
 use Rattle.std.proofs.Common.{sym, subst}
-use Rattle.outside.specs.Fault.{Takes}
+use Rattle.reiser_volume.specs.outside.Fault.{Takes}
 use Rattle.volume_app.specs.declared.ending.Ending.{Ending}
 use Rattle.volume_app.specs.Ending.{error_line}
 use Rattle.volume_app.proofs.ending.Ending.write_line.Goals as goal

@@ -4,8 +4,6 @@ use Rattle.reiser_super.specs.declared.superblock.Super.{Super}
 use Rattle.reiser_volume.specs.Answers.{RefusesVolume}
 use Rattle.reiser_volume.specs.Volume.{superblock}
 use Rattle.reiser_volume.proofs.Answering.{rules_pass}
-use Rattle.unit_plan.specs.declared.options.Options.{Options}
-use Rattle.convert_core.specs.Surveyed.{IsSurvey}
 use Rattle.volume_app.specs.Reiser.{summary_with}
 use Rattle.volume_app.proofs.reiser.ReiserSummary.read.Goals as goal
 
@@ -37,7 +35,7 @@ returns-clause-told g c = λ tells image is.
     let opened = c.in_ok-volume.ensures.opened tells image is in
     record {
       survey = c.in_ok-survey.survey;
-      surveyed = subst (λ (o : Options). IsSurvey o image c.in_ok-survey.survey) c.plain.ensures (c.in_ok-survey.ensures.told tells image same accepted opened);
+      surveyed = c.in_ok-survey.ensures.told tells image same accepted opened;
       is =
           c.summary_of.ensures
           ∙ (ap (λ (s : Super). summary_with s c.in_ok-volume.volume.bitmap c.in_ok-survey.survey.need) opened.sup

@@ -1,9 +1,0 @@
-use Rattle.std.proofs.Common.{sym, subst}
-use Rattle.outside.specs.declared.answer.Answer.{Answer}
-use Rattle.outside.specs.Fault.{Takes}
-use Rattle.app_words.specs.Lines.{answer_line}
-use Rattle.app_words.proofs.answer_line.write_answer.Goals as goal
-
-pub returns-in-Fault-clause-taken : goal.returns-in-Fault-clause-taken
-returns-in-Fault-clause-taken g c = λ tells.
-    subst (λ (a : Answer). Takes (g.E.Sink.taken c.args.err.now) (answer_line a) c.write-in-Fault.result (g.E.Sink.taken c.write-in-Fault.new.self)) (sym c.in-Fault.is) (c.write-in-Fault.ensures.taken tells)

@@ -1,0 +1,84 @@
+-- Parts 6, 7 and 9: block groups and device extents are the chunks, and the sums are right.
+use Rattle.std.specs.Option.{option_map_or}
+use Rattle.std.specs.Prelude.{◌≡◌, ◌≤◌, ℕ, ◌+◌, ◌==◌, List, [], ◌∷◌, filter, Some, All, AllPairs, Contains, ◌↔◌, ◌⊎◌}
+use Rattle.std.specs.List.{sum_by, flat_map}
+use Rattle.btr_reader.specs.btr_node.Leaf.{Item}
+use Rattle.btr_reader.specs.btr_space_items.BlockGroup.{block_group_of}
+use Rattle.btr_reader.specs.btr_space_items.DevExtent.{dev_extent_of}
+use Rattle.btr_reader.specs.btr_space_items.Device.{device_of}
+use Rattle.btr_reader.specs.btr_space_items.declared.dev_extent.DevExtent.{DevExtent}
+use Rattle.btr_reader.specs.btr_space_items.declared.device.Device.{Device}
+use Rattle.btr_reader.specs.declared.chunk.ChunkAt.{ChunkAt}
+use Rattle.btr_check_rules.specs.Recount.{Recount, DataUse, Span, all_trees, data_uses, items_of_tree, is_within}
+
+abbrev pub chunk_span : ChunkAt → Span
+chunk_span c = record { start = c.logical; length = c.chunk.length }
+
+-- the disk ranges of data, each once
+abbrev pub AreRanges : Recount → List Span → Type 0
+AreRanges r spans =
+    AllPairs (λ a b. a ≡ b → ⊥) spans
+    × ((s : Span) → Contains spans s ↔ ((u : DataUse) × Contains (data_uses r) u × (s ≡ record { start = u.start; length = u.length })))
+
+-- the bytes of the extents that begin in a range
+abbrev pub node_bytes_in : Recount → Span → ℕ
+node_bytes_in r span = sum_by (λ p. r.super.nodesize) (filter (λ p. is_within span p.address) (flat_map (λ t. t.nodes) (all_trees r)))
+
+abbrev pub data_bytes_in : List Span → Span → ℕ
+data_bytes_in spans span = sum_by (λ s. s.length) (filter (λ s. is_within span s.start) spans)
+
+abbrev pub used_in : Recount → List Span → ChunkAt → ℕ
+used_in r spans c = node_bytes_in r (chunk_span c) + data_bytes_in spans (chunk_span c)
+
+-- the block group of a chunk
+pub record IsGroupOf (r : Recount) (spans : List Span) (c : ChunkAt) (i : Item) : Type 0 where
+  pub key : i.0 ≡ record { objectid = c.logical; kind = 192; offset = c.chunk.length }
+  pub body : block_group_of i.1 ≡ Some (record { used = used_in r spans c; chunk_objectid = 256; flags = c.chunk.kind })
+
+abbrev pub groups : Recount → List Item
+groups r = filter (λ i. i.0.kind == 192) (items_of_tree r 2)
+
+-- Part 6: each chunk has its block group, each block group is that of a chunk, and it tells the bytes that extents take.
+pub record AreGroups (r : Recount) : Type 0 where
+  pub spans : List Span
+  pub ranges : AreRanges r spans
+  pub each : All (λ i. (c : ChunkAt) × Contains r.chunks c × IsGroupOf r spans c i) (groups r)
+  pub whole : All (λ c. (i : Item) × Contains (groups r) i × IsGroupOf r spans c i) r.chunks
+
+-- the device extent of a chunk: where its stripe lies, and that it is the chunk's
+pub record IsExtentOf (c : ChunkAt) (i : Item) : Type 0 where
+  pub key : i.0 ≡ record { objectid = c.chunk.stripe.devid; kind = 204; offset = c.chunk.stripe.offset }
+  pub extent : DevExtent
+  pub extent_is : dev_extent_of i.1 ≡ Some extent
+  pub chunk : (extent.chunk_tree ≡ 3) × (extent.chunk_objectid ≡ 256) × (extent.chunk_offset ≡ c.logical)
+  pub length : extent.length ≡ c.chunk.length
+
+abbrev pub dev_extents : Recount → List Item
+dev_extents r = filter (λ i. i.0.kind == 204) (items_of_tree r 4)
+
+abbrev pub Apart : ℕ → ℕ → ℕ → ℕ → Type 0
+Apart a m b n = (a + m ≤ b) ⊎ (b + n ≤ a)
+
+-- Part 7: chunks overlap neither by their addresses nor on the device, and device extents are their stripes.
+pub record AreStripes (r : Recount) : Type 0 where
+  pub logical : AllPairs (λ c d. Apart c.logical c.chunk.length d.logical d.chunk.length) r.chunks
+  pub physical : AllPairs (λ c d. Apart c.chunk.stripe.offset c.chunk.length d.chunk.stripe.offset d.chunk.length) r.chunks
+  pub each : All (λ i. (c : ChunkAt) × Contains r.chunks c × IsExtentOf c i) (dev_extents r)
+  pub whole : All (λ c. (i : Item) × Contains (dev_extents r) i × IsExtentOf c i) r.chunks
+
+-- the device's item tells the length of the volume, and the bytes of all chunks
+pub record TellsDevice (r : Recount) (d : Device) : Type 0 where
+  pub total : d.total_bytes ≡ r.super.total_bytes
+  pub used : d.bytes_used ≡ sum_by (λ c. c.chunk.length) r.chunks
+
+abbrev pub device_items : Recount → List Item
+device_items r = filter (λ i. i.0.kind == 216) r.chunk_tree.items
+
+abbrev pub group_used : Item → ℕ
+group_used i = option_map_or (λ g. g.used) (block_group_of i.1) 0
+
+-- Part 9.
+pub record AreTotals (r : Recount) : Type 0 where
+  pub used : r.super.bytes_used ≡ sum_by group_used (groups r)
+  pub device : TellsDevice r r.super.dev_item
+  pub one : (i : Item) × (device_items r ≡ i ∷ []) × ((d : Device) × (device_of i.1 ≡ Some d) × TellsDevice r d)

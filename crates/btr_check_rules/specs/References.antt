@@ -1,0 +1,69 @@
+-- Part 3: the extent tree is the recount of all nodes and of all data that files refer to.
+use Rattle.std.specs.Prelude.{◌≡◌, ◌≢◌, ℕ, ◌==◌, Bool, ◌&&◌, List, [], ◌∷◌, length, drop, Some, All, AllPairs, Contains, false, ◌⊎◌}
+use Rattle.std.specs.List.{count_by}
+use Rattle.btr_reader.specs.btr_keys.declared.key.Key.{Key}
+use Rattle.btr_reader.specs.btr_node.Leaf.{Item}
+use Rattle.btr_reader.specs.btr_space_items.ExtentHead.{extent_head_of}
+use Rattle.btr_reader.specs.btr_space_items.InlineRef.{inline_refs_of}
+use Rattle.btr_reader.specs.btr_space_items.declared.extent_head.ExtentHead.{ExtentHead}
+use Rattle.btr_reader.specs.btr_space_items.declared.inline_ref.InlineRef.{InlineRef}
+use Rattle.btr_reader.specs.btr_space_items.declared.inline_ref.InlineRef.TheVariants.{TreeBlock, DataRef}
+use Rattle.btr_reader.specs.btr_reader_walk.declared.tree.Pointer.{Pointer}
+use Rattle.btr_check_rules.specs.Recount.{Recount, TreeOn, DataUse, all_trees, data_uses, items_of_tree}
+
+-- a use is one by this reference to this disk range
+abbrev pub is_use : ℕ → ℕ → ℕ → ℕ → ℕ → DataUse → Bool
+is_use start length tree inode offset u =
+    (u.start == start) && ((u.length == length) && ((u.tree == tree) && ((u.inode == inode) && (u.offset == offset))))
+
+-- an item of the extent tree has so many references, of this kind, and these
+pub record HasRefs (body : List ℕ) (kind count : ℕ) (refs : List InlineRef) : Type 0 where
+  pub head : ExtentHead
+  pub head_is : extent_head_of body ≡ Some head
+  pub refs_are : inline_refs_of (drop 24 body) ≡ Some refs
+  pub count_is : head.refs ≡ count
+  pub kind_is : head.flags ≡ kind
+
+-- the extent of a node has one reference, of its tree
+abbrev pub IsNodeItem : Recount → Item → Type 0
+IsNodeItem r i =
+    (t : TreeOn) × (p : Pointer) × Contains (all_trees r) t × Contains t.nodes p
+    × (i.0 ≡ record { objectid = p.address; kind = 169; offset = p.level }) × HasRefs i.1 2 1 (TreeBlock t.number ∷ [])
+
+-- of the uses of a disk range so many are by this reference
+abbrev pub CountsUses : Recount → ℕ → ℕ → InlineRef → Type 0
+CountsUses r start length (TreeBlock root) = ⊥
+CountsUses r start length (DataRef root objectid offset count) =
+    (count ≢ 0) × (count_by (is_use start length root objectid offset) (data_uses r) ≡ count)
+
+abbrev pub is_of_range : ℕ → ℕ → DataUse → Bool
+is_of_range start length u = (u.start == start) && (u.length == length)
+
+abbrev pub same_ref : InlineRef → InlineRef → Type 0
+same_ref (TreeBlock root) other = ⊥
+same_ref (DataRef root objectid offset count) (TreeBlock other) = ⊥
+same_ref (DataRef root objectid offset count) (DataRef r o f c) = (root ≡ r) × (objectid ≡ o) × (offset ≡ f)
+
+-- The extent of data has each reference to it once, with its count; all counts together are those of the uses.
+pub record IsDataItem (r : Recount) (i : Item) : Type 0 where
+  pub is_use : DataUse
+  pub used : Contains (data_uses r) is_use
+  pub key : i.0 ≡ record { objectid = is_use.start; kind = 168; offset = is_use.length }
+  pub refs : List InlineRef
+  pub body : HasRefs i.1 1 (count_by (is_of_range is_use.start is_use.length) (data_uses r)) refs
+  pub each : All (CountsUses r is_use.start is_use.length) refs
+  pub once : AllPairs (λ a b. ¬ same_ref a b) refs
+  pub whole : (u : DataUse) → Contains (data_uses r) u → u.start ≡ is_use.start → u.length ≡ is_use.length
+      → (count : ℕ) × Contains refs (DataRef u.tree u.inode u.offset count)
+
+abbrev pub is_group : Item → Bool
+is_group i = i.0.kind == 192
+
+-- an item of the tree has this key
+abbrev pub HasKey : List Item → Key → Type 0
+HasKey items key = (body : List ℕ) × Contains items (key, body)
+
+pub record AreReferences (r : Recount) : Type 0 where
+  pub each : (i : Item) → Contains (items_of_tree r 2) i → is_group i ≡ false → IsNodeItem r i ⊎ IsDataItem r i
+  pub nodes : (t : TreeOn) (p : Pointer) → Contains (all_trees r) t → Contains t.nodes p → HasKey (items_of_tree r 2) (record { objectid = p.address; kind = 169; offset = p.level })
+  pub data_ : (u : DataUse) → Contains (data_uses r) u → HasKey (items_of_tree r 2) (record { objectid = u.start; kind = 168; offset = u.length })

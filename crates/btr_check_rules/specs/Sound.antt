@@ -1,0 +1,25 @@
+-- A sound volume: what a recount of the finished bytes finds agrees with what the volume tells of itself. How the volume came
+-- about does not matter.
+use Rattle.btr_reader.specs.outside.History.{Image}
+use Rattle.btr_check_rules.specs.Recount.{Recount}
+use Rattle.btr_check_rules.specs.Trees.{AreTrees}
+use Rattle.btr_check_rules.specs.Names.{HaveNames}
+use Rattle.btr_check_rules.specs.References.{AreReferences}
+use Rattle.btr_check_rules.specs.Places.{AreApart, AreUnreserved}
+use Rattle.btr_check_rules.specs.Sums.{AreSums}
+use Rattle.btr_check_rules.specs.Groups.{AreGroups, AreStripes, AreTotals}
+
+-- Its nine parts.
+pub record IsSoundBy (image : Image) (r : Recount) : Type 0 where
+  pub trees : AreTrees image r
+  pub names : HaveNames r
+  pub references : AreReferences r
+  pub placement : AreApart r
+  pub checksums : AreSums image r
+  pub block_groups : AreGroups r
+  pub chunks : AreStripes r
+  pub reserved : AreUnreserved r
+  pub totals : AreTotals r
+
+abbrev pub IsSound : Image → Type 0
+IsSound image = (r : Recount) × IsSoundBy image r

@@ -1,3 +1,0 @@
-pub mod SoundExtents
-pub mod Gathered
-pub mod Orders

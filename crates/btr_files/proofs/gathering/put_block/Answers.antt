@@ -1,8 +1,0 @@
-use Rattle.std.proofs.Common.{ℕ, List, sym, subst}
-use Rattle.fs_rows.specs.Pieces.{ReplacesBlock}
-use Rattle.btr_files.proofs.gathering.put_block.Goals as goal
-
-pub returns-clause-bytes : goal.returns-clause-bytes
-returns-clause-bytes g c = λ tells image is f g' replaces low held.
-    let read = c.in_ok-read_place.ensures.block tells image is in
-    c.put_block.ensures.bytes f g' (subst (λ (b : List ℕ). ReplacesBlock c.args.file.now.size c.args.k b f g') (sym read) replaces) low held

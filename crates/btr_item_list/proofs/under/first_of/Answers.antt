@@ -1,0 +1,11 @@
+use Rattle.std.proofs.Common.{is_lt, rules}
+use Rattle.std.specs.Ordering.{nat_cmp}
+use Rattle.std.proofs.lemmas.List.Sorted.{IsPartitionPoint-from_clause}
+use Rattle.fs_paths.proofs.Middle.{parted_lt}
+use Rattle.btr_item_list.proofs.Parting.{rises}
+use Rattle.btr_item_list.proofs.under.first_of.Goals as goal
+
+pub returns-clause-parts : goal.returns-clause-parts
+returns-clause-parts c =
+    IsPartitionPoint-from_clause (λ spot. is_lt (nat_cmp spot.of c.args.of)) _ _ c.partition_point.ensures.partitioned
+    (parted_lt (λ spot. nat_cmp spot.of c.args.of) c.args.spots.now (rises c.args.spots.now c.args.of c.requires)) (λ a r q k. search rules)

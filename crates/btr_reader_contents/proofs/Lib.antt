@@ -1,0 +1,10 @@
+pub mod ExtentAdding
+pub mod ExtentContents
+pub mod ExtentLists
+pub mod Gathered
+pub mod Marks
+pub mod Orders
+pub mod Places
+pub mod SoundExtents
+pub mod Steps
+pub mod Unmapped

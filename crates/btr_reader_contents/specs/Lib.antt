@@ -1,0 +1,8 @@
+pub mod Blocks
+pub mod Bytes
+pub mod Checked
+pub mod Contents
+pub mod Extents
+pub mod Gathering
+pub mod Parts
+pub mod States

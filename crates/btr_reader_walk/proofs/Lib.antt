@@ -1,0 +1,10 @@
+pub use Rattle.btr_node.proofs.btr_keys as btr_keys
+pub use Rattle.btr_node.proofs as btr_node
+pub mod Contents
+pub mod Decides
+pub mod Events
+pub mod Mapping
+pub mod Opening
+pub mod Stacks
+pub mod Subtrees
+pub mod Walking

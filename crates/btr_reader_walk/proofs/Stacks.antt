@@ -1,0 +1,113 @@
+-- A stack of pointers as its top goes and as a node's children come.
+use Rattle.std.proofs.Common.{◌≡◌, ℕ, zero, suc, ◌+◌, ◌*◌, ◌≤◌, ◌<◌, eqb, nat_le, Bool, true, false, ◌||◌, List, [], ◌∷◌, ◌++◌, length, map, reverse, refl, sym, ◌∙◌, ap, arith, append_assoc, inl, inr}
+use Rattle.std.specs.List.{flat_map}
+use Rattle.std.proofs.lemmas.List.{append-nil, reverse-append}
+use Rattle.std.proofs.lemmas.Nat.{mul-le}
+use Rattle.std.proofs.Math.Nat.{suc-mul}
+use Rattle.std.proofs.lemmas.Bool.Decides.{nat_tests}
+use Rattle.btr_node.specs.NodeSize.{IsNodeSize}
+use Rattle.btr_node.specs.declared.child.Child.{Child}
+use Rattle.btr_node.proofs.Rows.{both, joined}
+use Rattle.btr_reader_walk.specs.declared.tree.Pointer.{Pointer}
+use Rattle.btr_reader_walk.specs.Node.{child_pointer}
+use Rattle.btr_reader_walk.specs.Events.{Event}
+use Rattle.btr_reader_walk.specs.Stack.{stack_events, is_stack, is_node_size, weight, stack_weight}
+
+pub stack_push : (f : Pointer → List Event) (ps : List Pointer) (p : Pointer) → stack_events f (ps ++ p ∷ []) ≡ f p ++ stack_events f ps
+stack_push f [] p = sym (append-nil (f p))
+stack_push f (q ∷ ps) p = ap (λ (z : List Event). z ++ f q) (stack_push f ps p) ∙ append_assoc (f p) (stack_events f ps) (f q)
+
+-- the children of a node, the first one last
+abbrev pub turned : ℕ → List Child → List Pointer
+turned level cs = reverse (map (child_pointer level) cs)
+
+turned_more : (level : ℕ) (c : Child) (cs : List Child) → turned level (c ∷ cs) ≡ turned level cs ++ child_pointer level c ∷ []
+turned_more level c cs = reverse-append (child_pointer level c ∷ []) (map (child_pointer level) cs)
+
+-- with one child more on top
+on_top : (ps : List Pointer) (level : ℕ) (c : Child) (cs : List Child) → ps ++ turned level (c ∷ cs) ≡ (ps ++ turned level cs) ++ child_pointer level c ∷ []
+on_top ps level c cs = ap (λ (z : List Pointer). ps ++ z) (turned_more level c cs) ∙ sym (append_assoc ps (turned level cs) (child_pointer level c ∷ []))
+
+pub stack_children : (f : Pointer → List Event) (ps : List Pointer) (level : ℕ) (cs : List Child)
+    → stack_events f (ps ++ turned level cs) ≡ flat_map (λ c. f (child_pointer level c)) cs ++ stack_events f ps
+stack_children f ps level [] = ap (stack_events f) (append-nil ps)
+stack_children f ps level (c ∷ cs) =
+    ap (stack_events f) (on_top ps level c cs)
+    ∙ (stack_push f (ps ++ turned level cs) (child_pointer level c)
+    ∙ (ap (λ (z : List Event). f (child_pointer level c) ++ z) (stack_children f ps level cs)
+    ∙ sym (append_assoc (f (child_pointer level c)) (flat_map (λ d. f (child_pointer level d)) cs) (stack_events f ps))))
+
+length-one : (ps : List Pointer) (p : Pointer) → length (ps ++ p ∷ []) ≡ length ps + 1
+length-one [] p = omega arith
+length-one (q ∷ ps) p = omega (arith, length-one ps p)
+
+pub length-turned : (ps : List Pointer) (level : ℕ) (cs : List Child) → length (ps ++ turned level cs) ≡ length ps + length cs
+length-turned ps level [] = ap (λ (z : List Pointer). length z) (append-nil ps) ∙ omega arith
+length-turned ps level (c ∷ cs) =
+    ap (λ (z : List Pointer). length z) (on_top ps level c cs)
+    ∙ (length-one (ps ++ turned level cs) (child_pointer level c) ∙ omega (arith, length-turned ps level cs))
+
+pub weight_push : (n : ℕ) (ps : List Pointer) (p : Pointer) → stack_weight n (ps ++ p ∷ []) ≡ weight n p.level + stack_weight n ps
+weight_push n [] p = refl
+weight_push n (q ∷ ps) p = omega (arith, weight_push n ps p)
+
+pub weight_children : (n : ℕ) (ps : List Pointer) (level : ℕ) (cs : List Child) → stack_weight n (ps ++ turned level cs) ≡ length cs * weight n level + stack_weight n ps
+weight_children n ps level [] = ap (stack_weight n) (append-nil ps) ∙ omega arith
+weight_children n ps level (c ∷ cs) =
+    ap (stack_weight n) (on_top ps level c cs)
+    ∙ (weight_push n (ps ++ turned level cs) (child_pointer level c)
+    ∙ omega (arith, weight_children n ps level cs, suc-mul (length cs) (weight n level)))
+
+-- all children of a node weigh less than the node
+pub children_lighter : (n count level : ℕ) → count ≤ n → count * weight n level < weight n (suc level)
+children_lighter n count level few = omega (arith, mul-le count (weight n level) n (weight n level) few (omega arith))
+
+le_test : (a b : ℕ) → nat_le a b ≡ true → a ≤ b
+le_test a b h = grind (arith, nat_tests, h)
+
+test_le : (a b : ℕ) → a ≤ b → nat_le a b ≡ true
+test_le a b h = grind (arith, nat_tests, h)
+
+-- the top of a stack, and what is below it
+pub stack_top : (limit fan i : ℕ) (ps : List Pointer) (p : Pointer) → is_stack limit fan i (ps ++ p ∷ []) ≡ true → i + length ps + p.level * fan ≤ limit
+stack_top limit fan i [] p h = omega (arith, le_test (i + p.level * fan) limit (both (nat_le (i + p.level * fan) limit) true h).0)
+stack_top limit fan i (q ∷ ps) p h =
+    omega (arith, stack_top limit fan (suc i) ps p (both (nat_le (i + q.level * fan) limit) (is_stack limit fan (suc i) (ps ++ p ∷ [])) h).1)
+
+pub stack_below : (limit fan i : ℕ) (ps : List Pointer) (p : Pointer) → is_stack limit fan i (ps ++ p ∷ []) ≡ true → is_stack limit fan i ps ≡ true
+stack_below limit fan i [] p h = refl
+stack_below limit fan i (q ∷ ps) p h =
+    let parts = both (nat_le (i + q.level * fan) limit) (is_stack limit fan (suc i) (ps ++ p ∷ [])) h in
+    joined (nat_le (i + q.level * fan) limit) (is_stack limit fan (suc i) ps) parts.0 (stack_below limit fan (suc i) ps p parts.1)
+
+stack_more : (limit fan i : ℕ) (ps : List Pointer) (p : Pointer) → is_stack limit fan i ps ≡ true → i + length ps + p.level * fan ≤ limit → is_stack limit fan i (ps ++ p ∷ []) ≡ true
+stack_more limit fan i [] p h room = joined (nat_le (i + p.level * fan) limit) true (test_le (i + p.level * fan) limit (omega (arith, room))) refl
+stack_more limit fan i (q ∷ ps) p h room =
+    let parts = both (nat_le (i + q.level * fan) limit) (is_stack limit fan (suc i) ps) h in
+    joined (nat_le (i + q.level * fan) limit) (is_stack limit fan (suc i) (ps ++ p ∷ [])) parts.0 (stack_more limit fan (suc i) ps p parts.1 (omega (arith, room)))
+
+pub stack_with_children : (limit fan level : ℕ) (ps : List Pointer) (cs : List Child) → is_stack limit fan 0 ps ≡ true → length ps + suc level * fan ≤ limit → length cs ≤ fan
+    → is_stack limit fan 0 (ps ++ turned level cs) ≡ true
+stack_with_children limit fan level ps [] h room few = ap (is_stack limit fan 0) (append-nil ps) ∙ h
+stack_with_children limit fan level ps (c ∷ cs) h room few =
+    ap (is_stack limit fan 0) (on_top ps level c cs)
+    ∙ stack_more limit fan 0 (ps ++ turned level cs) (child_pointer level c) (stack_with_children limit fan level ps cs h room (omega (arith, few)))
+    (omega (arith, room, few, length-turned ps level cs, suc-mul level fan))
+
+-- a node's children find room
+pub children_fit : (limit fan level held : ℕ) → 1 ≤ level → held + level * fan ≤ limit → held + fan ≤ limit
+children_fit limit fan zero held one room = absurd (omega arith)
+children_fit limit fan (suc level) held one room = omega (arith, room, suc-mul level fan)
+
+eq_test : (a b : ℕ) → eqb a b ≡ true → a ≡ b
+eq_test a b h = grind (arith, nat_tests, h)
+
+by_tests : (n : ℕ) (a b c d e : Bool) → eqb n 4096 ≡ a → eqb n 8192 ≡ b → eqb n 16384 ≡ c → eqb n 32768 ≡ d → eqb n 65536 ≡ e → (a || (b || (c || (d || e)))) ≡ true → IsNodeSize n
+by_tests n true b c d e ta tb tc td te h = inl (eq_test n 4096 ta)
+by_tests n false true c d e ta tb tc td te h = inr (inl (eq_test n 8192 tb))
+by_tests n false false true d e ta tb tc td te h = inr (inr (inl (eq_test n 16384 tc)))
+by_tests n false false false true e ta tb tc td te h = inr (inr (inr (inl (eq_test n 32768 td))))
+by_tests n false false false false e ta tb tc td te h = inr (inr (inr (inr (eq_test n 65536 (te ∙ h)))))
+
+pub sized : (n : ℕ) → is_node_size n ≡ true → IsNodeSize n
+sized n h = by_tests n (eqb n 4096) (eqb n 8192) (eqb n 16384) (eqb n 32768) (eqb n 65536) refl refl refl refl refl h

@@ -1,0 +1,6 @@
+use Rattle.std.proofs.Common.{◌≡◌, drop}
+use Rattle.btr_reader_walk.specs.Map.{place}
+use Rattle.btr_reader_walk.proofs.map.place.Given as goal
+
+abbrev pub invariant-loop-range : goal.invariant-loop-range
+invariant-loop-range l = place (drop l.range-index l.ranges) l.address ≡ place l.ranges l.address

@@ -1,0 +1,31 @@
+-- The nodes that a walk has still to meet, as a stack of pointers: the next one stands last.
+use Rattle.std.specs.Prelude.{ℕ, zero, suc, ◌+◌, ◌*◌, ◌/◌, ◌==◌, nat_le, Bool, true, ◌&&◌, ◌||◌, List, [], ◌∷◌, ◌++◌}
+use Rattle.btr_reader_walk.specs.declared.tree.Pointer.{Pointer}
+use Rattle.btr_reader_walk.specs.Events.{Event}
+
+-- what is met at them, where this is what is met at one
+abbrev pub stack_events : (Pointer → List Event) → List Pointer → List Event
+stack_events below [] = []
+stack_events below (p ∷ ps) = stack_events below ps ++ below p
+
+-- at most how many children a node of this size has; a child takes 33 bytes
+abbrev pub fan_out : ℕ → ℕ
+fan_out nodesize = nodesize / 33
+
+-- What bounds the stack: the pointers are counted from i on, and one of a lower level may stand a node's children higher.
+abbrev pub is_stack : ℕ → ℕ → ℕ → List Pointer → Bool
+is_stack limit fan i [] = true
+is_stack limit fan i (p ∷ ps) = nat_le (i + p.level * fan) limit && is_stack limit fan (suc i) ps
+
+-- one of the sizes of nodes
+abbrev pub is_node_size : ℕ → Bool
+is_node_size n = (n == 4096) || ((n == 8192) || ((n == 16384) || ((n == 32768) || (n == 65536))))
+
+-- at most how many nodes and items a node of this level stands for, if a node has at most n of them
+abbrev pub weight : ℕ → ℕ → ℕ
+weight n zero = suc n
+weight n (suc level) = suc (n * weight n level)
+
+abbrev pub stack_weight : ℕ → List Pointer → ℕ
+stack_weight n [] = 0
+stack_weight n (p ∷ ps) = weight n p.level + stack_weight n ps

@@ -1,0 +1,61 @@
+ghost use Rattle.std.specs.Prelude.{◌≡◌};
+ghost use Rattle.btr_reader_walk.specs.Events.{may_be_bare};
+ghost use Rattle.btr_reader_walk.specs.Node.{want};
+
+use btr_node::{Expect, SumKind};
+
+/// What the nodes of a volume share.
+#[derive(Clone, Copy, Debug, PartialEq, Eq)]
+pub struct Form {
+    /// The file system's identifier.
+    pub fsid: [u8; 16],
+    /// The size of a node in bytes: 4096, 8192, 16384, 32768 or 65536.
+    pub nodesize: u32,
+    /// The kind of checksum.
+    pub sums: SumKind,
+}
+
+/// What is said of a node where it is named: by its parent, or of a root by the superblock or a root item.
+#[derive(Clone, Copy, Debug, PartialEq, Eq)]
+pub struct Pointer {
+    /// The node's address, in bytes.
+    pub address: u64,
+    /// 0 for a leaf, and one more than its children's level for an inner node.
+    pub level: u8,
+    /// The transaction that wrote the node.
+    pub generation: u64,
+}
+
+/// A tree of a volume.
+#[derive(Clone, Copy, Debug, PartialEq, Eq)]
+pub struct Tree {
+    /// What its nodes share with all others of the volume.
+    pub form: Form,
+    /// The pointer to its root.
+    pub root: Pointer,
+    /// Its number.
+    pub owner: u64,
+}
+
+impl Tree {
+    /// What is known of a node of the tree by the pointer to it.
+    pub fn want(&self, p: &Pointer) -> Expect
+        ensures { result ≡ want self.now.form self.now.owner p.now }
+    {
+        Expect {
+            address: p.address,
+            fsid: self.form.fsid,
+            owner: self.owner,
+            level: p.level,
+            generation: p.generation,
+            sums: self.form.sums,
+        }
+    }
+
+    /// Whether a leaf may be empty: only one that is the root.
+    pub fn may_be_bare(&self) -> bool
+        ensures { result ≡ may_be_bare self.now.root }
+    {
+        self.root.level == 0
+    }
+}

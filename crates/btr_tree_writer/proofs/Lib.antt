@@ -1,0 +1,5 @@
+pub use Rattle.btr_item_list.proofs as btr_item_list
+pub mod Others
+pub mod Pushing
+pub mod Rows
+pub mod Steps

@@ -1,0 +1,68 @@
+ghost use Rattle.std.specs.Prelude.{◌≡◌, ◌≤◌, ◌<◌, ◌+◌, ◌*◌, ◌^◌, ◌++◌, ◌∷◌, [], ℕ, List, Some, All, length, IsTrue, IfOk, OnOk};
+ghost use Rattle.std.specs.Result.{MatchResult};
+ghost use Rattle.btr_tree.specs.outside.Fault.{HasCauseOf};
+ghost use Rattle.btr_tree.specs.outside.History.{Image, reads, OverTold, WritesOnly};
+ghost use Rattle.btr_tree.specs.btr_node.Leaf.{Item};
+ghost use Rattle.btr_tree.specs.btr_node.NodeSize.{IsNodeSize};
+ghost use Rattle.btr_tree.specs.Building.{AreSlots};
+ghost use Rattle.btr_tree.specs.Counting.{Counted, tree_nodes};
+ghost use Rattle.btr_tree.specs.Roots.{lengths_of};
+ghost use Rattle.btr_tree.specs.Writing.{IsInSlots};
+ghost use Rattle.btr_tree_writer.specs.Answers.{IsFailure};
+ghost use Rattle.btr_tree_writer.specs.Source.{LieApart};
+ghost use Rattle.btr_tree_writer.specs.Trees.{AreWritable, TreeStands, form_of};
+
+use crate::answer::WriteAnswer;
+use crate::form::NodeForm;
+use crate::source::ItemSource;
+use crate::writer::TreeWriter;
+use btr_tree::{Access, Counter, Disk, Root, Slots};
+use std::alloc::Global;
+
+/// A tree that was written.
+#[derive(Drop)]
+pub struct WrittenTree {
+    pub root: Root,
+    /// Its nodes, counted from the lengths of its items.
+    pub counter: Counter,
+}
+
+/// Writes the tree with this number, of the items that come, to the first of the slots: addresses in bytes, distinct
+/// multiples of the node size. Transaction 1 makes it.
+///
+/// Over a disk that tells its blocks, items of which a tree can be written give that tree, or a fault or want of memory,
+/// where no block that the source needs is one of a slot.
+/// At any answer only blocks of the slots may have been written.
+pub fn write_tree<D: Disk, I: ItemSource>(
+    alloc: Global,
+    disk: &mut D,
+    owner: u64,
+    form: NodeForm,
+    slots: Slots,
+    items: &mut I,
+) -> Result<WrittenTree, WriteAnswer>
+    requires size { IsNodeSize form.nodesize }
+    requires slots { AreSlots form.nodesize slots }
+    requires few { length slots < 2 ^ 43 }
+    requires open { D.opened disk.old ≡ Some Access.Write }
+    requires in_range { All (λ a. a + form.nodesize ≤ 4096 * D.size disk.old) slots }
+    requires live { I.is_live items.old }
+    requires reach { I.reach items.old ≤ D.size disk.old }
+    ensures tree { OverTold D.tells (D.blocks disk.old) (λ image. I.fits items.old image → LieApart (I.needs items.old) form.nodesize slots → (all : List Item) → I.ahead items.old image ≡ all → AreWritable form.nodesize slots all
+        → MatchResult result (λ t. TreeStands (reads (D.history disk.new)) (form_of form) owner slots all t.root × Counted t.counter (lengths_of all)) IsFailure) }
+    ensures counted { IfOk result (λ t. (lengths : List ℕ) × Counted t.counter lengths × (t.root.nodes ≡ tree_nodes form.nodesize lengths)) }
+    ensures size_is { IfOk result (λ t. t.counter.nodesize ≡ form.nodesize) }
+    ensures few { IfOk result (λ t. t.root.nodes ≤ length slots) }
+    ensures open { D.opened disk.new ≡ D.opened disk.old }
+    ensures size { D.size disk.new ≡ D.size disk.old }
+    ensures borrow { D.borrow disk.new ≡ D.borrow disk.old }
+    ensures only { IsTrue D.tells → WritesOnly (λ b _. IsInSlots form.nodesize slots b) (D.history disk.old) (D.history disk.new) }
+    ensures cause { HasCauseOf WriteAnswer.Fault (D.faults disk.old) (D.faults disk.new) result }
+{
+    let mut writer = TreeWriter::new(alloc, owner, form, slots)?;
+    while items.advance(disk)? {
+        writer.push(disk, items.key(), items.body())?;
+    }
+    let (root, counter) = writer.finish(disk)?;
+    Ok(WrittenTree { root, counter })
+}

@@ -1,8 +1,0 @@
-pub mod Events
-pub mod Subtrees
-pub mod Decides
-pub mod Mapping
-pub mod Contents
-pub mod Stacks
-pub mod Walking
-pub mod Opening

@@ -1,5 +1,0 @@
-use Rattle.btr_walk.proofs.Subtrees.{children_give_items as from_damages}
-use Rattle.btr_walk.proofs.laws.children_give_items.Goals as goal
-
-pub returns : goal.returns
-returns c = from_damages c.damages_tell.ensures

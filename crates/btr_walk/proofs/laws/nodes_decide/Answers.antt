@@ -1,5 +1,0 @@
-use Rattle.btr_walk.proofs.Decides.{nodes_decide as they_decide}
-use Rattle.btr_walk.proofs.laws.nodes_decide.Goals as goal
-
-pub returns : goal.returns
-returns c = they_decide

@@ -1,5 +1,0 @@
-use Rattle.byte_laws.proofs.Mapped.{chunks_map}
-use Rattle.byte_laws.proofs.laws.chunks_map_pieces.Goals as goal
-
-pub returns : goal.returns
-returns c = chunks_map

@@ -1,5 +1,0 @@
-use Rattle.byte_laws.proofs.Converted.{files_read}
-use Rattle.byte_laws.proofs.laws.converted_files_are_read.Goals as goal
-
-pub returns : goal.returns
-returns c = files_read c.bytes_are_read.ensures c.extents_keep_rules.ensures c.chunks_map_pieces.ensures

@@ -1,5 +1,0 @@
-use Rattle.byte_laws.proofs.Kept.{pieces_stand}
-use Rattle.byte_laws.proofs.laws.pieces_stand.Goals as goal
-
-pub returns : goal.returns
-returns c = pieces_stand

@@ -1,0 +1,1 @@
+pub use Rattle.refusals.proofs.outside as outside

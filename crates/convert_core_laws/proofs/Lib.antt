@@ -1,0 +1,9 @@
+pub mod Converted
+pub mod Holding
+pub mod Kept
+pub mod Mapped
+pub mod Owned
+pub mod Pieces
+pub mod Read
+pub mod ByteReading
+pub mod Sound

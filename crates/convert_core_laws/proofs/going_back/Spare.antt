@@ -1,0 +1,69 @@
+-- Where no block in use is reserved, no part of a volume lies in a reserved block but for the superblock.
+use Rattle.std.proofs.Common.{◌≡◌, ◌<◌, ℕ, ◌+◌, ◌*◌, ◌/◌, eqb, inl, inr, ◌&&◌, not, Bool, true, false, List, ◌∷◌, ◌++◌, length, get_or, Option, Some, None, refl, sym, ap, subst, ◌∙◌, arith}
+use Rattle.std.specs.Prelude.{Contains, if◌then◌else◌}
+use Rattle.std.specs.Option.{option_and_then}
+use Rattle.std.proofs.lemmas.Bool.{and_parts}
+use Rattle.std.proofs.lemmas.List.{get_or_default}
+use Rattle.reiser_volume.proofs.fs_paths.Lists.{from_filter}
+use Rattle.reiser_volume.specs.outside.History.{Image}
+use Rattle.reiser_volume.specs.vol_block.Volume.{IsReserved, is_reserved}
+use Rattle.reiser_volume.proofs.vol_block.Reserved.{decides_reserved}
+use Rattle.btr_reader.specs.btr_reader_contents.Extents.{is_extent_of}
+use Rattle.btr_reader.specs.btr_keys.FileExtent.{ContentValue, FileExtentValue, Inline, Prealloc, Regular, file_extent_of}
+use Rattle.btr_reader.specs.Image.{ImageFile, image_place, saved_image}
+use Rattle.btr_reader.specs.Opening.{chunk_tree, root_tree, tree_of}
+use Rattle.btr_reader.specs.Parts.{own_map, own_super}
+use Rattle.btr_reader.specs.btr_super.declared.superblock.Super.{Super}
+use Rattle.btr_reader.specs.btr_reader_walk.Events.{TreeItem, nodes_in}
+use Rattle.btr_reader.specs.btr_reader_walk.Map.{place}
+use Rattle.btr_reader.specs.btr_reader_walk.Walks.{found, met}
+use Rattle.btr_reader.specs.btr_reader_walk.declared.map.MapRange.{MapRange}
+use Rattle.btr_reader.specs.btr_reader_walk.declared.tree.Pointer.{Pointer}
+use Rattle.btr_reader.specs.btr_reader_walk.declared.tree.Tree.{Tree}
+use Rattle.btr_reader.specs.Apart.{AreExtentsApart, AreNodesApart, IsApart, IsContentApart, IsVolumeApart, boot_map, is_spare, is_spare_in, root_of, saved_tree}
+use Rattle.volume_state.proofs.Apart.{extents_apart, file_tree_among, nodes_apart, saved_tree_among}
+use Rattle.volume_state.specs.Using.{HoldsExtent, HoldsNodeOf, HoldsPartOf, IsInUse, LieIn, chunk_node, content_range, file_part, file_trees, item_range, named_by, numbered, root_node, tree_if}
+
+module _ (disk : Image) (blocks : ℕ) (total : (own_super disk).total_bytes / 4096 ≡ blocks) (free : (b : ℕ) → IsInUse disk b → ¬ IsReserved b blocks)
+    (image_free : (f : ImageFile) (b at : ℕ) → saved_image disk (own_super disk) (own_map disk) ≡ Some f → image_place (own_map disk) f b ≡ Some at → ¬ IsReserved at blocks) where
+  abbrev s : Super
+  s = own_super disk
+
+  abbrev ranges : List MapRange
+  ranges = own_map disk
+
+  unreserved : (b : ℕ) → ¬ IsReserved b blocks → is_spare_in disk b ≡ false
+  unreserved b none = ap (λ (n : ℕ). is_spare b n) total ∙ by (is_reserved b blocks) refl
+    where
+      off : (t : Bool) → (t && false) ≡ false
+      off true = refl
+      off false = refl
+
+      by : (t : Bool) → is_reserved b blocks ≡ t → (not (eqb b 16) && t) ≡ false
+      by false is = off (not (eqb b 16))
+      by true is = absurd (none ((decides_reserved b blocks).0 is))
+
+  in_use_apart : (b : ℕ) → IsInUse disk b → is_spare_in disk b ≡ false
+  in_use_apart b used = unreserved b (free b used)
+
+  -- one of the two trees of files
+  module _ (t : Tree) (among : Contains (file_trees disk s ranges) t) where
+    part_apart : (b : ℕ) → HoldsPartOf disk ranges t b → is_spare_in disk b ≡ false
+    part_apart b holds = in_use_apart b (file_part (record { tree = t; among = among; holds = holds }))
+
+    file_nodes_apart : AreNodesApart (is_spare_in disk) disk ranges t
+    file_nodes_apart = nodes_apart (is_spare_in disk) ranges disk t (λ b holds. part_apart b (inl holds))
+
+    file_extents_apart : AreExtentsApart (is_spare_in disk) ranges (found disk ranges t)
+    file_extents_apart = extents_apart (is_spare_in disk) ranges (found disk ranges t) (λ b holds. part_apart b (inr holds))
+
+  pub lies_apart : IsVolumeApart (is_spare_in disk) disk
+  lies_apart = record {
+    superblock = refl;
+    chunks = nodes_apart (is_spare_in disk) (boot_map s) disk (chunk_tree s) (λ b holds. in_use_apart b (chunk_node holds));
+    roots = nodes_apart (is_spare_in disk) ranges disk (root_tree s) (λ b holds. in_use_apart b (root_node holds));
+    files = λ p root. file_nodes_apart (tree_of s 5 p) (file_tree_among disk p root);
+    extents = λ p root. file_extents_apart (tree_of s 5 p) (file_tree_among disk p root);
+    saved = λ p number q root saved at. file_nodes_apart (tree_of s number q) (saved_tree_among disk p number q root saved at);
+    blocks = λ f b at is placed. unreserved at (image_free f b at is placed);
+  }

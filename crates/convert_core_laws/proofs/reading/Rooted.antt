@@ -1,0 +1,154 @@
+-- Each tree is found by its root item.
+use Rattle.std.proofs.Common.{◌≡◌, ◌≤◌, ◌<◌, ℕ, ◌*◌, ◌^◌, ◌-◌, eqb, Bool, true, false, ◌&&◌, ◌||◌, List, [], ◌∷◌, length, map, replicate, Option, Some, None, refl, ap, ◌∙◌, arith}
+use Rattle.std.specs.Prelude.{if◌then◌else◌, codes, pos}
+use Rattle.std.specs.List.{list_any}
+use Rattle.std.specs.Option.{option_and_then, option_map}
+use Rattle.std.proofs.lemmas.Bool.{le-ltb, or_left, or_right}
+use Rattle.std.specs.Int.{w64}
+use Rattle.std.proofs.lemmas.Int.{fits_signed_from_abs}
+use Rattle.std.proofs.lemmas.Nat.{mul-le}
+use Rattle.std.proofs.lemmas.List.{length-replicate}
+use Rattle.reiser_volume.specs.vol_block.declared.ids.Ids.{Ids}
+use Rattle.btr_reader.specs.btr_keys.Inode.{inode_layout}
+use Rattle.btr_reader.specs.btr_keys.Key.{key_layout, make_key}
+use Rattle.btr_reader.specs.btr_keys.Stamp.{stamp_layout}
+use Rattle.btr_reader.specs.btr_reader_names.Roots.{has_root, is_root_of}
+use Rattle.btr_reader.specs.btr_node.Leaf.{Item}
+use Rattle.btr_reader.specs.Roots.{last_or, pointer_of, root_item, root_pointer as read_pointer}
+use Rattle.btr_reader.specs.btr_space_items.RootItem.{root_item_bytes, root_item_layout}
+use Rattle.btr_reader.specs.btr_space_items.declared.root_item.RootItem.{RootItem}
+use Rattle.btr_reader.proofs.btr_space_items.Records.{root_items_read_back}
+use Rattle.btr_reader.specs.btr_reader_walk.Events.{TreeItem}
+use Rattle.btr_reader.specs.btr_reader_walk.Tree.{bare_item}
+use Rattle.convert_core.specs.convert_steps.Standing.{listed}
+use Rattle.convert_core.specs.convert_steps.declared.trees.VolumeTrees.{VolumeTrees}
+use Rattle.convert_core.specs.space_items.Laws.{AreIds}
+use Rattle.convert_core.specs.space_items.Roots.{default_item, is_file_tree, root_body, root_dirid, root_items, root_item as item_of_root, saved_ref, tree_uuid}
+use Rattle.convert_core.specs.space_items.declared.node.TreeRoot.{TreeRoot}
+use Rattle.convert_core.specs.btr_tree_writer.Trees.{root_pointer}
+use Rattle.convert_core.specs.btr_item_list.Inodes.{inode_item, inode_made, ref_item}
+
+-- ---- what a root item leads to
+
+-- the root item of a tree fits
+body_fits : (ids : Ids) (nodesize : ℕ) (r : TreeRoot) → AreIds ids → nodesize ≤ 65536 → r.root.address < 2 ^ 64 → r.root.level ≤ 7 → r.root.nodes ≤ 2 ^ 40 → root_item_layout.fits (root_body ids nodesize r)
+unfolding root_item_layout inode_layout stamp_layout key_layout
+body_fits ids nodesize r are small address low few =
+    let inode : inode_layout.fits (root_body ids nodesize r).inode =
+    ((((((((((((((((tt, omega arith), omega arith), omega arith), omega (arith, small)), omega arith), omega arith), omega arith), omega arith), omega arith), omega arith), omega arith), omega arith), time), time), time), time) in
+    ((((((((((((((((((((((((tt, inode), omega arith), dirid r.tree), omega (arith, address)), omega arith), bytes nodesize r.root.nodes small few), omega arith), omega arith), omega arith), (((tt, omega arith), omega arith), omega arith)), omega arith), omega (arith, low)), omega arith), uuid r.tree), length-replicate {A = ℕ} 16 0), length-replicate {A = ℕ} 16 0), omega arith), omega arith), omega arith), omega arith), time), time), time), time)
+  where
+    time : stamp_layout.fits (record { sec = pos 0; nsec = 0 })
+    time = ((tt, fits_signed_from_abs w64 (pos 0) (omega arith)), omega arith)
+
+    dirid : (tree : ℕ) → root_dirid tree < 256 ^ 8
+    dirid tree = by (is_file_tree tree)
+      where
+        by : (b : Bool) → (if b then 256 else 0) < 256 ^ 8
+        by true = omega arith
+        by false = omega arith
+
+    bytes : (n k : ℕ) → n ≤ 65536 → k ≤ 2 ^ 40 → n * k < 256 ^ 8
+    bytes n k a b = let most = mul-le n k 65536 (2 ^ 40) a b in omega (arith, most)
+
+    uuid : (tree : ℕ) → length (tree_uuid ids tree) ≡ 16
+    uuid tree = by (eqb tree 256)
+      where
+        by : (b : Bool) → length (if b then ids.subvolume else replicate 16 0) ≡ 16
+        by true = are.subvolume
+        by false = length-replicate {A = ℕ} 16 0
+
+low_pointer : (r : RootItem) → r.level ≤ 7 → read_pointer r ≡ Some (record { address = r.bytenr; level = r.level; generation = r.generation })
+low_pointer r low = ap (λ (b : Bool). if b then None else Some (record { address = r.bytenr; level = r.level; generation = r.generation })) (le-ltb 7 r.level low)
+
+pub leads : (ids : Ids) (nodesize : ℕ) (r : TreeRoot) → AreIds ids → nodesize ≤ 65536 → r.root.address < 2 ^ 64 → r.root.level ≤ 7 → r.root.nodes ≤ 2 ^ 40
+    → pointer_of (root_item_bytes (root_body ids nodesize r)) ≡ Some (root_pointer r.root)
+leads ids nodesize r are small address low few =
+    ap (λ (o : Option RootItem). option_and_then read_pointer o) (root_items_read_back (root_body ids nodesize r) (body_fits ids nodesize r are small address low few))
+    ∙ low_pointer (root_body ids nodesize r) low
+
+-- ---- the items of the root tree, one after the other
+
+abbrev in_order : VolumeTrees → ℕ → Ids → ℕ → ℕ → List Item
+in_order r index ids now nodesize =
+    item_of_root ids nodesize (record { tree = 2; root = r.extents })
+    ∷ (item_of_root ids nodesize (record { tree = 4; root = r.device })
+    ∷ (item_of_root ids nodesize (record { tree = 5; root = r.files })
+    ∷ ((make_key 5 156 256, saved_ref index)
+    ∷ (inode_item 6 (inode_made now 0x41ED 0 0 0)
+    ∷ (ref_item 6 6 0 (codes "..")
+    ∷ (default_item
+    ∷ (item_of_root ids nodesize (record { tree = 7; root = r.sums })
+    ∷ (item_of_root ids nodesize (record { tree = 256; root = r.image })
+    ∷ ((make_key 256 144 5, saved_ref index)
+    ∷ (item_of_root ids nodesize (record { tree = 2 ^ 64 - 9; root = r.relocation }) ∷ []))))))))))
+
+pub order_is : (r : VolumeTrees) (index : ℕ) (ids : Ids) (now nodesize : ℕ) → root_items (listed r) index ids now nodesize ≡ in_order r index ids now nodesize
+order_is r index ids now nodesize = refl
+
+-- the root item of a tree among items without their leaves
+abbrev is_root : ℕ → Item → Bool
+is_root number i = eqb i.0.objectid number && eqb i.0.kind 132
+
+abbrev last_of : Option Item → Option Item → Option Item
+last_of None first = first
+last_of (Some i) first = Some i
+
+abbrev bare_root : ℕ → List Item → Option Item
+bare_root number [] = None
+bare_root number (i ∷ items) = last_of (bare_root number items) (if is_root number i then Some i else None)
+
+bare_is : (number : ℕ) (items : List TreeItem) → option_map bare_item (root_item number items) ≡ bare_root number (map bare_item items)
+bare_is number [] = refl
+bare_is number (i ∷ items) = by (root_item number items) (is_root_of number i) ∙ ap (λ (o : Option Item). last_of o (if is_root_of number i then Some (bare_item i) else None)) (bare_is number items)
+  where
+    by : (o : Option TreeItem) (b : Bool) → option_map bare_item (last_or o (if b then Some i else None)) ≡ last_of (option_map bare_item o) (if b then Some (bare_item i) else None)
+    by None true = refl
+    by None false = refl
+    by (Some j) b = refl
+
+-- the item that is found
+pub record IsFoundRoot (number : ℕ) (items : List TreeItem) (x : Item) : Type 0 where
+  pub item : TreeItem
+  pub has : root_item number items ≡ Some item
+  pub is : bare_item item ≡ x
+
+found_by : (o : Option TreeItem) (x : Item) → option_map bare_item o ≡ Some x → (i : TreeItem) × (o ≡ Some i) × (bare_item i ≡ x)
+found_by None x e = absurd (cc e)
+found_by (Some i) x e = (i, refl, cc e)
+
+find : (number : ℕ) (items : List TreeItem) (x : Item) → bare_root number (map bare_item items) ≡ Some x → IsFoundRoot number items x
+find number items x e = let at = found_by (root_item number items) x (bare_is number items ∙ e) in record { item = at.0; has = at.1; is = at.2 }
+
+-- a tree that has a root item is one of those that are named
+pub named : (number : ℕ) (items : List TreeItem) (i : TreeItem) → root_item number items ≡ Some i → has_root items number ≡ true
+named number [] i e = absurd (cc e)
+named number (j ∷ items) i e = by (root_item number items) (named number items) refl (is_root_of number j) refl e
+  where
+    by : (o : Option TreeItem) → ((k : TreeItem) → root_item number items ≡ Some k → has_root items number ≡ true) → root_item number items ≡ o → (b : Bool) → is_root_of number j ≡ b → last_or o (if b then Some j else None) ≡ Some i
+        → (is_root_of number j || list_any (is_root_of number) items) ≡ true
+    by o later is true t e = or_left (is_root_of number j) _ t
+    by None later is false t e = absurd (cc e)
+    by (Some k) later is false t e = or_right (is_root_of number j) _ (later k is)
+
+module _ (r : VolumeTrees) (index : ℕ) (ids : Ids) (now nodesize : ℕ) (items : List TreeItem) (are : map bare_item items ≡ root_items (listed r) index ids now nodesize) where
+  found_in : (number : ℕ) (x : Item) → bare_root number (in_order r index ids now nodesize) ≡ Some x → IsFoundRoot number items x
+  found_in number x e = find number items x (ap (bare_root number) (are ∙ order_is r index ids now nodesize) ∙ e)
+
+  pub extents_found : IsFoundRoot 2 items (item_of_root ids nodesize (record { tree = 2; root = r.extents }))
+  extents_found = found_in 2 _ refl
+
+  pub device_found : IsFoundRoot 4 items (item_of_root ids nodesize (record { tree = 4; root = r.device }))
+  device_found = found_in 4 _ refl
+
+  pub files_found : IsFoundRoot 5 items (item_of_root ids nodesize (record { tree = 5; root = r.files }))
+  files_found = found_in 5 _ refl
+
+  pub sums_found : IsFoundRoot 7 items (item_of_root ids nodesize (record { tree = 7; root = r.sums }))
+  sums_found = found_in 7 _ refl
+
+  pub saved_found : IsFoundRoot 256 items (item_of_root ids nodesize (record { tree = 256; root = r.image }))
+  saved_found = found_in 256 _ refl
+
+  pub relocation_found : IsFoundRoot (2 ^ 64 - 9) items (item_of_root ids nodesize (record { tree = 2 ^ 64 - 9; root = r.relocation }))
+  relocation_found = found_in (2 ^ 64 - 9) _ refl

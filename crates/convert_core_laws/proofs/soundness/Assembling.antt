@@ -1,0 +1,141 @@
+-- A tree has its names where its items tell the same ones in each way.
+use Rattle.std.proofs.Common.{◌≡◌, ◌≢◌, ◌<◌, ℕ, ◌*◌, ◌==◌, true, false, cond, List, [], ◌∷◌, ◌++◌, map, filter, flat_map, Contains, sum_by, count_by, length, Some, refl, sym, ap, ap₂, subst, ◌∙◌, ⊎_elim, arith}
+use Rattle.std.specs.Prelude.{All}
+use Rattle.std.specs.List.{AllByRecursion}
+use Rattle.std.specs.List.Sorted.{IsPermutation}
+use Rattle.std.proofs.lemmas.Bool.{eqb-true}
+use Rattle.std.proofs.lemmas.List.{append-nil, map-append}
+use Rattle.std.proofs.lemmas.List.Sorted.{IsPermutation-append, IsPermutation-refl, IsPermutation-trans, sum_by-IsPermutation}
+use Rattle.reiser_volume.proofs.fs_paths.Lists.{at_head, from_filter, head_or_tail, in_tail}
+use Rattle.btr_reader.specs.btr_keys.Inode.{inode_of}
+use Rattle.btr_reader.specs.btr_keys.declared.inode.Inode.{Inode}
+use Rattle.btr_reader.specs.btr_node.Leaf.{Item}
+use Rattle.btr_check_rules.specs.Names.{AreNames, AreOnForm, BackName, Entry, IndexEntry, IsInode, IsThere, IsTreeEntry, back_name, directory_size, hashed_entries, index_entries, name_count, names_inode, of_kind, own_name, ref_names}
+use Rattle.btr_check_rules.specs.Recount.{TreeOn}
+use Rattle.convert_trees_laws.proofs.Rising.{Climb, all_append}
+use Rattle.reiser_volume.proofs.reiser_bitmap.Ranges.{all_from_contains}
+use Rattle.convert_trees_laws.proofs.Lists.{all_in}
+use Rattle.convert_core_laws.proofs.soundness.NameLists.{flat_append, flat_kept, middle_swap}
+use Rattle.convert_core_laws.proofs.soundness.Telling.{IsOnForm, Told, far_of, hashed_of, if_kind, indexed_of, ref_of}
+
+abbrev pub entry_part : IndexEntry → Entry
+entry_part e = e.entry
+
+-- What items tell: these entries by their indexes, the same ones by their hashes, and these names of inodes.
+pub record Tells (items : List Item) (indexes : List IndexEntry) (names : List BackName) : Type 0 where
+  pub index : flat_map (if_kind 96 indexed_of) items ≡ indexes
+  pub hashed : IsPermutation (map entry_part indexes) (flat_map (if_kind 84 hashed_of) items)
+  pub refs : IsPermutation names (flat_map (if_kind 12 ref_of) items ++ flat_map (if_kind 13 far_of) items)
+  pub forms : AllByRecursion IsOnForm items
+
+pub tells_of : (items : List Item) (h : List Entry) (x : List IndexEntry) (r f names : List BackName) → Told items h x r f → IsPermutation (map entry_part x) h → IsPermutation names (r ++ f) → Tells items x names
+tells_of items h x r f names told entries back = record {
+  index = told.index_is;
+  hashed = subst (IsPermutation (map entry_part x)) (sym told.hash_is) entries;
+  refs = subst (IsPermutation names) (sym (ap₂ (λ (a b : List BackName). a ++ b) told.ref_is told.far_is)) back;
+  forms = told.forms;
+}
+
+pub tells_none : Tells [] [] []
+tells_none = record { index = refl; hashed = IsPermutation-refl []; refs = IsPermutation-refl []; forms = tt }
+
+pub tells_append : (xs ys : List Item) (a b : List IndexEntry) (m n : List BackName) → Tells xs a m → Tells ys b n → Tells (xs ++ ys) (a ++ b) (m ++ n)
+tells_append xs ys a b m n one two =
+    let rx : List BackName = flat_map (if_kind 12 ref_of) xs in
+    let ry : List BackName = flat_map (if_kind 12 ref_of) ys in
+    let fx : List BackName = flat_map (if_kind 13 far_of) xs in
+    let fy : List BackName = flat_map (if_kind 13 far_of) ys in
+    let hx : List Entry = flat_map (if_kind 84 hashed_of) xs in
+    let hy : List Entry = flat_map (if_kind 84 hashed_of) ys in
+    record {
+      index = flat_append (if_kind 96 indexed_of) xs ys ∙ (ap (λ (l : List IndexEntry). l ++ flat_map (if_kind 96 indexed_of) ys) one.index ∙ ap (λ (l : List IndexEntry). a ++ l) two.index);
+      hashed =
+          subst (λ (l : List Entry). IsPermutation l (flat_map (if_kind 84 hashed_of) (xs ++ ys))) (sym (map-append entry_part a b))
+          (subst (IsPermutation (map entry_part a ++ map entry_part b)) (sym (flat_append (if_kind 84 hashed_of) xs ys)) (IsPermutation-append (map entry_part a) hx (map entry_part b) hy one.hashed two.hashed));
+      refs =
+          subst (IsPermutation (m ++ n)) (sym (ap₂ (λ (r f : List BackName). r ++ f) (flat_append (if_kind 12 ref_of) xs ys) (flat_append (if_kind 13 far_of) xs ys)))
+          (IsPermutation-trans (m ++ n) ((rx ++ fx) ++ (ry ++ fy)) ((rx ++ ry) ++ (fx ++ fy)) (IsPermutation-append m (rx ++ fx) n (ry ++ fy) one.refs two.refs) (middle_swap rx fx ry fy));
+      forms = all_append IsOnForm xs ys one.forms two.forms;
+    }
+
+pub tells_flat : {K : Type 0} (f : K → List Item) (g : K → List IndexEntry) (h : K → List BackName) (ks : List K) → ((k : K) → Contains ks k → Tells (f k) (g k) (h k)) → Tells (flat_map f ks) (flat_map g ks) (flat_map h ks)
+tells_flat f g h [] each = tells_none
+tells_flat f g h (k ∷ ks) each = tells_append (f k) (flat_map f ks) (g k) (flat_map g ks) (h k) (flat_map h ks) (each k (at_head k ks)) (tells_flat f g h ks (λ l i. each l (in_tail k ks l i)))
+
+-- ---- the names of a tree
+
+module _ (t : TreeOn) (indexes : List IndexEntry) (names : List BackName) (tells : Tells t.items indexes names) where
+  pub entries_are : index_entries t ≡ indexes
+  entries_are = flat_kept (λ (i : Item). i.0.kind == 96) indexed_of t.items ∙ tells.index
+
+  hashed_are : hashed_entries t ≡ flat_map (if_kind 84 hashed_of) t.items
+  hashed_are = flat_kept (λ (i : Item). i.0.kind == 84) hashed_of t.items
+
+  refs_are : ref_names t ≡ flat_map (if_kind 12 ref_of) t.items ++ flat_map (if_kind 13 far_of) t.items
+  refs_are = ap₂ (λ (a b : List BackName). a ++ b) (flat_kept (λ (i : Item). i.0.kind == 12) ref_of t.items) (flat_kept (λ (i : Item). i.0.kind == 13) far_of t.items)
+
+  refs_told : IsPermutation names (ref_names t)
+  refs_told = subst (IsPermutation names) (sym refs_are) tells.refs
+
+  of_form : (k : ℕ) (P : Item → Type 0) → ((i : Item) → i.0.kind ≡ k → IsOnForm i → P i) → All P (of_kind k t.items)
+  of_form k P to =
+      all_from_contains P (of_kind k t.items) (λ i h.
+      let kept = from_filter (λ (j : Item). j.0.kind == k) t.items i h in
+      to i (eqb-true i.0.kind k kept.1) (all_in IsOnForm t.items i tells.forms kept.0))
+
+  forms : AreOnForm t.items
+  forms = record {
+    inodes = of_form 1 _ (λ i is form. form.inode is);
+    refs = of_form 12 _ (λ i is form. form.refs is);
+    extrefs = of_form 13 _ (λ i is form. form.extrefs is);
+    hashed = of_form 84 _ (λ i is form. form.hashed is);
+    indexed = of_form 96 _ (λ i is form. form.indexed is);
+    extents = of_form 108 _ (λ i is form. form.extent is);
+  }
+
+  -- the letters of a directory
+  pub size_is : (ino : ℕ) → directory_size t ino ≡ 2 * sum_by (λ e. length e.entry.name) (filter (λ e. e.entry.dir == ino) indexes)
+  size_is ino = ap (λ (l : List IndexEntry). 2 * sum_by (λ e. length e.entry.name) (filter (λ e. e.entry.dir == ino) l)) entries_are
+
+  -- the names of an inode
+  pub count_is : (ino : ℕ) → name_count t ino ≡ count_by (λ n. n.inode == ino) names
+  count_is ino = sum_by-IsPermutation (λ (n : BackName). cond (n.inode == ino) 1 0) names (ref_names t) refs_told
+
+  pub have_names : (roots : List Item) → IsPermutation (own_name ∷ map back_name (filter names_inode indexes)) names
+      → ((e : IndexEntry) → Contains indexes e → names_inode e ≡ false → IsTreeEntry roots t.number e)
+      → ((e : IndexEntry) → Contains indexes e → IsThere t e.entry.dir × (names_inode e ≡ true → IsThere t e.entry.location.objectid))
+      → ((ino : ℕ) (body : List ℕ) (inode : Inode) → Contains t.items (record { objectid = ino; kind = 1; offset = 0 }, body) → inode_of body ≡ Some inode → IsInode t ino inode) → AreNames roots t
+  have_names roots same trees there inodes = record {
+    forms = forms;
+    entries = subst (λ (l : List IndexEntry). IsPermutation (map entry_part l) (hashed_entries t)) (sym entries_are) (subst (IsPermutation (map entry_part indexes)) (sym hashed_are) tells.hashed);
+    names = subst (λ (l : List IndexEntry). IsPermutation (own_name ∷ map back_name (filter names_inode l)) (ref_names t)) (sym entries_are)
+        (IsPermutation-trans (own_name ∷ map back_name (filter names_inode indexes)) names (ref_names t) same refs_told);
+    trees = subst (All (λ e. names_inode e ≡ false → IsTreeEntry roots t.number e)) (sym entries_are) (all_from_contains (λ e. names_inode e ≡ false → IsTreeEntry roots t.number e) indexes trees);
+    there = subst (All (λ e. IsThere t e.entry.dir × (names_inode e ≡ true → IsThere t e.entry.location.objectid))) (sym entries_are)
+        (all_from_contains (λ e. IsThere t e.entry.dir × (names_inode e ≡ true → IsThere t e.entry.location.objectid)) indexes there);
+    inodes = inodes;
+  }
+
+-- ---- one of some parts
+
+module _ {K : Type 0} (number : K → ℕ) where
+  above : (k : K) (ks : List K) → AllByRecursion (λ l. number k < number l) ks → (l : K) → Contains ks l → number k < number l
+  above k ks all l h = all_in (λ (m : K). number k < number m) ks l all h
+
+  -- where the others give nothing, the list is what one part gives
+  pub flat_one : {Y : Type 0} (f : K → List Y) (ks : List K) (key : K) → Climb number ks → Contains ks key → ((k : K) → Contains ks k → number k ≢ number key → f k ≡ []) → flat_map f ks ≡ f key
+  flat_one f [] key up h none = absurd (omega (arith, h.1))
+  flat_one {Y} f (k ∷ ks) key up h none =
+      ⊎_elim
+      (λ (same : k ≡ key).
+      ap (λ (l : List Y). f k ++ l) (rest ks up.0 (λ l i. none l (in_tail k ks l i)) same) ∙ (append-nil (f k) ∙ ap f same))
+      (λ (later : Contains ks key).
+      ap (λ (l : List Y). l ++ flat_map f ks) (none k (at_head k ks) (λ e. let less = above k ks up.0 key later in omega (arith, less, e)))
+      ∙ flat_one f ks key up.1 later (λ l i. none l (in_tail k ks l i)))
+      (head_or_tail k ks key h)
+    where
+      rest : (ls : List K) → AllByRecursion (λ l. number k < number l) ls → ((l : K) → Contains ls l → number l ≢ number key → f l ≡ []) → k ≡ key → flat_map f ls ≡ []
+      rest [] all empty same = refl
+      rest (l ∷ ls) all empty same =
+          ap (λ (x : List Y). x ++ flat_map f ls) (empty l (at_head l ls) (λ e. let less = all.0 in let at = ap number same in omega (arith, less, e, at)))
+          ∙ rest ls all.1 (λ m i. empty m (in_tail l ls m i)) same

@@ -1,0 +1,46 @@
+-- The bodies of extents are read back.
+use Rattle.std.proofs.Common.{◌≡◌, ◌<◌, ℕ, ◌^◌, List, length, refl, ap, ◌∙◌, arith}
+use Rattle.std.specs.List.{AllByRecursion, flat_map}
+use Rattle.std.proofs.lemmas.List.{drop_at}
+use Rattle.btr_check_rules.specs.References.{HasRefs}
+use Rattle.btr_reader.specs.btr_space_items.ExtentHead.{extent_head_bytes, extent_head_layout}
+use Rattle.btr_reader.specs.btr_space_items.InlineRef.{FitsInline, data_ref_layout, inline_ref_bytes, inline_refs_of, tree_block_layout}
+use Rattle.btr_reader.specs.btr_space_items.declared.extent_head.ExtentHead.{ExtentHead}
+use Rattle.btr_reader.specs.btr_space_items.declared.inline_ref.InlineRef.{InlineRef}
+use Rattle.btr_reader.specs.btr_space_items.declared.inline_ref.InlineRef.TheVariants.{DataRef, TreeBlock}
+use Rattle.btr_reader.proofs.btr_space_items.InlineLaw.{inline_refs_read_back}
+use Rattle.btr_reader.proofs.btr_space_items.Records.{extent_heads_read_back}
+use Rattle.convert_core.specs.space_items.Extents.{extent_body}
+
+abbrev head_of : ℕ → ℕ → ExtentHead
+head_of count flags = record { refs = count; generation = 1; flags = flags }
+
+head_long : (h : ExtentHead) → length (extent_head_bytes h) ≡ 24
+unfolding extent_head_layout
+head_long h = refl
+
+head_fits : (count flags : ℕ) → count < 2 ^ 64 → flags < 2 ^ 64 → extent_head_layout.fits (head_of count flags)
+unfolding extent_head_layout
+head_fits count flags few low = (((tt, omega (arith, few)), omega arith), omega (arith, low))
+
+-- references whose numbers fit
+pub node_fits : (owner : ℕ) → owner < 2 ^ 64 → FitsInline (TreeBlock owner)
+unfolding tree_block_layout
+node_fits owner low = ((tt, omega arith), omega (arith, low))
+
+pub data_fits : (tree inode offset : ℕ) → tree < 2 ^ 64 → inode < 2 ^ 64 → offset < 2 ^ 64 → FitsInline (DataRef tree inode offset 1)
+unfolding data_ref_layout
+data_fits tree inode offset one two three = (((((tt, omega arith), omega (arith, one)), omega (arith, two)), omega (arith, three)), omega arith)
+
+-- the body has just these references
+pub has_refs : (flags : ℕ) (refs : List InlineRef) → flags < 2 ^ 64 → length refs < 2 ^ 64 → AllByRecursion FitsInline refs → HasRefs (extent_body flags refs) flags (length refs) refs
+has_refs flags refs low few fits =
+    let head : ExtentHead = head_of (length refs) flags in
+    let rest : List ℕ = flat_map inline_ref_bytes refs in
+    record {
+      head = head;
+      head_is = extent_heads_read_back head rest (head_fits (length refs) flags few low);
+      refs_are = ap inline_refs_of (drop_at (extent_head_bytes head) rest 24 (head_long head)) ∙ inline_refs_read_back refs fits;
+      count_is = refl;
+      kind_is = refl;
+    }

@@ -1,0 +1,101 @@
+-- The names of a converted volume are sound.
+use Rattle.std.proofs.Common.{◌≤◌, ◌<◌, ℕ, ◌-◌, ◌^◌, List, [], ◌∷◌, filter, sym, subst, arith}
+use Rattle.std.specs.Prelude.{is_some}
+use Rattle.std.specs.List.{AllByRecursion}
+use Rattle.std.proofs.lemmas.List.Elements.{All-cons, All-nil}
+use Rattle.std.proofs.lemmas.List.Sorted.{Contains-permutation}
+use Rattle.reiser_volume.specs.outside.History.{Image}
+use Rattle.reiser_volume.specs.vol_block.declared.ids.Ids.{Ids}
+use Rattle.btr_reader.specs.btr_node.NodeSize.{IsNodeSize}
+use Rattle.btr_check_rules.specs.Names.{AreNames, HaveNames}
+use Rattle.btr_check_rules.specs.Recount.{Recount, TreeOn}
+use Rattle.convert_core.specs.convert_steps.Making.{IsMaking, Making}
+use Rattle.convert_core.specs.convert_steps.Source.{HasPieces}
+use Rattle.convert_core.specs.convert_steps.Standing.{file_tree_items, image_tree_items, root_tree_items}
+use Rattle.convert_core.specs.convert_steps.declared.trees.VolumeTrees.{VolumeTrees}
+use Rattle.convert_core.proofs.Wholeness.{blocks_few}
+use Rattle.convert_core_laws.specs.reading.Identifiers.{NewIdsFit}
+use Rattle.convert_core_laws.specs.reading.Opened.{IsNewVolume, map_for, super_for}
+use Rattle.convert_core_laws.proofs.reading.SavedExtents.{AreSources, sources_bytes}
+use Rattle.convert_core_laws.proofs.reading.SavedPieces.{are_sources}
+use Rattle.convert_core.specs.file_items.Extents.{piece_bytes, pieces_of_volume, source_block}
+use Rattle.convert_core.specs.file_items.Small.{relocation_items}
+use Rattle.convert_trees_laws.specs.Held.{FilesAreHeld}
+use Rattle.convert_trees_laws.specs.Inodes.{InodesAreThere}
+use Rattle.convert_trees_laws.specs.Keys.{ImageKeysAscend}
+use Rattle.reiser_volume.proofs.fs_paths.Lists.{from_filter}
+use Rattle.convert_trees_laws.specs.Rows.{HasBytes}
+use Rattle.convert_trees_laws.proofs.Lists.{all_from}
+use Rattle.convert_core.specs.space_items.declared.node.TreeNode.{TreeNode}
+use Rattle.convert_core.specs.convert_options.declared.options.Options.{Options}
+use Rattle.convert_core.specs.unit_plan.declared.piece.Piece.{Piece}
+use Rattle.convert_core_laws.specs.soundness.Recounted.{recount_for, tree_for}
+use Rattle.convert_core_laws.proofs.soundness.Recounting.{volume_for}
+use Rattle.convert_core_laws.proofs.soundness.Unreserved.{fit_size}
+use Rattle.convert_core_laws.proofs.soundness.Uses.{piece_small}
+use Rattle.convert_core_laws.proofs.soundness.Flags.{image_extents_ascend}
+use Rattle.convert_core_laws.specs.soundness.Laws.{ConvertedNamesAreSound}
+use Rattle.convert_core_laws.proofs.soundness.Entered.{file_names}
+use Rattle.convert_core_laws.proofs.soundness.NameLists.{grouped_all}
+use Rattle.convert_core_laws.proofs.soundness.Saved.{IsLow, saved_names}
+use Rattle.convert_core_laws.proofs.soundness.Small.{relocation_names}
+
+module _ (o : Options) (ids : Ids) (now : ℕ) (image other : Image) (m : Making) (r : VolumeTrees) (nodes : List TreeNode) (v : IsNewVolume o ids now image other m r nodes) (held : FilesAreHeld) (rising : ImageKeysAscend) (are_there : InodesAreThere) (now_low : now < 2 ^ 63) (bytes : HasBytes image) where
+  abbrev making : IsMaking image m
+  making = v.new.conversion.making
+
+  abbrev of : HasPieces m.volume image m.options m.plan m.pieces
+  of = making.has_pieces
+
+  abbrev fit : IsNodeSize m.options.nodesize
+  fit = fit_size o ids now image other m r nodes v
+
+  abbrev k : Recount
+  k = recount_for image other m r nodes
+
+  made_low : m.now < 2 ^ 63
+  made_low = subst (λ (n : ℕ). n < 2 ^ 63) (sym v.new.conversion.now_is) now_low
+
+  -- ---- the pieces of the saved image
+
+  parts_low : AllByRecursion IsLow (pieces_of_volume m.pieces)
+  parts_low =
+      let some : List Piece = filter (λ (p : Piece). is_some p.from) m.pieces in
+      all_from IsLow (pieces_of_volume m.pieces) (λ p h.
+      let among = (from_filter (λ (q : Piece). is_some q.from) m.pieces p (Contains-permutation (pieces_of_volume m.pieces) some p (grouped_all source_block some) h)).0 in
+      let is = piece_small image m making p among in
+      let high = is.high in
+      record { some = omega (arith, high); end = is.end })
+
+  sources : AreSources (map_for m.chunks) 0 (pieces_of_volume m.pieces)
+  sources =
+      are_sources image m making fit
+      (image_extents_ascend m.volume.sup.blocks m.pieces m.options.datasum m.now (rising m.volume image m.options m.plan m.pieces m.now of).saved)
+
+  image_bytes : piece_bytes (pieces_of_volume m.pieces) ≤ 2 ^ 41
+  image_bytes = sources_bytes (map_for m.chunks) 0 (pieces_of_volume m.pieces) sources (omega arith)
+
+  -- ---- the file trees
+
+  abbrev roots : TreeOn → Type 0
+  roots = AreNames (root_tree_items m r)
+
+  abbrev files : TreeOn
+  files = tree_for other (super_for m r nodes) 5 r.files (file_tree_items image m)
+
+  abbrev saved : TreeOn
+  saved = tree_for other (super_for m r nodes) 256 r.image (image_tree_items m)
+
+  abbrev relocation : TreeOn
+  relocation = tree_for other (super_for m r nodes) (2 ^ 64 - 9) r.relocation (relocation_items m.now)
+
+  pub have_names : HaveNames k
+  have_names =
+      All-cons roots files (saved ∷ (relocation ∷ [])) (file_names image m making files.nodes r held are_there bytes)
+      (All-cons roots saved (relocation ∷ [])
+      (saved_names m.volume.sup.blocks m.now m.pieces m.options.datasum (blocks_few m.volume image m.options m.plan m.pieces of) image_bytes made_low parts_low saved.nodes (root_tree_items m r))
+      (All-cons roots relocation [] (relocation_names m.now made_low relocation.nodes (root_tree_items m r)) (All-nil roots)))
+
+pub converted_names_are_sound : NewIdsFit → FilesAreHeld → ImageKeysAscend → InodesAreThere → ConvertedNamesAreSound
+converted_names_are_sound ids_fit held rising are_there = λ o ids now image other m r nodes is size low are has bytes.
+    have_names o ids now image other m r nodes (volume_for ids_fit o ids now image other m r nodes is size are has) held rising are_there low bytes

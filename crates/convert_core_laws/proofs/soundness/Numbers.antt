@@ -1,0 +1,40 @@
+-- Numbers of inodes fit, and keys of different kinds differ.
+use Rattle.std.proofs.Common.{◌≡◌, ◌≢◌, ◌≤◌, ◌<◌, ◌+◌, ◌^◌, Bool, true, false, not, ◌&&◌, List, length, refl, arith}
+use Rattle.std.specs.Prelude.{if◌then◌else◌}
+use Rattle.std.specs.List.{count_by}
+use Rattle.std.specs.Ordering.{is_lt, nat_cmp, ordering_then}
+use Rattle.std.specs.declared.cmp.Ordering.{Ordering}
+use Rattle.std.specs.declared.cmp.Ordering.TheVariants.{Less, Equal, Greater}
+use Rattle.std.proofs.lemmas.List.Sums.{count_by-le-length}
+use Rattle.btr_reader.specs.btr_keys.Key.{key_cmp}
+use Rattle.btr_reader.specs.btr_keys.declared.key.Key.{Key}
+use Rattle.reiser_volume.specs.reiser_volume_names.Links.{object_cmp}
+use Rattle.reiser_volume.specs.reiser_volume_names.Names.{inode_of}
+use Rattle.reiser_volume.specs.reiser_volume_objects.Keys.{root, same_key}
+use Rattle.reiser_volume.specs.reiser_volume_objects.declared.key.ObjectKey.{ObjectKey}
+use Rattle.convert_core_laws.proofs.soundness.Row.{differ}
+
+-- numbers of inodes fit
+pub inode_low : (all : List ObjectKey) (key : ObjectKey) → length all ≤ 2 ^ 37 → inode_of all key < 2 ^ 64
+inode_low all key few = by (same_key key root)
+  where
+    by : (b : Bool) → (if b then 256 else 257 + count_by (λ k. is_lt (object_cmp k key) && not (same_key k root)) all) < 2 ^ 64
+    by true = omega arith
+    by false = let low = count_by-le-length (λ (k : ObjectKey). is_lt (object_cmp k key) && not (same_key k root)) all in omega (arith, low, few)
+
+-- ---- keys of different kinds
+
+then_first : (o p : Ordering) → ordering_then o p ≡ Equal → o ≡ Equal
+then_first Less p e = e
+then_first Equal p e = refl
+then_first Greater p e = e
+
+then_second : (o p : Ordering) → ordering_then o p ≡ Equal → p ≡ Equal
+then_second Less p e = absurd (cc e)
+then_second Equal p e = e
+then_second Greater p e = absurd (cc e)
+
+pub kinds_apart : (a b : Key) → a.kind ≢ b.kind → key_cmp a b ≡ Equal → ⊥
+kinds_apart a b apart e =
+    let later : Ordering = nat_cmp a.offset b.offset in
+    differ a.kind b.kind apart (then_first (nat_cmp a.kind b.kind) later (then_second (nat_cmp a.objectid b.objectid) (ordering_then (nat_cmp a.kind b.kind) later) e))

@@ -1,0 +1,5 @@
+use Rattle.convert_core_laws.proofs.soundness.Totals.{converted_totals_are_sound}
+use Rattle.convert_core_laws.proofs.soundness.converted_totals_are_sound.Goals as goal
+
+pub returns : goal.returns
+returns c = converted_totals_are_sound c.new_ids_fit.ensures

@@ -1,0 +1,18 @@
+use Rattle.convert_core_laws.specs.soundness.Recounted.{recount_for}
+use Rattle.convert_core_laws.proofs.soundness.converted_volumes_are_sound.Goals as goal
+
+pub returns : goal.returns
+returns c = λ o ids now image other m r nodes is size low are has bytes. (
+  recount_for image other m r nodes,
+  record {
+    trees = c.converted_trees_are_sound.ensures o ids now image other m r nodes is size low are has bytes;
+    names = c.converted_names_are_sound.ensures o ids now image other m r nodes is size low are has bytes;
+    references = c.converted_references_are_sound.ensures o ids now image other m r nodes is size low are has bytes;
+    placement = c.converted_placement_is_sound.ensures o ids now image other m r nodes is size low are has bytes;
+    checksums = c.converted_checksums_are_sound.ensures o ids now image other m r nodes is size low are has bytes;
+    block_groups = c.converted_block_groups_are_sound.ensures o ids now image other m r nodes is size low are has bytes;
+    chunks = c.converted_chunks_are_sound.ensures o ids now image other m r nodes is size low are has bytes;
+    reserved = c.converted_reserved_are_sound.ensures o ids now image other m r nodes is size low are has bytes;
+    totals = c.converted_totals_are_sound.ensures o ids now image other m r nodes is size low are has bytes;
+  },
+)

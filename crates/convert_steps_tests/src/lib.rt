@@ -1,0 +1,23 @@
+//! Tests of what a conversion is made of: Btrfs trees that are built, written and read back by a walk; plans of space, the
+//! chunks that they become and the items of the trees that describe space; the pieces of small volumes, and the items that
+//! are made of them. The last two stand beside the checksums of those that an independent program writes.
+//!
+//! The crate has no code of its own: the calls that it tests are public ones of the crates below.
+#![tactic(auto)]
+
+#[cfg(test)]
+mod building;
+#[cfg(test)]
+mod lists;
+#[cfg(test)]
+mod own_nodes;
+#[cfg(test)]
+mod pieces;
+#[cfg(test)]
+mod planning;
+#[cfg(test)]
+mod streams;
+#[cfg(test)]
+mod volume_items;
+#[cfg(test)]
+mod writing;

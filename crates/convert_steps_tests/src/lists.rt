@@ -1,0 +1,158 @@
+// The items of small lists. Each checksum is that of the same items as an independent program writes them.
+ghost use Rattle.std.specs.Prelude.{◌<◌, ◌*◌, ◌^◌, All, AllPairs, IfOk};
+
+use btr_item_list::ItemList;
+use btr_keys::Key;
+use btr_space_items::{Chunk, Device, RootItem};
+use btr_tree::Root;
+use castagnoli::raw_crc;
+use outside::Memory;
+use reiser_bitmap::Bitmap;
+use space_items::{RootList, TreeRoot, chunks, devices, roots};
+use std::alloc::Global;
+use unit_plan::{Need, PlanAnswer, choose, plans_fit};
+use vol_block::Ids;
+
+const IDS: Ids = Ids {
+    fsid: [0x22; 16],
+    device: [0x33; 16],
+    chunk_tree: [0x44; 16],
+    subvolume: [0x55; 16],
+};
+
+/// The blocks of the sample volume. Those below 8212 are in use.
+const BLOCKS: u64 = 12288;
+
+/// The bitmap of the sample volume.
+fn sample(alloc: Global) -> Result<Bitmap, Memory> {
+    let mut map = Bitmap::new(alloc, BLOCKS)?;
+    for b in 0..8212 {
+        if b < map.len() {
+            map.insert(b);
+        }
+    }
+    Ok(map)
+}
+
+/// The items of the chunk tree and of the device tree. Units 1 to 32 hold data, unit 33 is for the chunk tree, units 34 and
+/// 35 are for the other trees and unit 36 is for copies. The units behind have no use.
+fn space_lists(alloc: Global) -> Result<(ItemList, ItemList), PlanAnswer> {
+    plans_fit();
+    let map = sample(alloc)?;
+    let blocks = map.len();
+    if blocks > 1 << 29 {
+        return Err(PlanAnswer::Memory);
+    }
+    let need = Need {
+        system: 1,
+        metadata: 2,
+        data_: 1,
+    };
+    let plan = choose(alloc, &map, &need)?;
+    let chunk_tree = chunks(alloc, &plan, blocks, &IDS)?;
+    let device_tree = devices(alloc, &plan, blocks, &IDS)?;
+    Ok((chunk_tree, device_tree))
+}
+
+/// The checksum of all items: of each the key, the length of the body, and the body.
+fn sum(items: &ItemList) -> u32 {
+    let mut sum = u32::MAX;
+    for i in 0..items.len() {
+        sum = raw_crc(sum, &items.key(i).to_bytes());
+        let body = items.body(i);
+        let length = body.len().min(u32::MAX as usize) as u32;
+        sum = raw_crc(sum, &length.to_le_bytes());
+        sum = raw_crc(sum, body);
+    }
+    sum ^ u32::MAX
+}
+
+/// The key and the body of item `i`, if there are so many.
+fn item(items: &ItemList, i: usize) -> Option<(Key, &[u8])> {
+    if i < items.len() {
+        Some((items.key(i), items.body(i)))
+    } else {
+        None
+    }
+}
+
+#[test]
+fn chunks_of_a_sample(rt: HostRuntime) -> Result<(), PlanAnswer> {
+    let (chunk_tree, device_tree) = space_lists(rt.alloc())?;
+    let Some((key, body)) = item(&chunk_tree, 0) else {
+        panic!(rt; "no device");
+    };
+    assert_eq!(rt; (key.objectid, key.kind, key.offset), (1, 216, 1));
+    let Some(device) = Device::read(body) else {
+        panic!(rt; "no device");
+    };
+    assert_eq!(rt; device.total_bytes, 50_331_648);
+    assert_eq!(rt; device.bytes_used, 37_748_736);
+    let wanted: [(u64, u64, u64); 4] = [
+        (1_048_576, 33_554_432, 1),
+        (34_603_008, 1_048_576, 2),
+        (35_651_584, 2_097_152, 4),
+        (37_748_736, 1_048_576, 1),
+    ];
+    let mut i = 1;
+    for (start, length, kind) in wanted {
+        let Some((key, body)) = item(&chunk_tree, i) else {
+            panic!(rt; "no chunk");
+        };
+        assert_eq!(rt; (key.objectid, key.kind, key.offset), (256, 228, start));
+        let Some(chunk) = Chunk::read(body) else {
+            panic!(rt; "no chunk");
+        };
+        assert_eq!(rt; (chunk.length, chunk.kind), (length, kind));
+        i = i.wrapping_add(1);
+    }
+    assert_eq!(rt; (chunk_tree.len(), sum(&chunk_tree)), (5, 3_545_149_433));
+    assert_eq!(rt; (device_tree.len(), sum(&device_tree)), (4, 1_706_817_448));
+    Ok(())
+}
+
+/// The roots of a small volume.
+fn sample_roots(alloc: Global) -> Result<RootList, Memory>
+    ensures few { IfOk result (All (λ r. 16384 * r.root.nodes < 2 ^ 64)) }
+    ensures order { IfOk result (AllPairs (λ r s. r.tree < s.tree)) }
+{
+    let mut list = RootList::new(alloc);
+    let wanted: [(u64, u64, u8, u64); 6] = [
+        (2, 35_799_040, 1, 3),
+        (4, 35_700_736, 0, 1),
+        (5, 35_651_584, 0, 1),
+        (7, 35_684_352, 0, 1),
+        (256, 35_667_968, 0, 1),
+        (u64::MAX - 8, 35_782_656, 0, 1),
+    ];
+    for (tree, address, level, nodes) in wanted {
+        list.add(TreeRoot {
+            tree,
+            root: Root {
+                address,
+                level,
+                nodes,
+            },
+        })?;
+    }
+    Ok(list)
+}
+
+#[test]
+fn roots_of_a_sample(rt: HostRuntime) -> Result<(), Memory> {
+    let list = sample_roots(rt.alloc())?;
+    let items = roots(rt.alloc(), &list, 7, &IDS, 1_700_000_000, 16384)?;
+    let Some((key, body)) = item(&items, 8) else {
+        panic!(rt; "no root item");
+    };
+    assert_eq!(rt; (key.objectid, key.kind, key.offset), (256, 132, 0));
+    let Some(root) = RootItem::read(body) else {
+        panic!(rt; "no root item");
+    };
+    assert_eq!(rt;
+        (root.root_dirid, root.bytenr, root.bytes_used),
+        (256, 35_667_968, 16384)
+    );
+    assert_eq!(rt; (items.len(), sum(&items)), (11, 1_760_973_775));
+    Ok(())
+}

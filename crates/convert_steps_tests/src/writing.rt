@@ -1,0 +1,247 @@
+// Trees on a disk in memory, read back by a walk.
+ghost use Rattle.std.specs.Prelude.{◌≡◌, ◌≤◌, ◌<◌, ◌+◌, ◌*◌, All, AllPairs, IfOk, Some, length};
+ghost use Rattle.btr_tree.specs.Building.{AreSlots};
+
+use btr_item_list::ItemList;
+use btr_keys::Key;
+use btr_reader_walk::{Form, MapRange, Pointer, Tree, TreeWalker};
+use btr_tree::{Root, Slots};
+use btr_tree_writer::{ListItems, NodeForm, Trees, WriteAnswer, WrittenTree, write_tree};
+use csum_kinds::SumKind;
+use outside::{Access, BlockSource, Disk, Memory};
+use outside_mem::MemDisk;
+use refusals::BtrAnswer;
+use std::alloc::Global;
+use std::test::Fail;
+use vol_block::Ids;
+
+const FORM: NodeForm = NodeForm {
+    ids: Ids {
+        fsid: [0x11; 16],
+        device: [0x22; 16],
+        chunk_tree: [0x33; 16],
+        subvolume: [0x44; 16],
+    },
+    nodesize: 4096,
+    sums: SumKind::Crc32c,
+};
+
+/// The number of the trees.
+const OWNER: u64 = 5;
+
+/// All addresses of a disk of 32 blocks.
+const ALL: [MapRange; 1] = [MapRange {
+    logical: 0,
+    length: 131072,
+    physical: 0,
+}];
+
+fn key(objectid: u64) -> Key {
+    Key {
+        objectid,
+        kind: 1,
+        offset: 0,
+    }
+}
+
+/// Slots for so many nodes of 4,096 bytes, one behind the other.
+fn slots_in_a_row(alloc: Global, count: u64) -> Result<Slots, Memory>
+    requires few { count ≤ 16 }
+    ensures slots { IfOk result (AreSlots 4096) }
+    ensures within { IfOk result (λ slots. All (λ a. a + 4096 ≤ 4096 * (count + 16)) slots) }
+    ensures ascending { IfOk result (λ slots. AllPairs (λ a b. a < b) slots) }
+    ensures count { IfOk result (λ slots. length slots ≡ count) }
+{
+    let mut slots = Slots::new(alloc);
+    for k in 0..count {
+        slots.add(65536 + 4096 * k)?;
+    }
+    Ok(slots)
+}
+
+/// Whether the tree with this root has the items of the list, and no more.
+fn has_items<S: BlockSource>(
+    alloc: Global,
+    src: &mut S,
+    root: &Root,
+    list: &ItemList,
+) -> Result<bool, BtrAnswer>
+    requires size { 32 ≤ S.size src.old }
+    ensures size { S.size src.new ≡ S.size src.old }
+{
+    if root.level > 7 {
+        return Ok(false);
+    }
+    let tree = Tree {
+        form: Form {
+            fsid: FORM.ids.fsid,
+            nodesize: FORM.nodesize,
+            sums: FORM.sums,
+        },
+        root: Pointer {
+            address: root.address,
+            level: root.level,
+            generation: 1,
+        },
+        owner: OWNER,
+    };
+    let mut walker = TreeWalker::new(alloc, tree)?;
+    for i in 0..list.len() {
+        if !walker.advance(src, &ALL)? {
+            return Ok(false);
+        }
+        if walker.key() != list.key(i) || walker.body() != list.body(i) {
+            return Ok(false);
+        }
+    }
+    let more = walker.advance(src, &ALL)?;
+    Ok(!more)
+}
+
+/// Writes the items of a list to so many slots.
+fn written<D: Disk>(
+    alloc: Global,
+    disk: &mut D,
+    count: u64,
+    list: &ItemList,
+) -> Result<WrittenTree, WriteAnswer>
+    requires few { count ≤ 16 }
+    requires open { D.opened disk.old ≡ Some Access.Write }
+    requires size { 32 ≤ D.size disk.old }
+    ensures size { D.size disk.new ≡ D.size disk.old }
+{
+    let slots = slots_in_a_row(alloc, count)?;
+    write_tree(alloc, disk, OWNER, FORM, slots, &mut ListItems::new(list))
+}
+
+#[test]
+fn one_leaf(rt: HostRuntime) -> Result<(), Fail> {
+    let mut list = ItemList::new(rt.alloc());
+    list.add(key(256), b"one")?;
+    list.add(key(257), b"two")?;
+    let mut disk = MemDisk::new(rt.alloc(), 32)?;
+    disk.open("", Access::Write)?;
+    let tree = written(rt.alloc(), &mut disk, 1, &list)?;
+    assert_eq!(rt;
+        tree.root,
+        Root {
+            address: 65536,
+            level: 0,
+            nodes: 1
+        }
+    );
+    assert_eq!(rt; tree.counter.finish(), 1);
+    assert_eq!(rt; disk.writes(), 1);
+    let is_back = has_items(rt.alloc(), &mut disk, &tree.root, &list)?;
+    assert!(rt; is_back);
+    Ok(())
+}
+
+// A leaf has room for one of these items.
+#[test]
+fn two_levels(rt: HostRuntime) -> Result<(), Fail> {
+    let mut list = ItemList::new(rt.alloc());
+    list.add(key(256), &[7; 3970])?;
+    list.add(key(257), &[8; 3970])?;
+    let mut disk = MemDisk::new(rt.alloc(), 32)?;
+    disk.open("", Access::Write)?;
+    let tree = written(rt.alloc(), &mut disk, 3, &list)?;
+    assert_eq!(rt;
+        tree.root,
+        Root {
+            address: 73728,
+            level: 1,
+            nodes: 3
+        }
+    );
+    assert_eq!(rt; disk.writes(), 3);
+    let is_back = has_items(rt.alloc(), &mut disk, &tree.root, &list)?;
+    assert!(rt; is_back);
+    Ok(())
+}
+
+#[test]
+fn no_items(rt: HostRuntime) -> Result<(), Fail> {
+    let list = ItemList::new(rt.alloc());
+    let mut disk = MemDisk::new(rt.alloc(), 32)?;
+    disk.open("", Access::Write)?;
+    let tree = written(rt.alloc(), &mut disk, 1, &list)?;
+    let is_back = has_items(rt.alloc(), &mut disk, &tree.root, &list)?;
+    assert!(rt; is_back);
+    Ok(())
+}
+
+/// What is answered for two items with these keys and bodies of this length, with so many slots.
+fn answer(
+    alloc: Global,
+    first: u64,
+    second: u64,
+    body: &[u8],
+    count: u64,
+) -> Result<Option<WriteAnswer>, Fail>
+    requires few { count ≤ 16 }
+{
+    let mut list = ItemList::new(alloc);
+    list.add(key(first), body)?;
+    list.add(key(second), body)?;
+    let mut disk = MemDisk::new(alloc, 32)?;
+    disk.open("", Access::Write)?;
+    Ok(written(alloc, &mut disk, count, &list).err())
+}
+
+#[test]
+fn misfits(rt: HostRuntime) -> Result<(), Fail> {
+    let alloc = rt.alloc();
+    let misfit = Some(WriteAnswer::Misfit);
+    assert_eq!(rt; answer(alloc, 1, 2, &[7; 3970], 3)?, None);
+    assert_eq!(rt; answer(alloc, 2, 1, &[7; 3970], 3)?, misfit);
+    assert_eq!(rt; answer(alloc, 1, 1, &[7; 3970], 3)?, misfit);
+    assert_eq!(rt; answer(alloc, 1, 2, &[7; 3971], 3)?, misfit);
+    assert_eq!(rt; answer(alloc, 1, 2, &[7; 3970], 2)?, misfit);
+    assert_eq!(rt; answer(alloc, 1, 2, &[7; 3970], 1)?, misfit);
+    assert_eq!(rt; answer(alloc, 1, 2, b"body", 0)?, misfit);
+    Ok(())
+}
+
+/// Two trees of the items of one list, and how many slots and nodes they took together.
+#[derive(Clone, Copy, Debug, PartialEq, Eq)]
+struct Twice {
+    roots: (Root, Root),
+    taken: usize,
+    nodes: usize,
+}
+
+impl Twice {
+    /// Writes both to six slots.
+    fn written<D: Disk>(alloc: Global, disk: &mut D, list: &ItemList) -> Result<Twice, WriteAnswer>
+        requires open { D.opened disk.old ≡ Some Access.Write }
+        requires size { 32 ≤ D.size disk.old }
+        ensures size { D.size disk.new ≡ D.size disk.old }
+    {
+        let mut trees = Trees::new(alloc, FORM, slots_in_a_row(alloc, 6)?);
+        let first = trees.write(alloc, disk, OWNER, &mut ListItems::new(list))?;
+        let second = trees.write(alloc, disk, OWNER, &mut ListItems::new(list))?;
+        Ok(Twice {
+            roots: (first, second),
+            taken: trees.taken(),
+            nodes: trees.nodes().len(),
+        })
+    }
+}
+
+#[test]
+fn two_trees(rt: HostRuntime) -> Result<(), Fail> {
+    let mut list = ItemList::new(rt.alloc());
+    list.add(key(256), &[7; 3970])?;
+    list.add(key(257), &[8; 3970])?;
+    let mut disk = MemDisk::new(rt.alloc(), 32)?;
+    disk.open("", Access::Write)?;
+    let twice = Twice::written(rt.alloc(), &mut disk, &list)?;
+    let (first, second) = twice.roots;
+    assert_eq!(rt; (first.address, second.address), (73728, 86016));
+    assert_eq!(rt; (twice.taken, twice.nodes), (6, 6));
+    let first_back = has_items(rt.alloc(), &mut disk, &first, &list)?;
+    let second_back = has_items(rt.alloc(), &mut disk, &second, &list)?;
+    assert!(rt; first_back && second_back);
+    Ok(())
+}

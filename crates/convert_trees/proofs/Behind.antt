@@ -1,0 +1,43 @@
+-- Writes to the slots that are left, tree after tree.
+use Rattle.std.proofs.Common.{◌≡◌, ◌∙◌, ℕ, ◌+◌, ◌-◌, ◌≤◌, List, drop, sym, ap, subst, arith}
+use Rattle.std.proofs.lemmas.List.{drop-drop, get_or-drop, length-drop}
+use Rattle.btr_tree.specs.outside.History.{History, WritesOnly}
+use Rattle.btr_tree.proofs.outside.Crash.{writes_then, writes_weaker}
+use Rattle.btr_tree.specs.Writing.{IsInSlots}
+use Rattle.btr_tree_writer.specs.declared.form.NodeForm.{NodeForm}
+use Rattle.btr_tree_writer.specs.declared.trees.Trees.{Trees}
+
+-- the same row, where maybe more slots are taken
+pub record IsLater (row later : Trees) : Type 0 where
+  pub form : later.form ≡ row.form
+  pub slots : later.slots ≡ row.slots
+  pub more : row.taken ≤ later.taken
+
+pub later_by : (row later : Trees) (n : ℕ) → (later.form ≡ row.form) × (later.slots ≡ row.slots) → later.taken ≡ row.taken + n → IsLater row later
+later_by row later n same taken = record { form = same.0; slots = same.1; more = omega (arith, taken) }
+
+pub later_then : (row mid later : Trees) → IsLater row mid → IsLater mid later → IsLater row later
+later_then row mid later first then = record { form = then.form ∙ first.form; slots = then.slots ∙ first.slots; more = omega (arith, first.more, then.more) }
+
+-- a block of the slots behind some is one of all
+pub in_left : (nodesize taken : ℕ) (slots : List ℕ) (b : ℕ) → IsInSlots nodesize (drop taken slots) b → IsInSlots nodesize slots b
+in_left nodesize taken slots b found =
+    (taken + found.0, found.1, omega (arith, found.2, length-drop taken slots), sym (get_or-drop taken slots found.0 found.1) ∙ found.3, found.4)
+
+-- a block of the slots that are left
+abbrev pub IsInRest : Trees → ℕ → Type 0
+IsInRest row b = IsInSlots row.form.nodesize (drop row.taken row.slots) b
+
+pub still_in_rest : (row later : Trees) → IsLater row later → (b : ℕ) → IsInRest later b → IsInRest row b
+still_in_rest row later is b found =
+    let sized : IsInSlots row.form.nodesize (drop later.taken later.slots) b = subst (λ (f : NodeForm). IsInSlots f.nodesize (drop later.taken later.slots) b) is.form found in
+    let there : IsInSlots row.form.nodesize (drop later.taken row.slots) b = subst (λ (s : List ℕ). IsInSlots row.form.nodesize (drop later.taken s) b) is.slots sized in
+    let count : later.taken ≡ row.taken + (later.taken - row.taken) = omega (arith, is.more) in
+    let split : drop later.taken row.slots ≡ drop (later.taken - row.taken) (drop row.taken row.slots) =
+    ap (λ (n : ℕ). drop n row.slots) count ∙ sym (drop-drop (later.taken - row.taken) row.taken row.slots) in
+    in_left row.form.nodesize (later.taken - row.taken) (drop row.taken row.slots) b (subst (λ (s : List ℕ). IsInSlots row.form.nodesize s b) split there)
+
+pub writes_behind : (row later : Trees) (old mid new : History) → IsLater row later → WritesOnly (λ b _. IsInRest row b) old mid → WritesOnly (λ b _. IsInRest later b) mid new → WritesOnly (λ b _. IsInRest row b) old new
+writes_behind row later old mid new is first then =
+    writes_then (λ b _. IsInRest row b) old mid new first
+    (writes_weaker (λ b _. IsInRest later b) (λ b _. IsInRest row b) (λ b bytes found. still_in_rest row later is b found) mid new then)

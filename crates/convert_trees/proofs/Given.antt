@@ -1,0 +1,107 @@
+-- What a conversion gives to the writing of its trees, told of its arguments.
+use Rattle.std.proofs.Common.{◌≡◌, ◌∙◌, ℕ, ◌+◌, ◌<◌, ◌≤◌, Bool, true, List, length, Some, sym, ap, subst}
+use Rattle.std.specs.Prelude.{Contains}
+use Rattle.btr_tree.specs.outside.History.{Image}
+use Rattle.btr_tree.specs.btr_node.Leaf.{Item}
+use Rattle.btr_tree.specs.Counting.{tree_nodes}
+use Rattle.btr_tree.specs.Roots.{lengths_of}
+use Rattle.convert_steps.specs.Making.{IsMaking, Making, new_ids, slots}
+use Rattle.convert_steps.specs.Standing.{AllFit, IsFor, SameVolume, chunk_count, image_tree_items, no_trees, nodes_for, root_tree_items, sum_tree_items}
+use Rattle.convert_steps.specs.extent_pieces.Laws.{LiesInUnit}
+use Rattle.convert_steps.proofs.extent_pieces.Apart.{places_are_apart}
+use Rattle.convert_steps.proofs.extent_pieces.Lists.{all_at}
+use Rattle.file_items.specs.Small.{image_items, relocation_items}
+use Rattle.reiser_volume.specs.reiser_bitmap.Bits.{has}
+use Rattle.reiser_volume.specs.Opened.{IsOpened}
+use Rattle.reiser_volume.specs.Volume.{superblock, used_of}
+use Rattle.reiser_volume.specs.declared.volume.Volume.{Volume}
+use Rattle.reiser_volume.proofs.Holding.{used_length}
+use Rattle.space_items.specs.Chunks.{chunk_items, device_items}
+use Rattle.space_items.specs.StreamLaws.{FitLeaves}
+use Rattle.btr_tree_writer.specs.declared.form.NodeForm.{NodeForm}
+use Rattle.unit_plan.specs.Chunks.{AreChunks}
+use Rattle.unit_plan.specs.Pieces.{ArePlaced}
+use Rattle.unit_plan.specs.Places.{node_places}
+use Rattle.unit_plan.specs.declared.chunk.Chunk.{Chunk}
+use Rattle.convert_options.specs.declared.options.Options.{Options}
+use Rattle.unit_plan.specs.declared.piece.Piece.{Piece}
+use Rattle.unit_plan.specs.declared.plan.Plan.{Plan}
+use Rattle.btr_tree.specs.vol_block.declared.ids.Ids.{Ids}
+use Rattle.convert_trees.specs.First.{first_count, first_items}
+use Rattle.convert_trees.specs.RootTree.{root_count, saved_in, slots_needed}
+use Rattle.convert_trees.specs.Sources.{HasVolume}
+use Rattle.convert_trees.proofs.Staying.{volume_stays}
+use Rattle.convert_trees.proofs.Opening.{files_in, files_same}
+use Rattle.convert_trees.proofs.Untouched.{stays_used}
+
+-- how nodes are written
+abbrev pub node_form : Options → Ids → NodeForm
+node_form o ids = record { ids = ids; nodesize = o.nodesize; sums = o.sums }
+
+pub record Given (volume : Volume) (o : Options) (ids : Ids) (now : ℕ) (plan : Plan) (pieces : List Piece) (chunks : List Chunk) (image other : Image) : Type 0 where
+  pub are : AreChunks plan volume.sup.blocks chunks
+  pub opened : IsOpened volume image
+  pub volume_there : HasVolume volume pieces other
+  pub moved : (p : Piece) → Contains pieces p → LiesInUnit plan.data_ p
+  pub stay : (p : Piece) (b : ℕ) → Contains pieces p → p.from ≡ Some p.place → p.place ≤ b → b < p.place + p.count → has volume.bitmap b ≡ true
+  pub files_same : files_in volume o pieces other ≡ files_in volume o pieces image
+  pub files : FitLeaves (files_in volume o pieces other)
+  pub saved : FitLeaves (image_items volume.sup.blocks pieces o.datasum now)
+  pub relocation : FitLeaves (relocation_items now)
+  pub chunk_few : tree_nodes o.nodesize (lengths_of (chunk_items ids volume.sup.blocks chunks)) ≤ length (node_places o.nodesize plan.system)
+  pub few : slots_needed o.nodesize (first_count o.nodesize (first_items volume pieces o ids now chunks other)) (root_count (node_form o ids) (saved_in volume) now) (length pieces) (length chunks)
+      (tree_nodes o.nodesize (lengths_of (chunk_items ids volume.sup.blocks chunks))) ≤ length (node_places o.nodesize plan.metadata)
+
+module _ (image other : Image) (m : Making) (is : IsMaking image m) (same : SameVolume image other) (fit : AllFit image other m) where
+  there : HasVolume m.volume m.pieces image
+  there =
+      let of = is.has_pieces in
+      let well = places_are_apart image of.found m.options m.plan m.pieces of.plan_ of.placed in
+      record {
+        accepted = of.accepted;
+        opened = of.opened;
+        room = of.accepted.clean.superblock.fits;
+        placed = subst (λ (n : ℕ). ArePlaced n m.pieces) (used_length image) well.apart;
+      }
+
+  bitmap_is : m.volume.bitmap ≡ used_of image
+  bitmap_is = is.has_pieces.opened.bitmap
+
+  still : HasVolume m.volume m.pieces other
+  still =
+      volume_stays m.volume m.pieces image other
+      (record { as_many = same.as_many; blocks = λ b used. same.used b (ap (λ (bits : List Bool). has bits b) (sym bitmap_is) ∙ used) })
+      there
+
+  files_are : files_in m.volume m.options m.pieces other ≡ files_in m.volume m.options m.pieces image
+  files_are = files_same m.volume m.options m.pieces image other is.has_pieces.accepted same.used (subst (λ (n : ℕ). (superblock image).blocks ≤ n) (sym same.as_many) there.room)
+
+  given : Given m.volume m.options (new_ids m) m.now m.plan m.pieces m.chunks image other
+  given =
+      let of = is.has_pieces in
+      let well = places_are_apart image of.found m.options m.plan m.pieces of.plan_ of.placed in
+      record {
+        are = is.chunks_are;
+        opened = of.opened;
+        volume_there = still;
+        moved = λ p among. all_at (LiesInUnit m.plan.data_) m.pieces p well.moved among;
+        stay = λ p b among stays low high. ap (λ (bits : List Bool). has bits b) bitmap_is ∙ stays_used image of.found m.options m.plan m.pieces of.plan_ of.placed p b among stays low high;
+        files_same = files_are;
+        files = subst FitLeaves (sym files_are) fit.files;
+        saved = fit.saved;
+        relocation = fit.relocation;
+        chunk_few = fit.chunk_few;
+        few = subst (λ (files : List Item). slots_needed m.options.nodesize
+            (nodes_for m files + nodes_for m (image_tree_items m) + nodes_for m (relocation_items m.now) + nodes_for m (sum_tree_items other m) + nodes_for m (device_items (new_ids m) m.chunks))
+            (nodes_for m (root_tree_items m no_trees)) (length m.pieces) (length m.chunks) (chunk_count m) ≤ length (slots m)) (sym files_are) fit.few;
+      }
+
+  module _ (volume : Volume) (o : Options) (ids : Ids) (now : ℕ) (plan : Plan) (pieces : List Piece) (for : IsFor m volume o ids now plan pieces) where
+    pub given_for : Given volume o ids now plan pieces m.chunks image other
+    given_for =
+        subst (λ (ps : List Piece). Given volume o ids now plan ps m.chunks image other) for.pieces_are
+        (subst (λ (p : Plan). Given volume o ids now p m.pieces m.chunks image other) for.plan_is
+        (subst (λ (n : ℕ). Given volume o ids n m.plan m.pieces m.chunks image other) for.now_is
+        (subst (λ (i : Ids). Given volume o i m.now m.plan m.pieces m.chunks image other) for.ids_are
+        (subst (λ (x : Options). Given volume x (new_ids m) m.now m.plan m.pieces m.chunks image other) for.options_are
+        (subst (λ (v : Volume). Given v m.options (new_ids m) m.now m.plan m.pieces m.chunks image other) for.volume_is given)))))

@@ -1,0 +1,62 @@
+-- What is read of a volume stays while blocks are written that it does not use.
+use Rattle.std.proofs.Common.{◌≡◌, ◌∙◌, ℕ, ◌≤◌, List, length, sym, ap, subst}
+use Rattle.btr_tree.specs.outside.History.{Image}
+use Rattle.file_items.specs.Stream.{ahead, FitsRestBlocks}
+use Rattle.file_items.proofs.Unchanged.{ahead_same}
+use Rattle.file_items.specs.declared.items.Items.{Items}
+use Rattle.file_items.specs.declared.items.Rest.{Rest}
+use Rattle.file_items.specs.declared.items.Rest.TheVariants as rest
+use Rattle.reiser_volume.specs.reiser_volume_contents.Laws.{SameUsed}
+use Rattle.reiser_volume.specs.reiser_bitmap.Bits.{has}
+use Rattle.reiser_volume.specs.reiser_super.declared.superblock.Super.{Super}
+use Rattle.reiser_volume.specs.Opened.{IsOpened}
+use Rattle.reiser_volume.specs.Volume.{IsAccepted, superblock, used_of}
+use Rattle.reiser_volume.specs.declared.volume.Volume.{Volume}
+use Rattle.reiser_volume.proofs.Unchanged.{opened_same, same_volume}
+use Rattle.btr_tree_writer.specs.Source.{SameWhere}
+use Rattle.unit_plan.specs.Pieces.{ArePlaced}
+use Rattle.unit_plan.specs.declared.piece.Piece.{Piece}
+use Rattle.convert_trees.specs.Sources.{FitsFiles, HasVolume, IsUsed, ReadsFiles}
+
+rest_blocks : (r : Rest) (volume : Volume) (image other : Image) → IsAccepted other → IsOpened volume other → FitsRestBlocks r volume image → FitsRestBlocks r volume other
+rest_blocks rest.Nothing volume image other accepted opened fits = fits
+rest_blocks (rest.Image extents) volume image other accepted opened fits = fits
+rest_blocks (rest.Files f) volume image other accepted opened fits = record {
+  accepted = accepted;
+  opened = opened;
+  index_is = fits.index_is;
+  numbers_are = fits.numbers_are;
+}
+
+files_read_on : (items : Items) (volume : Volume) (pieces : List Piece) (image other : Image) → SameWhere (IsUsed volume) image other → ReadsFiles items volume pieces image
+    → ReadsFiles items volume pieces other × (ahead items volume pieces other ≡ ahead items volume pieces image)
+files_read_on items volume pieces image other same fits =
+    let used : SameUsed (used_of image) image other = λ b is. same.blocks b (ap (λ bits. has bits b) fits.opened.bitmap ∙ is) in
+    let room = subst (λ (n : ℕ). (superblock image).blocks ≤ n) (sym same.as_many) fits.room in
+    let v = same_volume image other fits.accepted used room in
+    let opened = opened_same volume image other v fits.opened in (
+      record {
+        accepted = v.accepted;
+        opened = opened;
+        room = subst (λ (s : Super). s.blocks ≤ length other) (sym v.fields) room;
+        placed = subst (λ (s : Super). ArePlaced s.blocks pieces) (sym v.fields) fits.placed;
+        blocks = record { rest_fits = rest_blocks items.rest volume image other v.accepted opened fits.blocks.rest_fits };
+      },
+      ahead_same items volume pieces image other v.items,
+    )
+
+pub files_fit : (items : Items) (volume : Volume) (pieces : List Piece) (image : Image) → ReadsFiles items volume pieces image → FitsFiles items volume pieces image
+files_fit items volume pieces image here = record { here = here; stay = λ other same. files_read_on items volume pieces image other same here }
+
+-- a volume stays where its used blocks do
+pub volume_stays : (volume : Volume) (pieces : List Piece) (image other : Image) → SameWhere (IsUsed volume) image other → HasVolume volume pieces image → HasVolume volume pieces other
+volume_stays volume pieces image other same is =
+    let used : SameUsed (used_of image) image other = λ b marked. same.blocks b (ap (λ bits. has bits b) is.opened.bitmap ∙ marked) in
+    let room = subst (λ (n : ℕ). (superblock image).blocks ≤ n) (sym same.as_many) is.room in
+    let v = same_volume image other is.accepted used room in
+    record {
+      accepted = v.accepted;
+      opened = opened_same volume image other v is.opened;
+      room = subst (λ (s : Super). s.blocks ≤ length other) (sym v.fields) room;
+      placed = subst (λ (s : Super). ArePlaced s.blocks pieces) (sym v.fields) is.placed;
+    }

@@ -1,0 +1,8 @@
+use Rattle.std.proofs.Common.{◌≡◌, take}
+use Rattle.convert_trees.proofs.root_tree.first_slots.Given as goal
+
+abbrev pub invariant-loop-slot : goal.invariant-loop-slot
+invariant-loop-slot l = record {
+  all : l.slot-items ≡ take l.count l.slots;
+  first : l.first ≡ take l.slot-index l.slot-items;
+}

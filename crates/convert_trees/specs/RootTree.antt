@@ -1,0 +1,51 @@
+-- The root tree in a row of slots, and the extent tree behind it.
+use Rattle.std.specs.Prelude.{◌≡◌, ℕ, ◌+◌, ◌*◌, ◌++◌, count_by, List, drop, take}
+use Rattle.std.specs.List.{sum_by}
+use Rattle.btr_tree.specs.outside.History.{Image}
+use Rattle.btr_tree.specs.btr_node.Leaf.{Item}
+use Rattle.btr_tree.specs.Counting.{node_bound, tree_nodes}
+use Rattle.btr_tree.specs.Roots.{lengths_of}
+use Rattle.convert_steps.specs.Standing.{listed as listed_of, no_trees}
+use Rattle.convert_steps.specs.declared.trees.VolumeTrees.{VolumeTrees}
+use Rattle.reiser_volume.specs.reiser_volume_objects.Keys.{root as root_key, same_key}
+use Rattle.reiser_volume.specs.Opened.{links_in}
+use Rattle.reiser_volume.specs.declared.volume.Volume.{Volume}
+use Rattle.space_items.specs.Extents.{extent_items, used_in}
+use Rattle.space_items.specs.Nodes.{merged_nodes, nodes_of_tree}
+use Rattle.space_items.specs.Own.{extent_bytes}
+use Rattle.space_items.specs.Roots.{root_items}
+use Rattle.space_items.specs.declared.node.TreeNode.{TreeNode}
+use Rattle.btr_tree_writer.specs.Trees.{TreeStands, form_of}
+use Rattle.btr_tree_writer.specs.declared.form.NodeForm.{NodeForm}
+use Rattle.btr_tree_writer.specs.declared.trees.Trees.{Trees}
+use Rattle.unit_plan.specs.declared.chunk.Chunk.{Chunk}
+use Rattle.unit_plan.specs.declared.piece.Piece.{Piece}
+
+-- The index of the root's entry for the tree of the saved image. It is the root's last; the first entry has index 2.
+abbrev pub saved_in : Volume → ℕ
+saved_in volume = 2 + count_by (λ n. same_key n.dir root_key) (links_in volume)
+
+-- the items of the root tree that tells of these trees
+abbrev pub items_of_root : NodeForm → ℕ → ℕ → VolumeTrees → List Item
+items_of_root form index now t = root_items (listed_of t) index form.ids now form.nodesize
+
+-- how many nodes it has, wherever the trees begin
+abbrev pub root_count : NodeForm → ℕ → ℕ → ℕ
+root_count form index now = tree_nodes form.nodesize (lengths_of (items_of_root form index now no_trees))
+
+-- How many slots suffice where the root tree has so many nodes: for those that are taken, for these nodes, and behind them for
+-- the bound of the extent tree's.
+abbrev pub slots_needed : ℕ → ℕ → ℕ → ℕ → ℕ → ℕ → ℕ
+slots_needed nodesize taken count pieces chunks others =
+    taken + count + (2 * node_bound (extent_bytes pieces chunks (taken + count + others)) nodesize + 16)
+
+-- The root tree stands at the first slots that were not taken, and tells where all others begin. The extent tree stands
+-- behind it. It tells of all nodes, its own among them, and the bytes of all extents are told.
+pub record AddsLast (image : Image) (row : Trees) (index now : ℕ) (chunks : List Chunk) (pieces : List Piece) (others : List TreeNode) (t : VolumeTrees) : Type 0 where
+  pub nodes : List TreeNode
+  pub root : TreeStands image (form_of row.form) 1 (take t.root.nodes (drop row.taken row.slots)) (items_of_root row.form index now t) t.root
+  pub extents : TreeStands image (form_of row.form) 2 (drop (row.taken + t.root.nodes) row.slots) (extent_items chunks pieces nodes row.form.nodesize) t.extents
+  pub are_all : nodes ≡ merged_nodes
+      (merged_nodes (row.nodes ++ nodes_of_tree 1 row.form.nodesize (lengths_of (items_of_root row.form index now t)) (drop row.taken row.slots)) others)
+      (nodes_of_tree 2 row.form.nodesize (lengths_of (extent_items chunks pieces nodes row.form.nodesize)) (drop (row.taken + t.root.nodes) row.slots))
+  pub used : t.used ≡ sum_by (used_in pieces nodes row.form.nodesize) chunks

@@ -1,0 +1,139 @@
+// The root tree, which tells where each tree begins, and the slots that are kept for it.
+ghost use Rattle.std.specs.Prelude.{◌≡◌, ◌≤◌, ◌<◌, ◌+◌, ◌*◌, ◌^◌, ◌⊎◌, ◌++◌, List, Some, All, drop, length, take, IsTrue, IfOk, IfErr, OnOk};
+ghost use Rattle.std.specs.Result.{MatchResult};
+ghost use Rattle.btr_tree.specs.outside.Fault.{HasCauseOf};
+ghost use Rattle.btr_tree.specs.outside.History.{Image, reads, WritesOnly};
+ghost use Rattle.btr_tree.specs.Counting.{tree_nodes};
+ghost use Rattle.btr_tree.specs.Roots.{lengths_of};
+ghost use Rattle.btr_tree.specs.Writing.{IsInSlots};
+ghost use Rattle.btr_tree.specs.declared.climb.Root.{Root as RootOf};
+ghost use Rattle.reiser_volume.specs.Opened.{IsOpened};
+ghost use Rattle.space_items.specs.Laws.{AreIds};
+ghost use Rattle.space_items.specs.Nodes.{AreNodes, nodes_of_tree};
+ghost use Rattle.space_items.specs.Roots.{root_items};
+ghost use Rattle.space_items.specs.Stream.{ArePieces};
+ghost use Rattle.btr_tree_writer.specs.Answers.{IsFailure};
+ghost use Rattle.btr_tree_writer.specs.Row.{IsRow};
+ghost use Rattle.unit_plan.specs.Chunks.{AreChunks, FitsVolume};
+ghost use Rattle.unit_plan.specs.declared.chunk.Chunk.{Chunk as ChunkOf};
+ghost use Rattle.convert_trees.specs.RootTree.{AddsLast, root_count, saved_in, slots_needed};
+ghost use Rattle.convert_trees.specs.Roots.{AreFew, listed};
+
+use crate::last::{WrittenExtents, write_extents};
+use crate::roots::{FirstRoots, counted, root_list, saved_index};
+use crate::writing::Writing;
+use btr_tree::{Access, Disk, Memory, Root, Slots};
+use btr_tree_writer::{ListItems, Trees, WriteAnswer, write_tree};
+use convert_steps::VolumeTrees;
+use space_items::NodeList;
+use std::alloc::Global;
+use unit_plan::PieceList;
+
+const ROOT_TREE: u64 = 1;
+
+/// Keeps slots for the root tree, writes the extent tree behind them, and then the root tree.
+pub fn write_last<D: Disk, P: PieceList>(
+    row: &mut Trees,
+    disk: &mut D,
+    w: &Writing<'_, P>,
+    chunk: Root,
+    first: FirstRoots,
+    chunk_nodes: &NodeList,
+) -> Result<VolumeTrees, WriteAnswer>
+    requires row { IsRow row.old }
+    requires form { row.old.form ≡ w.now.form }
+    requires ids { AreIds w.now.form.ids }
+    requires open { D.opened disk.old ≡ Some Access.Write }
+    requires in_range { All (λ a. a + row.old.form.nodesize ≤ 4096 * D.size disk.old) row.old.slots }
+    requires moment { w.now.time < 2 ^ 63 }
+    requires small { w.now.volume.now.sup.blocks ≤ 2 ^ 29 }
+    requires units { FitsVolume w.now.plan.now w.now.volume.now.sup.blocks }
+    requires pieces { ArePieces (P.pieces w.now.pieces.now) }
+    requires nodes { AreNodes chunk_nodes.now }
+    requires few { length chunk_nodes.now < 2 ^ 43 }
+    requires roots { (extents : RootOf) → extents.nodes < 2 ^ 43 → AreFew first extents }
+    ensures same { IfOk result (λ t. (t.chunk ≡ chunk) × (t.files ≡ first.files) × (t.image ≡ first.image) × (t.relocation ≡ first.relocation) × (t.sums ≡ first.sums) × (t.device ≡ first.device)) }
+    ensures trees { IsTrue D.tells → (opened : Image) → IsOpened w.now.volume.now opened → (chunks : List ChunkOf) → AreChunks w.now.plan.now w.now.volume.now.sup.blocks chunks
+        → slots_needed row.old.form.nodesize row.old.taken (root_count row.old.form (saved_in w.now.volume.now) w.now.time) (length (P.pieces w.now.pieces.now)) (length chunks) (length chunk_nodes.now) ≤ length row.old.slots
+        → MatchResult result (λ t. AddsLast (reads (D.history disk.new)) row.old (saved_in w.now.volume.now) w.now.time chunks (P.pieces w.now.pieces.now) chunk_nodes.now t) IsFailure }
+    ensures open { D.opened disk.new ≡ D.opened disk.old }
+    ensures size { D.size disk.new ≡ D.size disk.old }
+    ensures borrow { D.borrow disk.new ≡ D.borrow disk.old }
+    ensures only { IsTrue D.tells → WritesOnly (λ b _. IsInSlots row.old.form.nodesize (drop row.old.taken row.old.slots) b) (D.history disk.old) (D.history disk.new) }
+    ensures cause { HasCauseOf WriteAnswer.Fault (D.faults disk.old) (D.faults disk.new) result }
+{
+    let index = saved_index(w.volume);
+    let slots = keep_roots(row, w, first, index)?;
+    let written = write_extents(row, disk, w, chunk_nodes)?;
+    let list = root_list(w, first, written.root, index)?;
+    let tree = write_tree(
+        w.alloc,
+        disk,
+        ROOT_TREE,
+        w.form,
+        slots,
+        &mut ListItems::new(&list),
+    )?;
+    Ok(all_trees(chunk, first, written, tree.root))
+}
+
+/// Takes slots for the nodes of the root tree, and gives them. It has as many nodes whatever the roots in its items are.
+fn keep_roots<P: PieceList>(
+    row: &mut Trees,
+    w: &Writing<'_, P>,
+    first: FirstRoots,
+    index: u64,
+) -> Result<Slots, WriteAnswer>
+    requires row { IsRow row.old }
+    requires form { row.old.form ≡ w.now.form }
+    requires ids { AreIds w.now.form.ids }
+    requires moment { w.now.time < 2 ^ 63 }
+    requires few { (extents : RootOf) → extents.nodes ≡ 0 → AreFew first extents }
+    ensures row { OnOk result (IsRow row.new) }
+    ensures same { (row.new.form ≡ row.old.form) × (row.new.slots ≡ row.old.slots) }
+    ensures slots { (extents : RootOf) → IfOk result (λ slots. slots ≡ take (tree_nodes w.now.form.nodesize (lengths_of (root_items (listed first extents) index w.now.form.ids w.now.time w.now.form.nodesize))) (drop row.old.taken row.old.slots)) }
+    ensures taken { IfOk result (λ slots. row.new.taken ≡ row.old.taken + length slots) }
+    ensures nodes { (extents : RootOf) → OnOk result (row.new.nodes ≡ row.old.nodes ++ nodes_of_tree 1 w.now.form.nodesize (lengths_of (root_items (listed first extents) index w.now.form.ids w.now.time w.now.form.nodesize)) (drop row.old.taken row.old.slots)) }
+    ensures answers { IfErr result (λ e. (e ≡ WriteAnswer.Misfit) ⊎ (e ≡ WriteAnswer.Memory)) }
+    ensures misfit { (extents : RootOf) → row.old.taken + tree_nodes w.now.form.nodesize (lengths_of (root_items (listed first extents) index w.now.form.ids w.now.time w.now.form.nodesize)) ≤ length row.old.slots → IfErr result (λ e. e ≡ WriteAnswer.Memory) }
+{
+    let none = Root {
+        address: 0,
+        level: 0,
+        nodes: 0,
+    };
+    let list = root_list(w, first, none, index)?;
+    let from = row.taken();
+    row.take(&counted(&list, w.form.nodesize), ROOT_TREE)?;
+    let rest = row.slots_from(w.alloc, from)?;
+    Ok(first_slots(w.alloc, &rest, row.taken() - from)?)
+}
+
+/// The first slots of a list, so many.
+fn first_slots(alloc: Global, slots: &Slots, count: usize) -> Result<Slots, Memory>
+    requires { count ≤ length slots.now }
+    ensures { IfOk result (λ first. first ≡ take count slots.now) }
+{
+    let mut first = Slots::new(alloc);
+    for &slot in &slots.as_slice()[..count] {
+        first.add(slot)?;
+    }
+    Ok(first)
+}
+
+/// All trees that were written.
+fn all_trees(chunk: Root, first: FirstRoots, extents: WrittenExtents, root: Root) -> VolumeTrees
+    ensures { result ≡ record { chunk = chunk; files = first.files; image = first.image; relocation = first.relocation; sums = first.sums; device = first.device; root = root; extents = extents.root; used = extents.used } }
+{
+    VolumeTrees {
+        chunk,
+        files: first.files,
+        image: first.image,
+        relocation: first.relocation,
+        sums: first.sums,
+        device: first.device,
+        root,
+        extents: extents.root,
+        used: extents.used,
+    }
+}

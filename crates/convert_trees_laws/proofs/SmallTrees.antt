@@ -1,0 +1,81 @@
+-- The keys of the image's tree and of the relocation tree.
+use Rattle.std.proofs.Common.{◌≡◌, ◌≤◌, ℕ, ◌*◌, ◌==◌, Bool, true, is_some, List, [], ◌∷◌, ◌++◌, append_assoc, length, filter, Option, Some, None, sym, subst, arith}
+use Rattle.std.specs.List.{flat_map, IsDistinct}
+use Rattle.std.specs.Option.{option_map_or}
+use Rattle.std.proofs.lemmas.Bool.Decides.{nat_tests}
+use Rattle.btr_reader.specs.castagnoli.Castagnoli.{name_hash}
+use Rattle.btr_reader.specs.btr_keys.DirEntry.{dir_entry_bytes}
+use Rattle.btr_reader.specs.btr_keys.FileExtent.{file_extent_bytes}
+use Rattle.btr_reader.specs.btr_keys.Inode.{inode_bytes}
+use Rattle.btr_reader.specs.btr_keys.InodeRef.{inode_ref_bytes}
+use Rattle.btr_reader.specs.btr_node.Leaf.{Item}
+use Rattle.convert_steps.specs.btr_item_list.Extents.{regular_extent}
+use Rattle.convert_steps.specs.btr_item_list.Groups.{grouped}
+use Rattle.convert_steps.specs.btr_item_list.Inodes.{inode_item, inode_made, ref_item}
+use Rattle.convert_steps.proofs.btr_item_list.Grouping.{rising_grouped}
+use Rattle.convert_steps.proofs.btr_item_list.Sorting.{ascending_filter, ascending_sorted}
+use Rattle.convert_steps.specs.unit_plan.declared.piece.Piece.{Piece}
+use Rattle.convert_steps.specs.file_items.Extents.{extents_at, piece_bytes, pieces_of_volume, source_block}
+use Rattle.convert_steps.specs.file_items.Names.{Indexed, entry_items, letters, root_ref}
+use Rattle.convert_steps.specs.file_items.Small.{image_entries, image_flags, image_head, image_items, image_name, relocation_items, root_items}
+use Rattle.convert_trees_laws.specs.Keys.{ImageKeysAscend}
+use Rattle.convert_trees_laws.proofs.Apart.{at_most_one, same_from, shares, shares_none}
+use Rattle.convert_trees_laws.proofs.Rising.{Climb, IsPart, Rise, climb_groups, climb_once, climb_times, part_append, part_of_kind, part_one, rise_ascends, rise_two}
+
+-- the entries of a directory, by their indexes
+pub entries_part : (ino : ℕ) (list : List Indexed) → Climb (λ (e : Indexed). e.0) list → IsPart ino 84 96 (entry_items ino list)
+entries_part ino list up =
+    part_append ino 84 84 96 96 _ _ (omega arith) (omega arith) (omega arith)
+    (part_of_kind ino 84 (λ (g : ℕ × List Indexed). g.0) (λ (g : ℕ × List Indexed). flat_map (λ (e : Indexed). dir_entry_bytes e.1) g.1) (grouped (λ (e : Indexed). name_hash e.1.name) list)
+    (climb_groups (grouped (λ (e : Indexed). name_hash e.1.name) list) (rising_grouped (λ (e : Indexed). name_hash e.1.name) list)))
+    (part_of_kind ino 96 (λ (e : Indexed). e.0) (λ (e : Indexed). dir_entry_bytes e.1) list up)
+
+-- extents, by a number of theirs that rises
+pub extents_part : (ino : ℕ) (at : Piece → ℕ) (pieces : List Piece) → Climb at pieces → IsPart ino 108 108 (extents_at ino at pieces)
+extents_part ino at pieces up = part_of_kind ino 108 (λ (p : Piece). 4096 * at p) (λ (p : Piece). file_extent_bytes (regular_extent p.place p.count)) pieces (climb_times at pieces up)
+
+root_part : (now : ℕ) (list : List Indexed) → Climb (λ (e : Indexed). e.0) list → IsPart 256 1 96 (root_items now list)
+root_part now list up =
+    part_append 256 1 1 12 96 (inode_item 256 (inode_made now 0x41ED (2 * letters list) 0 0) ∷ []) (root_ref ∷ entry_items 256 list) (omega arith) (omega arith) (omega arith)
+    (part_one 256 1 0 (inode_bytes (inode_made now 0x41ED (2 * letters list) 0 0)))
+    (part_append 256 12 12 84 96 (root_ref ∷ []) (entry_items 256 list) (omega arith) (omega arith) (omega arith)
+    (part_one 256 12 256 (inode_ref_bytes (record { index = 0; name = 46 ∷ 46 ∷ [] }))) (entries_part 256 list up))
+
+-- pieces with blocks of the volume begin at different ones
+sources_once : (pieces : List Piece) → IsDistinct shares pieces → Climb source_block (pieces_of_volume pieces)
+sources_once pieces distinct =
+    climb_once source_block (pieces_of_volume pieces) (ascending_sorted source_block (filter (λ p. is_some p.from) pieces))
+    (λ n. subst (λ (xs : List Piece). length xs ≤ 1) (sym (ascending_filter source_block n (filter (λ p. is_some p.from) pieces)))
+    (at_most_one shares (λ p. source_block p == n) (λ p. is_some p.from) (λ p q in_p is_p in_q is_q. same n p.from q.from in_p is_p in_q is_q) pieces distinct))
+  where
+    equal : (n a b : ℕ) → (a == n) ≡ true → (b == n) ≡ true → (a == b) ≡ true
+    equal n a b first second = grind (arith, nat_tests)
+
+    same : (n : ℕ) (x y : Option ℕ) → is_some x ≡ true → (option_map_or (λ b. b) x 0 == n) ≡ true → is_some y ≡ true → (option_map_or (λ b. b) y 0 == n) ≡ true → same_from x y ≡ true
+    same n None y in_x is_x in_y is_y = in_x
+    same n (Some a) None in_x is_x in_y is_y = in_y
+    same n (Some a) (Some b) in_x is_x in_y is_y = equal n a b is_x is_y
+
+image_rises : (blocks : ℕ) (pieces : List Piece) (datasum : Bool) (now : ℕ) → IsDistinct shares pieces → Rise (image_items blocks pieces datasum now)
+unfolding image_items image_head
+image_rises blocks pieces datasum now distinct =
+    let root : List Item = root_items now image_entries in
+    let nbytes : ℕ = piece_bytes (pieces_of_volume pieces) in
+    let inode : Item = inode_item 257 (inode_made now 0x8100 (4096 * blocks) nbytes (image_flags datasum)) in
+    let name : Item = ref_item 257 256 2 image_name in
+    let extents : List Item = extents_at 257 source_block (pieces_of_volume pieces) in
+    subst Rise (sym (append_assoc root (inode ∷ name ∷ []) extents))
+    (rise_two 256 257 1 96 1 108 root ((inode ∷ name ∷ []) ++ extents) (omega arith) (root_part now image_entries (tt, tt))
+    (part_append 257 1 1 12 108 (inode ∷ []) ((name ∷ []) ++ extents) (omega arith) (omega arith) (omega arith) (part_one 257 1 0 (inode_bytes (inode_made now 0x8100 (4096 * blocks) nbytes (image_flags datasum))))
+    (part_append 257 12 12 108 108 (name ∷ []) extents (omega arith) (omega arith) (omega arith) (part_one 257 12 256 (inode_ref_bytes (record { index = 2; name = image_name })))
+    (extents_part 257 source_block (pieces_of_volume pieces) (sources_once pieces distinct)))))
+
+relocation_rises : (now : ℕ) → Rise (relocation_items now)
+unfolding relocation_items
+relocation_rises now = (root_part now [] tt).rise
+
+pub image_keys_ascend : ImageKeysAscend
+image_keys_ascend volume image o plan pieces now has = record {
+  saved = rise_ascends (image_items volume.sup.blocks pieces o.datasum now) (image_rises volume.sup.blocks pieces o.datasum now (shares_none image has.found o plan has.plan_ pieces has.placed));
+  relocation = rise_ascends (relocation_items now) (relocation_rises now);
+}

@@ -1,0 +1,171 @@
+-- The units of a plan have the slots for all nodes.
+use Rattle.std.proofs.Common.{◌≡◌, ◌≤◌, ◌<◌, ℕ, ◌+◌, ◌*◌, ◌^◌, List, [], ◌∷◌, length, length-append, sym, ap, subst, ◌∙◌, ⊎_elim, arith}
+use Rattle.std.specs.Int.{div_ceil}
+use Rattle.std.specs.List.{flat_map, range_with_len}
+use Rattle.std.proofs.lemmas.Grind.{div_ceil_times}
+use Rattle.std.proofs.lemmas.List.{length-map}
+use Rattle.std.proofs.lemmas.List.FromFn.{length-range_with_len}
+use Rattle.btr_reader.specs.outside.History.{Image}
+use Rattle.btr_reader.specs.btr_node.Leaf.{Item}
+use Rattle.btr_reader.specs.btr_node.NodeSize.{IsNodeSize}
+use Rattle.convert_steps.specs.btr_tree.Counting.{node_bound}
+use Rattle.convert_steps.specs.btr_tree.Roots.{lengths_of}
+use Rattle.convert_steps.specs.Making.{IsMaking, Making, chunk_slots, new_ids, slots}
+use Rattle.convert_steps.specs.Standing.{AllFit, chunk_count, file_tree_items, image_tree_items, no_trees, nodes_for, other_count, own_count, root_tree_items, sum_tree_items}
+use Rattle.convert_steps.proofs.extent_pieces.Small.{counts_small}
+use Rattle.convert_steps.specs.file_items.Small.{relocation_items}
+use Rattle.convert_trees_laws.specs.Keys.{FileKeysAscend, ImageKeysAscend, ItemsAreShort}
+use Rattle.indexmap.specs.IndexMap.{keys}
+use Rattle.convert_steps.specs.reiser_volume.Opened.{IsOpened, links_in}
+use Rattle.convert_steps.specs.reiser_volume.Volume.{used_of}
+use Rattle.convert_steps.specs.space_items.Chunks.{chunk_items, device_items}
+use Rattle.convert_steps.specs.space_items.Laws.{AreIds}
+use Rattle.convert_steps.specs.space_items.Own.{extent_bytes}
+use Rattle.convert_steps.proofs.space_items.OwnBound.{bound_up}
+use Rattle.convert_steps.specs.unit_plan.Laws.{IsSoundPlan}
+use Rattle.convert_steps.specs.unit_plan.Needed.{AreSmall, checksum_tree_bytes, chunk_bound, chunk_nodes, chunk_tree_bytes, device_tree_bytes, extent_nodes, extent_tree_bytes, file_tree_bytes, image_tree_bytes, need, nodes_in_unit, other_nodes}
+use Rattle.convert_steps.specs.unit_plan.Places.{node_places, places_in}
+use Rattle.convert_steps.specs.unit_plan.declared.counts.Counts.{Counts}
+use Rattle.convert_steps.specs.convert_options.declared.options.Options.{Options}
+use Rattle.convert_steps.proofs.unit_plan.Sound.{plans_sound}
+use Rattle.btr_reader.specs.csum_kinds.declared.kind.SumKind.{SumKind}
+use Rattle.btr_reader.specs.csum_kinds.declared.kind.SumKind.TheVariants.{Crc32c}
+use Rattle.convert_trees_laws.specs.Bounds.{AreCounted, FileTreeIsCounted, PlansSuffice, bytes_in}
+use Rattle.convert_trees_laws.proofs.NodeCounts.{nodes_few}
+use Rattle.convert_trees_laws.proofs.Others.{few_chunks, pieces_few, trees_counted}
+
+-- ---- the slots of units
+
+places_many : (nodesize u : ℕ) → length (places_in nodesize u) ≡ nodes_in_unit nodesize
+places_many nodesize u =
+    let numbers : List ℕ = range_with_len 0 (nodes_in_unit nodesize) in
+    length-map numbers (λ k. 2 ^ 20 * u + nodesize * k) ∙ length-range_with_len 0 (nodes_in_unit nodesize)
+
+slots_many : (nodesize : ℕ) (units : List ℕ) → length (node_places nodesize units) ≡ length units * nodes_in_unit nodesize
+unfolding node_places
+slots_many nodesize [] = omega arith
+slots_many nodesize (u ∷ units) =
+    let both = length-append (places_in nodesize u) (flat_map (places_in nodesize) units) in
+    let here = places_many nodesize u in
+    let rest = slots_many nodesize units in
+    let more = one_more (length units) (nodes_in_unit nodesize) in
+    omega (arith, both, here, rest, more)
+  where
+    one_more : (n k : ℕ) → (n + 1) * k ≡ k + n * k
+    one_more n k = grind arith
+
+some_in_unit : (n : ℕ) → IsNodeSize n → 0 < nodes_in_unit n
+some_in_unit n size =
+    ⊎_elim (λ (e : n ≡ 4096). at 4096 e (omega arith)) (λ rest. ⊎_elim (λ (e : n ≡ 8192). at 8192 e (omega arith)) (λ rest'. ⊎_elim (λ (e : n ≡ 16384). at 16384 e (omega arith)) (λ rest''. ⊎_elim (λ (e : n ≡ 32768). at 32768 e (omega arith)) (λ (e : n ≡ 65536). at 65536 e (omega arith)) rest'') rest') rest) size
+  where
+    at : (k : ℕ) → n ≡ k → 0 < nodes_in_unit k → 0 < nodes_in_unit n
+    at k e some = subst (λ (j : ℕ). 0 < nodes_in_unit j) (sym e) some
+
+-- so many units as nodes need have slots for them
+pub room_for : (nodesize nodes : ℕ) (units : List ℕ) → IsNodeSize nodesize → length units ≡ div_ceil nodes (nodes_in_unit nodesize) → nodes ≤ length (node_places nodesize units)
+room_for nodesize nodes units size many =
+    let whole : length (node_places nodesize units) ≡ div_ceil nodes (nodes_in_unit nodesize) * nodes_in_unit nodesize = slots_many nodesize units ∙ ap (λ (n : ℕ). n * nodes_in_unit nodesize) many in
+    let up = div_ceil_times nodes (nodes_in_unit nodesize) (some_in_unit nodesize size) in
+    omega (arith, whole, up.0)
+
+-- ---- what was counted is small
+
+files_low : (c : Counts) → AreSmall c → file_tree_bytes c < 2 ^ 60
+files_low c small = omega (arith, small.objects, small.names, small.letters, small.pieces, small.inlines, small.inline_bytes)
+
+image_low : (c : Counts) → AreSmall c → image_tree_bytes c < 2 ^ 60
+image_low c small = omega (arith, small.pieces)
+
+sums_low : (sums : SumKind) (c : Counts) → AreSmall c → checksum_tree_bytes sums c < 2 ^ 60
+sums_low Crc32c c small = omega (arith, small.pieces, small.piece_blocks)
+
+bound_low : (c : Counts) → AreSmall c → chunk_bound c.runs c.blocks < 2 ^ 52
+bound_low c small = omega (arith, small.runs, small.blocks)
+
+device_low : (c : Counts) → AreSmall c → device_tree_bytes (chunk_bound c.runs c.blocks) < 2 ^ 60
+device_low c small = let low = bound_low c small in omega (arith, low)
+
+chunk_low : (c : Counts) → AreSmall c → chunk_tree_bytes (chunk_bound c.runs c.blocks) < 2 ^ 60
+chunk_low c small = let low = bound_low c small in omega (arith, low)
+
+-- ---- the nodes
+
+module _ (counted : FileTreeIsCounted) (files_ascend : FileKeysAscend) (small_ascend : ImageKeysAscend) (are_short : ItemsAreShort) (image other : Image) (m : Making) (made : IsMaking image m) (size : IsNodeSize m.options.nodesize) (ids : AreIds (new_ids m)) where
+  abbrev c : Counts
+  c = made.has_pieces.found.counts
+
+  abbrev o : Options
+  o = m.options
+
+  small : AreSmall c
+  small =
+      let opened : IsOpened m.volume image = made.has_pieces.opened in
+      subst AreSmall (sym made.has_pieces.counted.counts_are)
+      (counts_small image made.has_pieces.accepted (keys m.volume.named) opened.are_keys m.options.inline opened.visible (links_in m.volume) opened.are_links)
+
+  trees : AreCounted other m c
+  trees = trees_counted image other m made ids
+
+  few : (items : List Item) (bytes : ℕ) → bytes_in items ≤ bytes → bytes < 2 ^ 60 → nodes_for m items ≤ node_bound bytes o.nodesize
+  few items bytes most low = nodes_few o.nodesize bytes (lengths_of items) size most low
+
+  chunk_nodes_few : chunk_count m ≤ chunk_nodes o c
+  chunk_nodes_few = few (chunk_items (new_ids m) m.volume.sup.blocks m.chunks) (chunk_tree_bytes (chunk_bound c.runs c.blocks)) trees.chunk (chunk_low c small)
+
+  other_nodes_few : other_count image other m no_trees ≤ other_nodes o c
+  other_nodes_few =
+      let files = few (file_tree_items image m) (file_tree_bytes c) (counted image m made) (files_low c small) in
+      let saved = few (image_tree_items m) (image_tree_bytes c) trees.saved (image_low c small) in
+      let relocation = few (relocation_items m.now) 1000 trees.relocation (omega arith) in
+      let sums = few (sum_tree_items other m) (checksum_tree_bytes o.sums c) trees.sums (sums_low o.sums c small) in
+      let device = few (device_items (new_ids m) m.chunks) (device_tree_bytes (chunk_bound c.runs c.blocks)) trees.device (device_low c small) in
+      let root = few (root_tree_items m no_trees) 8192 (trees.root no_trees) (omega arith) in
+      six _ _ _ _ _ _ _ _ _ _ _ _ files saved relocation sums device root
+    where
+      six : (a b d e f g a' b' d' e' f' g' : ℕ) → a ≤ a' → b ≤ b' → d ≤ d' → e ≤ e' → f ≤ f' → g ≤ g' → a + b + d + e + f + g ≤ a' + b' + e' + f' + g' + d'
+      six a b d e f g a' b' d' e' f' g' p q r s t u = omega arith
+
+  own_nodes_few : own_count image other m ≤ extent_nodes o c
+  own_nodes_few =
+      let bytes = by_parts (length m.pieces) c.pieces (length m.chunks) (chunk_bound c.runs c.blocks) (other_count image other m no_trees + chunk_count m) (other_nodes o c + chunk_nodes o c)
+      (pieces_few image m made) (few_chunks image m made) (both _ _ _ _ other_nodes_few chunk_nodes_few) in
+      twice _ _ (bound_up (extent_bytes (length m.pieces) (length m.chunks) (other_count image other m no_trees + chunk_count m)) (extent_tree_bytes o c) o.nodesize size bytes)
+    where
+      by_parts : (p p' q q' n n' : ℕ) → p ≤ p' → q ≤ q' → n ≤ n' → 107 * p + 49 * q + 58 * n ≤ 107 * p' + 49 * q' + 58 * n'
+      by_parts p p' q q' n n' a b d = omega arith
+
+      both : (x x' y y' : ℕ) → x ≤ x' → y ≤ y' → x + y ≤ x' + y'
+      both x x' y y' a b = omega arith
+
+      twice : (a b : ℕ) → a ≤ b → 2 * a + 16 ≤ 2 * b + 16
+      twice a b h = omega arith
+
+  sound : IsSoundPlan (used_of image) (need c o) m.plan
+  sound = plans_sound (used_of image) (need c o) m.plan made.has_pieces.plan_.enough made.has_pieces.plan_.plan_
+
+  chunk_room : chunk_count m ≤ length (chunk_slots m)
+  chunk_room = within _ _ _ chunk_nodes_few (room_for o.nodesize (chunk_nodes o c) m.plan.system size sound.system.many)
+    where
+      within : (x y z : ℕ) → x ≤ y → y ≤ z → x ≤ z
+      within x y z a b = omega arith
+
+  other_room : other_count image other m no_trees + own_count image other m ≤ length (slots m)
+  other_room = within _ _ _ _ _ other_nodes_few own_nodes_few (room_for o.nodesize (other_nodes o c + extent_nodes o c) m.plan.metadata size sound.metadata.many)
+    where
+      within : (x x' y y' z : ℕ) → x ≤ x' → y ≤ y' → x' + y' ≤ z → x + y ≤ z
+      within x x' y y' z a b d = omega arith
+
+  all_fit : AllFit image other m
+  all_fit =
+      let ascend = small_ascend m.volume image m.options m.plan m.pieces m.now made.has_pieces in
+      let short = are_short m.volume image m.options m.plan m.pieces m.now made.has_pieces in
+      record {
+        files = record { ascend = files_ascend m.volume image m.options m.plan m.pieces made.has_pieces; short = short.files };
+        saved = record { ascend = ascend.saved; short = short.saved };
+        relocation = record { ascend = ascend.relocation; short = short.relocation };
+        chunk_few = chunk_room;
+        few = other_room;
+      }
+
+pub plans_suffice : FileTreeIsCounted → FileKeysAscend → ImageKeysAscend → ItemsAreShort → PlansSuffice
+plans_suffice counted files_ascend small_ascend are_short = λ image other m made size ids. all_fit counted files_ascend small_ascend are_short image other m made size ids

@@ -1,7 +1,0 @@
-use Rattle.converted_laws.proofs.going_back.Going.{converted_volumes_go_back}
-use Rattle.converted_laws.proofs.going_back.converted_volumes_go_back.Goals as goal
-
-pub returns : goal.returns
-returns c =
-    converted_volumes_go_back c.new_ids_fit.ensures c.chunks_map.ensures c.converted_is_readable.ensures c.entries_are_there.ensures c.names_keep_rules.ensures c.converted_reserved_are_sound.ensures
-    c.converted_volumes_open.ensures c.used_blocks_decide.ensures

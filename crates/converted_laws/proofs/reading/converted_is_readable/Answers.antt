@@ -1,5 +1,0 @@
-use Rattle.converted_laws.proofs.reading.Reading.{converted_is_readable}
-use Rattle.converted_laws.proofs.reading.converted_is_readable.Goals as goal
-
-pub returns : goal.returns
-returns c = converted_is_readable

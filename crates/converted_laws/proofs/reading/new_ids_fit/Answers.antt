@@ -1,5 +1,0 @@
-use Rattle.converted_laws.proofs.reading.Identifiers.{new_ids_fit}
-use Rattle.converted_laws.proofs.reading.new_ids_fit.Goals as goal
-
-pub returns : goal.returns
-returns c = new_ids_fit

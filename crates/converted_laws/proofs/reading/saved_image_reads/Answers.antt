@@ -1,5 +1,0 @@
-use Rattle.converted_laws.proofs.reading.Saved.{saved_image_reads}
-use Rattle.converted_laws.proofs.reading.saved_image_reads.Goals as goal
-
-pub returns : goal.returns
-returns c = saved_image_reads c.image_keys_ascend.ensures

@@ -1,5 +1,0 @@
-use Rattle.converted_laws.proofs.reading.Superblock.{superblock_reads}
-use Rattle.converted_laws.proofs.reading.superblock_reads.Goals as goal
-
-pub returns : goal.returns
-returns c = superblock_reads

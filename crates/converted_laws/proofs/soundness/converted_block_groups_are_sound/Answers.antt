@@ -1,5 +1,0 @@
-use Rattle.converted_laws.proofs.soundness.BlockGroups.{converted_block_groups_are_sound}
-use Rattle.converted_laws.proofs.soundness.converted_block_groups_are_sound.Goals as goal
-
-pub returns : goal.returns
-returns c = converted_block_groups_are_sound c.new_ids_fit.ensures c.files_are_held.ensures

@@ -1,5 +1,0 @@
-use Rattle.converted_laws.proofs.soundness.Trees.{converted_trees_are_sound}
-use Rattle.converted_laws.proofs.soundness.converted_trees_are_sound.Goals as goal
-
-pub returns : goal.returns
-returns c = converted_trees_are_sound c.new_ids_fit.ensures

@@ -1,5 +1,0 @@
-use Rattle.file_laws.proofs.Holding.{files_are_held}
-use Rattle.file_laws.proofs.laws.files_are_held.Goals as goal
-
-pub returns : goal.returns
-returns c = files_are_held

@@ -1,0 +1,7 @@
+use Rattle.std.proofs.Common.{◌≡◌, map, take}
+use Rattle.indexmap.specs.IndexSet.{insert_all}
+use Rattle.fs_paths.specs.Links.{same_node}
+use Rattle.fs_paths.proofs.reach.follow.Given as goal
+
+abbrev pub invariant-loop-link : goal.invariant-loop-link
+invariant-loop-link l = l.queue.keys ≡ insert_all same_node l.fn.queue.keys (map (λ link. link.target) (take l.link-index l.link-items))

@@ -1,6 +1,0 @@
-use Rattle.std.proofs.Common.{◌≡◌, map, take}
-use Rattle.btr_walk.specs.Node.{child_pointer}
-use Rattle.image_source.proofs.nodes.children_of.Given as goal
-
-abbrev pub invariant-loop-i : goal.invariant-loop-i
-invariant-loop-i l = l.children.items ≡ map (child_pointer l.level) (take l.i l.view)

@@ -1,9 +1,0 @@
-use Rattle.std.proofs.Common.{◌≤◌, ◌<◌, ℕ, subst}
-use Rattle.image_source.specs.Reserved.{TellsBetween}
-use Rattle.image_source.proofs.Lying.{in_one}
-use Rattle.image_source.proofs.reserved.reserved_between.Goals as goal
-
-pub returns : goal.returns
-returns c =
-    in_one c.args.first c.args.end c.args.blocks c.first_in-4.result c.in_default.ensures c.in_default-first_in.ensures c.in_default-first_in-2.ensures
-    (subst (λ (n : ℕ). TellsBetween (λ b. (n ≤ b) × (b < c.args.blocks)) c.args.first c.args.end c.first_in-4.result) c.usable_end.ensures c.first_in-4.ensures)

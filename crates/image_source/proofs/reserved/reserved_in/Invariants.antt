@@ -1,6 +1,0 @@
-use Rattle.std.proofs.Common.{take}
-use Rattle.image_source.proofs.Lying.{LieNowhere}
-use Rattle.image_source.proofs.reserved.reserved_in.Given as goal
-
-abbrev pub invariant-loop-range : goal.invariant-loop-range
-invariant-loop-range l = LieNowhere (take l.range-index l.ranges) l.address l.count l.blocks

@@ -1,5 +1,0 @@
-pub mod Extents
-pub mod Laws
-pub mod Nodes
-pub mod Reserved
-pub mod Trees

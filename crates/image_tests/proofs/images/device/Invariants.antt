@@ -1,5 +1,0 @@
-use Rattle.std.proofs.Common.{◌≡◌, None, length}
-use Rattle.image_tests.proofs.images.device.Given as goal
-
-abbrev pub invariant-loop-n : goal.invariant-loop-n
-invariant-loop-n l = record { long : length l.disk.history.start ≡ 300; closed : l.disk.opened ≡ None }

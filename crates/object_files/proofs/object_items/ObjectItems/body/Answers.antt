@@ -1,9 +1,0 @@
-use Rattle.std.proofs.Common.{List, ℕ, ◌-◌, ◌∙◌, ap}
-use Rattle.reiser_node.specs.Leaf.{body_at}
-use Rattle.reiser_walk.proofs.Standing.{body_stands}
-use Rattle.object_files.proofs.object_items.ObjectItems.body.Goals as goal
-
-pub returns : goal.returns
-returns c =
-    let l = c.args.self.now.leaf in
-    body_stands l.no l.block.bytes l.at.next c.body.result.now c.requires.stands (c.body.ensures ∙ ap (λ (b : List ℕ). body_at b (l.at.next - 1)) c.of.ensures)

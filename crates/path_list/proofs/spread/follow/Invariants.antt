@@ -1,8 +1,0 @@
-use Rattle.std.proofs.Common.{◌≡◌, ◌++◌, map, take}
-use Rattle.path_list.specs.declared.found.Found.{Found}
-use Rattle.path_list.specs.Spread.{child}
-use Rattle.std.proofs.Common.{get_or}
-use Rattle.path_list.proofs.spread.follow.Given as goal
-
-abbrev pub invariant-loop-link : goal.invariant-loop-link
-invariant-loop-link l = (d : Found) → l.found.items ≡ l.fn.found.items ++ map (child (get_or l.fn.found.items l.i d)) (take l.link-index l.link-items)

@@ -1,5 +1,0 @@
-use Rattle.reiser_files.proofs.Deciding.{apart_follow}
-use Rattle.reiser_files.proofs.laws.apart_items_follow.Goals as goal
-
-pub returns : goal.returns
-returns c = apart_follow

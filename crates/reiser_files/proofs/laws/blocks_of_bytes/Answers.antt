@@ -1,6 +1,0 @@
-use Rattle.fs_rows.proofs.FileMarks.{block_of_file}
-use Rattle.reiser_files.specs.Bytes.{file_byte}
-use Rattle.reiser_files.proofs.laws.blocks_of_bytes.Goals as goal
-
-pub returns : goal.returns
-returns c = λ image items size k. block_of_file (file_byte image items) size k

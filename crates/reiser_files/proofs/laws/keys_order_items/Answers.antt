@@ -1,5 +1,0 @@
-use Rattle.reiser_files.proofs.Ordered.{keys_order}
-use Rattle.reiser_files.proofs.laws.keys_order_items.Goals as goal
-
-pub returns : goal.returns
-returns c = keys_order

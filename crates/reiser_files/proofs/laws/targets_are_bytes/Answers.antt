@@ -1,5 +1,0 @@
-use Rattle.reiser_files.proofs.Sorts.{target_is}
-use Rattle.reiser_files.proofs.laws.targets_are_bytes.Goals as goal
-
-pub returns : goal.returns
-returns c = target_is

@@ -1,5 +1,0 @@
-use Rattle.reiser_files.specs.Bytes.{file_byte}
-use Rattle.reiser_files.proofs.marker.FileMarker.finish.Goals as goal
-
-pub returns : goal.returns
-returns c = λ image given marks. c.mark.ensures (file_byte image given) marks.bytes

@@ -1,8 +1,0 @@
-use Rattle.std.proofs.Common.{◌≡◌, true, take}
-use Rattle.std.specs.List.{list_all}
-use Rattle.reiser_items.specs.Pointers.{pointers}
-use Rattle.reiser_files.specs.Pieces.{is_inside}
-use Rattle.reiser_files.proofs.pieces.are_pointers_inside.Given as goal
-
-abbrev pub invariant-loop-j : goal.invariant-loop-j
-invariant-loop-j l = list_all (λ b. is_inside b l.blocks) (take l.j (pointers l.body)) ≡ true

@@ -1,0 +1,122 @@
+-- An inner node that was written reads back.
+use Rattle.std.proofs.Common.{◌≡◌, ℕ, suc, ◌+◌, ◌-◌, ◌*◌, ◌^◌, ◌≤◌, ◌<◌, Bool, true, false, List, [], ◌∷◌, ◌++◌, length, take, drop, replicate, get_or, refl, sym, ◌∙◌, ap, arith, append_assoc, length-append, length-take, length-drop, All}
+use Rattle.std.specs.List.{flat_map}
+use Rattle.std.proofs.Math.Seq.{drop-cons}
+use Rattle.std.proofs.lemmas.List.{take-append-drop}
+use Rattle.byteorder.specs.Numbers.{little_number-reads_back}
+use Rattle.reiser_volume.specs.vol_block.Volume.{field}
+use Rattle.reiser_volume.specs.reiser_node.Leaf.{level, count}
+use Rattle.reiser_volume.specs.reiser_node.Inner.{child_at}
+use Rattle.reiser_volume.specs.reiser_node.declared.head.ItemHead.{ItemHead}
+use Rattle.reiser_volume.specs.reiser_node.declared.head.ItemKind.{ItemKind}
+use Rattle.reiser_make.specs.Inner.{inner_bytes, child_key, child_pointer}
+use Rattle.reiser_make.specs.Leaf.{node_room, node_head, key_bytes}
+use Rattle.reiser_make.specs.declared.inner.Child.{Child}
+use Rattle.reiser_make_laws.proofs.Heads.{field_behind}
+use Rattle.reiser_make_laws.specs.Nodes.{IsNamed, NamesChildren, InnerNodesReadBack}
+
+flat_split : (f : Child → List ℕ) (xs ys : List Child) → flat_map f (xs ++ ys) ≡ flat_map f xs ++ flat_map f ys
+flat_split f [] ys = refl
+flat_split f (x ∷ xs) ys = ap (λ z. f x ++ z) (flat_split f xs ys) ∙ sym (append_assoc (f x) (flat_map f xs) (flat_map f ys))
+
+key_sized : (dir object offset : ℕ) (kind : ItemKind) (old : Bool) (count len : ℕ)
+    → length (key_bytes (record { dir = dir; object = object; offset = offset; kind = kind; old = old; count = count; length = len })) ≡ 16
+key_sized dir object offset kind true count len = refl
+key_sized dir object offset kind false count len = refl
+
+key_size : (head : ItemHead) → length (key_bytes head) ≡ 16
+key_size head = key_sized head.dir head.object head.offset head.kind head.old head.count head.length
+
+length_keys : (cs : List Child) → length (flat_map child_key cs) ≡ 16 * length cs
+length_keys [] = refl
+length_keys (c ∷ cs) = omega (arith, length-append (child_key c) (flat_map child_key cs), key_size c.head, length_keys cs)
+
+pointer_size : (c : Child) → length (child_pointer c) ≡ 8
+pointer_size c = refl
+
+length_pointers : (cs : List Child) → length (flat_map child_pointer cs) ≡ 8 * length cs
+length_pointers [] = refl
+length_pointers (c ∷ cs) = omega (arith, length-append (child_pointer c) (flat_map child_pointer cs), pointer_size c, length_pointers cs)
+
+module _ (wanted : ℕ) (all : List Child) (right : All IsNamed all) (some : 2 ≤ length all) (few : length all ≤ 170) where
+  abbrev bytes : List ℕ
+  bytes = inner_bytes wanted all
+
+  abbrev room : ℕ
+  room = node_room - (24 * length all - 16)
+
+  abbrev front : List ℕ
+  front = node_head wanted (length all - 1) room
+
+  abbrev keys : List ℕ
+  keys = flat_map child_key (drop 1 all)
+
+  abbrev gap : List ℕ
+  gap = replicate room 0
+
+  bytes_are : bytes ≡ front ++ (keys ++ (flat_map child_pointer all ++ gap))
+  unfolding inner_bytes
+  bytes_are = refl
+
+  level_is : wanted < 256 ^ 2 → level bytes ≡ wanted
+  unfolding inner_bytes
+  level_is low = little_number-reads_back 2 wanted (drop 2 bytes) low
+
+  count_is : count bytes ≡ length all - 1
+  unfolding inner_bytes
+  count_is = little_number-reads_back 2 (length all - 1) (drop 4 bytes) (omega (arith, few))
+
+  module _ (i : ℕ) (d : Child) (lt : i < length all) where
+    abbrev own : Child
+    own = get_or all i d
+
+    abbrev before : List ℕ
+    before = flat_map child_pointer (take i all)
+
+    abbrev back : List ℕ
+    back = flat_map child_pointer (drop (suc i) all) ++ gap
+
+    split : flat_map child_pointer all ≡ before ++ (child_pointer own ++ flat_map child_pointer (drop (suc i) all))
+    split =
+        ap (flat_map child_pointer) (sym (take-append-drop i all) ∙ ap (λ z. take i all ++ z) (drop-cons all i d lt))
+        ∙ flat_split child_pointer (take i all) (own ∷ drop (suc i) all)
+
+    at_pointer : bytes ≡ (front ++ (keys ++ before)) ++ (child_pointer own ++ back)
+    at_pointer =
+        bytes_are
+        ∙ ap (λ z. front ++ (keys ++ (z ++ gap))) split
+        ∙ ap (λ z. front ++ (keys ++ z)) (append_assoc before (child_pointer own ++ flat_map child_pointer (drop (suc i) all)) gap
+        ∙ ap (λ z. before ++ z) (append_assoc (child_pointer own) (flat_map child_pointer (drop (suc i) all)) gap))
+        ∙ ap (λ z. front ++ z) (sym (append_assoc keys before (child_pointer own ++ back)))
+        ∙ sym (append_assoc front (keys ++ before) (child_pointer own ++ back))
+
+    length_front : length front ≡ 24
+    length_front = refl
+
+    place : length (front ++ (keys ++ before)) ≡ 24 + 16 * (length all - 1) + 8 * i
+    place =
+        omega (arith, length-append front (keys ++ before), length_front, length-append keys before, length_keys (drop 1 all), length-drop 1 all, length_pointers (take i all), length-take i all, lt, some)
+
+    child_is : child_at bytes i ≡ own.block
+    child_is =
+        ap (λ n. field 4 bytes (24 + 16 * n + 8 * i)) count_is
+        ∙ ap (λ b. field 4 b (24 + 16 * (length all - 1) + 8 * i)) at_pointer
+        ∙ ap (field 4 ((front ++ (keys ++ before)) ++ (child_pointer own ++ back))) (let same : 24 + 16 * (length all - 1) + 8 * i ≡ 24 + 16 * (length all - 1) + 8 * i + 0 = omega arith in same)
+        ∙ field_behind 4 0 (24 + 16 * (length all - 1) + 8 * i) (front ++ (keys ++ before)) (child_pointer own ++ back) place
+        ∙ little_number-reads_back 4 own.block (drop 4 (child_pointer own ++ back)) (right i d lt)
+
+  pub node_back : 2 ≤ wanted → wanted ≤ 6 → NamesChildren wanted all bytes
+  node_back low high = record {
+    inner = record {
+      level = level_is (omega (arith, high));
+      low = low;
+      high = high;
+      some = omega (arith, count_is, some);
+      room = omega (arith, count_is, few, some);
+    };
+    count = omega (arith, count_is, some);
+    blocks = λ i d lt. child_is i d lt;
+  }
+
+pub nodes_back : InnerNodesReadBack
+nodes_back wanted all low high right some few = node_back wanted all right some few low high

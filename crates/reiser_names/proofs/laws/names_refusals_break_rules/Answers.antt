@@ -1,5 +1,0 @@
-use Rattle.reiser_names.proofs.Broken.{names_broken}
-use Rattle.reiser_names.proofs.laws.names_refusals_break_rules.Goals as goal
-
-pub returns : goal.returns
-returns c = names_broken

@@ -1,8 +1,0 @@
-use Rattle.std.proofs.Common.{◌≡◌, ◌<◌, ℕ, false, get_or}
-use Rattle.indexmap.specs.IndexSet.{contains}
-use Rattle.reiser_objects.specs.declared.naming.Naming.{Naming}
-use Rattle.reiser_objects.specs.Keys.{same_key}
-use Rattle.reiser_names.proofs.private.check_empty.Given as goal
-
-abbrev pub invariant-loop-naming : goal.invariant-loop-naming
-invariant-loop-naming l = (k : ℕ) (d : Naming) → k < l.naming-index → contains same_key l.inside (get_or l.objects.namings.items k d).dir ≡ false

@@ -1,7 +1,0 @@
-use Rattle.std.proofs.Common.{take, filter}
-use Rattle.reiser_objects.specs.Keys.{same_key}
-use Rattle.reiser_names.specs.Private.{IsOnly}
-use Rattle.reiser_names.proofs.private.only_entry.Given as goal
-
-abbrev pub invariant-loop-naming : goal.invariant-loop-naming
-invariant-loop-naming l = IsOnly (filter (λ n. same_key n.dir l.dir) (take l.naming-index l.objects.namings.items)) l.only

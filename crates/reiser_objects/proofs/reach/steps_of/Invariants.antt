@@ -1,6 +1,0 @@
-use Rattle.std.proofs.Common.{◌≡◌, take}
-use Rattle.reiser_objects.specs.Nodes.{steps}
-use Rattle.reiser_objects.proofs.reach.steps_of.Given as goal
-
-abbrev pub invariant-loop-naming : goal.invariant-loop-naming
-invariant-loop-naming l = l.links.items ≡ steps (take l.naming-index l.objects.namings.items)

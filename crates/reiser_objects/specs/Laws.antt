@@ -1,9 +1,0 @@
--- Laws of the definitions.
-use Rattle.std.specs.Prelude.{ℕ, List}
-use Rattle.outside.specs.declared.refusal.VolumeRefusal.{VolumeRefusal}
-use Rattle.reiser_walk.specs.Items.{Item}
-use Rattle.reiser_objects.specs.Rules.{AreObjects, IsObjectsRefusal}
-
--- where something is refused of the objects, not all the rules are kept
-abbrev pub RefusalsBreakRules : Type 0
-RefusalsBreakRules = (root_block : ℕ) (items : List Item) (r : VolumeRefusal) → IsObjectsRefusal root_block items r → ¬ AreObjects items

@@ -1,0 +1,10 @@
+use Rattle.std.proofs.Common.{List, ℕ, ◌-◌, sym, ◌∙◌, ap}
+use Rattle.reiser_volume_objects.specs.reiser_node.Head.{head_at}
+use Rattle.reiser_volume_objects.specs.reiser_node.Leaf.{head_place}
+use Rattle.reiser_volume_objects.proofs.reiser_walk.Standing.{head_stands}
+use Rattle.reiser_volume_contents.proofs.object_items.ObjectItems.head.Goals as goal
+
+pub returns : goal.returns
+returns c =
+    let l = c.args.self.now.leaf in
+    head_stands l.no l.block.bytes l.at.next c.head.result c.requires.stands (ap (λ (b : List ℕ). head_at b (head_place (l.at.next - 1))) (sym c.of.ensures) ∙ c.head.ensures)

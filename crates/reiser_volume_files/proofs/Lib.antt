@@ -1,0 +1,13 @@
+pub mod Adding
+pub mod Ascending
+pub mod Contents
+pub mod Deciding
+pub mod Items
+pub mod Joining
+pub mod Mapped
+pub mod Ordered
+pub mod Placing
+pub mod Pointing
+pub mod Sorts
+pub mod Steps
+pub mod Tails

@@ -1,0 +1,5 @@
+use Rattle.reiser_volume_files.specs.Bytes.{file_byte}
+use Rattle.reiser_volume_files.proofs.marker.FileMarker.finish.Goals as goal
+
+pub returns : goal.returns
+returns c = λ image given marks. c.mark.ensures (file_byte image given) marks.bytes

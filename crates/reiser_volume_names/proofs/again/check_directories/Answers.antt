@@ -1,0 +1,33 @@
+use Rattle.std.proofs.Common.{◌<◌, ◌≤◌, ◌+◌, ◌∙◌, ◌++◌, List, length, get_or, drop, filter, AllPairs, sym, ap, subst, arith}
+use Rattle.std.proofs.lemmas.Result.{err_from_is_err_and}
+use Rattle.reiser_volume_objects.specs.refusals.declared.answer.VolAnswer.{VolAnswer}
+use Rattle.indexmap.specs.IndexSet.{contains}
+use Rattle.reiser_volume_objects.specs.declared.naming.Naming.{Naming}
+use Rattle.reiser_volume_objects.specs.Keys.{same_key}
+use Rattle.reiser_volume_names.specs.Again.{HasDirectories, BlamesAgain, NamesAnother}
+use Rattle.reiser_volume_names.specs.Passes.{is_link, link_list}
+use Rattle.reiser_volume_names.proofs.Againing.{again_of_part}
+use Rattle.reiser_volume_names.proofs.Lists.{kept_step, kept_split, kept_all}
+use Rattle.reiser_volume_names.proofs.again.check_directories.Goals as goal
+
+pub loop-naming-preserved : goal.loop-naming-preserved
+loop-naming-preserved c = λ items noted.
+    let within : c.loop-naming.naming-index < length c.args.objects.now.namings.items = omega (arith, c.loop-naming-test.true, ap length c.deref-naming-items.ensures.value) in
+    let at = c.naming-item.is ∙ ap (λ (l : List Naming). get_or l c.loop-naming.naming-index c.naming-item.result) c.deref-naming-items.ensures.value in
+    subst (λ (l : List Naming). HasDirectories items c.see_link.new.seen l) (sym (kept_step (is_link (contains same_key c.args.named.now)) c.args.objects.now.namings.items c.loop-naming.naming-index c.naming-item.result within at))
+    (c.in_ok-see_link.ensures.checked items _ noted (c.loop-naming.invariant items noted))
+
+pub returns-in_err-see_link-clause-checked : goal.returns-in_err-see_link-clause-checked
+returns-in_err-see_link-clause-checked c = λ items noted.
+    let within : c.loop-naming.naming-index < length c.args.objects.now.namings.items = omega (arith, c.loop-naming-test.true, ap length c.deref-naming-items.ensures.value) in
+    let at = c.naming-item.is ∙ ap (λ (l : List Naming). get_or l c.loop-naming.naming-index c.naming-item.result) c.deref-naming-items.ensures.value in
+    let p = is_link (contains same_key c.args.named.now) in
+    let rest : List Naming = filter p (drop (c.loop-naming.naming-index + 1) c.args.objects.now.namings.items) in
+    let whole = kept_split p c.args.objects.now.namings.items (c.loop-naming.naming-index + 1) ∙ ap (λ (l : List Naming). l ++ rest) (kept_step p c.args.objects.now.namings.items c.loop-naming.naming-index c.naming-item.result within at) in
+    let err = err_from_is_err_and c.from_residual.result c.from_residual.ensures.1 in
+    rw err.1 (subst (λ (e : VolAnswer). BlamesAgain items (link_list (contains same_key c.args.named.now) c.args.objects.now.namings.items) e) (sym err.2) (again_of_part items _ rest _ _ whole (c.in_err-see_link.ensures.checked items _ noted (c.loop-naming.invariant items noted))))
+
+pub returns-clause-checked : goal.returns-clause-checked
+returns-clause-checked c = λ items noted.
+    let all : length c.args.objects.now.namings.items ≤ c.loop-naming.naming-index = omega (arith, c.loop-naming-test.false, ap length c.deref-naming-items.ensures.value) in
+    subst (λ (l : List Naming). AllPairs (NamesAnother items) l) (kept_all (is_link (contains same_key c.args.named.now)) c.args.objects.now.namings.items c.loop-naming.naming-index all) (c.loop-naming.invariant items noted).once

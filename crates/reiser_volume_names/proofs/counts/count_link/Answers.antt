@@ -1,0 +1,12 @@
+use Rattle.std.proofs.Common.{◌≡◌, ◌∙◌, ◌++◌, ◌∷◌, [], Bool, true, sym, subst, if◌then◌else◌}
+use Rattle.std.specs.Result.{MatchResult}
+use Rattle.indexmap.specs.IndexSet.{contains}
+use Rattle.reiser_volume_objects.specs.Keys.{same_key}
+use Rattle.reiser_volume_names.specs.Counts.{CountsNames, BlamesCount}
+use Rattle.reiser_volume_names.specs.Passes.{is_link}
+use Rattle.reiser_volume_names.proofs.counts.count_link.Goals as goal
+
+pub returns-then-is_link-clause-checked : goal.returns-then-is_link-clause-checked
+returns-then-is_link-clause-checked c = λ items links noted has.
+    let link : is_link (contains same_key c.args.named.now) c.args.naming.now ≡ true = sym c.is_link.ensures ∙ c.if-is_link.true in
+    subst (λ (b : Bool). MatchResult c.count_target.result (λ _. CountsNames items c.count_target.new.counts (links ++ (if b then c.args.naming.now ∷ [] else []))) (BlamesCount items (links ++ (if b then c.args.naming.now ∷ [] else [])))) (sym link) (c.count_target.ensures.checked items links noted has)

@@ -1,0 +1,12 @@
+use Rattle.std.proofs.Common.{◌≡◌, Option, Some, sym, subst}
+use Rattle.std.specs.Option.{MatchOption}
+use Rattle.indexmap.specs.IndexMap.{get}
+use Rattle.reiser_volume_objects.specs.declared.object.Object.{Object}
+use Rattle.reiser_volume_objects.specs.Keys.{same_key}
+use Rattle.reiser_volume_objects.specs.Leaves.{IsFirstLeaf}
+use Rattle.reiser_volume_objects.proofs.table.Objects.first_leaf.Goals as goal
+
+pub returns-in-Some : goal.returns-in-Some
+returns-in-Some c = λ items noted.
+    let kept : get same_key c.args.self.now.map c.args.key ≡ Some c.in-Some.object.now = sym c.in-Some.ensures.value in
+    subst (λ (o : Option Object). MatchOption o (Unit {0}) (λ o. IsFirstLeaf c.args.key items o.first)) kept (noted.firsts c.args.key)

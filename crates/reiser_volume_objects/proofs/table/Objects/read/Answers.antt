@@ -1,0 +1,67 @@
+use Rattle.std.proofs.Common.{◌≡◌, ◌++◌, ◌∷◌, [], List, length, sym, ap, subst, ◌∙◌, arith}
+use Rattle.std.proofs.lemmas.Result.{err_from_is_err_and}
+use Rattle.reiser_bitmap.specs.outside.History.{Image}
+use Rattle.reiser_bitmap.specs.refusals.declared.answer.VolAnswer.{VolAnswer}
+use Rattle.reiser_walk.specs.declared.tree.Tree.{Tree}
+use Rattle.reiser_walk.specs.Items.{Item}
+use Rattle.reiser_walk.specs.Rules.{tree_damages}
+use Rattle.reiser_walk.specs.Tree.{items_of}
+use Rattle.reiser_walk.specs.Walks.{standing}
+use Rattle.reiser_volume_objects.specs.Read.{tree_at, BlamesTree}
+use Rattle.reiser_volume_objects.specs.Table.{HasNoted}
+use Rattle.reiser_volume_objects.proofs.Reading.{noted_next, blames_tree}
+use Rattle.reiser_volume_objects.proofs.table.Objects.read.Goals as goal
+
+pub returns-in_err-advance-clause-kept : goal.returns-in_err-advance-clause-kept
+returns-in_err-advance-clause-kept g c = g.met.S.BlockSource.kept_trans _ _ _ c.loop-objects.invariant.kept c.advance.ensures.kept
+
+pub returns-in_err-note-clause-kept : goal.returns-in_err-note-clause-kept
+returns-in_err-note-clause-kept g c = g.met.S.BlockSource.kept_trans _ _ _ c.loop-objects.invariant.kept c.advance.ensures.kept
+
+pub returns-in_err-advance-clause-damage : goal.returns-in_err-advance-clause-damage
+returns-in_err-advance-clause-damage g c = λ tells image blocks.
+    let told = c.loop-objects.invariant.walks tells in
+    let same = g.met.S.BlockSource.kept_blocks c.args.src.now c.loop-objects.src tells c.loop-objects.invariant.kept in
+    let blames = c.in_err-advance.ensures.comes tells (g.S.BlockSource.blocks c.args.src.now) same told.0 told.1 in
+    let err = err_from_is_err_and c.from_residual-in_err-advance.result c.from_residual-in_err-advance.ensures.1 in
+    rw err.1
+    (subst (λ (e : VolAnswer). BlamesTree (tree_at c.args.root c.args.height c.args.journal_first c.args.journal_size) image c.args.map.now e) (sym err.2)
+    (subst (λ (i : Image). BlamesTree (tree_at c.args.root c.args.height c.args.journal_first c.args.journal_size) i c.args.map.now c.in_err-advance.field-0.0) blocks
+    (subst (λ (t : Tree). BlamesTree t (g.S.BlockSource.blocks c.args.src.now) c.args.map.now c.in_err-advance.field-0.0) c.loop-objects.invariant.tree (blames_tree _ _ _ _ blames))))
+
+pub loop-objects-preserved : goal.loop-objects-preserved
+loop-objects-preserved g c =
+    let before = c.loop-objects.invariant in
+    record {
+      kept = g.met.S.BlockSource.kept_trans _ _ _ before.kept c.advance.ensures.kept;
+      same = c.in_ok-advance.ensures.cause.kept (λ e. absurd cc) ∙ before.same;
+      tree = c.advance.ensures.tree ∙ before.tree;
+      size = c.advance.ensures.size ∙ before.size;
+      unspent = c.in_ok-advance.ensures.unspent;
+      walks = λ tells.
+          let told = before.walks tells in
+          let same = g.met.S.BlockSource.kept_blocks c.args.src.now c.loop-objects.src tells before.kept in
+          let came = rw c.if-branch.true at (c.in_ok-advance.ensures.comes tells (g.S.BlockSource.blocks c.args.src.now) same told.0 told.1) in (
+            told.0 ++ came.0 ∷ [],
+            came.1,
+            noted_next c.advance.new.self (g.S.BlockSource.blocks c.args.src.now) c.args.map.now told.0 came.0 (standing c.advance.new.self) c.leaf.result c.head.result c.body.result.now c.loop-objects.objects c.note.new.self
+                came.1 came.2 c.leaf.ensures c.head.ensures c.body.ensures told.2 c.in_ok-note.ensures,
+          );
+    }
+
+pub returns-clause-noted : goal.returns-clause-noted
+returns-clause-noted g c = λ tells image blocks.
+    let told = c.loop-objects.invariant.walks tells in
+    let same = g.met.S.BlockSource.kept_blocks c.args.src.now c.loop-objects.src tells c.loop-objects.invariant.kept in
+    let end = rw c.if-branch.false at (c.in_ok-advance.ensures.comes tells (g.S.BlockSource.blocks c.args.src.now) same told.0 told.1) in
+    subst (λ (items : List Item). HasNoted c.loop-objects.objects items)
+    (end.1.all ∙ (ap (λ (t : Tree). items_of t (g.S.BlockSource.blocks c.args.src.now) (length c.args.map.now)) c.loop-objects.invariant.tree ∙ ap (λ (i : Image). items_of (tree_at c.args.root c.args.height c.args.journal_first c.args.journal_size) i (length c.args.map.now)) blocks))
+    told.2
+
+pub returns-clause-sound : goal.returns-clause-sound
+returns-clause-sound g c = λ tells image blocks.
+    let told = c.loop-objects.invariant.walks tells in
+    let same = g.met.S.BlockSource.kept_blocks c.args.src.now c.loop-objects.src tells c.loop-objects.invariant.kept in
+    let end = rw c.if-branch.false at (c.in_ok-advance.ensures.comes tells (g.S.BlockSource.blocks c.args.src.now) same told.0 told.1) in
+    subst (λ (i : Image). tree_damages (tree_at c.args.root c.args.height c.args.journal_first c.args.journal_size) i c.args.map.now ≡ []) blocks
+    (subst (λ (t : Tree). tree_damages t (g.S.BlockSource.blocks c.args.src.now) c.args.map.now ≡ []) c.loop-objects.invariant.tree end.1.sound)

@@ -1,0 +1,19 @@
+use Rattle.std.proofs.Common.{◌≡◌, List, length, IsTrue, false}
+use Rattle.reiser_walk.specs.Items.{Item}
+use Rattle.reiser_walk.specs.Walks.{Walks, fuel, block_count}
+use Rattle.reiser_volume_objects.specs.Read.{tree_at}
+use Rattle.reiser_volume_objects.specs.Table.{HasNoted}
+use Rattle.reiser_volume_objects.proofs.table.Objects.read.Given as goal
+
+abbrev pub invariant-loop-objects : goal.invariant-loop-objects
+invariant-loop-objects g l = record {
+  kept : g.S.BlockSource.kept l.fn.src l.src;
+  same : g.S.BlockSource.faults l.src ≡ g.S.BlockSource.faults l.fn.src;
+  tree : l.walker.tree ≡ tree_at l.root l.height l.journal_first l.journal_size;
+  size : block_count l.walker ≡ length l.map;
+  unspent : l.walker.spent ≡ false;
+  walks : IsTrue g.S.BlockSource.tells → (given : List Item) × Walks l.walker (g.S.BlockSource.blocks l.fn.src) l.map given × HasNoted l.objects given;
+}
+
+abbrev pub decreases-loop-objects : goal.decreases-loop-objects
+decreases-loop-objects g l = fuel l.walker

@@ -1,0 +1,90 @@
+// What a person is told before a command that writes begins, and when a command is done.
+use crate::asked::{Asked, Verb};
+use crate::paragraph::Paragraph;
+use crate::space::Space;
+use std::alloc::{AllocError, Global};
+use std::str;
+
+const CONVERT_BEGINS: &str =
+    "If this is interrupted, by Ctrl-C, a signal or a power cut, the old volume or the new one is there, whole, at each moment. Run 'reiserconv recover {path}' then: it says which, and if it is the old one, begin again.";
+
+const ROLLBACK_BEGINS: &str =
+    "If this is interrupted, by Ctrl-C, a signal or a power cut, the Btrfs volume or the old one is there, whole, at each moment. Run 'reiserconv recover {path}' then: it says which, and if it is the Btrfs volume, begin again.";
+
+const TRIAL_BEGINS: &str =
+    "What {path} holds is overwritten now. If this is interrupted, by Ctrl-C, a signal or a power cut, what it holds then is of no use: begin again.";
+
+/// What is told before a command begins, by what is asked for; nothing of one that only reads, and of `recover`, which is done at once.
+pub fn before(alloc: Global, asked: &Asked<'_>, path: &str) -> Result<String, AllocError> {
+    let mut text = Paragraph::new(alloc, path);
+    let sentence = match asked.verb {
+        Some(Verb::Convert) => CONVERT_BEGINS,
+        Some(Verb::Rollback) => ROLLBACK_BEGINS,
+        Some(Verb::Trial) => TRIAL_BEGINS,
+        _ => "",
+    };
+    text.say(sentence, &[])?;
+    text.end()?;
+    Ok(text.into_text())
+}
+
+/// What comes behind a conversion, each a paragraph.
+const CONVERTED: [&str; 4] = [
+    "{path} is a Btrfs volume now. The old one is the file 'reiserfs_saved/image' in it.",
+    "What comes next: 'btrfs check --readonly {path}' has to find nothing. The first time, mount it with 'mount -t btrfs -o space_cache=v2 {path} /mnt'.",
+    "If /etc/fstab names the volume, change its line: the type is 'btrfs', and options that only ReiserFS has go. If the line names the UUID, 'blkid {path}' shows the one that it has now.",
+    "To go back, unmount it and run 'reiserconv rollback {path}': then it is as it was, without what was written since. Keep the image for as long as you may want that, and don't balance, defragment, shrink, deduplicate or compress the volume. When you are sure that all is well, 'btrfs subvolume delete /mnt/reiserfs_saved' gives the space of the image free. From then on nothing leads back.",
+];
+
+const ROLLED_BACK: &str =
+    "{path} is the ReiserFS volume from before the conversion again, and what was written since is gone. 'reiserfsck --check {path}' has to find nothing. If /etc/fstab names the volume, its line is to be the old one again.";
+
+const IS_REISERFS: &str =
+    "{path} is a ReiserFS volume. If a conversion was interrupted, it is as before: begin again with 'reiserconv convert {path}'. If a rollback was interrupted, it is done.";
+
+const IS_BTRFS: &str =
+    "{path} is a Btrfs volume. If a conversion was interrupted, it is done, and 'btrfs check --readonly {path}' has to find nothing. If a rollback was interrupted, begin again with 'reiserconv rollback {path}'.";
+
+/// What is told of a command that is done, by the first bytes that it printed. `size` is the size of a node that was asked for.
+pub fn behind(
+    alloc: Global,
+    asked: &Asked<'_>,
+    path: &str,
+    printed: &[u8],
+    size: &str,
+) -> Result<String, AllocError> {
+    let mut text = Paragraph::new(alloc, path);
+    let printed = str::from_utf8(printed).unwrap_or("");
+    match asked.verb {
+        Some(Verb::Convert) => tell_all(&mut text, &CONVERTED)?,
+        Some(Verb::Rollback) => text.say(ROLLED_BACK, &[])?,
+        Some(Verb::Recover) => text.say(recovered(printed), &[])?,
+        Some(Verb::Inspect) => {
+            if let Some(space) = Space::printed(printed) {
+                space.tell(alloc, &mut text, size)?;
+            }
+        }
+        _ => {}
+    }
+    text.end()?;
+    Ok(text.into_text())
+}
+
+fn tell_all(text: &mut Paragraph<'_>, sentences: &[&str]) -> Result<(), AllocError> {
+    for sentence in sentences {
+        text.say(*sentence, &[])?;
+        text.end()?;
+    }
+    Ok(())
+}
+
+/// What is there, by the first line of `recover`.
+fn recovered(printed: &str) -> &'static str {
+    if printed.starts_with("volume is reiserfs\n") {
+        IS_REISERFS
+    } else if printed.starts_with("volume is btrfs\n") {
+        IS_BTRFS
+    } else {
+        ""
+    }
+}

@@ -1,0 +1,201 @@
+// Whether the space of a volume suffices for a conversion, and what helps where it does not.
+use crate::paragraph::Paragraph;
+use std::alloc::{AllocError, Global};
+
+/// The free units of 1 MiB of a volume, and those that a conversion takes.
+#[derive(Clone, Copy, Debug, PartialEq, Eq)]
+pub struct Space {
+    /// All that are free.
+    pub units: u64,
+    /// All that it takes.
+    pub needed: u64,
+    /// How many of those have to lie in one row.
+    pub run: u64,
+    /// How many the longest free row has, where that is known.
+    pub longest: Option<u64>,
+}
+
+/// The size of a node where none is asked for.
+pub const USUAL_SIZE: &str = "16384";
+
+/// Linux itself needs some free units to write to a volume. With fewer to spare it may only read.
+const GOOD_TO_SPARE: u64 = 8;
+
+/// So much of an enlargement is taken by what tells of the new space, and by rounding to units.
+const LOST: u64 = 8;
+
+impl Space {
+    /// By what `inspect` prints of a ReiserFS volume.
+    pub fn printed(text: &str) -> Option<Space> {
+        Some(Space {
+            units: number_behind(text, "units ")?,
+            needed: number_behind(text, "needed ")?,
+            run: number_behind(text, "run ")?,
+            longest: None,
+        })
+    }
+
+    /// By the numbers of the refusal: what is needed and free, the row that is needed, and the longest one.
+    pub fn refused(numbers: &[&str]) -> Option<Space> {
+        match numbers {
+            [needed, units, run, longest] => Some(Space {
+                units: units.parse().ok()?,
+                needed: needed.parse().ok()?,
+                run: run.parse().ok()?,
+                longest: Some(longest.parse().ok()?),
+            }),
+            _ => None,
+        }
+    }
+
+    /// How many free units are missing.
+    fn missing(&self) -> u64 {
+        let in_all = self.needed.saturating_sub(self.units);
+        match self.longest {
+            Some(longest) if longest < self.run => in_all.max(self.run),
+            _ => in_all,
+        }
+    }
+
+    /// Tells whether the volume can be converted, and else what helps. `size` is the size of a node that was counted with.
+    pub fn tell(
+        &self,
+        alloc: Global,
+        text: &mut Paragraph<'_>,
+        size: &str,
+    ) -> Result<(), AllocError> {
+        if self.missing() == 0 {
+            self.tell_that_it_fits(alloc, text, size)
+        } else {
+            let numbers = Numbers::new(alloc, self)?;
+            text.say(TOO_FEW, &numbers.parts())?;
+            text.end()?;
+            self.tell_what_helps(alloc, text, size)
+        }
+    }
+
+    fn tell_that_it_fits(
+        &self,
+        alloc: Global,
+        text: &mut Paragraph<'_>,
+        size: &str,
+    ) -> Result<(), AllocError> {
+        let numbers = Numbers::new(alloc, self)?;
+        let fits = if self.run > 1 { FITS_IN_A_ROW } else { FITS };
+        text.say(fits, &numbers.parts())?;
+        if size != USUAL_SIZE {
+            text.say(WITH_SIZE, &[size])?;
+        }
+        if self.units.saturating_sub(self.needed) < GOOD_TO_SPARE {
+            text.say(HARDLY, &[])?;
+        }
+        text.end()
+    }
+
+    /// Tells what helps where the space does not suffice.
+    pub fn tell_what_helps(
+        &self,
+        alloc: Global,
+        text: &mut Paragraph<'_>,
+        size: &str,
+    ) -> Result<(), AllocError> {
+        let numbers = Numbers::new(alloc, self)?;
+        text.say("What to do:", &[])?;
+        let in_one_row = self.needed <= self.units;
+        text.say(
+            if in_one_row { FREE_A_ROW } else { FREE_MORE },
+            &numbers.parts(),
+        )?;
+        text.say(ENLARGE, &numbers.parts())?;
+        text.say(OTHER_NODES, &other_sizes(size))?;
+        text.end()
+    }
+}
+
+const FITS: &str =
+    "It can be converted: {2} units of 1 MiB are needed, {1} are free as a whole, and so {3} are to spare.";
+
+const FITS_IN_A_ROW: &str =
+    "It can be converted if of the free units of 1 MiB {4} lie in one row, which 'convert' sees before it writes: {2} are needed, {1} are free as a whole, and so {3} are to spare.";
+
+const WITH_SIZE: &str = "This is with nodes of {1} bytes: give 'convert' the same '--nodesize'.";
+
+const HARDLY: &str =
+    "Linux takes such units too when it writes to the new volume: have 8 to spare, or it may only be able to read there until more is free.";
+
+const TOO_FEW: &str =
+    "It can't be converted as it is: {2} units of 1 MiB are needed, and {1} are free as a whole, which is {5} too few.";
+
+const FREE_MORE: &str =
+    "Remove large files or move them away, until {5} MiB more are free as a whole. Small files that lie scattered hardly help.";
+
+const FREE_A_ROW: &str = "Remove a large file or move it away, until {4} MiB are free in one row.";
+
+const ENLARGE: &str =
+    "Or make the partition larger by {6} MiB or more, and then the volume ('resize_reiserfs -f {path}').";
+
+const OTHER_NODES: &str =
+    "Nodes of another size may need less: 'reiserconv inspect --nodesize {1} {path}' and the same with {2} tell how much.";
+
+/// Two sizes of nodes to try in place of the one that was counted with.
+fn other_sizes(size: &str) -> [&'static str; 2] {
+    match size {
+        "4096" => ["8192", "16384"],
+        "8192" => ["4096", "16384"],
+        _ => ["4096", "8192"],
+    }
+}
+
+/// The numbers of the sentences as text.
+#[derive(Drop)]
+struct Numbers {
+    units: String,
+    needed: String,
+    spare: String,
+    run: String,
+    missing: String,
+    larger: String,
+}
+
+impl Numbers {
+    fn new(alloc: Global, space: &Space) -> Result<Numbers, AllocError> {
+        let missing = space.missing();
+        Ok(Numbers {
+            units: decimal(alloc, space.units)?,
+            needed: decimal(alloc, space.needed)?,
+            spare: decimal(alloc, space.units.saturating_sub(space.needed))?,
+            run: decimal(alloc, space.run)?,
+            missing: decimal(alloc, missing)?,
+            larger: decimal(alloc, missing.saturating_add(LOST))?,
+        })
+    }
+
+    /// `{1}` to `{6}`.
+    fn parts(&self) -> [&str; 6] {
+        [
+            self.units.as_str(),
+            self.needed.as_str(),
+            self.spare.as_str(),
+            self.run.as_str(),
+            self.missing.as_str(),
+            self.larger.as_str(),
+        ]
+    }
+}
+
+fn decimal(alloc: Global, number: u64) -> Result<String, AllocError> {
+    format!(in alloc; "{}", number)
+}
+
+/// The number behind a word at the front of a line.
+fn number_behind(text: &str, word: &str) -> Option<u64> {
+    for line in text.lines() {
+        if let Some(number) = line.strip_prefix(word) {
+            return number.parse().ok();
+        }
+    }
+    None
+}
+
+#[cfg(test)]
+mod tests;

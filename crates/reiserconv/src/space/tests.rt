@@ -1,0 +1,76 @@
+use super::Space;
+use crate::paragraph::Paragraph;
+use std::test::Fail;
+
+const PRINTED: &str =
+    "format reiserfs\nblocks 9216\nlabel units\\x209\nused 8211\nunits 3\nneeded 4\nrun 1\n";
+
+/// What is told, in one line.
+fn told(rt: &impl AllocGlobal, space: &Space, size: &str) -> Result<String, Fail> {
+    let mut text = Paragraph::new(rt.alloc(), "/dev/sda1");
+    space.tell(rt.alloc(), &mut text, size)?;
+    let mut said = String::new(rt.alloc());
+    for line in text.into_text().as_str().lines() {
+        said.push_str(line)?;
+        said.push_str(" ")?;
+    }
+    Ok(said)
+}
+
+#[test]
+fn a_unit_is_missing(rt: HostRuntime) -> Result<(), Fail> {
+    let space = Space::printed(PRINTED).ok_or("no space")?;
+    let said = told(&rt, &space, "4096")?;
+    for part in [
+        "4 units of 1 MiB are needed, and 3 are free as a whole, which is 1 too few.",
+        "until 1 MiB more are free",
+        "larger by 9 MiB",
+        "'resize_reiserfs -f /dev/sda1'",
+        "'reiserconv inspect --nodesize 8192 /dev/sda1' and the same with 16384",
+    ] {
+        assert!(rt; said.as_str().contains(part), "{}", said.as_str());
+    }
+    Ok(())
+}
+
+#[test]
+fn a_row_is_missing(rt: HostRuntime) -> Result<(), Fail> {
+    let space = Space::refused(&["20", "30", "5", "4"]).ok_or("no space")?;
+    let said = told(&rt, &space, "16384")?;
+    assert!(rt;
+        said.as_str().contains("until 5 MiB are free in one row."),
+        "{}",
+        said.as_str()
+    );
+    assert!(rt; Space::refused(&["20", "30", "5"]).is_none());
+    Ok(())
+}
+
+#[test]
+fn the_space_suffices(rt: HostRuntime) -> Result<(), Fail> {
+    let mut space = Space {
+        units: 29,
+        needed: 20,
+        run: 1,
+        longest: None,
+    };
+    let said = told(&rt, &space, "16384")?;
+    assert!(rt;
+        said.as_str().ends_with("and so 9 are to spare. "),
+        "{}",
+        said.as_str()
+    );
+    space.units = 20;
+    let said = told(&rt, &space, "4096")?;
+    assert!(rt;
+        said.as_str().contains("with nodes of 4096 bytes"),
+        "{}",
+        said.as_str()
+    );
+    assert!(rt;
+        said.as_str().contains("have 8 to spare"),
+        "{}",
+        said.as_str()
+    );
+    Ok(())
+}

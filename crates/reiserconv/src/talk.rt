@@ -1,0 +1,122 @@
+use crate::advice::{Outcome, advice, start_advice};
+use crate::asked::Asked;
+use crate::notices::{before, behind};
+use crate::shell::quoted;
+use crate::space::USUAL_SIZE;
+use crate::start::Missing;
+use host_edge::{LineSink, StatusLine, Trouble};
+use std::alloc::Global;
+use std::io::Write;
+
+/// What a person is told of a run, beside its lines.
+#[derive(Drop)]
+pub struct Talk<'a> {
+    alloc: Global,
+    words: &'a [String],
+    asked: Asked<'a>,
+    /// The path, as a shell reads it.
+    path: String,
+}
+
+/// How a run ended.
+#[derive(Clone, Copy)]
+pub struct Ended {
+    pub status: u8,
+    /// Why the last call of the device failed, if one did.
+    pub trouble: Option<Trouble>,
+    /// Whether a block was written, whole or in part.
+    pub wrote: bool,
+}
+
+impl<'a> Talk<'a> {
+    /// There is one where standard error is a terminal, or the words ask for it. Without memory there is none.
+    pub fn new(
+        alloc: Global,
+        words: &'a [String],
+        asked: Asked<'a>,
+        shown: &StatusLine,
+    ) -> Option<Talk<'a>> {
+        if !shown.is_seen() && !asked.verbose {
+            return None;
+        }
+        match quoted(alloc, asked.path) {
+            Ok(path) => Some(Talk {
+                alloc,
+                words,
+                asked,
+                path,
+            }),
+            Err(_) => None,
+        }
+    }
+
+    /// Tells what has to be known before the run begins. Only a terminal is told, so that where there is none the line of the
+    /// run stays the first.
+    pub fn begin<W: Write + Drop>(&self, shown: &StatusLine, err: &mut LineSink<'_, W>) {
+        if !shown.is_seen() {
+            return;
+        }
+        if let Ok(text) = before(self.alloc, &self.asked, self.path.as_str()) {
+            let _ = err.pass(text.as_bytes());
+        }
+    }
+
+    /// Tells what the lines of the run mean, and what to do.
+    pub fn end<O: Write + Drop, W: Write + Drop>(
+        &self,
+        ended: &Ended,
+        out: &LineSink<'_, O>,
+        err: &mut LineSink<'_, W>,
+    ) {
+        let size = asked_size(self.words);
+        let text = if ended.status == 0 {
+            behind(
+                self.alloc,
+                &self.asked,
+                self.path.as_str(),
+                out.line(),
+                size,
+            )
+        } else {
+            let outcome = Outcome {
+                line: err.line(),
+                trouble: ended.trouble,
+                wrote: ended.wrote,
+                is_trial: self.asked.is_trial(),
+                words: self.words,
+                path: self.path.as_str(),
+                size,
+            };
+            advice(self.alloc, &outcome)
+        };
+        if let Ok(text) = text {
+            let _ = err.pass(text.as_bytes());
+        }
+    }
+}
+
+/// Tells a person at a terminal why the program could not start.
+pub fn tell_start<W: Write + Drop>(
+    alloc: Global,
+    missing: Missing,
+    shown: &StatusLine,
+    err: &mut LineSink<'_, W>,
+) {
+    if shown.is_seen() {
+        if let Ok(text) = start_advice(alloc, missing) {
+            let _ = err.pass(text.as_bytes());
+        }
+    }
+}
+
+/// The size of a node that the words ask for.
+fn asked_size(words: &[String]) -> &str {
+    let mut is_next = false;
+    for word in words {
+        if is_next {
+            return word.as_str();
+        }
+        is_next = word.as_str() == "--nodesize";
+    }
+    USUAL_SIZE
+}

@@ -1,0 +1,88 @@
+-- Where no part of a volume differs, the volume before can be had back from both disks or from neither.
+use Rattle.std.proofs.Common.{◌≡◌, ℕ, ◌<◌, min, [], List, length, Option, Some, None, refl, sym, ◌∙◌, ap, subst, arith}
+use Rattle.std.proofs.lemmas.List.{ext_get_or}
+use Rattle.reiser_bitmap.specs.outside.History.{Image, block_at}
+use Rattle.btr_reader.specs.Image.{ImageFile}
+use Rattle.btr_reader.specs.Parts.{SavedImage, own_map}
+use Rattle.btr_reader.specs.Parts as part
+use Rattle.btr_reader.specs.btr_reader_walk.declared.map.MapRange.{MapRange}
+use Rattle.volume_state.proofs.Images.{block_by, length_by}
+use Rattle.btr_reader.specs.Apart.{differs}
+use Rattle.btr_reader.specs.MetadataLaws.{IsSameBtrfs, MetadataDecides}
+use Rattle.reiser_volume.specs.Volume.{IsAccepted, superblock, used_of}
+use Rattle.volume_state.specs.Moved.{IsOld}
+use Rattle.volume_state.specs.Saved.{block_or_hole, blocks_by, file_blocks, image_blocks, place_by_file, saved_file, saved_place}
+use Rattle.volume_state.specs.Untouched.{IsUntouched}
+use Rattle.volume_state.specs.Using.{IsInUse}
+use Rattle.reiser_bitmap.specs.vol_block.Volume.{IsReserved}
+use Rattle.rollback_core.specs.SavedLaws.{PartsDecideSaved, SamePartsStayUntouched, UnusedBlocksDecideNothing, UnusedBlocksLieApart}
+use Rattle.rollback_core.proofs.Trees.{of_volume}
+use Rattle.rollback_core.proofs.Using.{alike, back, same_outside, used_same}
+
+module _ (disk other : Image) (size : length other ≡ length disk) (volume : IsSameBtrfs disk other) where
+  -- ---- the saved image
+  place_same : (b : ℕ) → saved_place other b ≡ saved_place disk b
+  place_same b = ap (λ (m : List MapRange). place_by_file m (saved_file other) b) volume.map ∙ ap (λ (f : Option ImageFile). place_by_file (own_map disk) f b) volume.saved
+
+  place_block : (f : Option ImageFile) (b : ℕ) (o : Option ℕ) → saved_file disk ≡ f → place_by_file (own_map disk) f b ≡ o → block_or_hole other o ≡ block_or_hole disk o
+  place_block f b None is at = refl
+  place_block None b (Some place) is at = absurd (cc at)
+  place_block (Some f) b (Some place) is at = volume.contents f b place is at
+
+  image_same : image_blocks other ≡ image_blocks disk
+  unfolding image_blocks
+  image_same = ext_get_or [] _ _ (long ∙ sym (length_by (saved_place disk) n disk)) each
+    where
+      n : ℕ
+      n = file_blocks (saved_file disk)
+
+      count : file_blocks (saved_file other) ≡ n
+      count = ap file_blocks volume.saved
+
+      long : length (blocks_by (saved_place other) (file_blocks (saved_file other)) other) ≡ min n (length disk)
+      long = length_by (saved_place other) (file_blocks (saved_file other)) other ∙ (ap (λ (k : ℕ). min k (length other)) count ∙ ap (λ (k : ℕ). min n k) size)
+
+      each : (b : ℕ) → b < length (blocks_by (saved_place other) (file_blocks (saved_file other)) other)
+          → block_at (blocks_by (saved_place other) (file_blocks (saved_file other)) other) b ≡ block_at (blocks_by (saved_place disk) n disk) b
+      each b below =
+          let inside : b < min n (length disk) = omega (arith, below, long) in
+          let there : b < min (file_blocks (saved_file other)) (length other) = omega (arith, below, length_by (saved_place other) (file_blocks (saved_file other)) other) in
+          block_by (saved_place other) (file_blocks (saved_file other)) other b there
+          ∙ (ap (λ (o : Option ℕ). block_or_hole other o) (place_same b)
+          ∙ (place_block (saved_file disk) b (saved_place disk b) refl refl
+          ∙ sym (block_by (saved_place disk) n disk b inside)))
+
+  -- ---- all of it
+  stays : ((b : ℕ) → IsInUse other b → IsInUse disk b) → IsUntouched disk → IsUntouched other
+  stays before u = record {
+    whole = record {
+      rows = record { log = volume.log ∙ u.whole.rows.log; tree = λ r refused. u.whole.rows.tree r ((volume.refusals part.Tree r).1 refused) };
+      way = λ r refused. u.whole.way r ((volume.refusals SavedImage r).1 refused);
+    };
+    there = λ missing. u.there (sym volume.saved ∙ missing);
+    accepted = subst IsAccepted (sym image_same) u.accepted;
+    in_place = λ b old. place_same b ∙ u.in_place b (subst (λ (i : Image). IsOld (used_of i) b) image_same old);
+    reserved = λ b reserved used. u.reserved b (subst (λ (i : Image). IsReserved b (superblock i).blocks) image_same reserved) (before b used);
+  }
+
+pub parts_decide_saved : MetadataDecides → PartsDecideSaved
+parts_decide_saved decide = λ test disk other apart same.
+    let there = decide test disk other apart same in
+    let turned = back test disk other same in
+    let here = decide test other disk there.apart turned in
+    let used = used_same test disk other (of_volume test disk apart) same in
+    record {
+      same = there.same;
+      image = image_same disk other same.size there.same;
+      in_use = used;
+      untouched = (stays disk other same.size there.same (λ b. (used b).1), stays other disk turned.size here.same (λ b. (used b).0));
+    }
+
+pub same_parts_stay_untouched : PartsDecideSaved → SamePartsStayUntouched
+same_parts_stay_untouched decide = λ disk other u size apart.
+    let is = decide (differs disk other) disk other apart (same_outside disk other size) in
+    record { same = is.same; image = is.image; untouched = is.untouched.0 u }
+
+pub unused_blocks_decide_nothing : UnusedBlocksLieApart → SamePartsStayUntouched → UnusedBlocksDecideNothing
+unused_blocks_decide_nothing lie stay = λ disk other u same.
+    stay disk other u same.size (lie.apart (differs disk other) disk u.whole.way (alike disk other 16 same.superblock) (λ b used. alike disk other b (same.used b used)))

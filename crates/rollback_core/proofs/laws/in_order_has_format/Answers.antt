@@ -1,5 +1,0 @@
-use Rattle.rollback_core.proofs.Formats.{has_format}
-use Rattle.rollback_core.proofs.laws.in_order_has_format.Goals as goal
-
-pub returns : goal.returns
-returns c = has_format

@@ -1,5 +1,0 @@
-use Rattle.rollback_core.proofs.Opening.{recovery_opens}
-use Rattle.rollback_core.proofs.laws.recovery_opens.Goals as goal
-
-pub returns : goal.returns
-returns c = recovery_opens

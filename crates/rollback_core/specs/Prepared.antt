@@ -1,0 +1,43 @@
+-- What was read and decided before the first write.
+use Rattle.std.specs.Prelude.{◌≡◌, ◌==◌, ℕ, not, All, List, filter, map}
+use Rattle.reiser_bitmap.specs.outside.Format.{format_in}
+use Rattle.reiser_bitmap.specs.outside.History.{Image, block_at}
+use Rattle.convert_steps.specs.command_answers.declared.answer.Answer.{Answer}
+use Rattle.convert_steps.specs.command_answers.declared.answer.Answer.TheVariants as answer
+use Rattle.reiser_bitmap.specs.refusals.declared.answer.BtrAnswer.{BtrAnswer}
+use Rattle.reiser_bitmap.specs.refusals.declared.answer.BtrAnswer.TheVariants as btrfs
+use Rattle.reiser_bitmap.specs.refusals.declared.answer.VolAnswer.{VolAnswer}
+use Rattle.reiser_bitmap.specs.refusals.declared.answer.VolAnswer.TheVariants as reiser
+use Rattle.reiser_bitmap.specs.vol_block.declared.format.Format.TheVariants.{Btrfs}
+use Rattle.volume_state.specs.Saved.{image_blocks}
+use Rattle.volume_state.specs.Untouched.{IsUntouched}
+use Rattle.rollback_core.specs.RolledBack.{is_wiped, restored_blocks, summary}
+use Rattle.rollback_core.specs.declared.way.Saved.{Saved}
+use Rattle.rollback_core.specs.declared.way.WayBack.{WayBack}
+
+-- The blocks at these numbers of an image.
+pub record AreSaved (image : Image) (numbers : List ℕ) (saved : List Saved) : Type 0 where
+  pub numbers_are : map (λ s. s.at) saved ≡ numbers
+  pub blocks : All (λ s. s.block.bytes ≡ block_at image s.at) saved
+
+-- Nothing stands in the way, and this is what is to be written: the restored blocks and block 16 from the saved image, and zeros to each
+-- block of a copy that is to be wiped.
+pub record IsPrepared (disk : Image) (way : WayBack) : Type 0 where
+  pub format : format_in disk ≡ Btrfs
+  pub untouched : IsUntouched disk
+  pub reserved : AreSaved (image_blocks disk) (filter (λ b. not (b == 16)) (restored_blocks disk)) way.reserved.items
+  pub superblock : way.superblock.bytes ≡ block_at (image_blocks disk) 16
+  pub first : way.first ≡ is_wiped disk 16384
+  pub second : way.second ≡ is_wiped disk 67108864
+  pub summary_is : way.summary ≡ summary disk
+
+-- The answer by that of the Btrfs volume, and by that of the volume in its image.
+abbrev pub by_btrfs : BtrAnswer → Answer
+by_btrfs (btrfs.Refused r) = answer.Btr r
+by_btrfs btrfs.Fault = answer.Fault
+by_btrfs btrfs.Memory = answer.Memory
+
+abbrev pub by_image : VolAnswer → Answer
+by_image (reiser.Refused r) = answer.ImageDamaged r
+by_image reiser.Fault = answer.Fault
+by_image reiser.Memory = answer.Memory

@@ -1,0 +1,77 @@
+-- What a recovery and its crashes keep.
+use Rattle.std.specs.Prelude.{◌≡◌, ◌≢◌, ◌⊎◌, ◌↔◌, ℕ, ◌<◌, false, List, length, codes, Contains}
+use Rattle.reiser_bitmap.specs.outside.Format.{format_in}
+use Rattle.reiser_bitmap.specs.outside.History.{Image, block_at}
+use Rattle.convert_steps.specs.command_answers.declared.answer.Answer.{Answer}
+use Rattle.convert_steps.specs.command_answers.declared.answer.Answer.TheVariants as answer
+use Rattle.btr_reader.specs.Parts.{IsReadable, Superblock}
+use Rattle.convert_steps.specs.Switch.{HasCopies, IsMirror}
+use Rattle.reiser_volume.specs.fs_rows.Rows.{WholeRow}
+use Rattle.btr_reader.specs.Apart.{IsReservedFree}
+use Rattle.btr_reader.specs.MetadataLaws.{IsSameBtrfs}
+use Rattle.reiser_volume.specs.reiser_volume_contents.Laws.{SameUsed}
+use Rattle.reiser_bitmap.specs.Bits.{has}
+use Rattle.reiser_volume.specs.Laws.{IsSameVolume}
+use Rattle.reiser_volume.specs.Volume.{IsAccepted, IsFrontAccepted, superblock, used_of}
+use Rattle.reiser_bitmap.specs.vol_block.Format.{has_bytes_at}
+use Rattle.reiser_bitmap.specs.vol_block.declared.format.Format.{Format}
+use Rattle.reiser_bitmap.specs.vol_block.declared.format.Format.TheVariants.{Reiser, Btrfs}
+use Rattle.rollback_core.specs.RecoveryAnswers.{RefusesRecover}
+use Rattle.rollback_core.specs.Mending.{blocks_of}
+use Rattle.rollback_core.specs.Opens.{OpensAs}
+use Rattle.rollback_core.specs.Recovered.{IsLeft, IsRecoverable, IsRecovered, summary, torn_blocks}
+
+-- A recovered disk stays as it is when it is recovered again: no block is to be written. And after a crash of a recovery another one
+-- makes of the disk what the first would have made.
+pub record RecoveryStays : Type 0 where
+  pub stays : (image other : Image) → IsRecovered image other → IsRecovered other other
+  pub idle : (image other : Image) → IsRecovered image other → (summary other).mirrors ≡ 0
+  pub again : (image left other : Image) → IsLeft image left → IsRecovered left other → IsRecovered image other
+
+-- The other disk has the same format and is in order where the first is, and no block differs but those of copies.
+pub record IsSameBut (image other : Image) : Type 0 where
+  pub size : length other ≡ length image
+  pub format : format_in other ≡ format_in image
+  pub can : IsRecoverable image → IsRecoverable other
+  pub others : (b : ℕ) → ¬ IsMirror b → block_at other b ≡ block_at image b
+  -- no used block of a ReiserFS volume differs
+  pub used : format_in image ≡ Reiser → IsRecoverable image → SameUsed (used_of image) image other
+  -- so an accepted one is the same volume, with the same rows
+  pub volume : format_in image ≡ Reiser → IsAccepted image → IsSameVolume image other
+
+-- So is each disk that a crash of a recovery leaves, and what a recovery makes is one of them. Where no part of a Btrfs volume lies in
+-- a reserved block, it is the same volume, with the same rows and the same saved image, and so again.
+pub record RecoveryKeeps : Type 0 where
+  pub recovered : (image other : Image) → IsRecovered image other → IsLeft image other
+  pub left : (image other : Image) → IsLeft image other → IsSameBut image other
+  pub btrfs : (image other : Image) → IsReservedFree image → IsLeft image other → IsSameBtrfs image other × IsReservedFree other
+
+-- What stands in the blocks of copies: on a Btrfs volume the copies of its superblock, on a ReiserFS volume no Btrfs superblock in a
+-- block without use. A Btrfs volume whose copies stand is recovered as it is.
+pub record RecoveryMends : Type 0 where
+  pub copies : (image other : Image) → IsRecovered image other → format_in image ≡ Btrfs → HasCopies (block_at image 16) (blocks_of (block_at image 16)) other
+  pub wiped : (image other : Image) → IsRecovered image other → format_in image ≡ Reiser
+      → (b : ℕ) → IsMirror b → b < (superblock image).blocks → has (used_of image) b ≡ false → has_bytes_at (block_at other b) 64 (codes "_BHRfS_M") ≡ false
+  pub whole : (image : Image) → IsRecoverable image → format_in image ≡ Btrfs → HasCopies (block_at image 16) (blocks_of (block_at image 16)) image → IsRecovered image image
+
+-- The blocks that are counted, no two of which are one, are those that differ.
+abbrev pub RecoveryCounts : Type 0
+RecoveryCounts = (image other : Image) → IsRecovered image other → (b : ℕ) → Contains (torn_blocks image) b ↔ (block_at other b ≢ block_at image b)
+
+-- A disk that can be recovered is not refused: all that is answered is a failed call, or too little memory for a ReiserFS bitmap.
+abbrev pub RecoversWhatIsInOrder : Type 0
+RecoversWhatIsInOrder = (image : Image) (e : Answer) → IsRecoverable image → RefusesRecover image e → (e ≡ answer.Fault) ⊎ ((e ≡ answer.Memory) × (format_in image ≡ Reiser))
+
+-- Each volume that is in order has its format by block 16, and none has both: the height of a ReiserFS tree, at most 7, stands where a
+-- Btrfs superblock has a part of its magic. So every accepted ReiserFS volume can be recovered, and every Btrfs volume whose superblock is
+-- readable.
+pub record InOrderHasFormat : Type 0 where
+  pub reiser : (image : Image) → IsFrontAccepted image → (format_in image ≡ Reiser) × IsRecoverable image
+  pub accepted : (image : Image) → IsAccepted image → (format_in image ≡ Reiser) × IsRecoverable image
+  pub btrfs : (image : Image) → IsReadable image Superblock → (format_in image ≡ Btrfs) × IsRecoverable image
+
+-- A disk that can be opened can be recovered, as the format that it has. What a recovery makes of it, or a crash of one leaves, can be opened
+-- as the same format, with the same rows.
+pub record RecoveryOpens : Type 0 where
+  pub left : (f : Format) (image other : Image) (rows : List WholeRow) → OpensAs f image rows → IsLeft image other → OpensAs f other rows
+  pub recovers : (f : Format) (image : Image) (rows : List WholeRow) → OpensAs f image rows → (format_in image ≡ f) × IsRecoverable image

@@ -1,0 +1,61 @@
+-- The disk before, while and after a converted volume is rolled back.
+use Rattle.std.specs.Prelude.{◌≡◌, ◌⊎◌, ℕ, nat_lt, Bool, true, false, ◌&&◌, not, List, codes, filter, length}
+use Rattle.reiser_bitmap.specs.outside.History.{Image, block_at}
+use Rattle.reiser_bitmap.specs.vol_block.Format.{has_bytes_at}
+use Rattle.reiser_bitmap.specs.vol_block.Volume.{is_reserved, zeros}
+use Rattle.convert_steps.specs.Switch.{IsMirror}
+use Rattle.volume_state.specs.Saved.{image_blocks}
+use Rattle.volume_state.specs.Untouched.{IsUntouched, old_used}
+use Rattle.reiser_volume.specs.reiser_volume_contents.Laws.{SameUsed}
+use Rattle.reiser_bitmap.specs.Bits.{has, used_blocks}
+use Rattle.rollback_core.specs.declared.way.RollbackSummary.{RollbackSummary}
+
+-- ---- which blocks change
+
+-- A block that the Btrfs volume leaves free and the old one uses: it is reserved, and marked in the bitmap of the saved image.
+pub record IsRestored (disk : Image) (b : ℕ) : Type 0 where
+  pub used : has (old_used disk) b ≡ true
+  pub reserved : is_reserved b (length (old_used disk)) ≡ true
+
+-- A block of a copy of the superblock that the old volume has without use, and which holds the magic of a Btrfs superblock.
+abbrev pub is_wiped : Image → ℕ → Bool
+is_wiped disk b = nat_lt b (length (old_used disk)) && (not (has (old_used disk) b) && has_bytes_at (block_at disk b) 64 (codes "_BHRfS_M"))
+
+-- ---- the Btrfs volume
+
+-- It still stands: nothing differs but restored blocks, none of which it uses, and its superblock is as it was.
+pub record IsStanding (disk other : Image) : Type 0 where
+  pub size : length other ≡ length disk
+  pub superblock : block_at other 16 ≡ block_at disk 16
+  pub others : (b : ℕ) → ¬ IsRestored disk b → block_at other b ≡ block_at disk b
+
+-- ---- the old volume
+
+-- It stands again: each block that it uses is that of the saved image. No other block differs, but that a copy of the Btrfs superblock may
+-- be wiped.
+pub record IsBack (disk other : Image) : Type 0 where
+  pub size : length other ≡ length disk
+  pub used : SameUsed (old_used disk) (image_blocks disk) other
+  pub others : (b : ℕ) → has (old_used disk) b ≡ false → (block_at other b ≡ block_at disk b) ⊎ (IsMirror b × (is_wiped disk b ≡ true) × (block_at other b ≡ zeros))
+
+-- And no copy is left in a block without use.
+pub record IsRolledBack (disk other : Image) : Type 0 where
+  pub untouched : IsUntouched disk
+  pub back : IsBack disk other
+  pub wiped : (b : ℕ) → IsMirror b → is_wiped disk b ≡ true → block_at other b ≡ zeros
+
+-- ---- what a crash may leave
+
+-- the disk as it was; or, of a volume that can be rolled back, the Btrfs volume or the old one
+abbrev pub IsLeft : Image → Image → Type 0
+IsLeft disk other = (other ≡ disk) ⊎ (IsUntouched disk × (IsStanding disk other ⊎ IsBack disk other))
+
+-- ---- what is told
+
+-- the reserved blocks that the old volume uses, ascending
+abbrev pub restored_blocks : Image → List ℕ
+restored_blocks disk = filter (λ b. is_reserved b (length (old_used disk))) (used_blocks (old_used disk))
+
+-- how many blocks the old volume uses, and how many of them are reserved
+abbrev pub summary : Image → RollbackSummary
+summary disk = record { blocks = length (used_blocks (old_used disk)); restored = length (restored_blocks disk) }

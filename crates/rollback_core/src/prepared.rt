@@ -1,0 +1,233 @@
+// What is read and decided before the first write.
+ghost use Rattle.std.specs.Prelude.{◌≡◌, ◌⊎◌, ℕ, IfErr, IfOk};
+ghost use Rattle.std.specs.Result.{MatchResult};
+ghost use Rattle.reiser_bitmap.specs.outside.Fault.{HasCauseOf};
+ghost use Rattle.reiser_bitmap.specs.outside.History.{Image, OverTold};
+ghost use Rattle.btr_reader.specs.Parts.{HasBtrfsRows};
+ghost use Rattle.volume_state.specs.Saved.{image_blocks};
+ghost use Rattle.volume_state.specs.Untouched.{IsUntouched, old_used};
+ghost use Rattle.reiser_volume.specs.Volume.{superblock};
+ghost use Rattle.rollback_core.specs.RollbackAnswers.{HasPlaces, HasVolume, IsRollbackAnswer, RefusesRollback};
+ghost use Rattle.rollback_core.specs.Opened.{IsFoundOn, IsMapOn, IsOldOf, IsOpenedOn, LiesWithin};
+ghost use Rattle.rollback_core.specs.Prepared.{IsPrepared};
+ghost use Rattle.rollback_core.specs.Writing.{AreApart, HasRoom};
+
+use crate::answers::{btrfs_answer, changed, fault_answer, image_answer};
+use crate::saved::{count_reserved, read_block, read_reserved};
+use crate::wiping::wipe_both;
+use crate::{RollbackSummary, SUPERBLOCK, WayBack};
+use btr_reader::{Btrfs, ImageMap};
+use btr_super::Super;
+use convert_steps::Answer;
+use reiser_bitmap::{Bitmap, Block, BlockSource, BtrRefusal, Format, VolumeRefusal, format_of};
+use reiser_volume::Volume;
+use std::alloc::Global;
+use volume_state::{ImageSource, image_moved, reserved_used};
+
+/// Reads the Btrfs volume of a disk and the volume in its saved image, and says what is to be written to have that back. Nothing is
+/// written.
+///
+/// It is refused, in this order: where the disk has no volume, or a ReiserFS one; where something is wrong with the superblock; where
+/// there is a log tree; where something is wrong with the chunks, the root tree, the file tree or what lies on the way to the image; where
+/// the image is missing; where the volume in it is refused; where a block of that was moved; and where the Btrfs volume uses a reserved
+/// block.
+pub fn prepare<S: BlockSource>(alloc: Global, src: &mut S) -> Result<WayBack, Answer>
+    ensures kept { S.kept src.old src.new }
+    ensures prepared { OverTold S.tells (S.blocks src.old) (λ disk. MatchResult result (IsPrepared disk) (RefusesRollback disk)) }
+    ensures room { IfOk result (HasRoom (S.size src.old)) }
+    ensures apart { IfOk result AreApart }
+    ensures cause { HasCauseOf Answer.Fault (S.faults src.old) (S.faults src.new) result }
+    ensures answers { IfErr result IsRollbackAnswer }
+{
+    let block = find_superblock(src)?;
+    let volume = open_volume(alloc, src, &block)?;
+    check_rows(alloc, src, &volume)?;
+    let map = read_map(alloc, src, &volume)?;
+    prepare_old(alloc, src, &volume, &map)
+}
+
+/// The same from the saved image on, whose map was read.
+fn prepare_old<S: BlockSource>(
+    alloc: Global,
+    src: &mut S,
+    volume: &Btrfs,
+    map: &ImageMap,
+) -> Result<WayBack, Answer>
+    requires device { map.now.device ≡ S.size src.old }
+    ensures kept { S.kept src.old src.new }
+    ensures prepared { OverTold S.tells (S.blocks src.old) (λ disk. IsOpenedOn disk volume.now → IsMapOn disk map.now → MatchResult result (IsPrepared disk) (RefusesRollback disk)) }
+    ensures room { IfOk result (HasRoom (S.size src.old)) }
+    ensures apart { IfOk result AreApart }
+    ensures cause { HasCauseOf Answer.Fault (S.faults src.old) (S.faults src.new) result }
+    ensures answers { IfErr result IsRollbackAnswer }
+{
+    let old = open_old(alloc, src, map)?;
+    check_places(map, old.bitmap())?;
+    check_reserved(alloc, src, volume, old.bitmap().len())?;
+    plan(alloc, src, map, old.bitmap())
+}
+
+/// Block 16 of a disk that has a Btrfs volume.
+fn find_superblock<S: BlockSource>(src: &mut S) -> Result<Block, Answer>
+    ensures kept { S.kept src.old src.new }
+    ensures found { OverTold S.tells (S.blocks src.old) (λ disk. MatchResult result (IsFoundOn disk) (RefusesRollback disk)) }
+    ensures cause { HasCauseOf Answer.Fault (S.faults src.old) (S.faults src.new) result }
+    ensures answers { IfErr result IsRollbackAnswer }
+{
+    if src.len() <= SUPERBLOCK {
+        return Err(Answer::Volume(VolumeRefusal::NotVolume));
+    }
+    let block = match read_block(src, SUPERBLOCK) {
+        Ok(block) => block,
+        Err(fault) => return Err(fault_answer(fault)),
+    };
+    match format_of(&block) {
+        Format::Btrfs => Ok(block),
+        Format::Reiser => Err(Answer::WrongFormat),
+        Format::Neither => Err(Answer::Volume(VolumeRefusal::NotVolume)),
+    }
+}
+
+/// Opens the Btrfs volume with this superblock, where that names no log tree.
+fn open_volume<S: BlockSource>(alloc: Global, src: &mut S, block: &Block) -> Result<Btrfs, Answer>
+    ensures kept { S.kept src.old src.new }
+    ensures opened { OverTold S.tells (S.blocks src.old) (λ disk. IsFoundOn disk block.now → MatchResult result (IsOpenedOn disk) (RefusesRollback disk)) }
+    ensures cause { HasCauseOf Answer.Fault (S.faults src.old) (S.faults src.new) result }
+    ensures answers { IfErr result IsRollbackAnswer }
+{
+    let sup = match Super::read(block, SUPERBLOCK, src.len()) {
+        Ok(sup) => sup,
+        Err(refusal) => return Err(Answer::Btr(refusal)),
+    };
+    if sup.log_root != 0 {
+        return Err(Answer::Btr(BtrRefusal::LogPending {
+            address: sup.log_root,
+        }));
+    }
+    match Btrfs::open_by(alloc, src, block) {
+        Ok(volume) => Ok(volume),
+        Err(answer) => Err(btrfs_answer(answer)),
+    }
+}
+
+/// Whether the rows of the Btrfs volume, which a crash has to leave, can be read.
+fn check_rows<S: BlockSource>(alloc: Global, src: &mut S, volume: &Btrfs) -> Result<(), Answer>
+    ensures kept { S.kept src.old src.new }
+    ensures checked { OverTold S.tells (S.blocks src.old) (λ disk. IsOpenedOn disk volume.now → MatchResult result (λ _. HasBtrfsRows disk) (RefusesRollback disk)) }
+    ensures cause { HasCauseOf Answer.Fault (S.faults src.old) (S.faults src.new) result }
+    ensures answers { IfErr result IsRollbackAnswer }
+{
+    match volume.check_rows(alloc, src) {
+        Ok(()) => Ok(()),
+        Err(answer) => Err(btrfs_answer(answer)),
+    }
+}
+
+/// The map of the saved image.
+fn read_map<S: BlockSource>(alloc: Global, src: &mut S, volume: &Btrfs) -> Result<ImageMap, Answer>
+    ensures kept { S.kept src.old src.new }
+    ensures device { IfOk result (λ map. map.device ≡ S.size src.old) }
+    ensures read { OverTold S.tells (S.blocks src.old) (λ disk. IsOpenedOn disk volume.now → HasBtrfsRows disk → MatchResult result (IsMapOn disk) (RefusesRollback disk)) }
+    ensures cause { HasCauseOf Answer.Fault (S.faults src.old) (S.faults src.new) result }
+    ensures answers { IfErr result IsRollbackAnswer }
+{
+    match volume.image_map(alloc, src) {
+        Ok(Some(map)) => Ok(map),
+        Ok(None) => Err(Answer::ImageMissing),
+        Err(answer) => Err(btrfs_answer(answer)),
+    }
+}
+
+/// Opens the volume in the saved image. It lies within the image, whatever the disk gives.
+fn open_old<S: BlockSource>(alloc: Global, src: &mut S, map: &ImageMap) -> Result<Volume, Answer>
+    requires device { map.now.device ≡ S.size src.old }
+    ensures kept { S.kept src.old src.new }
+    ensures inside { IfOk result (λ old. LiesWithin old.bitmap map.now (S.size src.old)) }
+    ensures opened { OverTold S.tells (S.blocks src.old) (λ disk. IsMapOn disk map.now → MatchResult result (IsOldOf disk) (RefusesRollback disk)) }
+    ensures cause { HasCauseOf Answer.Fault (S.faults src.old) (S.faults src.new) result }
+    ensures answers { IfErr result IsRollbackAnswer }
+{
+    let mut image = ImageSource::new(src, map);
+    let old = match Volume::open(alloc, &mut image) {
+        Ok(old) => old,
+        Err(answer) => return Err(image_answer(answer)),
+    };
+    let blocks = old.bitmap().len();
+    if blocks <= SUPERBLOCK || blocks > image.len() {
+        return Err(changed());
+    }
+    Ok(old)
+}
+
+/// Whether each block of the old volume lies in its place.
+fn check_places(map: &ImageMap, used: &Bitmap) -> Result<(), Answer>
+    ensures checked { (disk : Image) → IsMapOn disk map.now → HasVolume disk → used.now ≡ old_used disk → MatchResult result (λ _. HasPlaces disk) (RefusesRollback disk) }
+    ensures answers { IfErr result (λ e. (b : ℕ) × (e ≡ Answer.ImageMoved b)) }
+{
+    match image_moved(map, used) {
+        None => Ok(()),
+        Some(block) => Err(Answer::ImageMoved { block }),
+    }
+}
+
+/// Whether the Btrfs volume leaves alone what is reserved on the old volume, which has so many blocks.
+fn check_reserved<S: BlockSource>(
+    alloc: Global,
+    src: &mut S,
+    volume: &Btrfs,
+    blocks: u64,
+) -> Result<(), Answer>
+    ensures kept { S.kept src.old src.new }
+    ensures told { OverTold S.tells (S.blocks src.old) (λ disk. IsOpenedOn disk volume.now → HasPlaces disk → blocks ≡ (superblock (image_blocks disk)).blocks →
+        MatchResult result (λ _. IsUntouched disk) (RefusesRollback disk)) }
+    ensures cause { HasCauseOf Answer.Fault (S.faults src.old) (S.faults src.new) result }
+    ensures answers { IfErr result IsRollbackAnswer }
+{
+    match reserved_used(alloc, volume, src, blocks) {
+        Ok(None) => Ok(()),
+        Ok(Some(block)) => Err(Answer::ReservedUsed { block }),
+        Err(answer) => Err(btrfs_answer(answer)),
+    }
+}
+
+/// What is to be written, where nothing stands in the way.
+fn plan<S: BlockSource>(
+    alloc: Global,
+    src: &mut S,
+    map: &ImageMap,
+    used: &Bitmap,
+) -> Result<WayBack, Answer>
+    requires device { map.now.device ≡ S.size src.old }
+    requires inside { LiesWithin used.now map.now (S.size src.old) }
+    ensures kept { S.kept src.old src.new }
+    ensures planned { OverTold S.tells (S.blocks src.old) (λ disk. IsMapOn disk map.now → IsUntouched disk → used.now ≡ old_used disk →
+        MatchResult result (IsPrepared disk) (RefusesRollback disk)) }
+    ensures room { IfOk result (HasRoom (S.size src.old)) }
+    ensures apart { IfOk result AreApart }
+    ensures cause { HasCauseOf Answer.Fault (S.faults src.old) (S.faults src.new) result }
+    ensures answers { IfErr result (λ e. (e ≡ Answer.Fault) ⊎ (e ≡ Answer.Memory)) }
+{
+    let (first, second) = match wipe_both(src, used) {
+        Ok(both) => both,
+        Err(fault) => return Err(fault_answer(fault)),
+    };
+    let mut image = ImageSource::new(src, map);
+    let superblock = match read_block(&mut image, SUPERBLOCK) {
+        Ok(block) => block,
+        Err(fault) => return Err(fault_answer(fault)),
+    };
+    let reserved = match read_reserved(alloc, &mut image, used) {
+        Ok(saved) => saved,
+        Err(answer) => return Err(image_answer(answer)),
+    };
+    Ok(WayBack {
+        reserved,
+        superblock,
+        first,
+        second,
+        summary: RollbackSummary {
+            blocks: used.used(),
+            restored: count_reserved(used),
+        },
+    })
+}

@@ -1,0 +1,23 @@
+// Laws of the definitions, each the contract of a function that does nothing.
+ghost use Rattle.rollback_core.specs.RollbackLaws.{RefusalsAreOfTouched, RollbackGoesOn, RollbackKeeps, WritingRollsBack};
+
+/// What a crash of a rollback leaves is a Btrfs volume with the same rows and the same image, which can be rolled back; or the volume in
+/// that image, accepted and with its rows.
+pub fn rollback_keeps()
+    ensures { RollbackKeeps }
+{}
+
+/// After a crash that left the Btrfs volume another rollback ends as the first one would have.
+pub fn rollback_goes_on()
+    ensures { RollbackGoesOn }
+{}
+
+/// A volume that can be rolled back is not refused.
+pub fn refusals_are_of_touched()
+    ensures { RefusalsAreOfTouched }
+{}
+
+/// What is prepared and written makes of a disk what is said of a rollback.
+pub fn writing_rolls_back()
+    ensures { WritingRollsBack }
+{}

@@ -1,0 +1,44 @@
+// Copies of the Btrfs superblock in blocks that the old volume has without use.
+ghost use Rattle.std.specs.Prelude.{◌≡◌, ◌≢◌, ◌≤◌, ◌<◌, ◌&&◌, not, nat_lt, true, codes, IfOk, length};
+ghost use Rattle.reiser_bitmap.specs.outside.Fault.{HasCause};
+ghost use Rattle.reiser_bitmap.specs.outside.History.{OverTold, block_at};
+ghost use Rattle.reiser_bitmap.specs.vol_block.Format.{has_bytes_at};
+ghost use Rattle.reiser_bitmap.specs.Bits.{has};
+
+use crate::saved::read_block;
+use crate::{FIRST_COPY, SECOND_COPY};
+use reiser_bitmap::{Bitmap, BlockNo, BlockSource, Fault, has_magic};
+
+/// Whether a block of a disk is to become zeros: the volume with these used blocks has it without use, and it holds the magic of a Btrfs
+/// superblock.
+fn is_wiped<S: BlockSource>(src: &mut S, used: &Bitmap, place: BlockNo) -> Result<bool, Fault>
+    requires inside { length used.now ≤ S.size src.old }
+    ensures kept { S.kept src.old src.new }
+    ensures free { IfOk result (λ wiped. wiped ≡ true → (place < length used.now) × (has used.now place ≢ true)) }
+    ensures wiped { OverTold S.tells (S.blocks src.old) (λ disk. IfOk result (λ wiped.
+        wiped ≡ (nat_lt place (length used.now) && (not (has used.now place) && has_bytes_at (block_at disk place) 64 (codes "_BHRfS_M"))))) }
+    ensures cause { HasCause (S.faults src.old) (S.faults src.new) result }
+{
+    if place >= used.len() || used.is_used(place) {
+        return Ok(false);
+    }
+    let block = read_block(src, place)?;
+    Ok(has_magic(&block, 64, b"_BHRfS_M"))
+}
+
+/// The same of the blocks of both copies.
+pub fn wipe_both<S: BlockSource>(src: &mut S, used: &Bitmap) -> Result<(bool, bool), Fault>
+    requires inside { length used.now ≤ S.size src.old }
+    ensures kept { S.kept src.old src.new }
+    ensures first_free { IfOk result (λ both. both.0 ≡ true → (16384 < length used.now) × (has used.now 16384 ≢ true)) }
+    ensures second_free { IfOk result (λ both. both.1 ≡ true → (67108864 < length used.now) × (has used.now 67108864 ≢ true)) }
+    ensures first { OverTold S.tells (S.blocks src.old) (λ disk. IfOk result (λ both.
+        both.0 ≡ (nat_lt 16384 (length used.now) && (not (has used.now 16384) && has_bytes_at (block_at disk 16384) 64 (codes "_BHRfS_M"))))) }
+    ensures second { OverTold S.tells (S.blocks src.old) (λ disk. IfOk result (λ both.
+        both.1 ≡ (nat_lt 67108864 (length used.now) && (not (has used.now 67108864) && has_bytes_at (block_at disk 67108864) 64 (codes "_BHRfS_M"))))) }
+    ensures cause { HasCause (S.faults src.old) (S.faults src.new) result }
+{
+    let first = is_wiped(src, used, FIRST_COPY)?;
+    let second = is_wiped(src, used, SECOND_COPY)?;
+    Ok((first, second))
+}

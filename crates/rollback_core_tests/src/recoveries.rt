@@ -1,0 +1,288 @@
+// Recoveries of small volumes in memory.
+ghost use Rattle.std.specs.Prelude.{◌≤◌, ◌<◌, ◌^◌, ◌≡◌, IfOk, length, None};
+
+use btr_super::{Super, mirror};
+use command_answers::Answer;
+use outside::{Access, BlockSource, Disk};
+use outside_mem::MemDisk;
+use refusals::{BtrRefusal, BtrRule, VolumeRefusal};
+use reiser_make::make;
+use rollback_core::{RecoverSummary, recover};
+use std::alloc::Global;
+use std::process::Abort;
+use std::test::Fail;
+use vol_block::{Block, BlockNo, Format};
+use volume_samples::Sample;
+
+/// The blocks of a volume that has one copy of a superblock, and that block.
+const BLOCKS: u64 = 20_000;
+
+const COPY: BlockNo = 16384;
+
+/// The blocks of a volume that has both copies.
+const LARGE: u64 = 67_108_880;
+
+fn filled(byte: u8) -> Block {
+    Block {
+        bytes: [byte; 4096],
+    }
+}
+
+/// Bytes that look like a Btrfs superblock by its magic alone.
+fn magic() -> Block {
+    let mut block = filled(3);
+    block.bytes[64..72].copy_from_slice(b"_BHRfS_M");
+    block
+}
+
+/// A ReiserFS volume that doesn't use the block of the copy, which holds this block.
+fn reiser(alloc: Global, copy: &Block) -> Result<MemDisk, Fail>
+    ensures size { IfOk result (λ d. length d.history.start ≡ 20000) }
+    ensures closed { IfOk result (λ d. d.opened ≡ None) }
+{
+    let mut disk = MemDisk::new(alloc, BLOCKS)?;
+    disk.open("", Access::Write)?;
+    make(alloc, 0, BLOCKS, &mut disk)?;
+    disk.settle();
+    disk.set_block(COPY, copy)?;
+    Ok(disk)
+}
+
+/// The superblock of a sample, on a volume of so many blocks.
+fn superblock(alloc: Global, blocks: u64) -> Result<Block, Fail>
+    requires { blocks ≤ 2 ^ 32 }
+{
+    let sample = Sample::PLAIN.disk(alloc)?;
+    let mut block = Block::zero();
+    sample.block(16, &mut block);
+    let sup = Super::read(&block, 16, blocks).ok().ok_or("a superblock")?;
+    let sup = Super {
+        total_bytes: 4096 * blocks,
+        ..sup
+    };
+    sup.encode(&mut block);
+    Ok(block)
+}
+
+/// A disk with this superblock and this block of a copy.
+fn btrfs(alloc: Global, superblock: &Block, copy: &Block) -> Result<MemDisk, Fail>
+    ensures size { IfOk result (λ d. length d.history.start ≡ 20000) }
+    ensures closed { IfOk result (λ d. d.opened ≡ None) }
+{
+    let mut disk = MemDisk::new(alloc, BLOCKS)?;
+    disk.set_block(16, superblock)?;
+    disk.set_block(COPY, copy)?;
+    Ok(disk)
+}
+
+/// The first copy of a superblock.
+fn copy_of(superblock: &Block) -> Block {
+    let mut copy = Block::zero();
+    mirror(superblock, COPY, &mut copy);
+    copy
+}
+
+/// Whether an open disk has this block.
+fn has(disk: &mut MemDisk, n: BlockNo, wanted: &Block) -> Result<bool, Fail> {
+    let mut block = Block::zero();
+    if n >= disk.len() {
+        return Ok(false);
+    }
+    disk.read(n, &mut block)?;
+    Ok(block == *wanted)
+}
+
+/// Recovers a disk, and then once more, which writes nothing; and whether the block of the copy is then this one.
+fn recovers(
+    rt: &(impl Abort + AllocGlobal),
+    disk: MemDisk,
+    format: Format,
+    mirrors: u64,
+    copy: &Block,
+) -> Result<(), Fail>
+    requires { disk.opened ≡ None }
+{
+    let mut disk = disk;
+    disk.open("", Access::Write)?;
+    assert_eq!(rt;
+        recover(rt.alloc(), &mut disk),
+        Ok(RecoverSummary { format, mirrors })
+    );
+    assert_eq!(rt; disk.writes(), mirrors);
+    assert!(rt; has(&mut disk, COPY, copy)?);
+    disk.settle();
+    disk.open("", Access::Write)?;
+    assert_eq!(rt;
+        recover(rt.alloc(), &mut disk),
+        Ok(RecoverSummary { format, mirrors: 0 })
+    );
+    assert_eq!(rt; disk.writes(), 0);
+    assert!(rt; has(&mut disk, COPY, copy)?);
+    Ok(())
+}
+
+#[test]
+fn a_superblock_without_use_is_wiped(rt: HostRuntime) -> Result<(), Fail> {
+    let disk = reiser(rt.alloc(), &magic())?;
+    recovers(&rt, disk, Format::Reiser, 1, &Block::zero())
+}
+
+#[test]
+fn other_bytes_are_kept(rt: HostRuntime) -> Result<(), Fail> {
+    let disk = reiser(rt.alloc(), &filled(3))?;
+    recovers(&rt, disk, Format::Reiser, 0, &filled(3))
+}
+
+/// The byte of the bitmap for blocks 16384 to 16391 marks all of them.
+#[test]
+fn a_used_block_is_kept(rt: HostRuntime) -> Result<(), Fail> {
+    let mut disk = reiser(rt.alloc(), &magic())?;
+    let mut bitmap = Block::zero();
+    disk.block(17, &mut bitmap);
+    bitmap.bytes[2048] = 0xff;
+    disk.set_block(17, &bitmap)?;
+    recovers(&rt, disk, Format::Reiser, 0, &magic())
+}
+
+#[test]
+fn a_copy_that_differs_is_written(rt: HostRuntime) -> Result<(), Fail> {
+    let superblock = superblock(rt.alloc(), BLOCKS)?;
+    let copy = copy_of(&superblock);
+    let disk = btrfs(rt.alloc(), &superblock, &superblock)?;
+    recovers(&rt, disk, Format::Btrfs, 1, &copy)?;
+    let disk = btrfs(rt.alloc(), &superblock, &Block::zero())?;
+    recovers(&rt, disk, Format::Btrfs, 1, &copy)?;
+    let disk = btrfs(rt.alloc(), &superblock, &copy)?;
+    recovers(&rt, disk, Format::Btrfs, 0, &copy)
+}
+
+/// What is answered where no block may be written.
+fn refuses(rt: &(impl Abort + AllocGlobal), disk: MemDisk, answer: Answer) -> Result<(), Fail>
+    requires { disk.opened ≡ None }
+{
+    let mut disk = disk;
+    disk.open("", Access::Write)?;
+    assert_eq!(rt; recover(rt.alloc(), &mut disk), Err(answer));
+    assert_eq!(rt; disk.writes(), 0);
+    Ok(())
+}
+
+#[test]
+fn what_is_wrong_is_refused(rt: HostRuntime) -> Result<(), Fail> {
+    let none = Answer::Volume(VolumeRefusal::NotVolume);
+    refuses(&rt, MemDisk::new(rt.alloc(), 0)?, none)?;
+    refuses(&rt, MemDisk::new(rt.alloc(), 16)?, none)?;
+    refuses(&rt, MemDisk::new(rt.alloc(), BLOCKS)?, none)?;
+
+    let mut unclean = reiser(rt.alloc(), &magic())?;
+    let mut block = Block::zero();
+    unclean.block(16, &mut block);
+    block.bytes[50] = 2;
+    unclean.set_block(16, &block)?;
+    refuses(
+        &rt,
+        unclean,
+        Answer::Volume(VolumeRefusal::Unclean { state: 2 }),
+    )?;
+
+    let mut torn = superblock(rt.alloc(), BLOCKS)?;
+    torn.bytes[300] = 1;
+    refuses(
+        &rt,
+        btrfs(rt.alloc(), &torn, &Block::zero())?,
+        Answer::Btr(BtrRefusal::BadBtrfs {
+            address: 65536,
+            rule: BtrRule::SuperCsum,
+        }),
+    )
+}
+
+/// A recovery that stops at its write, and one whose sync fails, leave the block as it was or as it is to be.
+fn crashes(
+    rt: &(impl Abort + AllocGlobal),
+    disk: MemDisk,
+    format: Format,
+    old: &Block,
+    new: &Block,
+) -> Result<(), Fail>
+    requires { disk.opened ≡ None }
+{
+    let mut disk = disk;
+    disk.open("", Access::Write)?;
+    disk.stop_at_write(1);
+    assert_eq!(rt; recover(rt.alloc(), &mut disk), Err(Answer::Fault));
+    for (choice, block, mirrors) in [(0, old, 1), (1, new, 0)] {
+        let mut left = disk.after_crash(&[choice])?;
+        left.open("", Access::Read)?;
+        assert!(rt; has(&mut left, COPY, block)?);
+        left.settle();
+        recovers(rt, left, format, mirrors, new)?;
+    }
+    Ok(())
+}
+
+#[test]
+fn a_crash_leaves_the_block_as_it_was_or_mended(rt: HostRuntime) -> Result<(), Fail> {
+    let disk = reiser(rt.alloc(), &magic())?;
+    crashes(&rt, disk, Format::Reiser, &magic(), &Block::zero())?;
+    let superblock = superblock(rt.alloc(), BLOCKS)?;
+    let copy = copy_of(&superblock);
+    let disk = btrfs(rt.alloc(), &superblock, &filled(7))?;
+    crashes(&rt, disk, Format::Btrfs, &filled(7), &copy)
+}
+
+#[test]
+fn each_failed_call_is_a_fault(rt: HostRuntime) -> Result<(), Fail> {
+    let superblock = superblock(rt.alloc(), BLOCKS)?;
+    for k in 0..4 {
+        let mut disk = btrfs(rt.alloc(), &superblock, &Block::zero())?;
+        disk.open("", Access::Write)?;
+        disk.fail_call(k)?;
+        assert_eq!(rt; recover(rt.alloc(), &mut disk), Err(Answer::Fault));
+    }
+    Ok(())
+}
+
+/// A disk of so many blocks with this superblock and zeros in all others.
+fn without_copies(alloc: Global, blocks: u64, superblock: &Block) -> Result<MemDisk, Fail>
+    requires { 16 < blocks }
+    ensures { IfOk result (λ d. d.opened ≡ None) }
+{
+    let mut disk = MemDisk::new(alloc, blocks)?;
+    disk.set_block(16, superblock)?;
+    Ok(disk)
+}
+
+/// How many of two writes a crash by this choice keeps, where so many were made.
+fn kept(writes: u64, choice: [u32; 2]) -> u64
+    ensures { result ≤ 2 }
+{
+    let first = if writes > 0 && choice[0] == 1 { 1 } else { 0 };
+    let second = if writes > 1 && choice[1] == 1 { 1 } else { 0 };
+    first + second
+}
+
+/// A crash of a recovery that writes both copies tears the two writes apart as it likes, and the next recovery writes what is missing.
+#[test]
+fn both_copies_are_written(rt: HostRuntime) -> Result<(), Fail> {
+    let superblock = superblock(rt.alloc(), LARGE)?;
+    for writes in 0..4 {
+        for choice in [[0, 0], [1, 0], [0, 1], [1, 1]] {
+            let mut disk = without_copies(rt.alloc(), LARGE, &superblock)?;
+            disk.open("", Access::Write)?;
+            disk.stop_at_write(writes);
+            let done = recover(rt.alloc(), &mut disk).is_ok();
+            assert_eq!(rt; done, writes == 3);
+            let mut left = disk.after_crash(&choice)?;
+            left.open("", Access::Write)?;
+            let missing = if done { 0 } else { 2 - kept(writes, choice) };
+            let told = RecoverSummary {
+                format: Format::Btrfs,
+                mirrors: missing,
+            };
+            assert_eq!(rt; recover(rt.alloc(), &mut left), Ok(told));
+            assert_eq!(rt; left.writes(), missing);
+        }
+    }
+    Ok(())
+}

@@ -1,9 +1,0 @@
-pub mod Back
-pub mod Formats
-pub mod Imaged
-pub mod Keeping
-pub mod Leaving
-pub mod Marked
-pub mod Planning
-pub mod Reading
-pub mod Refusing

@@ -1,9 +1,0 @@
-use Rattle.rollback_steps.proofs.Back.{back, rolled_back, standing}
-use Rattle.rollback_steps.proofs.laws.writing_rolls_back.Goals as goal
-
-pub returns : goal.returns
-returns c = record {
-  standing = λ disk way other p apart is. standing disk way p apart other is;
-  back = λ disk way other p is. back disk way p other is;
-  done = λ disk way other p is wiped. rolled_back disk way p other is wiped;
-}

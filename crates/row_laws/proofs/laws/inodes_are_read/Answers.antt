@@ -1,5 +1,0 @@
-use Rattle.row_laws.proofs.Exact.{inodes_are_read}
-use Rattle.row_laws.proofs.laws.inodes_are_read.Goals as goal
-
-pub returns : goal.returns
-returns c = inodes_are_read c.inodes_are_there.ensures

@@ -1,5 +1,0 @@
-use Rattle.row_laws.proofs.Paths.{names_are_kept}
-use Rattle.row_laws.proofs.laws.names_are_kept.Goals as goal
-
-pub returns : goal.returns
-returns c = names_are_kept c.inodes_are_there.ensures c.entries_are_there.ensures

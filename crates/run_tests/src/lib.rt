@@ -1,9 +1,0 @@
-//! Tests of whole runs: volumes that are converted, listed, rolled back and refused by the program's top call, over disks in memory, and
-//! runs whose power fails behind one of their writes.
-//!
-//! The crate has no code of its own. The contract of `run` says what each command leaves; these tests show it of volumes as they
-//! come, by the texts that are printed and the blocks that are left.
-#![tactic(auto)]
-
-#[cfg(test)]
-mod tests;

@@ -1,8 +1,0 @@
-mod copied_block;
-mod empty_volume;
-mod faults;
-mod home_volume;
-mod refusals;
-mod stops;
-mod ten_files;
-mod trials;

@@ -1,5 +1,0 @@
-use Rattle.sample_laws.proofs.Leaves.{leaves_back}
-use Rattle.sample_laws.proofs.laws.leaves_read_back.Goals as goal
-
-pub returns : goal.returns
-returns c = leaves_back

@@ -1,5 +1,0 @@
-use Rattle.sample_laws.proofs.Sound.{trees_sound}
-use Rattle.sample_laws.proofs.laws.sample_trees_are_sound.Goals as goal
-
-pub returns : goal.returns
-returns c = trees_sound

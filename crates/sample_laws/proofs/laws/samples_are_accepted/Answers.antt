@@ -1,5 +1,0 @@
-use Rattle.sample_laws.proofs.Accepted.{accepted}
-use Rattle.sample_laws.proofs.laws.samples_are_accepted.Goals as goal
-
-pub returns : goal.returns
-returns c = accepted

@@ -1,5 +1,0 @@
-use Rattle.sample_laws.proofs.Cleanness.{clean}
-use Rattle.sample_laws.proofs.laws.samples_are_clean.Goals as goal
-
-pub returns : goal.returns
-returns c = clean

@@ -1,5 +1,0 @@
-use Rattle.sample_laws.proofs.Walked.{samples_walked}
-use Rattle.sample_laws.proofs.laws.samples_are_walked.Goals as goal
-
-pub returns : goal.returns
-returns c = samples_walked

@@ -1,5 +1,0 @@
-use Rattle.sample_laws.proofs.Kept.{fit_heads}
-use Rattle.sample_laws.proofs.laws.samples_fit_their_heads.Goals as goal
-
-pub returns : goal.returns
-returns c = fit_heads

@@ -1,5 +1,0 @@
-use Rattle.sample_laws.proofs.Accepted.{have_names}
-use Rattle.sample_laws.proofs.laws.samples_have_names.Goals as goal
-
-pub returns : goal.returns
-returns c = have_names

@@ -1,5 +1,0 @@
-use Rattle.sample_laws.proofs.Accepted.{have_objects}
-use Rattle.sample_laws.proofs.laws.samples_have_objects.Goals as goal
-
-pub returns : goal.returns
-returns c = have_objects

@@ -1,5 +1,0 @@
-use Rattle.sample_laws.proofs.Places.{holds_blocks}
-use Rattle.sample_laws.proofs.laws.samples_hold_their_blocks.Goals as goal
-
-pub returns : goal.returns
-returns c = holds_blocks

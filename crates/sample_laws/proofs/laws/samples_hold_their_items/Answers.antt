@@ -1,5 +1,0 @@
-use Rattle.sample_laws.proofs.Items.{samples_items}
-use Rattle.sample_laws.proofs.laws.samples_hold_their_items.Goals as goal
-
-pub returns : goal.returns
-returns c = samples_items

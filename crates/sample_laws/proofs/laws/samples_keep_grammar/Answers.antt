@@ -1,5 +1,0 @@
-use Rattle.sample_laws.proofs.Kept.{keeps_grammar}
-use Rattle.sample_laws.proofs.laws.samples_keep_grammar.Goals as goal
-
-pub returns : goal.returns
-returns c = keeps_grammar

@@ -1,5 +1,0 @@
-use Rattle.sample_laws.proofs.Marked.{marks_system}
-use Rattle.sample_laws.proofs.laws.samples_mark_system.Goals as goal
-
-pub returns : goal.returns
-returns c = marks_system

@@ -1,5 +1,0 @@
-use Rattle.sample_laws.proofs.Marked.{marks_used}
-use Rattle.sample_laws.proofs.laws.samples_mark_used.Goals as goal
-
-pub returns : goal.returns
-returns c = marks_used

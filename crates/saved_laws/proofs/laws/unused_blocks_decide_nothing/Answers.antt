@@ -1,5 +1,0 @@
-use Rattle.saved_laws.proofs.Staying.{unused_blocks_decide_nothing}
-use Rattle.saved_laws.proofs.laws.unused_blocks_decide_nothing.Goals as goal
-
-pub returns : goal.returns
-returns c = unused_blocks_decide_nothing c.unused_blocks_lie_apart.ensures c.same_parts_stay_untouched.ensures

@@ -1,4 +1,0 @@
-pub mod Moved
-pub mod Saved
-pub mod Untouched
-pub mod Using

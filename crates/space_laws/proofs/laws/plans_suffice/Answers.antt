@@ -1,5 +1,0 @@
-use Rattle.space_laws.proofs.Sufficing.{plans_suffice}
-use Rattle.space_laws.proofs.laws.plans_suffice.Goals as goal
-
-pub returns : goal.returns
-returns c = plans_suffice c.file_tree_is_counted.ensures c.file_keys_ascend.ensures c.image_keys_ascend.ensures c.items_are_short.ensures

@@ -1,4 +1,0 @@
-pub mod Others
-pub mod Pushing
-pub mod Steps
-pub mod Rows

@@ -1,8 +1,0 @@
-use Rattle.std.proofs.Common.{◌≡◌, take, drop}
-use Rattle.tree_writer.proofs.trees.rest_of.Given as goal
-
-abbrev pub invariant-loop-slot : goal.invariant-loop-slot
-invariant-loop-slot l = record {
-  all : l.slot-items ≡ drop l.first l.slots;
-  rest : l.rest ≡ take l.slot-index l.slot-items;
-}

@@ -1,7 +1,0 @@
-// Laws of the definitions, each the contract of a function that does nothing.
-ghost use Rattle.tree_writer.specs.Trees.{TreesStandByNodes};
-
-/// A tree stands on each disk that has the same blocks where its nodes lie. So others may be written beside it.
-pub fn trees_stand_by_nodes()
-    ensures { TreesStandByNodes }
-{}

@@ -1,0 +1,15 @@
+pub mod Apart
+pub mod Extending
+pub mod Faults
+pub mod Images
+pub mod InUse
+pub mod Lying
+pub mod Mapped
+pub mod Moving
+pub mod Placed
+pub mod Reaching
+pub mod Reading
+pub mod Spare
+pub mod Staying
+pub mod Telling
+pub mod Wider

@@ -1,0 +1,75 @@
+-- The map that was read of an opened volume is that of its saved image.
+use Rattle.std.proofs.Common.{inl, inr, Contains, subst, arith, ◌≡◌, ℕ, List, [], Option, Some, None, Result, Ok, refl, ◌∙◌, ap}
+use Rattle.reiser_bitmap.specs.outside.History.{Image}
+use Rattle.reiser_bitmap.specs.refusals.declared.answer.BtrAnswer.{BtrAnswer}
+use Rattle.reiser_bitmap.specs.refusals.declared.refusal.BtrRefusal.{BtrRefusal}
+use Rattle.btr_reader.proofs.PartsRead.{of_disk}
+use Rattle.btr_reader.specs.Image.{ImageFile, image_refusals, saved_image}
+use Rattle.btr_reader.specs.Opening.{IsOpened, opening_refusals}
+use Rattle.btr_reader.specs.Parts.{IsBtrfsRefusal, SavedImage, own_map, way_refusals}
+use Rattle.btr_reader.specs.Pieces.{MapsImage, map_place}
+use Rattle.btr_reader.specs.Reading.{ReadsImage}
+use Rattle.btr_reader.specs.declared.image_map.ImageMap.{ImageMap}
+use Rattle.btr_super.specs.declared.superblock.Super.{Super}
+use Rattle.btr_reader_walk.specs.declared.map.MapRange.{MapRange}
+use Rattle.volume_state.specs.Saved.{IsImageMissing, blocks_by, blocks_by_map, file_blocks, image_blocks, place_by_file, saved_file, saved_place}
+use Rattle.volume_state.proofs.Images.{blocks_alike}
+
+-- ---- the map of a file
+module _ (ranges : List MapRange) (m : ImageMap) where
+  place_is : (o : Option ImageFile) → MapsImage ranges (Some m) o → (b : ℕ) → map_place m b ≡ place_by_file ranges o b
+  place_is None maps b = absurd maps
+  place_is (Some f) maps b = maps.place b
+
+  count_is : (o : Option ImageFile) → MapsImage ranges (Some m) o → m.blocks ≡ file_blocks o
+  count_is None maps = absurd maps
+  count_is (Some f) maps = maps.length
+
+  file_there : (o : Option ImageFile) → MapsImage ranges (Some m) o → o ≡ None → ⊥
+  file_there None maps none = maps
+  file_there (Some f) maps none = absurd (cc none)
+
+no_file_there : (ranges : List MapRange) (o : Option ImageFile) → MapsImage ranges None o → o ≡ None
+no_file_there ranges None maps = refl
+no_file_there ranges (Some f) maps = absurd maps
+
+nothing_in : (refusals : List BtrRefusal) (r : BtrRefusal) → refusals ≡ [] → Contains refusals r → ⊥
+nothing_in refusals r none among = omega (arith, (subst (λ (rs : List BtrRefusal). Contains rs r) none among).1)
+
+-- ---- what was read of an opened volume
+module _ (disk : Image) (s : Super) (ranges : List MapRange) (opened : IsOpened disk s ranges) where
+  -- what is read on the way to the image, by the superblock and the map of the disk
+  pub read_of_disk : (told : Result (Option ImageMap) BtrAnswer) → ReadsImage ranges (saved_image disk s ranges) (image_refusals disk s ranges) told → ReadsImage (own_map disk) (saved_file disk) (way_refusals disk) told
+  read_of_disk told reads = of_disk disk s ranges (λ t m. ReadsImage m (saved_image disk t m) (image_refusals disk t m) told) opened reads
+
+  -- what is wrong on the way refuses it, and where nothing is it can be read
+  pub way_refused : (r : BtrRefusal) → Contains (image_refusals disk s ranges) r → IsBtrfsRefusal disk SavedImage r
+  way_refused r among = inr (opened.sound, of_disk disk s ranges (λ t m. Contains (image_refusals disk t m) r) opened among)
+
+  pub way_readable : image_refusals disk s ranges ≡ [] → (r : BtrRefusal) → IsBtrfsRefusal disk SavedImage r → ⊥
+  way_readable none r (inl early) = nothing_in (opening_refusals disk) r opened.sound early
+  way_readable none r (inr late) = nothing_in (way_refusals disk) r (of_disk disk s ranges (λ t m. image_refusals disk t m ≡ []) opened none) late.1
+
+  -- without a map the image is missing
+  pub none_read : ReadsImage ranges (saved_image disk s ranges) (image_refusals disk s ranges) (Ok None) → IsImageMissing disk
+  none_read reads = no_file_there (own_map disk) (saved_file disk) (read_of_disk (Ok None) reads).0
+
+  module _ (m : ImageMap) (reads : ReadsImage ranges (saved_image disk s ranges) (image_refusals disk s ranges) (Ok (Some m))) where
+    maps : MapsImage (own_map disk) (Some m) (saved_file disk)
+    maps = (read_of_disk (Ok (Some m)) reads).0
+
+    -- nothing is wrong on the way
+    pub way_sound : way_refusals disk ≡ []
+    way_sound = (read_of_disk (Ok (Some m)) reads).1
+
+    pub image_there : ¬ IsImageMissing disk
+    image_there missing = file_there (own_map disk) m (saved_file disk) maps missing
+
+    pub map_places : (b : ℕ) → map_place m b ≡ saved_place disk b
+    map_places b = place_is (own_map disk) m (saved_file disk) maps b
+
+    pub map_blocks : blocks_by_map m disk ≡ image_blocks disk
+    unfolding image_blocks
+    map_blocks =
+        blocks_alike (map_place m) (saved_place disk) m.blocks disk map_places
+        ∙ ap (λ (n : ℕ). blocks_by (saved_place disk) n disk) (count_is (own_map disk) m (saved_file disk) maps)

@@ -1,0 +1,236 @@
+-- What is told of reserved blocks, from the parts of a volume to the whole.
+use Rattle.std.proofs.Common.{◌≡◌, ⊎_elim, inr, ℕ, List, [], ◌∷◌, ◌++◌, Contains, Option, Some, None, Result, Ok, Err, refl, sym, ◌∙◌, ap, subst, arith}
+use Rattle.std.specs.Option.{option_and_then}
+use Rattle.std.specs.Result.{MatchResult}
+use Rattle.std.proofs.lemmas.List.Elements.{Contains-append_left, Contains-append_right}
+use Rattle.reiser_bitmap.specs.outside.History.{Image}
+use Rattle.reiser_bitmap.specs.refusals.declared.answer.BtrAnswer.{BtrAnswer}
+use Rattle.reiser_bitmap.specs.refusals.declared.answer.BtrAnswer.TheVariants.{Refused, Fault, Memory}
+use Rattle.reiser_bitmap.specs.refusals.declared.refusal.BtrRefusal.{BtrRefusal}
+use Rattle.reiser_bitmap.specs.refusals.declared.refusal.BtrRefusal.TheVariants.{BadBtrfs}
+use Rattle.reiser_bitmap.specs.refusals.declared.rule.BtrRule.TheVariants.{Body}
+use Rattle.btr_reader.specs.Image.{after_pointer, after_root, entry_refusals, if_there, image_refusals, image_refusals_in, items_at, pointer_in, refusals_below, root_refusals, saved_entry, tree_number}
+use Rattle.btr_reader.specs.Opening.{IsOpened, or_later, tree_of}
+use Rattle.btr_reader.specs.Parts.{own_map, own_super, way_refusals}
+use Rattle.btr_reader.specs.Reading.{FindsTree}
+use Rattle.btr_reader.specs.Roots.{pointer_of, root_item}
+use Rattle.btr_reader.specs.Rows.{roots_on}
+use Rattle.btr_reader.proofs.PartsRead.{of_disk}
+use Rattle.btr_super.specs.declared.superblock.Super.{Super}
+use Rattle.btr_reader_walk.specs.Events.{TreeItem}
+use Rattle.btr_reader_walk.specs.Tree.{order_damages}
+use Rattle.btr_reader_walk.specs.Walks.{IsAmong, found, wrong}
+use Rattle.btr_reader_walk.specs.declared.map.MapRange.{MapRange}
+use Rattle.btr_reader_walk.specs.declared.tree.Pointer.{Pointer}
+use Rattle.btr_reader_walk.specs.declared.tree.Tree.{Tree}
+use Rattle.reiser_volume.proofs.fs_paths.Lists.{at_head, head_or_tail}
+use Rattle.volume_state.specs.Nodes.{below_faults}
+use Rattle.volume_state.specs.Trees.{FindsNumbered, FindsSaved}
+use Rattle.volume_state.specs.Using.{HoldsExtent, HoldsNodeOf, HoldsPartOf, IsInFiles, TellsReserved, file_trees, named_by, numbered, tree_if}
+use Rattle.volume_state.proofs.Placed.{no_some, some_is}
+use Rattle.volume_state.proofs.Reaching.{at_root, there}
+
+-- another refusal, or another fact of what is told
+pub match_so : {T E : Type 0} (r : Result T E) (P Q : T → Type 0) (A B : E → Type 0) → ((x : T) → P x → Q x) → ((e : E) → A e → B e) → MatchResult r P A → MatchResult r Q B
+match_so (Ok x) P Q A B good bad is = good x is
+match_so (Err e) P Q A B good bad is = bad e is
+
+pub tells_so : (P Q : ℕ → Type 0) (blocks : ℕ) → ((b : ℕ) → P b → Q b) → ((b : ℕ) → Q b → P b) → (o : Option ℕ) → TellsReserved P blocks o → TellsReserved Q blocks o
+tells_so P Q blocks to back None none = λ b reserved is. none b reserved (back b is)
+tells_so P Q blocks to back (Some b) one = (one.0, to b one.1)
+
+among_more : (early late : List BtrRefusal) (e : BtrAnswer) → IsAmong early e → IsAmong (early ++ late) e
+among_more early late (Refused r) is = Contains-append_left early late r is
+among_more early late Fault is = tt
+among_more early late Memory is = tt
+
+among_early : (early late : List BtrRefusal) (e : BtrAnswer) → IsAmong early e → IsAmong (or_later early late) e
+among_early [] late (Refused r) is = absurd (omega (arith, is.1))
+among_early [] late Fault is = tt
+among_early [] late Memory is = tt
+among_early (x ∷ xs) late e is = is
+
+pub tree_among : (image : Image) (ranges : List MapRange) (t : Tree) (e : BtrAnswer) → IsAmong (below_faults image ranges t t.root) e → IsAmong (wrong image ranges t) e
+tree_among image ranges t e is = among_more (below_faults image ranges t t.root) (order_damages None (found image ranges t)) e is
+
+-- a tree whose nodes lie in no reserved block, by its extents
+pub part_told : (image : Image) (ranges : List MapRange) (t : Tree) (blocks : ℕ) (o : Option ℕ) → TellsReserved (HoldsNodeOf image ranges t) blocks None → TellsReserved (HoldsExtent (found image ranges t) ranges) blocks o
+    → TellsReserved (HoldsPartOf image ranges t) blocks o
+part_told image ranges t blocks None nodes extents = λ b reserved holds. ⊎_elim (nodes b reserved) (extents b reserved) holds
+part_told image ranges t blocks (Some b) nodes extents = (extents.0, inr extents.1)
+
+-- ---- the two trees of files
+module _ (image : Image) (s : Super) (ranges : List MapRange) where
+  abbrev roots : List TreeItem
+  roots = roots_on image s ranges
+
+  abbrev entries : Pointer → List BtrRefusal
+  entries p = entry_refusals image ranges (tree_of s 5 p)
+
+  abbrev below_number : ℕ → List BtrRefusal
+  below_number number = refusals_below image s ranges number (root_item number roots)
+
+  abbrev named_number : Pointer → Option ℕ
+  named_number p = option_and_then tree_number (saved_entry (items_at image s ranges 5 p))
+
+  abbrev after_file : Pointer → List BtrRefusal
+  after_file p = or_later (entries p) (if_there below_number (named_number p))
+
+  abbrev after_saved : ℕ → Pointer → List BtrRefusal
+  after_saved number p = or_later (entry_refusals image ranges (tree_of s number p)) (image_refusals_in ranges (items_at image s ranges number p))
+
+  -- a part of the two lies in the block
+  pub record InTrees (b : ℕ) : Type 0 where
+    pub tree : Tree
+    pub among : Contains (file_trees image s ranges) tree
+    pub holds : HoldsPartOf image ranges tree b
+
+  pointer_at : (root : Option TreeItem) (i : TreeItem) (p : Pointer) → root ≡ Some i → pointer_of i.body ≡ Some p → pointer_in root ≡ Some p
+  pointer_at root i p is at = ap pointer_in is ∙ at
+
+  -- a root item that is off its grammar
+  bad_root : (next : Pointer → List BtrRefusal) (root : Option TreeItem) (i : TreeItem) (r : BtrRefusal) → root ≡ Some i → pointer_of i.body ≡ None → r ≡ BadBtrfs i.leaf Body → Contains (after_root next root) r
+  bad_root next root i r is none same =
+      subst (λ (rs : List BtrRefusal). Contains rs r) (sym (ap (after_root next) is ∙ ap (λ (o : Option Pointer). after_pointer next i.leaf o) none))
+      (subst (λ (x : BtrRefusal). Contains (BadBtrfs i.leaf Body ∷ []) x) (sym same) (at_head (BadBtrfs i.leaf Body) []))
+
+  pub file_refused : (e : BtrAnswer) → FindsTree s 5 (root_item 5 roots) (Err e) → IsAmong (image_refusals image s ranges) e
+  file_refused (Refused r) finds = bad_root after_file (root_item 5 roots) finds.0 r finds.1 finds.2 finds.3
+  file_refused Fault finds = tt
+  file_refused Memory finds = tt
+
+  -- no file tree
+  pub no_trees : (blocks : ℕ) → root_item 5 roots ≡ None → TellsReserved InTrees blocks None
+  no_trees blocks none b reserved holds =
+      let empty : file_trees image s ranges ≡ [] = ap (λ (o : Option TreeItem). tree_if s 5 (pointer_in o) ++ named_by image s ranges (pointer_in o)) none in
+      absurd (omega (arith, (subst (λ (ts : List Tree). Contains ts holds.tree) empty holds.among).1))
+
+  -- ---- a file tree
+  module _ (i : TreeItem) (p : Pointer) (is : root_item 5 roots ≡ Some i) (at : pointer_of i.body ≡ Some p) where
+    abbrev file : Tree
+    file = tree_of s 5 p
+
+    way_is : image_refusals image s ranges ≡ after_file p
+    way_is = at_root after_file (root_item 5 roots) p (pointer_at (root_item 5 roots) i p is at)
+
+    trees_are : file_trees image s ranges ≡ file ∷ numbered image s ranges (named_number p)
+    trees_are = ap (λ (o : Option Pointer). tree_if s 5 o ++ named_by image s ranges o) (pointer_at (root_item 5 roots) i p is at)
+
+    pub in_way : (e : BtrAnswer) → IsAmong (after_file p) e → IsAmong (image_refusals image s ranges) e
+    in_way e among = subst (λ (rs : List BtrRefusal). IsAmong rs e) (sym way_is) among
+
+    pub entry_among : (e : BtrAnswer) → IsAmong (entries p) e → IsAmong (image_refusals image s ranges) e
+    entry_among e among = in_way e (among_early (entries p) (if_there below_number (named_number p)) e among)
+
+    pub file_among : (e : BtrAnswer) → IsAmong (wrong image ranges file) e → IsAmong (image_refusals image s ranges) e
+    file_among e among = entry_among e (among_more (wrong image ranges file) (root_refusals (found image ranges file)) e among)
+
+    pub file_told : (blocks b : ℕ) → TellsReserved (HoldsPartOf image ranges file) blocks (Some b) → TellsReserved InTrees blocks (Some b)
+    file_told blocks b one = (one.0, record { tree = file; among = subst (λ (ts : List Tree). Contains ts file) (sym trees_are) (at_head file (numbered image s ranges (named_number p))); holds = one.1 })
+
+    late_among : (e : BtrAnswer) → entries p ≡ [] → IsAmong (if_there below_number (named_number p)) e → IsAmong (image_refusals image s ranges) e
+    late_among e clear among = in_way e (subst (λ (rs : List BtrRefusal). IsAmong (or_later rs (if_there below_number (named_number p))) e) (sym clear) among)
+
+    number_among : (number : ℕ) (e : BtrAnswer) → entries p ≡ [] → named_number p ≡ Some number → IsAmong (below_number number) e → IsAmong (image_refusals image s ranges) e
+    number_among number e clear named among = late_among e clear (subst (λ (rs : List BtrRefusal). IsAmong rs e) (sym (there below_number (named_number p) number named)) among)
+
+    numbered_refused : (o : Option ℕ) (e : BtrAnswer) → named_number p ≡ o → entries p ≡ [] → FindsNumbered s roots o (Err e) → IsAmong (image_refusals image s ranges) e
+    numbered_refused None e named clear finds = absurd (cc finds)
+    numbered_refused (Some number) (Refused r) named clear finds =
+        number_among number (Refused r) clear named (bad_root (after_saved number) (root_item number roots) finds.0 r finds.1 finds.2 finds.3)
+    numbered_refused (Some number) Fault named clear finds = tt
+    numbered_refused (Some number) Memory named clear finds = tt
+
+    -- the saved image's tree was looked for
+    pub saved_refused : (e : BtrAnswer) → FindsSaved s roots (entries p) (found image ranges file) (Err e) → IsAmong (image_refusals image s ranges) e
+    saved_refused e finds =
+        ⊎_elim (λ early. entry_among e (subst (IsAmong (entries p)) (sym (err_is e early.0 early.1)) early.2)) (λ late. numbered_refused (named_number p) e refl late.0 late.1) finds
+      where
+        err_is : (x y : BtrAnswer) → (let told : Result (Option Tree) BtrAnswer = Err x in told) ≡ Err y → x ≡ y
+        err_is x y h = cc h
+
+    -- where there is none, the file tree is alone
+    alone_by : (o : Option ℕ) → FindsNumbered s roots o (Ok None) → numbered image s ranges o ≡ []
+    alone_by None finds = refl
+    alone_by (Some number) finds = ap (λ (root : Option TreeItem). tree_if s number (pointer_in root)) finds
+
+    alone : FindsSaved s roots (entries p) (found image ranges file) (Ok None) → numbered image s ranges (named_number p) ≡ []
+    alone finds = ⊎_elim (λ early. absurd (cc (early.1))) (λ late. alone_by (named_number p) late.1) finds
+
+    pub alone_told : (blocks : ℕ) → FindsSaved s roots (entries p) (found image ranges file) (Ok None) → TellsReserved (HoldsPartOf image ranges file) blocks None → TellsReserved InTrees blocks None
+    alone_told blocks finds none b reserved holds =
+        let among : Contains (file ∷ []) holds.tree = subst (λ (ts : List Tree). Contains (file ∷ ts) holds.tree) (alone finds) (subst (λ (ts : List Tree). Contains ts holds.tree) trees_are holds.among) in
+        ⊎_elim (λ first. none b reserved (subst (λ (t : Tree). HoldsPartOf image ranges t b) (sym first) holds.holds)) (λ later. absurd (omega (arith, later.1))) (head_or_tail file [] holds.tree among)
+
+    -- where there is one, it is the other
+    pub record IsOther (t : Tree) : Type 0 where
+      pub clear : entries p ≡ []
+      pub number : ℕ
+      pub named : named_number p ≡ Some number
+      pub q : Pointer
+      pub root : pointer_in (root_item number roots) ≡ Some q
+      pub tree : t ≡ tree_of s number q
+
+    other_by : (o : Option ℕ) (t : Tree) → named_number p ≡ o → entries p ≡ [] → FindsNumbered s roots o (Ok (Some t)) → IsOther t
+    other_by None t named clear finds = absurd (cc finds)
+    other_by (Some number) t named clear finds = record {
+      clear = clear;
+      number = number;
+      named = named;
+      q = finds.1;
+      root = pointer_at (root_item number roots) finds.0 finds.1 finds.2 finds.3;
+      tree = finds.4;
+    }
+
+    pub other_of : (t : Tree) → FindsSaved s roots (entries p) (found image ranges file) (Ok (Some t)) → IsOther t
+    other_of t finds = ⊎_elim (λ early. absurd (cc (early.1))) (λ late. other_by (named_number p) t refl late.0 late.1) finds
+
+    both_are : (t : Tree) → IsOther t → file_trees image s ranges ≡ file ∷ t ∷ []
+    both_are t is_other =
+        trees_are
+        ∙ (ap (λ (o : Option ℕ). file ∷ numbered image s ranges o) is_other.named
+        ∙ (ap (λ (o : Option Pointer). file ∷ tree_if s is_other.number o) is_other.root ∙ ap (λ (x : Tree). file ∷ x ∷ []) (sym is_other.tree)))
+
+    pub other_among : (t : Tree) (e : BtrAnswer) → IsOther t → IsAmong (wrong image ranges t) e → IsAmong (image_refusals image s ranges) e
+    other_among t e is_other among =
+        let q : Pointer = is_other.q in
+        let number : ℕ = is_other.number in
+        let own : IsAmong (wrong image ranges (tree_of s number q)) e = subst (λ (x : Tree). IsAmong (wrong image ranges x) e) is_other.tree among in
+        let entry = among_more (wrong image ranges (tree_of s number q)) (root_refusals (found image ranges (tree_of s number q))) e own in
+        number_among number e is_other.clear is_other.named
+        (subst (λ (rs : List BtrRefusal). IsAmong rs e) (sym (at_root (after_saved number) (root_item number roots) q is_other.root))
+        (among_early (entry_refusals image ranges (tree_of s number q)) (image_refusals_in ranges (items_at image s ranges number q)) e entry))
+
+    pub both_told : (blocks : ℕ) (t : Tree) (o : Option ℕ) → IsOther t → TellsReserved (HoldsPartOf image ranges file) blocks None → TellsReserved (HoldsPartOf image ranges t) blocks o → TellsReserved InTrees blocks o
+    both_told blocks t None is_other none other = λ b reserved holds.
+        ⊎_elim (λ first. none b reserved (subst (λ (x : Tree). HoldsPartOf image ranges x b) (sym first) holds.holds))
+        (λ rest. ⊎_elim (λ second. other b reserved (subst (λ (x : Tree). HoldsPartOf image ranges x b) (sym second) holds.holds)) (λ later. absurd (omega (arith, later.1))) (head_or_tail t [] holds.tree rest))
+        (head_or_tail file (t ∷ []) holds.tree (subst (λ (ts : List Tree). Contains ts holds.tree) (both_are t is_other) holds.among))
+    both_told blocks t (Some b) is_other none other =
+        (other.0, record { tree = t; among = subst (λ (ts : List Tree). Contains ts t) (sym (both_are t is_other)) (Contains-append_right (file ∷ []) (t ∷ []) t (at_head t [])); holds = other.1 })
+
+-- the file tree that was found
+pub record IsFile (image : Image) (s : Super) (ranges : List MapRange) (t : Tree) : Type 0 where
+  pub i : TreeItem
+  pub p : Pointer
+  pub is : root_item 5 (roots_on image s ranges) ≡ Some i
+  pub at : pointer_of i.body ≡ Some p
+  pub tree : tree_of s 5 p ≡ t
+
+pub file_of : (image : Image) (s : Super) (ranges : List MapRange) (o : Option Tree) (t : Tree) → o ≡ Some t → FindsTree s 5 (root_item 5 (roots_on image s ranges)) (Ok o) → IsFile image s ranges t
+file_of image s ranges None t is finds = absurd (no_some t is)
+file_of image s ranges (Some x) t is finds = record { i = finds.0; p = finds.1; is = finds.2; at = finds.3; tree = sym finds.4 ∙ some_is x t is }
+
+pub no_file : (image : Image) (s : Super) (ranges : List MapRange) (o : Option Tree) → o ≡ None → FindsTree s 5 (root_item 5 (roots_on image s ranges)) (Ok o) → root_item 5 (roots_on image s ranges) ≡ None
+no_file image s ranges None is finds = finds
+no_file image s ranges (Some x) is finds = absurd (no_some x (sym is))
+
+-- ---- of the disk
+module _ (image : Image) (s : Super) (ranges : List MapRange) (opened : IsOpened image s ranges) where
+  pub files_told : (blocks : ℕ) (o : Option ℕ) → TellsReserved (InTrees image s ranges) blocks o → TellsReserved (IsInFiles image) blocks o
+  files_told blocks o told =
+      tells_so (InTrees image (own_super image) (own_map image)) (IsInFiles image) blocks (λ b is. record { tree = is.tree; among = is.among; holds = is.holds }) (λ b is. record { tree = is.tree; among = is.among; holds = is.holds }) o
+      (of_disk image s ranges (λ x m. TellsReserved (InTrees image x m) blocks o) opened told)
+
+  pub way_among : (e : BtrAnswer) → IsAmong (image_refusals image s ranges) e → IsAmong (way_refusals image) e
+  way_among e among = of_disk image s ranges (λ x m. IsAmong (image_refusals image x m) e) opened among

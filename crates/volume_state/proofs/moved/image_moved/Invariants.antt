@@ -1,0 +1,16 @@
+use Rattle.std.proofs.Common.{◌-◌, ◌≡◌, ◌≤◌, ◌<◌, ℕ, Some, true, length}
+use Rattle.btr_reader.specs.Pieces.{map_place}
+use Rattle.volume_state.specs.Moved.{IsOld}
+use Rattle.reiser_bitmap.specs.Bits.{has}
+use Rattle.volume_state.proofs.moved.image_moved.Given as goal
+
+abbrev pub invariant-loop-block : goal.invariant-loop-block
+invariant-loop-block l = record {
+  inside : l.block ≤ l.end;
+  all : l.end ≡ length l.image;
+  placed : (b : ℕ) → IsOld l.image b → b < l.block → map_place l.map b ≡ Some b;
+  used : l.block < l.end → has l.image l.block ≡ true;
+}
+
+abbrev pub decreases-loop-block : goal.decreases-loop-block
+decreases-loop-block l = l.end - l.block

@@ -1,0 +1,9 @@
+pub mod Extents
+pub mod Laws
+pub mod Moved
+pub mod Nodes
+pub mod Reserved
+pub mod Saved
+pub mod Trees
+pub mod Untouched
+pub mod Using

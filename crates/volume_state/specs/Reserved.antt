@@ -1,0 +1,26 @@
+-- Reserved blocks in which bytes lie.
+use Rattle.std.specs.Prelude.{◌≡◌, ◌≤◌, ◌<◌, ℕ, ◌+◌, ◌-◌, ◌/◌, List, AllPairs, Option, Some, None}
+use Rattle.btr_reader.specs.Laws.{AreApart}
+use Rattle.btr_reader_walk.specs.declared.map.MapRange.{MapRange}
+
+-- from the first block to before the end
+pub record IsBetween (first end b : ℕ) : Type 0 where
+  pub from : first ≤ b
+  pub below : b < end
+
+-- no block between has the property, or this one does
+abbrev pub TellsBetween : (ℕ → Type 0) → ℕ → ℕ → Option ℕ → Type 0
+TellsBetween P first end None = (b : ℕ) → IsBetween first end b → ¬ P b
+TellsBetween P first end (Some b) = IsBetween first end b × P b
+
+-- One of so many bytes from an address on lies in block b by this range.
+pub record LieInRange (r : MapRange) (address count b : ℕ) : Type 0 where
+  pub k : ℕ
+  pub within : k < count
+  pub from : r.logical ≤ address + k
+  pub below : address + k < r.logical + r.length
+  pub block : (r.physical + (address + k - r.logical)) / 4096 ≡ b
+
+-- no address lies in two ranges, as in the map of an opened volume
+abbrev pub IsMapApart : List MapRange → Type 0
+IsMapApart ranges = AllPairs AreApart ranges

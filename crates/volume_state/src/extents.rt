@@ -1,0 +1,120 @@
+// The file extents of a tree.
+ghost use Rattle.std.specs.Prelude.{◌≡◌, IfErr};
+ghost use Rattle.std.specs.Result.{MatchResult};
+ghost use Rattle.reiser_bitmap.specs.outside.Fault.{HasCauseOf};
+ghost use Rattle.reiser_bitmap.specs.outside.History.{OverTold};
+ghost use Rattle.btr_node.specs.btr_keys.FileExtent.{content_value};
+ghost use Rattle.btr_reader.specs.Reading.{IsWalkable};
+ghost use Rattle.btr_reader_walk.specs.Events.{TreeItem};
+ghost use Rattle.btr_reader_walk.specs.Walks.{IsAmong, IsBadOrFailed, LieOn, found, wrong};
+ghost use Rattle.volume_state.specs.Extents.{TellsRange};
+ghost use Rattle.volume_state.specs.Reserved.{IsMapApart};
+ghost use Rattle.volume_state.specs.Using.{HoldsExtent, TellsReserved, content_range, item_range, range_unless_hole};
+
+use crate::reserved::reserved_in;
+use btr_node::{DiskRange, ExtentContent, FileExtent, Key};
+use btr_reader_contents::is_hole;
+use btr_reader_walk::{MapRange, Notes, Tree, note_items};
+use reiser_bitmap::{BlockNo, BlockSource, BtrAnswer, Memory};
+use std::alloc::Global;
+
+/// The kind in the key of a file extent.
+const EXTENT_KIND: u8 = 108;
+
+/// The range on the device, unless it is a hole.
+fn unless_hole(range: DiskRange) -> Option<DiskRange>
+    ensures { result ≡ range_unless_hole range }
+{
+    if is_hole(&range) { None } else { Some(range) }
+}
+
+/// The range that the contents of an extent have on the device.
+fn content_range(content: &ExtentContent<'_>) -> Option<DiskRange>
+    ensures { result ≡ content_range (content_value content.now) }
+{
+    match content {
+        ExtentContent::Inline(_) => None,
+        ExtentContent::Regular(range) => unless_hole(*range),
+        ExtentContent::Prealloc(range) => unless_hole(*range),
+    }
+}
+
+/// The range that an item of a file tree has on the device: one that is no file extent has none.
+fn item_range(key: &Key, body: &[u8]) -> Option<DiskRange>
+    ensures { (i : TreeItem) → i.key ≡ key.now → i.body ≡ body.now → result ≡ item_range i }
+{
+    if key.kind != EXTENT_KIND {
+        return None;
+    }
+    match FileExtent::read(body) {
+        Some(extent) => content_range(&extent.content),
+        None => None,
+    }
+}
+
+/// A reserved block in which a file extent lies, of those that were noted.
+#[derive(Drop)]
+struct ReservedExtent<'a> {
+    ranges: &'a [MapRange],
+    /// The blocks of the volume whose blocks are reserved.
+    blocks: u64,
+    found: Option<BlockNo>,
+}
+
+impl Notes for ReservedExtent<'_> {
+    ghost use Rattle.std.specs.Prelude.{◌≡◌};
+    ghost use Rattle.volume_state.specs.Reserved.{IsMapApart};
+    ghost use Rattle.volume_state.specs.Using.{HoldsExtent, TellsReserved};
+
+    ghost holds = { λ begun noted items. (noted.ranges.now ≡ begun.ranges.now) × (noted.blocks ≡ begun.blocks)
+        × (IsMapApart noted.ranges.now → TellsReserved (HoldsExtent items noted.ranges.now) noted.blocks noted.found) };
+
+    /// Looks at one more item. Where a block was found, it is that.
+    fn note(&mut self, _: Global, key: &Key, body: &[u8], _: u64) -> Result<(), Memory> {
+        match self.found {
+            Some(_) => Ok(()),
+            None => {
+                self.found = reserved_extent_of(key, body, self.ranges, self.blocks);
+                Ok(())
+            }
+        }
+    }
+}
+
+/// A reserved block in which the range of an item lies.
+fn reserved_extent_of(key: &Key, body: &[u8], ranges: &[MapRange], blocks: u64) -> Option<BlockNo>
+    ensures { (i : TreeItem) → i.key ≡ key.now → i.body ≡ body.now → IsMapApart ranges.now → TellsRange ranges.now blocks (item_range i) result }
+{
+    let range = item_range(key, body)?;
+    reserved_in(
+        ranges,
+        range.disk_bytenr as u128 + range.offset as u128,
+        range.num_bytes,
+        blocks,
+    )
+}
+
+/// A reserved block of a volume of so many blocks in which a file extent of a tree lies. None exactly where there is none.
+pub fn reserved_extent<S: BlockSource>(
+    alloc: Global,
+    src: &mut S,
+    tree: &Tree,
+    ranges: &[MapRange],
+    blocks: u64,
+) -> Result<Option<BlockNo>, BtrAnswer>
+    requires walkable { IsWalkable tree.now }
+    requires inside { LieOn (S.size src.old) ranges.now }
+    ensures kept { S.kept src.old src.new }
+    ensures cause { HasCauseOf BtrAnswer.Fault (S.faults src.old) (S.faults src.new) result }
+    ensures answers { IfErr result IsBadOrFailed }
+    ensures told { OverTold S.tells (S.blocks src.old) (λ image. IsMapApart ranges.now →
+        MatchResult result (TellsReserved (HoldsExtent (found image ranges.now tree.now) ranges.now) blocks) (IsAmong (wrong image ranges.now tree.now))) }
+{
+    let mut extent = ReservedExtent {
+        ranges,
+        blocks,
+        found: None,
+    };
+    note_items(alloc, src, *tree, ranges, &mut extent)?;
+    Ok(extent.found)
+}

@@ -1,8 +1,0 @@
-use Rattle.std.proofs.Common.{◌≡◌, take}
-use Rattle.volume_trees.proofs.root_tree.first_slots.Given as goal
-
-abbrev pub invariant-loop-slot : goal.invariant-loop-slot
-invariant-loop-slot l = record {
-  all : l.slot-items ≡ take l.count l.slots;
-  first : l.first ≡ take l.slot-index l.slot-items;
-}
