@@ -4,7 +4,7 @@
 # that had none; anything else (a panic, an index out of bounds, another error) is a failure. It serves crates whose tests pass errors on. It is no part of
 # the gate: each run compiles a crate anew, which takes half a minute.
 #
-#     tests/memory.sh [CRATE..]          # without words: trees that are built and written
+#     tests/memory.sh [CRATE..]          # without words: trees that are built and written, and file items
 #     NUMBERS='1 2 3' tests/memory.sh    # other numbers of the allocation that fails
 #
 # The last line is 'N passed, M failed'.
@@ -12,7 +12,7 @@ set -uo pipefail
 
 top=$(cd "$(dirname "$(readlink -f "${BASH_SOURCE[0]}")")/.." && pwd)
 crates=("$@")
-[ $# -gt 0 ] || crates=(convert_steps_tests)
+[ $# -gt 0 ] || crates=(btr_tree_writer_tests file_items_tests)
 read -ra numbers <<<"${NUMBERS:-1 2 3 5 8 13 21 34 55 89 144 233}"
 passed=0
 failed=0

@@ -1,5 +1,0 @@
-use Rattle.std.proofs.Common.{◌≡◌, ◌*◌, ◌≤◌}
-use Rattle.convert_steps_tests.proofs.building.counted.Given as goal
-
-abbrev pub invariant-loop : goal.invariant-loop
-invariant-loop l = (l.tree.nodesize ≡ l.nodesize) × (l.tree.bytes ≤ 65536 * l.counter)

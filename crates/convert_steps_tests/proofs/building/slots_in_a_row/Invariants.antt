@@ -1,9 +1,0 @@
-use Rattle.std.proofs.Common.{◌≡◌, ◌≤◌, ◌+◌, ◌*◌, map}
-use Rattle.std.specs.List.{range_with_len}
-use Rattle.convert_steps_tests.proofs.building.slots_in_a_row.Given as goal
-
-abbrev pub invariant-loop-k : goal.invariant-loop-k
-invariant-loop-k l = record {
-  within : l.k ≤ l.count;
-  row : l.slots ≡ map (λ k. 65536 + 4096 * k) (range_with_len 0 l.k);
-}

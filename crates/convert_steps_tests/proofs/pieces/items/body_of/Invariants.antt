@@ -1,9 +1,0 @@
-use Rattle.std.proofs.Common.{◌≡◌, false}
-use Rattle.file_items.specs.Stream.{Fits}
-use Rattle.convert_steps_tests.proofs.pieces.items.body_of.Given as goal
-
-abbrev pub invariant-loop : goal.invariant-loop
-invariant-loop l = record {
-  live : l.items.spent ≡ false;
-  fits : Fits l.items l.volume l.pieces.items.items;
-}

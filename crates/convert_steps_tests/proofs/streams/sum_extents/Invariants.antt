@@ -1,5 +1,0 @@
-use Rattle.space_items.specs.Stream.{FitsExtents}
-use Rattle.convert_steps_tests.proofs.streams.sum_extents.Given as goal
-
-abbrev pub invariant-loop : goal.invariant-loop
-invariant-loop l = FitsExtents l.stream l.pieces.items l.nodes

@@ -1,8 +1,0 @@
-use Rattle.std.proofs.Common.{◌≡◌, false}
-use Rattle.convert_steps_tests.proofs.writing.has_items.Given as goal
-
-abbrev pub invariant-loop-i : goal.invariant-loop-i
-invariant-loop-i g l = record {
-  fresh : l.walker.spent ≡ false;
-  size : g.S.BlockSource.size l.src ≡ g.S.BlockSource.size l.initial.src;
-}
