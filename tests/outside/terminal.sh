@@ -215,7 +215,11 @@ verdicts() {
     on_terminal inspect made
     same 'the space does not suffice' '0|yes|yes' "$status|$(
         has "It can't be converted as it is: 4 units of 1 MiB are needed, and 3 are free as a whole, which is 1 too few. What to do: Remove large files or move them away, until 1 MiB more are free as a whole.")|$(
-        has "Or make the partition larger by 9 MiB or more, and then the volume ('resize_reiserfs -f made'). Nodes of another size may need less: 'reiserconv inspect --nodesize 4096 made' and the same with 8192 tell how much.")"
+        has "Or make the partition larger by 9 MiB or more, and then the volume ('resize_reiserfs -f made'). Or take nodes of 4096 bytes, which need 3 units: 'reiserconv convert --nodesize 4096 made'.")"
+    on_terminal inspect --no-inline --nodesize 8192 made
+    same 'a size of nodes with which it does suffice' '0|yes' "$status|$(has "Or take nodes of 4096 bytes, which need 3 units:")"
+    on_terminal inspect --nodesize 4096 made
+    same 'no other size is looked at where the space suffices' '0|yes' "$status|$(has "It can be converted: 3 units of 1 MiB are needed, 3 are free as a whole, and so 0 are to spare. This is with nodes of 4096 bytes:")"
     run inspect made
     same 'no verdict without a terminal' "0||run 1" "$status|$err|$(tail -1 "$work/.out")"
     truncate -s +9M made

@@ -137,7 +137,7 @@ fn tell_refusal(
         text.end()?;
         tell_safety(text, written(outcome, "free"))?;
         match space_of(&refusal, outcome.is_trial) {
-            Some(space) => space.tell_what_helps(alloc, text, outcome.size)?,
+            Some(space) => space.tell_what_helps(alloc, text, outcome.size, None)?,
             None => tell_next(text, next, refusal.numbers)?,
         }
     }

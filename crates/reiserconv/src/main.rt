@@ -15,6 +15,7 @@ mod options;
 mod paragraph;
 mod sentences;
 mod shell;
+mod sizes;
 mod space;
 mod start;
 mod talk;
@@ -22,6 +23,7 @@ mod wrong_words;
 
 use asked::Asked;
 use host_edge::{FileDisk, LineSink, Sink, StatusLine, StdSink, hold_streams};
+use sizes::best_size;
 use start::{Missing, Start};
 use std::env::Env;
 use std::fs::{File, Files};
@@ -63,7 +65,7 @@ fn begin<R: Env + Clock + RandomSource + Files<File = File> + AllocGlobal>(
 
 /// Does what the words ask for, tells of it, and answers the status.
 fn serve<
-    R: Files<File = File> + AllocGlobal + Clock + Clone + Drop,
+    R: Files<File = File> + AllocGlobal + Clock + Copy + Drop,
     O: Write + Drop,
     W: Write + Drop,
 >(
@@ -96,7 +98,12 @@ fn serve<
             trouble: disk.trouble(),
             wrote: disk.written() > 0,
         };
-        talk.end(&ended, out, err);
+        let best = match talk.lacks_space(status, out) {
+            Some(size) => best_size(rt, start, size, shown),
+            None => None,
+        };
+        shown.wipe();
+        talk.end(&ended, best.as_ref(), out, err);
     }
     status
 }

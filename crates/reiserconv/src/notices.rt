@@ -1,6 +1,7 @@
 // What a person is told before a command that writes begins, and when a command is done.
 use crate::asked::{Asked, Verb};
 use crate::paragraph::Paragraph;
+use crate::sizes::Counted;
 use crate::space::Space;
 use std::alloc::{AllocError, Global};
 use std::str;
@@ -45,13 +46,15 @@ const IS_REISERFS: &str =
 const IS_BTRFS: &str =
     "{path} is a Btrfs volume. If a conversion was interrupted, it is done, and 'btrfs check --readonly {path}' has to find nothing. If a rollback was interrupted, begin again with 'reiserconv rollback {path}'.";
 
-/// What is told of a command that is done, by the first bytes that it printed. `size` is the size of a node that was asked for.
+/// What is told of a command that is done, by the first bytes that it printed. `size` is the size of a node that was asked for,
+/// and `best` what was counted with another one.
 pub fn behind(
     alloc: Global,
     asked: &Asked<'_>,
     path: &str,
     printed: &[u8],
     size: &str,
+    best: Option<&Counted>,
 ) -> Result<String, AllocError> {
     let mut text = Paragraph::new(alloc, path);
     let printed = str::from_utf8(printed).unwrap_or("");
@@ -61,7 +64,7 @@ pub fn behind(
         Some(Verb::Recover) => text.say(recovered(printed), &[])?,
         Some(Verb::Inspect) => {
             if let Some(space) = Space::printed(printed) {
-                space.tell(alloc, &mut text, size)?;
+                space.tell(alloc, &mut text, size, best)?;
             }
         }
         _ => {}

@@ -1,5 +1,6 @@
 // Whether the space of a volume suffices for a conversion, and what helps where it does not.
 use crate::paragraph::Paragraph;
+use crate::sizes::Counted;
 use std::alloc::{AllocError, Global};
 
 /// The free units of 1 MiB of a volume, and those that a conversion takes.
@@ -57,20 +58,33 @@ impl Space {
         }
     }
 
-    /// Tells whether the volume can be converted, and else what helps. `size` is the size of a node that was counted with.
+    /// Whether it suffices, as far as the numbers tell.
+    pub fn suffices(&self) -> bool {
+        self.missing() == 0
+    }
+
+    /// Whether no more is missing than in another count of the same volume, and where as much is, no more is needed.
+    pub fn is_as_good_as(&self, other: &Space) -> bool {
+        let (missing, others) = (self.missing(), other.missing());
+        missing < others || (missing == others && self.needed <= other.needed)
+    }
+
+    /// Tells whether the volume can be converted, and else what helps. `size` is the size of a node that was counted with,
+    /// and `best` the best count with another one, where there is one.
     pub fn tell(
         &self,
         alloc: Global,
         text: &mut Paragraph<'_>,
         size: &str,
+        best: Option<&Counted>,
     ) -> Result<(), AllocError> {
-        if self.missing() == 0 {
+        if self.suffices() {
             self.tell_that_it_fits(alloc, text, size)
         } else {
             let numbers = Numbers::new(alloc, self)?;
             text.say(TOO_FEW, &numbers.parts())?;
             text.end()?;
-            self.tell_what_helps(alloc, text, size)
+            self.tell_what_helps(alloc, text, size, best)
         }
     }
 
@@ -92,12 +106,13 @@ impl Space {
         text.end()
     }
 
-    /// Tells what helps where the space does not suffice.
+    /// Tells what helps where the space does not suffice. The size and the best count are as for `tell`.
     pub fn tell_what_helps(
         &self,
         alloc: Global,
         text: &mut Paragraph<'_>,
         size: &str,
+        best: Option<&Counted>,
     ) -> Result<(), AllocError> {
         let numbers = Numbers::new(alloc, self)?;
         text.say("What to do:", &[])?;
@@ -107,8 +122,31 @@ impl Space {
             &numbers.parts(),
         )?;
         text.say(ENLARGE, &numbers.parts())?;
-        text.say(OTHER_NODES, &other_sizes(size))?;
+        match best {
+            Some(best) => self.tell_of_size(alloc, text, size, best)?,
+            None => text.say(OTHER_NODES, &other_sizes(size))?,
+        }
         text.end()
+    }
+
+    /// Tells whether nodes of another size help.
+    fn tell_of_size(
+        &self,
+        alloc: Global,
+        text: &mut Paragraph<'_>,
+        size: &str,
+        best: &Counted,
+    ) -> Result<(), AllocError> {
+        if self.needed <= best.space.needed {
+            return text.say(NO_OTHER_NODES, &other_sizes(size));
+        }
+        let needed = decimal(alloc, best.space.needed)?;
+        let sentence = if best.space.suffices() {
+            BETTER_NODES
+        } else {
+            SMALLER_NEED
+        };
+        text.say(sentence, &[best.size, needed.as_str()])
     }
 }
 
@@ -136,6 +174,14 @@ const ENLARGE: &str =
 
 const OTHER_NODES: &str =
     "Nodes of another size may need less: 'reiserconv inspect --nodesize {1} {path}' and the same with {2} tell how much.";
+
+const BETTER_NODES: &str =
+    "Or take nodes of {1} bytes, which need {2} units: 'reiserconv convert --nodesize {1} {path}'.";
+
+const SMALLER_NEED: &str =
+    "Nodes of {1} bytes need fewer units, {2} ('--nodesize {1}'), which alone does not suffice.";
+
+const NO_OTHER_NODES: &str = "Nodes of {1} or {2} bytes need no fewer units.";
 
 /// Two sizes of nodes to try in place of the one that was counted with.
 fn other_sizes(size: &str) -> [&'static str; 2] {

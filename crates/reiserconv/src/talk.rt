@@ -1,12 +1,14 @@
 use crate::advice::{Outcome, advice, start_advice};
-use crate::asked::Asked;
+use crate::asked::{Asked, Verb};
 use crate::notices::{before, behind};
 use crate::shell::quoted;
-use crate::space::USUAL_SIZE;
+use crate::sizes::{Counted, NODESIZE};
+use crate::space::{Space, USUAL_SIZE};
 use crate::start::Missing;
 use host_edge::{LineSink, StatusLine, Trouble};
 use std::alloc::Global;
 use std::io::Write;
+use std::str;
 
 /// What a person is told of a run, beside its lines.
 #[derive(Drop)]
@@ -61,10 +63,28 @@ impl<'a> Talk<'a> {
         }
     }
 
-    /// Tells what the lines of the run mean, and what to do.
+    /// The size of a node that was asked for, where a volume was looked at that has too little space with it.
+    pub fn lacks_space<O: Write + Drop>(
+        &self,
+        status: u8,
+        out: &LineSink<'_, O>,
+    ) -> Option<&'a str> {
+        if status != 0 || self.asked.verb != Some(Verb::Inspect) {
+            return None;
+        }
+        let space = Space::printed(str::from_utf8(out.line()).ok()?)?;
+        if space.suffices() {
+            None
+        } else {
+            Some(asked_size(self.words))
+        }
+    }
+
+    /// Tells what the lines of the run mean, and what to do. `best` is what was counted with nodes of another size.
     pub fn end<O: Write + Drop, W: Write + Drop>(
         &self,
         ended: &Ended,
+        best: Option<&Counted>,
         out: &LineSink<'_, O>,
         err: &mut LineSink<'_, W>,
     ) {
@@ -76,6 +96,7 @@ impl<'a> Talk<'a> {
                 self.path.as_str(),
                 out.line(),
                 size,
+                best,
             )
         } else {
             let outcome = Outcome {
@@ -116,7 +137,7 @@ fn asked_size(words: &[String]) -> &str {
         if is_next {
             return word.as_str();
         }
-        is_next = word.as_str() == "--nodesize";
+        is_next = word.as_str() == NODESIZE;
     }
     USUAL_SIZE
 }

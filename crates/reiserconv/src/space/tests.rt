@@ -1,14 +1,20 @@
 use super::Space;
 use crate::paragraph::Paragraph;
+use crate::sizes::Counted;
 use std::test::Fail;
 
 const PRINTED: &str =
     "format reiserfs\nblocks 9216\nlabel units\\x209\nused 8211\nunits 3\nneeded 4\nrun 1\n";
 
 /// What is told, in one line.
-fn told(rt: &impl AllocGlobal, space: &Space, size: &str) -> Result<String, Fail> {
+fn told(
+    rt: &impl AllocGlobal,
+    space: &Space,
+    size: &str,
+    best: Option<&Counted>,
+) -> Result<String, Fail> {
     let mut text = Paragraph::new(rt.alloc(), "/dev/sda1");
-    space.tell(rt.alloc(), &mut text, size)?;
+    space.tell(rt.alloc(), &mut text, size, best)?;
     let mut said = String::new(rt.alloc());
     for line in text.into_text().as_str().lines() {
         said.push_str(line)?;
@@ -20,7 +26,7 @@ fn told(rt: &impl AllocGlobal, space: &Space, size: &str) -> Result<String, Fail
 #[test]
 fn a_unit_is_missing(rt: HostRuntime) -> Result<(), Fail> {
     let space = Space::printed(PRINTED).ok_or("no space")?;
-    let said = told(&rt, &space, "4096")?;
+    let said = told(&rt, &space, "4096", None)?;
     for part in [
         "4 units of 1 MiB are needed, and 3 are free as a whole, which is 1 too few.",
         "until 1 MiB more are free",
@@ -36,13 +42,48 @@ fn a_unit_is_missing(rt: HostRuntime) -> Result<(), Fail> {
 #[test]
 fn a_row_is_missing(rt: HostRuntime) -> Result<(), Fail> {
     let space = Space::refused(&["20", "30", "5", "4"]).ok_or("no space")?;
-    let said = told(&rt, &space, "16384")?;
+    let said = told(&rt, &space, "16384", None)?;
     assert!(rt;
         said.as_str().contains("until 5 MiB are free in one row."),
         "{}",
         said.as_str()
     );
     assert!(rt; Space::refused(&["20", "30", "5"]).is_none());
+    Ok(())
+}
+
+#[test]
+fn nodes_of_another_size(rt: HostRuntime) -> Result<(), Fail> {
+    let space = Space::printed(PRINTED).ok_or("no space")?;
+    let mut best = Counted {
+        size: "8192",
+        space: Space { needed: 3, ..space },
+    };
+    let said = told(&rt, &space, "16384", Some(&best))?;
+    assert!(rt;
+        said.as_str().ends_with(
+            "Or take nodes of 8192 bytes, which need 3 units: 'reiserconv convert --nodesize 8192 /dev/sda1'. "
+        ),
+        "{}",
+        said.as_str()
+    );
+    best.space = space;
+    let said = told(&rt, &space, "16384", Some(&best))?;
+    assert!(rt;
+        said.as_str()
+            .ends_with("Nodes of 4096 or 8192 bytes need no fewer units. "),
+        "{}",
+        said.as_str()
+    );
+    let lacks = Space { units: 1, ..space };
+    best.space = Space { needed: 3, ..lacks };
+    let said = told(&rt, &lacks, "16384", Some(&best))?;
+    assert!(rt;
+        said.as_str()
+            .ends_with("3 ('--nodesize 8192'), which alone does not suffice. "),
+        "{}",
+        said.as_str()
+    );
     Ok(())
 }
 
@@ -54,14 +95,14 @@ fn the_space_suffices(rt: HostRuntime) -> Result<(), Fail> {
         run: 1,
         longest: None,
     };
-    let said = told(&rt, &space, "16384")?;
+    let said = told(&rt, &space, "16384", None)?;
     assert!(rt;
         said.as_str().ends_with("and so 9 are to spare. "),
         "{}",
         said.as_str()
     );
     space.units = 20;
-    let said = told(&rt, &space, "4096")?;
+    let said = told(&rt, &space, "4096", None)?;
     assert!(rt;
         said.as_str().contains("with nodes of 4096 bytes"),
         "{}",
