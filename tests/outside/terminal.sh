@@ -174,7 +174,8 @@ convert --frobnicate x|'convert' has no option '--frobnicate'. If it is the path
 convert -x|If it is the path, write './-x'.
 convert --no-inlin x|There is no option '--no-inlin'. Did you mean '--no-inline'?
 list --no-inline x|'list' has no option '--no-inline'.
-convert --no-inline --no-inline x|'--no-inline' can't stand beside '--no-inline'
+convert --no-inline --no-inline x|'--no-inline' is given twice.
+convert --label disk|The path is missing: 'disk' is the value of '--label'
 convert --label a --copy-label x|'--copy-label' can't stand beside '--label'
 convert --label=foo x|The value stands behind a space here: write '--label foo'.
 convert x --label foo|'--label' stands behind the path: options stand before it.
@@ -214,18 +215,18 @@ verdicts() {
     makes 9216 0 9216
     on_terminal inspect made
     same 'the space does not suffice' '0|yes|yes' "$status|$(
-        has "It can't be converted as it is: 4 units of 1 MiB are needed, and 3 are free as a whole, which is 1 too few. What to do: Remove large files or move them away, until 1 MiB more are free as a whole.")|$(
-        has "Or make the partition larger by 9 MiB or more, and then the volume ('resize_reiserfs -f made'). Or take nodes of 4096 bytes, which need 3 units: 'reiserconv convert --nodesize 4096 made'.")"
+        has "It can't be converted as it is: 4 units of 1 MiB are needed, and 3 are free as a whole, which is 1 too few. What to do: Remove large files or move them away, until 1 MiB more are free as a whole, better 17, since")|$(
+        has "Or make the partition larger by 17 MiB or more, and then the volume ('resize_reiserfs -f made'). Or take nodes of 4096 bytes, which need 3 units: 'reiserconv convert --nodesize 4096 made'.")"
     on_terminal inspect --no-inline --nodesize 8192 made
     same 'a size of nodes with which it does suffice' '0|yes' "$status|$(has "Or take nodes of 4096 bytes, which need 3 units:")"
     on_terminal inspect --nodesize 4096 made
     same 'no other size is looked at where the space suffices' '0|yes' "$status|$(has "It can be converted: 3 units of 1 MiB are needed, 3 are free as a whole, and so 0 are to spare. This is with nodes of 4096 bytes:")"
     run inspect made
     same 'no verdict without a terminal' "0||run 1" "$status|$err|$(tail -1 "$work/.out")"
-    truncate -s +9M made
+    truncate -s +17M made
     resize_reiserfs -q -f made >/dev/null 2>&1
     on_terminal inspect made
-    same 'a volume that was made larger as it was told' '0|yes' "$status|$(has 'It can be converted: 4 units of 1 MiB are needed, 12 are free as a whole, and so 8 are to spare.')"
+    same 'a volume that was made larger as it was told' '0|yes' "$status|$(has 'It can be converted: 4 units of 1 MiB are needed, 20 are free as a whole, and so 16 are to spare.')"
     makes 12288 7 12288
     on_terminal inspect made
     same 'the space suffices' '0|yes' "$status|$(has "It can be converted: $(awk '$1 == "needed" { print $2 }' "$work/.out" | tr -d '\r') units of 1 MiB are needed")"
@@ -251,7 +252,7 @@ told_steps() {
     same 'what is there is ReiserFS' '0|yes' "$status|$(has "it is as before: begin again with 'reiserconv convert my\\ disk\\'s'.")"
     truncate -s 256M blank
     on_terminal trial 7 blank
-    same 'a trial begins' '0|yes' "$status|$(has 'What blank holds is overwritten now.')"
+    same 'a trial begins' '0|yes' "$status|$(has 'blank is overwritten, unless the trial is refused.')"
     run convert "$disk"
     same 'nothing is told without a terminal' '0||6' "$status|$err|$(wc -l <"$work/.out")"
     rm -f "$disk" blank

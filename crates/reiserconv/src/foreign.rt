@@ -7,9 +7,9 @@ pub fn of_others(word: &str) -> Option<&'static str> {
         "-i" => Some("'{1}' is '--no-inline' here."),
         "-N" => Some("'{1}' is '--nodesize' here, with the bytes of a node behind a space."),
         "-l" => Some("'{1}' is '--label' here, with the label behind a space."),
-        "-L" => Some("'{1}' is '--copy-label' here."),
+        "-L" => Some("'{1}' is '--copy-label' here; '--label' and a text set another one."),
         "-U" => Some("'{1}' is '--uuid' here, with 'new', 'copy' or a UUID behind a space."),
-        "-v" => Some("'{1}' is '--verbose' here."),
+        "-v" => Some("'{1}' is '--verbose' here, behind a command. The version is '-V'."),
         "-r" | "--rollback" => Some(
             "'{1}' is a command here: 'reiserconv rollback', with the path behind it.",
         ),

@@ -13,7 +13,7 @@ const ROLLBACK_BEGINS: &str =
     "If this is interrupted, by Ctrl-C, a signal or a power cut, the Btrfs volume or the old one is there, whole, at each moment. Run 'reiserconv recover {path}' then: it says which, and if it is the Btrfs volume, begin again.";
 
 const TRIAL_BEGINS: &str =
-    "What {path} holds is overwritten now. If this is interrupted, by Ctrl-C, a signal or a power cut, what it holds then is of no use: begin again.";
+    "{path} is overwritten, unless the trial is refused. If this is interrupted, by Ctrl-C, a signal or a power cut, what it holds then is of no use: begin again.";
 
 /// What is told before a command begins, by what is asked for; nothing of one that only reads, and of `recover`, which is done at once.
 pub fn before(alloc: Global, asked: &Asked<'_>, path: &str) -> Result<String, AllocError> {
@@ -33,8 +33,8 @@ pub fn before(alloc: Global, asked: &Asked<'_>, path: &str) -> Result<String, Al
 const CONVERTED: [&str; 4] = [
     "{path} is a Btrfs volume now. The old one is the file 'reiserfs_saved/image' in it.",
     "What comes next: 'btrfs check --readonly {path}' has to find nothing. The first time, mount it with 'mount -t btrfs -o space_cache=v2 {path} /mnt'.",
-    "If /etc/fstab names the volume, change its line: the type is 'btrfs', and options that only ReiserFS has go. If the line names the UUID, 'blkid {path}' shows the one that it has now.",
-    "To go back, unmount it and run 'reiserconv rollback {path}': then it is as it was, without what was written since. Keep the image for as long as you may want that, and don't balance, defragment, shrink, deduplicate or compress the volume. When you are sure that all is well, 'btrfs subvolume delete /mnt/reiserfs_saved' gives the space of the image free. From then on nothing leads back.",
+    "If /etc/fstab names the volume, change its line: the type is 'btrfs', options that only ReiserFS has go, and the last two fields are '0 0'. If the line names the UUID, 'blkid {path}' shows the one that it has now.",
+    "To go back, unmount it and run 'reiserconv rollback {path}': then it is as it was, without what was written since. Keep the image for as long as you may want that, and don't balance, defragment, shrink, deduplicate or compress the volume. When you are sure that all is well, 'btrfs subvolume delete /mnt/reiserfs_saved' and then 'btrfs filesystem sync /mnt' free the space of the image. From then on nothing leads back.",
 ];
 
 const ROLLED_BACK: &str =

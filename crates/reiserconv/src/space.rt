@@ -19,11 +19,8 @@ pub struct Space {
 /// The size of a node where none is asked for.
 pub const USUAL_SIZE: &str = "16384";
 
-/// Linux itself needs some free units to write to a volume. With fewer to spare it may only read.
-const GOOD_TO_SPARE: u64 = 8;
-
-/// So much of an enlargement is taken by what tells of the new space, and by rounding to units.
-const LOST: u64 = 8;
+/// Linux itself needs free units to write to a volume: with fewer to spare it takes few new files, or may only read.
+const GOOD_TO_SPARE: u64 = 16;
 
 impl Space {
     /// By what `inspect` prints of a ReiserFS volume.
@@ -159,13 +156,13 @@ const FITS_IN_A_ROW: &str =
 const WITH_SIZE: &str = "This is with nodes of {1} bytes: give 'convert' the same '--nodesize'.";
 
 const HARDLY: &str =
-    "Linux takes such units too when it writes to the new volume: have 8 to spare, or it may only be able to read there until more is free.";
+    "Linux takes such units too when it writes to the new volume: have 16 to spare, or it may only be able to read there until more is free.";
 
 const TOO_FEW: &str =
     "It can't be converted as it is: {2} units of 1 MiB are needed, and {1} are free as a whole, which is {5} too few.";
 
 const FREE_MORE: &str =
-    "Remove large files or move them away, until {5} MiB more are free as a whole. Small files that lie scattered hardly help.";
+    "Remove large files or move them away, until {5} MiB more are free as a whole, better {6}, since Linux takes some to write to the new volume. Small files that lie scattered hardly help.";
 
 const FREE_A_ROW: &str = "Remove a large file or move it away, until {4} MiB are free in one row.";
 
@@ -212,7 +209,7 @@ impl Numbers {
             spare: decimal(alloc, space.units.saturating_sub(space.needed))?,
             run: decimal(alloc, space.run)?,
             missing: decimal(alloc, missing)?,
-            larger: decimal(alloc, missing.saturating_add(LOST))?,
+            larger: decimal(alloc, missing.saturating_add(GOOD_TO_SPARE))?,
         })
     }
 

@@ -69,7 +69,11 @@ fn find_behind(alloc: Global, verb: Verb, words: &[String]) -> Result<Option<Fin
             return Ok(wrong);
         }
     }
-    scan.end()
+    let last = match words.last() {
+        Some(word) => word.as_str(),
+        None => "",
+    };
+    scan.end(last)
 }
 
 /// What the next word is to be.
@@ -92,10 +96,15 @@ struct Scan {
     verb: Verb,
     next: Next,
     given: Vec<Choice>,
+    /// The option whose value the last word was, if it was one.
+    valued: Option<Choice>,
 }
 
 const NO_PATH: &str =
     "The path is missing behind '{1}': that of the partition, or of a file with the volume.";
+
+const NO_PATH_BEHIND_VALUE: &str =
+    "The path is missing: '{1}' is the value of '{2}', and the path stands behind it.";
 
 const EMPTY_PATH: &str = "The path is empty. Perhaps a variable of the shell has no value.";
 
@@ -114,8 +123,10 @@ const TOO_MANY: &str =
 
 const NOT_OF_COMMAND: &str = "'{2}' has no option '{1}'.";
 
+const TWICE: &str = "'{1}' is given twice.";
+
 const EXCLUDED: &str =
-    "'{1}' can't stand beside '{2}': each can be given once, and of '--label' and '--copy-label' one.";
+    "'{1}' can't stand beside '{2}': of '--label' and '--copy-label' one can be given.";
 
 const WITH_EQUALS: &str = "The value stands behind a space here: write '{1} {2}'.";
 
@@ -140,14 +151,17 @@ impl Scan {
             verb,
             next: Next::Any,
             given: Vec::new(alloc),
+            valued: None,
         }
     }
 
     /// Looks at a word, and says what is wrong with it.
     fn take(&mut self, word: &str) -> Result<Option<Finding>, AllocError> {
+        self.valued = None;
         match self.next {
             Next::Value(choice) => {
                 self.next = Next::Any;
+                self.valued = Some(choice);
                 choice.wrong_value(self.alloc, word)
             }
             Next::Any if word.starts_with('-') => self.take_option(word),
@@ -158,8 +172,11 @@ impl Scan {
         }
     }
 
-    /// What is wrong with the words where they end here.
-    fn end(&self) -> Result<Option<Finding>, AllocError> {
+    /// What is wrong with the words where they end here, with this one.
+    fn end(&self, last: &str) -> Result<Option<Finding>, AllocError> {
+        if let (Next::Any, Some(choice)) = (self.next, self.valued) {
+            return self.tell(NO_PATH_BEHIND_VALUE, last, choice.word());
+        }
         match (self.next, self.verb) {
             (Next::Nothing, _) => Ok(None),
             (Next::Value(choice), _) => self.tell(NO_VALUE, choice.word(), ""),
@@ -186,6 +203,9 @@ impl Scan {
             return self.tell(NOT_OF_COMMAND, word, self.verb.name());
         }
         for other in self.given.as_slice() {
+            if choice == *other {
+                return self.tell(TWICE, word, "");
+            }
             if choice.excludes(*other) {
                 return self.tell(EXCLUDED, word, other.word());
             }

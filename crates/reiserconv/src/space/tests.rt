@@ -29,8 +29,8 @@ fn a_unit_is_missing(rt: HostRuntime) -> Result<(), Fail> {
     let said = told(&rt, &space, "4096", None)?;
     for part in [
         "4 units of 1 MiB are needed, and 3 are free as a whole, which is 1 too few.",
-        "until 1 MiB more are free",
-        "larger by 9 MiB",
+        "until 1 MiB more are free as a whole, better 17,",
+        "larger by 17 MiB",
         "'resize_reiserfs -f /dev/sda1'",
         "'reiserconv inspect --nodesize 8192 /dev/sda1' and the same with 16384",
     ] {
@@ -90,14 +90,14 @@ fn nodes_of_another_size(rt: HostRuntime) -> Result<(), Fail> {
 #[test]
 fn the_space_suffices(rt: HostRuntime) -> Result<(), Fail> {
     let mut space = Space {
-        units: 29,
+        units: 36,
         needed: 20,
         run: 1,
         longest: None,
     };
     let said = told(&rt, &space, "16384", None)?;
     assert!(rt;
-        said.as_str().ends_with("and so 9 are to spare. "),
+        said.as_str().ends_with("and so 16 are to spare. "),
         "{}",
         said.as_str()
     );
@@ -109,7 +109,7 @@ fn the_space_suffices(rt: HostRuntime) -> Result<(), Fail> {
         said.as_str()
     );
     assert!(rt;
-        said.as_str().contains("have 8 to spare"),
+        said.as_str().contains("have 16 to spare"),
         "{}",
         said.as_str()
     );

@@ -58,6 +58,7 @@ fn options_have_their_place_and_form(rt: HostRuntime) -> Result<(), Fail> {
             ("convert -L x", "'-L' is '--copy-label' here."),
             ("list --no-inline x", "'list' has no option '--no-inline'."),
             ("convert --label a --copy-label x", "can't stand beside"),
+            ("convert --label a --label b x", "'--label' is given twice."),
             ("convert --frobnicate x", "write './--frobnicate'"),
         ],
     )
@@ -90,6 +91,7 @@ fn there_is_one_path(rt: HostRuntime) -> Result<(), Fail> {
             ("inspect", "The path is missing behind 'inspect'"),
             ("inspect a b", "'b' is a word too many"),
             ("trial 5", "The path is missing behind the number"),
+            ("convert --label disk", "'disk' is the value of '--label'"),
             ("inspect ", "The path is empty."),
         ],
     )
