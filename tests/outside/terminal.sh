@@ -187,7 +187,7 @@ convert -n x|There is no '-n' here: a volume with extended attributes is refused
 convert -i x|'-i' is '--no-inline' here.
 convert -d x|'-d' is '--no-datasum' here.
 convert -l foo x|'-l' is '--label' here, with the label behind a space.
-convert -L x|'-L' is '--copy-label' here.
+convert -L x|'-L' is '--copy-label' here;
 convert -N 16384 x|'-N' is '--nodesize' here, with the bytes of a node behind a space.
 convert -r x|'-r' is a command here: 'reiserconv rollback', with the path behind it.
 convert --dry-run x|'reiserconv inspect' only reads, and says whether a volume can be converted.

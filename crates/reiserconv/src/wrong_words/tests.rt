@@ -55,7 +55,7 @@ fn options_have_their_place_and_form(rt: HostRuntime) -> Result<(), Fail> {
             ("convert --no-inline=a x", "'--no-inline' takes no value."),
             ("trial 7 --verbose x", "'--verbose' stands behind the"),
             ("convert --no-inlin x", "Did you mean '--no-inline'?"),
-            ("convert -L x", "'-L' is '--copy-label' here."),
+            ("convert -L x", "'-L' is '--copy-label' here;"),
             ("list --no-inline x", "'list' has no option '--no-inline'."),
             ("convert --label a --copy-label x", "can't stand beside"),
             ("convert --label a --label b x", "'--label' is given twice."),
