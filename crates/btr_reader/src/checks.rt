@@ -14,7 +14,7 @@ ghost use Rattle.btr_reader.specs.Roots.{root_item, pointer_of, HasRoots};
 ghost use Rattle.btr_reader.specs.Volume.{IsVolumeOn};
 ghost use Rattle.btr_reader.specs.Rows.{CanBeRead, roots_on};
 
-use crate::refused::refused;
+use crate::refusal::refused;
 use crate::volume::Btrfs;
 use btr_reader_contents::check_contents;
 use btr_reader_names::Names;

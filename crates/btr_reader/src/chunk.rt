@@ -166,10 +166,7 @@ pub fn add_chunk(ranges: &mut Vec<MapRange>, device: u64, c: &ChunkAt) -> Result
     ensures known { IfErr result NamesNoLogTree }
     ensures cause { IfErr result IsNoFault }
 {
-    match check_chunk(device, ranges.as_slice(), c) {
-        Ok(()) => {}
-        Err(refusal) => return Err(BtrAnswer::Refused(refusal)),
-    }
+    check_chunk(device, ranges.as_slice(), c)?;
     push_range(ranges, range_of(c))?;
     Ok(())
 }

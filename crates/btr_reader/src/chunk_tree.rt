@@ -8,9 +8,8 @@ ghost use Rattle.btr_reader_names.specs.Refuses.{IsNoFault};
 ghost use Rattle.btr_reader.specs.Opening.{IsAmong, NamesNoLogTree};
 
 use crate::chunk::{ChunkAt, add_chunk, is_among, is_chunk_key};
-use btr_reader_walk::{
-    BlockSource, BtrAnswer, BtrRefusal, BtrRule, Key, MapRange, Memory, Tree, TreeWalker,
-};
+use crate::refusal::refused;
+use btr_reader_walk::{BlockSource, BtrAnswer, BtrRule, Key, MapRange, Memory, Tree, TreeWalker};
 use btr_space_items::Chunk;
 use std::alloc::Global;
 
@@ -35,12 +34,7 @@ fn add_item(
     }
     let chunk = match Chunk::read(body) {
         Some(chunk) => chunk,
-        None => {
-            return Err(BtrAnswer::Refused(BtrRefusal::BadBtrfs {
-                address: key.offset,
-                rule: BtrRule::ChunkForm,
-            }));
-        }
+        None => return Err(refused(key.offset, BtrRule::ChunkForm)),
     };
     let c = ChunkAt {
         logical: key.offset,

@@ -11,7 +11,7 @@ ghost use Rattle.btr_reader_names.specs.Passes.{HasSeen};
 ghost use Rattle.btr_reader_names.specs.Refuses.{IsNoFault};
 ghost use Rattle.btr_reader.specs.Opening.{IsAmong, NamesNoLogTree};
 
-use crate::refused::refused;
+use crate::refusal::refused;
 use btr_reader_names::{
     NameIn, Naming, ROOT, index_entry, is_name, names_inode, names_tree, naming_of, see_name,
 };

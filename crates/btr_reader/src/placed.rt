@@ -19,7 +19,7 @@ ghost use Rattle.btr_reader.specs.Made.{IsMemory, IsReadTree, bytes_at, made_row
 ghost use Rattle.fs_rows.specs.Content.{IsContent};
 ghost use Rattle.btr_reader_names.specs.Refuses.{IsNoFault};
 
-use crate::refused::refused;
+use crate::refusal::refused;
 use crate::row::{inode_row, tree_row};
 use btr_reader_contents::{Contents, wanted_inode};
 use btr_reader_names::{Names, ROOT, kind_of_mode};

@@ -17,7 +17,7 @@ use indexmap::{IndexMap, IndexSet};
 use std::alloc::Global;
 
 /// The kind in the key of a root item.
-const ROOT_KIND: u8 = 132;
+pub const ROOT_KIND: u8 = 132;
 
 /// A root item: the leaf that it stands in, and the pointer to the root of its tree; None where its body is off the
 /// grammar.

@@ -24,7 +24,8 @@ ghost use Rattle.btr_reader.specs.Volume.{IsVolumeOn};
 ghost use Rattle.btr_reader.specs.Rows.{AreBtrfsRows, AreRows, roots_on};
 
 use crate::placed::row_at;
-use crate::refused::refused;
+use crate::refusal::refused;
+use crate::trees::FILE_TREE;
 use crate::volume::Btrfs;
 use btr_reader_contents::Contents;
 use btr_reader_names::{Names, ROOT, inode_node};
@@ -33,9 +34,6 @@ use fs_paths::{NodeId, paths};
 use fs_rows::Rows;
 use indexmap::IndexSet;
 use std::alloc::Global;
-
-/// The number of the file tree.
-const FILE_TREE: u64 = 5;
 
 impl Btrfs {
     /// The rows of the file tree, number 5: one for each path, ascending. The entry of the saved image is no part of it.
