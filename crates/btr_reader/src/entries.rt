@@ -1,6 +1,6 @@
 ghost use Rattle.std.specs.Prelude.{◌≡◌, ◌≤◌, ◌++◌, ◌∷◌, [], List, true, if◌then◌else◌, Some, None, IfOk, IfErr, OnOk};
 ghost use Rattle.btr_reader_walk.specs.outside.Fault.{HasCauseOf};
-ghost use Rattle.btr_reader_walk.specs.outside.History.{Image, OverTold};
+ghost use Rattle.btr_reader_walk.specs.outside.History.{OverTold};
 ghost use Rattle.btr_reader_walk.specs.btr_node.NodeSize.{IsNodeSize};
 ghost use Rattle.btr_reader_walk.specs.Events.{TreeItem};
 ghost use Rattle.btr_reader_walk.specs.Walks.{LieOn, found};

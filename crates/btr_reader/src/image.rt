@@ -1,4 +1,4 @@
-ghost use Rattle.std.specs.Prelude.{◌≡◌, ◌≢◌, ◌≤◌, ◌∷◌, [], Option, Some, None, Err, true, IfOk, IfErr, IfSome, List};
+ghost use Rattle.std.specs.Prelude.{◌≡◌, ◌≢◌, [], Option, Some, None, Err, true, IfOk, IfErr, IfSome, List};
 ghost use Rattle.std.specs.Option.{option_and_then};
 ghost use Rattle.btr_reader_walk.specs.outside.Fault.{HasCauseOf};
 ghost use Rattle.btr_reader_walk.specs.outside.History.{OverTold};
@@ -11,11 +11,12 @@ ghost use Rattle.btr_reader_names.specs.Inodes.{inode_item, TellsInode};
 ghost use Rattle.btr_reader_names.specs.Refuses.{IsNoFault};
 ghost use Rattle.btr_reader.specs.Opening.{NamesNoLogTree};
 ghost use Rattle.btr_reader.specs.Pieces.{Gathers, IsInOrder, MapsImage};
-ghost use Rattle.btr_reader.specs.Reading.{IsWalkable, FindsTree, FindsFile, ReadsImage};
-ghost use Rattle.btr_reader.specs.Roots.{root_item, TellsRoot, HasRoots};
+ghost use Rattle.btr_reader.specs.Reading.{IsWalkable, FindsFile, ReadsImage};
+ghost use Rattle.btr_reader.specs.Roots.{HasRoots};
 ghost use Rattle.btr_reader.specs.Volume.{IsVolumeOn};
 ghost use Rattle.btr_reader.specs.Rows.{roots_on};
 
+use crate::chunk::copy_of;
 use crate::entries::find_entry;
 use crate::gather::gather_extents;
 use crate::gathered::Gathered;
@@ -65,14 +66,6 @@ fn inode_number(key: Option<Key>) -> Option<u64>
         }
         None => None,
     }
-}
-
-fn copy_of(alloc: Global, ranges: &[MapRange]) -> Result<Vec<MapRange>, Memory>
-    ensures { IfOk result (λ copy. copy.items ≡ ranges.now) }
-{
-    let mut copy = Vec::new(alloc);
-    copy.extend_from_slice(ranges)?;
-    Ok(copy)
 }
 
 /// The map of a regular file, whose extents were gathered, if it has the form of an image.

@@ -1,11 +1,11 @@
-ghost use Rattle.std.specs.Prelude.{◌≡◌, ◌≤◌, [], Ok, Some, length, take, map, IfOk, IfErr, OnOk};
+ghost use Rattle.std.specs.Prelude.{◌≡◌, [], Ok, Some, map, IfOk, IfErr, OnOk};
 ghost use Rattle.btr_reader_walk.specs.outside.Fault.{HasCauseOf};
 ghost use Rattle.btr_reader_walk.specs.outside.History.{OverTold, block_at};
 ghost use Rattle.btr_super.specs.Rules.{super_of, NamesNoLog};
 ghost use Rattle.btr_reader_walk.specs.Walks.{LieOn};
 ghost use Rattle.btr_reader.specs.Chunks.{range_of};
 ghost use Rattle.btr_reader_names.specs.Refuses.{IsNoFault};
-ghost use Rattle.btr_reader.specs.Opening.{super_on, boot_chunks, opening_refusals, boot_refusals, IsOpened, IsAmong, IsInBounds, IsSuperAnswer, NamesNoLogTree};
+ghost use Rattle.btr_reader.specs.Opening.{super_on, boot_chunks, opening_refusals, boot_refusals, IsAmong, IsInBounds, IsSuperAnswer, NamesNoLogTree};
 ghost use Rattle.btr_reader.specs.Volume.{IsVolumeOn};
 
 use crate::bootstrap::array_chunks;

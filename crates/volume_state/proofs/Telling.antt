@@ -2,14 +2,11 @@
 use Rattle.std.proofs.Common.{◌≡◌, ⊎_elim, inr, ℕ, List, [], ◌∷◌, ◌++◌, Contains, Option, Some, None, Result, Ok, Err, refl, sym, ◌∙◌, ap, subst, arith}
 use Rattle.std.specs.Option.{option_and_then}
 use Rattle.std.specs.Result.{MatchResult}
-use Rattle.std.proofs.lemmas.List.Elements.{Contains-append_left, Contains-append_right}
+use Rattle.std.proofs.lemmas.List.Elements.{Contains-append_right}
 use Rattle.reiser_bitmap.specs.outside.History.{Image}
 use Rattle.reiser_bitmap.specs.refusals.declared.answer.BtrAnswer.{BtrAnswer}
-use Rattle.reiser_bitmap.specs.refusals.declared.answer.BtrAnswer.TheVariants.{Refused, Fault, Memory}
 use Rattle.reiser_bitmap.specs.refusals.declared.refusal.BtrRefusal.{BtrRefusal}
-use Rattle.reiser_bitmap.specs.refusals.declared.refusal.BtrRefusal.TheVariants.{BadBtrfs}
-use Rattle.reiser_bitmap.specs.refusals.declared.rule.BtrRule.TheVariants.{Body}
-use Rattle.btr_reader.specs.Image.{after_pointer, after_root, entry_refusals, if_there, image_refusals, image_refusals_in, items_at, pointer_in, refusals_below, root_refusals, saved_entry, saved_refusals, tree_number}
+use Rattle.btr_reader.specs.Image.{entry_refusals, if_there, image_refusals, image_refusals_in, items_at, pointer_in, refusals_below, root_refusals, saved_entry, saved_refusals, tree_number}
 use Rattle.btr_reader.specs.Opening.{IsOpened, or_later, tree_of}
 use Rattle.btr_reader.specs.Parts.{own_map, own_super, way_refusals}
 use Rattle.btr_reader.specs.Reading.{FindsNumbered, FindsSaved, FindsTree}
