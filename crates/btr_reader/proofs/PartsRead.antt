@@ -60,7 +60,7 @@ none_of refusals r none is =
     let here : Contains [] r = subst (λ (z : List BtrRefusal). Contains z r) none is in
     omega (arith, here.1)
 
-none_in : (refusals : List BtrRefusal) → ((r : BtrRefusal) → Contains refusals r → ⊥) → refusals ≡ []
+pub none_in : (refusals : List BtrRefusal) → ((r : BtrRefusal) → Contains refusals r → ⊥) → refusals ≡ []
 none_in [] none = refl
 none_in (r ∷ rs) none = absurd (none r (0, omega arith, refl))
 

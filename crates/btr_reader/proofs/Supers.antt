@@ -1,14 +1,16 @@
 -- What is known of a superblock that is read.
-use Rattle.std.proofs.Common.{◌≡◌, ℕ, ◌*◌, ◌≤◌, eqb, nat_lt, nat_le, Bool, true, false, ◌&&◌, List, [], ◌∷◌, Result, Ok, Err, IfOk, codes, is_some, refl, sym, ap, subst, arith}
+use Rattle.std.proofs.Common.{◌≡◌, ℕ, ◌*◌, ◌≤◌, eqb, nat_lt, nat_le, Bool, true, false, ◌&&◌, List, [], ◌∷◌, Result, Ok, Err, IfOk, codes, is_some, IsSome, refl, sym, ap, subst, arith}
 use Rattle.std.proofs.lemmas.Bool.Decides.{nat_tests}
+use Rattle.std.proofs.lemmas.List.{drop-drop}
 use Rattle.btr_reader_walk.specs.refusals.declared.refusal.BtrRefusal.{BtrRefusal}
 use Rattle.btr_reader_walk.specs.refusals.declared.refusal.BtrRefusal.TheVariants.{BadBtrfs, Unsupported}
 use Rattle.btr_reader_walk.specs.refusals.declared.rule.BtrRule.TheVariants.{SuperCsum, SuperField}
 use Rattle.btr_reader_walk.specs.refusals.declared.rule.Feature.TheVariants.{Incompat, ChecksumType, SectorSize, NodeSize, DeviceCount}
 use Rattle.btr_reader_walk.specs.vol_block.Format.{has_bytes_at}
+use Rattle.btr_reader_walk.specs.vol_block.Volume.{field}
 use Rattle.btr_super.specs.declared.superblock.Super.{Super}
 use Rattle.btr_super.specs.Sums.{known_kind, csum_type_of, has_sum}
-use Rattle.btr_super.specs.Super.{super_in}
+use Rattle.btr_super.specs.Super.{super_in, super_layout}
 use Rattle.btr_super.specs.Rules.{bad_field, is_super, has_fields, unread_bits, is_node_size, field_rules, feature_rules, failing, unless_refused, super_refusals, super_of}
 use Rattle.btr_reader_walk.proofs.btr_node.Rows.{both}
 use Rattle.btr_reader_walk.proofs.Stacks.{sized}
@@ -52,8 +54,8 @@ size_rules s = (is_node_size s.nodesize, Unsupported NodeSize s.nodesize) ∷ de
 abbrev sector_rules : Super → List (Bool × BtrRefusal)
 sector_rules s = (eqb s.sectorsize 4096, Unsupported SectorSize s.sectorsize) ∷ size_rules s
 
-bounds : (s : Super) (device : ℕ) → failing (field_rules s 16 device) ≡ [] → IsInBounds s
-bounds s device h =
+bounds : (s : Super) (device : ℕ) → IsSome (known_kind s.csum_type) → failing (field_rules s 16 device) ≡ [] → IsInBounds s
+bounds s device kind h =
     let first = rule_holds (has_fields s 16 device) bad_field (feature_rules s) h in
     let bits = rule_holds (eqb (unread_bits s.incompat) 0) (Unsupported Incompat (unread_bits s.incompat)) (sector_rules s) first.1 in
     let sector = rule_holds (eqb s.sectorsize 4096) (Unsupported SectorSize s.sectorsize) (size_rules s) bits.1 in
@@ -64,6 +66,7 @@ bounds s device h =
     let log = both (nat_le s.log_root_level 7) _ chunks.1 in
     let array = both (nat_le s.sys_chunk_array_size 2048) _ log.1 in
     record {
+      kind = kind;
       nodesize = sized s.nodesize size.0;
       root = le_of s.root_level 7 root.0;
       chunks = le_of s.chunk_root_level 7 chunks.0;
@@ -76,6 +79,11 @@ sum_rules block device = (has_sum (known_kind (csum_type_of block)) block, BadBt
 abbrev kind_rules : List ℕ → ℕ → List (Bool × BtrRefusal)
 kind_rules block device = (is_some (known_kind (csum_type_of block)), Unsupported ChecksumType (csum_type_of block)) ∷ sum_rules block device
 
+-- the type of the checksum is a field of the superblock
+type_in : (block : List ℕ) → csum_type_of block ≡ (super_in block).csum_type
+unfolding super_layout
+type_in block = ap (λ (bytes : List ℕ). field 2 bytes 0) (sym (drop-drop 164 32 block))
+
 pub in_bounds : (block : List ℕ) (device : ℕ) (s : Super) → super_of block 16 device ≡ Ok s → IsInBounds s
 unfolding super_of
 in_bounds block device s h =
@@ -83,7 +91,7 @@ in_bounds block device s h =
     let magic = rule_holds (is_super block 16 device) bad_field (kind_rules block device) read.0 in
     let kind = rule_holds (is_some (known_kind (csum_type_of block))) (Unsupported ChecksumType (csum_type_of block)) (sum_rules block device) magic.1 in
     let sum = rule_holds (has_sum (known_kind (csum_type_of block)) block) (BadBtrfs 65536 SuperCsum) (field_rules (super_in block) 16 device) kind.1 in
-    subst IsInBounds read.1 (bounds (super_in block) device sum.1)
+    subst IsInBounds read.1 (bounds (super_in block) device (subst (λ (n : ℕ). IsSome (known_kind n)) (type_in block) kind.0) sum.1)
 
 pub read_bounds : (block : List ℕ) (device : ℕ) (result : Result Super BtrRefusal) → result ≡ super_of block 16 device → IfOk result IsInBounds
 read_bounds block device (Ok s) is = in_bounds block device s (sym is)

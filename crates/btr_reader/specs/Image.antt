@@ -203,9 +203,12 @@ file_refusals ranges items ino (Some i) = own_refusals ranges (extents_of items 
 abbrev pub image_refusals_in : List MapRange → List TreeItem → List BtrRefusal
 image_refusals_in ranges items = if_there (λ ino. file_refusals ranges items ino (inode_item items ino)) (option_and_then inode_number (image_entry items))
 
+-- of a tree in which the image is looked for
+abbrev pub saved_refusals : Image → List MapRange → Tree → List BtrRefusal
+saved_refusals image ranges t = or_later (entry_refusals image ranges t) (image_refusals_in ranges (found image ranges t))
+
 abbrev pub refusals_below : Image → Super → List MapRange → ℕ → Option TreeItem → List BtrRefusal
-refusals_below image s ranges number root =
-    after_root (λ p. or_later (entry_refusals image ranges (tree_of s number p)) (image_refusals_in ranges (items_at image s ranges number p))) root
+refusals_below image s ranges number root = after_root (λ p. saved_refusals image ranges (tree_of s number p)) root
 
 abbrev pub refusals_from : Image → Super → List MapRange → Option TreeItem → List BtrRefusal
 refusals_from image s ranges root =

@@ -1,5 +1,5 @@
 -- What is read of a volume as it is opened: the superblock, the chunks and the root tree.
-use Rattle.std.specs.Prelude.{◌≡◌, ℕ, ◌≤◌, List, [], ◌∷◌, ◌++◌, length, take, map, Option, Some, None, unwrap_or, Result, Ok, Err}
+use Rattle.std.specs.Prelude.{◌≡◌, ℕ, ◌≤◌, List, [], ◌∷◌, ◌++◌, length, take, map, Option, Some, None, IsSome, unwrap_or, Result, Ok, Err}
 use Rattle.btr_reader_walk.specs.outside.History.{Image, block_at}
 use Rattle.btr_reader_walk.specs.refusals.declared.answer.BtrAnswer.{BtrAnswer}
 use Rattle.btr_reader_walk.specs.refusals.declared.answer.BtrAnswer.TheVariants.{Refused, Fault, Memory}
@@ -99,8 +99,9 @@ IsBadArray chunks (Refused r) = (r ≡ BadBtrfs 65536 ChunkForm) × (chunks ≡ 
 IsBadArray chunks Fault = ⊥
 IsBadArray chunks Memory = Unit {0}
 
--- bounds of a superblock that is read
+-- bounds of a superblock that is read; its kind of checksum is known
 pub record IsInBounds (s : Super) : Type 0 where
+  pub kind : IsSome (known_kind s.csum_type)
   pub nodesize : IsNodeSize s.nodesize
   pub root : s.root_level ≤ 7
   pub chunks : s.chunk_root_level ≤ 7

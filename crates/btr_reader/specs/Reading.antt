@@ -1,5 +1,6 @@
 -- The answers of the steps on the way to the saved image.
-use Rattle.std.specs.Prelude.{◌≡◌, ◌≤◌, ℕ, true, false, List, [], Option, Some, None, Result, Ok, Err}
+use Rattle.std.specs.Prelude.{◌≡◌, ◌⊎◌, ◌≤◌, ℕ, true, false, List, [], Option, Some, None, Result, Ok, Err}
+use Rattle.std.specs.Option.{option_and_then}
 use Rattle.btr_reader_walk.specs.refusals.declared.answer.BtrAnswer.{BtrAnswer}
 use Rattle.btr_reader_walk.specs.refusals.declared.answer.BtrAnswer.TheVariants.{Refused, Fault, Memory}
 use Rattle.btr_reader_walk.specs.refusals.declared.refusal.BtrRefusal.TheVariants.{BadBtrfs}
@@ -14,10 +15,10 @@ use Rattle.btr_reader_walk.specs.declared.tree.Pointer.{Pointer}
 use Rattle.btr_reader_walk.specs.declared.tree.Tree.{Tree}
 use Rattle.btr_reader_walk.specs.Events.{TreeItem}
 use Rattle.btr_reader.specs.declared.image_map.ImageMap.{ImageMap}
-use Rattle.btr_reader.specs.Image.{ImageFile, is_file}
+use Rattle.btr_reader.specs.Image.{ImageFile, is_file, saved_entry, tree_number}
 use Rattle.btr_reader.specs.Opening.{IsAmong, tree_of}
 use Rattle.btr_reader.specs.Pieces.{MapsImage}
-use Rattle.btr_reader.specs.Roots.{pointer_of}
+use Rattle.btr_reader.specs.Roots.{pointer_of, root_item}
 
 -- a tree can be walked
 pub record IsWalkable (tree : Tree) : Type 0 where
@@ -31,6 +32,16 @@ FindsTree s number root (Ok (Some t)) = (i : TreeItem) × (p : Pointer) × (root
 FindsTree s number root (Err (Refused r)) = (i : TreeItem) × (root ≡ Some i) × (pointer_of i.body ≡ None) × (r ≡ BadBtrfs i.leaf Body)
 FindsTree s number root (Err Fault) = Unit {0}
 FindsTree s number root (Err Memory) = Unit {0}
+
+-- the tree with the number that an entry names, by the root items
+abbrev pub FindsNumbered : Super → List TreeItem → Option ℕ → Result (Option Tree) BtrAnswer → Type 0
+FindsNumbered s roots None told = told ≡ Ok None
+FindsNumbered s roots (Some number) told = FindsTree s number (root_item number roots) told
+
+-- An answer is one of what is wrong with the tree in which the entry is looked for; or nothing is, and the tree is that of the entry.
+abbrev pub FindsSaved : Super → List TreeItem → List BtrRefusal → List TreeItem → Result (Option Tree) BtrAnswer → Type 0
+FindsSaved s roots refusals items told =
+    ((e : BtrAnswer) × (told ≡ Err e) × IsAmong refusals e) ⊎ ((refusals ≡ []) × FindsNumbered s roots (option_and_then tree_number (saved_entry items)) told)
 
 -- the inode of an inode item, if it is that of a regular file; one that is off its grammar is refused
 abbrev pub FindsFile : Option TreeItem → Result (Option Inode) BtrAnswer → Type 0

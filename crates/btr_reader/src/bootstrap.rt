@@ -3,7 +3,8 @@ ghost use Rattle.btr_reader.specs.Chunks.{front_chunk, entry_size, array_chunks}
 ghost use Rattle.btr_reader.specs.Opening.{IsBadArray, NamesNoLogTree};
 
 use crate::chunk::{ChunkAt, is_chunk_key};
-use btr_reader_walk::{BtrAnswer, BtrRefusal, BtrRule, Key, Memory, u16_at};
+use crate::refusal::refused;
+use btr_reader_walk::{BtrAnswer, BtrRule, Key, Memory, u16_at};
 use btr_space_items::Chunk;
 use std::alloc::Global;
 
@@ -62,10 +63,7 @@ pub fn array_chunks(alloc: Global, array: &[u8]) -> Result<Vec<ChunkAt>, BtrAnsw
     let mut rest = array;
     while !rest.is_empty() {
         let Some(c) = front_chunk(rest) else {
-            return Err(BtrAnswer::Refused(BtrRefusal::BadBtrfs {
-                address: 65536,
-                rule: BtrRule::ChunkForm,
-            }));
+            return Err(refused(65536, BtrRule::ChunkForm));
         };
         push_chunk(&mut chunks, c)?;
         rest = behind_entry(rest);

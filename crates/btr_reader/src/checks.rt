@@ -1,7 +1,7 @@
-ghost use Rattle.std.specs.Prelude.{◌≡◌, ◌≢◌, ◌≤◌, List, Some, Err};
+ghost use Rattle.std.specs.Prelude.{◌≡◌, ◌≢◌, Some, Err};
 ghost use Rattle.std.specs.Result.{MatchResult};
 ghost use Rattle.btr_reader_walk.specs.outside.Fault.{HasCauseOf};
-ghost use Rattle.btr_reader_walk.specs.outside.History.{Image, OverTold};
+ghost use Rattle.btr_reader_walk.specs.outside.History.{OverTold};
 ghost use Rattle.btr_reader_walk.specs.refusals.declared.refusal.BtrRefusal.TheVariants.{BadBtrfs, LogPending};
 ghost use Rattle.btr_reader_walk.specs.refusals.declared.rule.BtrRule.TheVariants.{SuperField};
 ghost use Rattle.btr_reader_walk.specs.declared.tree.Pointer.{Pointer as PointerOf};
@@ -14,7 +14,7 @@ ghost use Rattle.btr_reader.specs.Roots.{root_item, pointer_of, HasRoots};
 ghost use Rattle.btr_reader.specs.Volume.{IsVolumeOn};
 ghost use Rattle.btr_reader.specs.Rows.{CanBeRead, roots_on};
 
-use crate::refused::refused;
+use crate::refusal::refused;
 use crate::volume::Btrfs;
 use btr_reader_contents::check_contents;
 use btr_reader_names::Names;

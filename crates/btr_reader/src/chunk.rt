@@ -1,4 +1,4 @@
-ghost use Rattle.std.specs.Prelude.{◌≡◌, ◌++◌, ◌∷◌, [], map, true, OnOk, OnErr, IfErr, Contains};
+ghost use Rattle.std.specs.Prelude.{◌≡◌, ◌++◌, ◌∷◌, [], map, true, OnOk, OnErr, IfErr, IfOk, Contains};
 ghost use Rattle.std.specs.List.{list_any};
 ghost use Rattle.btr_reader.specs.Chunks.{range_of, is_read_kind, lies_on, overlap, same_stripe, same_body, same_chunk, beside_refusals, chunks_refusals, is_chunk_key};
 ghost use Rattle.btr_reader_names.specs.Refuses.{IsNoFault};
@@ -8,6 +8,7 @@ ghost use Rattle.btr_reader_walk.specs.Walks.{LieOn};
 
 use btr_reader_walk::{BtrAnswer, BtrRefusal, BtrRule, Feature, Key, MapRange, Memory};
 use btr_space_items::{Chunk, Stripe};
+use std::alloc::Global;
 
 /// The object and the kind in the key of a chunk; the offset is its logical address in bytes.
 const CHUNK_OBJECT: u64 = 256;
@@ -166,10 +167,7 @@ pub fn add_chunk(ranges: &mut Vec<MapRange>, device: u64, c: &ChunkAt) -> Result
     ensures known { IfErr result NamesNoLogTree }
     ensures cause { IfErr result IsNoFault }
 {
-    match check_chunk(device, ranges.as_slice(), c) {
-        Ok(()) => {}
-        Err(refusal) => return Err(BtrAnswer::Refused(refusal)),
-    }
+    check_chunk(device, ranges.as_slice(), c)?;
     push_range(ranges, range_of(c))?;
     Ok(())
 }
@@ -180,6 +178,15 @@ fn push_range(ranges: &mut Vec<MapRange>, range: MapRange) -> Result<(), Memory>
 {
     ranges.push(range)?;
     Ok(())
+}
+
+/// A map of addresses once more.
+pub fn copy_of(alloc: Global, ranges: &[MapRange]) -> Result<Vec<MapRange>, Memory>
+    ensures { IfOk result (λ copy. copy.items ≡ ranges.now) }
+{
+    let mut copy = Vec::new(alloc);
+    copy.extend_from_slice(ranges)?;
+    Ok(copy)
 }
 
 /// Adds the chunks of a bootstrap array, one after the other, to an empty map.

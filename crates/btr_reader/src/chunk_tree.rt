@@ -7,10 +7,9 @@ ghost use Rattle.btr_reader.specs.Chunks.{chunk_in, with_chunk, with_items, chun
 ghost use Rattle.btr_reader_names.specs.Refuses.{IsNoFault};
 ghost use Rattle.btr_reader.specs.Opening.{IsAmong, NamesNoLogTree};
 
-use crate::chunk::{ChunkAt, add_chunk, is_among, is_chunk_key};
-use btr_reader_walk::{
-    BlockSource, BtrAnswer, BtrRefusal, BtrRule, Key, MapRange, Memory, Tree, TreeWalker,
-};
+use crate::chunk::{ChunkAt, add_chunk, copy_of, is_among, is_chunk_key};
+use crate::refusal::refused;
+use btr_reader_walk::{BlockSource, BtrAnswer, BtrRule, Key, MapRange, Tree, TreeWalker};
 use btr_space_items::Chunk;
 use std::alloc::Global;
 
@@ -35,12 +34,7 @@ fn add_item(
     }
     let chunk = match Chunk::read(body) {
         Some(chunk) => chunk,
-        None => {
-            return Err(BtrAnswer::Refused(BtrRefusal::BadBtrfs {
-                address: key.offset,
-                rule: BtrRule::ChunkForm,
-            }));
-        }
+        None => return Err(refused(key.offset, BtrRule::ChunkForm)),
     };
     let c = ChunkAt {
         logical: key.offset,
@@ -79,13 +73,5 @@ pub fn read_chunks<S: BlockSource>(
     while walker.advance(src, first)? {
         add_item(&mut ranges, boot, device, &walker.key(), walker.body())?;
     }
-    Ok(ranges)
-}
-
-fn copy_of(alloc: Global, first: &[MapRange]) -> Result<Vec<MapRange>, Memory>
-    ensures { IfOk result (λ ranges. ranges.items ≡ first.now) }
-{
-    let mut ranges = Vec::new(alloc);
-    ranges.extend_from_slice(first)?;
     Ok(ranges)
 }

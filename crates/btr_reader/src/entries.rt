@@ -1,6 +1,6 @@
 ghost use Rattle.std.specs.Prelude.{◌≡◌, ◌≤◌, ◌++◌, ◌∷◌, [], List, true, if◌then◌else◌, Some, None, IfOk, IfErr, OnOk};
 ghost use Rattle.btr_reader_walk.specs.outside.Fault.{HasCauseOf};
-ghost use Rattle.btr_reader_walk.specs.outside.History.{Image, OverTold};
+ghost use Rattle.btr_reader_walk.specs.outside.History.{OverTold};
 ghost use Rattle.btr_reader_walk.specs.btr_node.NodeSize.{IsNodeSize};
 ghost use Rattle.btr_reader_walk.specs.Events.{TreeItem};
 ghost use Rattle.btr_reader_walk.specs.Walks.{LieOn, found};
@@ -11,7 +11,7 @@ ghost use Rattle.btr_reader_names.specs.Passes.{HasSeen};
 ghost use Rattle.btr_reader_names.specs.Refuses.{IsNoFault};
 ghost use Rattle.btr_reader.specs.Opening.{IsAmong, NamesNoLogTree};
 
-use crate::refused::refused;
+use crate::refusal::refused;
 use btr_reader_names::{
     NameIn, Naming, ROOT, index_entry, is_name, names_inode, names_tree, naming_of, see_name,
 };

@@ -1,4 +1,4 @@
-ghost use Rattle.std.specs.Prelude.{◌≡◌, true, ◌≤◌, ◌<◌, ◌+◌, ◌^◌, ◌++◌, ◌∷◌, ◌||◌, [], List, IfErr, IfOk, IfSome, OnOk};
+ghost use Rattle.std.specs.Prelude.{◌≡◌, true, ◌≤◌, ◌<◌, ◌+◌, ◌^◌, ◌++◌, ◌∷◌, ◌||◌, [], List, IfErr, IfOk, OnOk};
 ghost use Rattle.btr_reader_walk.specs.outside.Fault.{HasCauseOf};
 ghost use Rattle.btr_reader_walk.specs.outside.History.{OverTold};
 ghost use Rattle.btr_reader_walk.specs.btr_keys.FileExtent.{content_value};
@@ -14,10 +14,11 @@ ghost use Rattle.btr_reader.specs.Pieces.{range_pieces, pieces_of, Gathers, IsIn
 
 use crate::gathered::Gathered;
 use crate::piece::Piece;
+use crate::refusal::refused;
 use btr_reader_contents::{Reach, check_extent, covered_by, extent_length, is_hole};
 use btr_reader_walk::{
-    BlockSource, BtrAnswer, BtrRefusal, BtrRule, DiskRange, ExtentContent, FileExtent, Key,
-    MapRange, Memory, Tree, TreeWalker,
+    BlockSource, BtrAnswer, BtrRule, DiskRange, ExtentContent, FileExtent, Key, MapRange, Memory,
+    Tree, TreeWalker,
 };
 use std::alloc::Global;
 
@@ -117,17 +118,9 @@ fn gather_item(
     }
     let extent = match FileExtent::read(body) {
         Some(extent) => extent,
-        None => {
-            return Err(BtrAnswer::Refused(BtrRefusal::BadBtrfs {
-                address: leaf,
-                rule: BtrRule::Body,
-            }));
-        }
+        None => return Err(refused(leaf, BtrRule::Body)),
     };
-    match check_extent(&g.reach, ranges, key.offset, leaf, &extent) {
-        Ok(()) => {}
-        Err(refusal) => return Err(BtrAnswer::Refused(refusal)),
-    }
+    check_extent(&g.reach, ranges, key.offset, leaf, &extent)?;
     add_extent(g, key.offset, &extent.content)?;
     Ok(())
 }

@@ -1,4 +1,4 @@
-ghost use Rattle.std.specs.Prelude.{◌≡◌, ◌≢◌, ◌≤◌, ◌∷◌, [], Option, Some, None, Err, true, IfOk, IfErr, IfSome, List};
+ghost use Rattle.std.specs.Prelude.{◌≡◌, ◌≢◌, [], Option, Some, None, Err, true, IfOk, IfErr, IfSome, List};
 ghost use Rattle.std.specs.Option.{option_and_then};
 ghost use Rattle.btr_reader_walk.specs.outside.Fault.{HasCauseOf};
 ghost use Rattle.btr_reader_walk.specs.outside.History.{OverTold};
@@ -6,65 +6,31 @@ ghost use Rattle.btr_reader_walk.specs.refusals.declared.refusal.BtrRefusal.TheV
 ghost use Rattle.btr_reader_walk.specs.refusals.declared.rule.BtrRule.TheVariants.{SuperField};
 ghost use Rattle.btr_reader_walk.specs.Events.{TreeItem};
 ghost use Rattle.btr_reader_walk.specs.Walks.{LieOn, found, wrong};
-ghost use Rattle.btr_reader.specs.Image.{is_file, tree_number, inode_number, file_if_image, image_at, image_below, saved_image, file_refusals, refusals_below, image_refusals};
+ghost use Rattle.btr_reader.specs.Image.{is_file, inode_number, file_if_image, image_at, image_in, saved_image, file_refusals, saved_refusals, image_refusals};
 ghost use Rattle.btr_reader_names.specs.Inodes.{inode_item, TellsInode};
 ghost use Rattle.btr_reader_names.specs.Refuses.{IsNoFault};
 ghost use Rattle.btr_reader.specs.Opening.{NamesNoLogTree};
 ghost use Rattle.btr_reader.specs.Pieces.{Gathers, IsInOrder, MapsImage};
-ghost use Rattle.btr_reader.specs.Reading.{IsWalkable, FindsTree, FindsFile, ReadsImage};
-ghost use Rattle.btr_reader.specs.Roots.{root_item, TellsRoot, HasRoots};
+ghost use Rattle.btr_reader.specs.Reading.{IsWalkable, FindsFile, ReadsImage};
+ghost use Rattle.btr_reader.specs.Roots.{HasRoots};
 ghost use Rattle.btr_reader.specs.Volume.{IsVolumeOn};
 ghost use Rattle.btr_reader.specs.Rows.{roots_on};
 
+use crate::chunk::copy_of;
 use crate::entries::find_entry;
 use crate::gather::gather_extents;
 use crate::gathered::Gathered;
 use crate::image_map::ImageMap;
 use crate::inodes::find_inode;
-use crate::open::form_of;
-use crate::refused::refused;
-use crate::roots::RootFound;
+use crate::refusal::refused;
+use crate::trees::FILE_TREE;
 use crate::volume::Btrfs;
 use btr_reader_names::InodeFound;
 use btr_reader_walk::{BlockSource, BtrAnswer, BtrRule, Inode, Key, MapRange, Memory, Tree};
-use btr_super::Super;
 use std::alloc::Global;
 
-/// The number of the file tree.
-const FILE_TREE: u64 = 5;
-
-/// The kinds in the keys of root items and of inode items.
-const ROOT_KIND: u8 = 132;
-
+/// The kind in the key of an inode item.
 const INODE_KIND: u8 = 1;
-
-impl Btrfs {
-    /// The tree of a root item that was looked for.
-    #[tactic(auto, using(btr_reader_walk::proofs::Stacks::sized))]
-    fn tree_in(&self, number: u64, root: Option<RootFound>) -> Result<Option<Tree>, BtrAnswer>
-        ensures finds { (item : Option TreeItem) → TellsRoot root item → FindsTree self.now.sup number item result }
-        ensures walkable { IfOk result (λ o. IfSome o IsWalkable) }
-        ensures known { IfErr result NamesNoLogTree }
-        ensures cause { IfErr result IsNoFault }
-    {
-        let root = match root {
-            Some(root) => root,
-            None => return Ok(None),
-        };
-        let pointer = match root.pointer {
-            Some(pointer) => pointer,
-            None => return Err(refused(root.leaf, BtrRule::Body)),
-        };
-        if pointer.level > 7 {
-            return Err(refused(root.leaf, BtrRule::Body));
-        }
-        Ok(Some(Tree {
-            form: form_of(&self.sup),
-            root: pointer,
-            owner: number,
-        }))
-    }
-}
 
 /// The inode of an inode item that was looked for, if it is that of a regular file.
 fn file_in(item: Option<InodeFound>) -> Result<Option<Inode>, BtrAnswer>
@@ -86,22 +52,6 @@ fn file_in(item: Option<InodeFound>) -> Result<Option<Inode>, BtrAnswer>
     Ok(Some(inode))
 }
 
-/// The tree that an entry names.
-fn tree_number(key: Option<Key>) -> Option<u64>
-    ensures { result ≡ option_and_then tree_number key }
-{
-    match key {
-        Some(key) => {
-            if key.kind == ROOT_KIND {
-                Some(key.objectid)
-            } else {
-                None
-            }
-        }
-        None => None,
-    }
-}
-
 /// The inode that an entry names.
 fn inode_number(key: Option<Key>) -> Option<u64>
     ensures { result ≡ option_and_then inode_number key }
@@ -116,14 +66,6 @@ fn inode_number(key: Option<Key>) -> Option<u64>
         }
         None => None,
     }
-}
-
-fn copy_of(alloc: Global, ranges: &[MapRange]) -> Result<Vec<MapRange>, Memory>
-    ensures { IfOk result (λ copy. copy.items ≡ ranges.now) }
-{
-    let mut copy = Vec::new(alloc);
-    copy.extend_from_slice(ranges)?;
-    Ok(copy)
 }
 
 /// The map of a regular file, whose extents were gathered, if it has the form of an image.
@@ -152,16 +94,6 @@ fn map_of(
 }
 
 impl Btrfs {
-    /// The tree with this number, if it has a root item.
-    pub(crate) fn find_tree(&self, number: u64) -> Result<Option<Tree>, BtrAnswer>
-        ensures walkable { IfOk result (λ o. IfSome o IsWalkable) }
-        ensures known { IfErr result NamesNoLogTree }
-        ensures cause { IfErr result IsNoFault }
-        ensures finds { (items : List TreeItem) → HasRoots self.now.roots items → FindsTree self.now.sup number (root_item number items) result }
-    {
-        self.tree_in(number, self.roots.of(number))
-    }
-
     /// The map of a file in a tree with which nothing is wrong.
     fn read_file<S: BlockSource>(
         &self,
@@ -186,32 +118,24 @@ impl Btrfs {
             None => return Ok(None),
         };
         let gathered = gather_extents(alloc, src, tree, ranges, inode)?;
-        match map_of(alloc, &own, gathered, ranges, self.device) {
-            Ok(map) => Ok(map),
-            Err(e) => Err(BtrAnswer::from(e)),
-        }
+        Ok(map_of(alloc, &own, gathered, ranges, self.device)?)
     }
 
-    /// The map of the image in the tree with this number.
+    /// The map of the image in the tree of the saved image.
     fn read_saved<S: BlockSource>(
         &self,
         alloc: Global,
         src: &mut S,
-        number: u64,
+        tree: Tree,
     ) -> Result<Option<ImageMap>, BtrAnswer>
         requires inside { LieOn (S.size src.old) self.now.ranges.items }
+        requires walkable { IsWalkable tree }
         ensures kept { S.kept src.old src.new }
         ensures cause { HasCauseOf BtrAnswer.Fault (S.faults src.old) (S.faults src.new) result }
         ensures known { IfErr result NamesNoLogTree }
         ensures device { IfOk result (λ o. IfSome o (λ m. m.device ≡ self.now.device)) }
-        ensures reads { OverTold S.tells (S.blocks src.old) (λ image. (root : Option TreeItem) → root_item number (roots_on image self.now.sup self.now.ranges.items) ≡ root →
-            HasRoots self.now.roots (roots_on image self.now.sup self.now.ranges.items) →
-            ReadsImage self.now.ranges.items (image_below image self.now.sup self.now.ranges.items number root) (refusals_below image self.now.sup self.now.ranges.items number root) result) }
+        ensures reads { OverTold S.tells (S.blocks src.old) (λ image. ReadsImage self.now.ranges.items (image_in (found image self.now.ranges.items tree)) (saved_refusals image self.now.ranges.items tree) result) }
     {
-        let tree = match self.find_tree(number)? {
-            Some(tree) => tree,
-            None => return Ok(None),
-        };
         let key = find_entry(alloc, src, tree, self.ranges.as_slice(), b"image")?;
         let inode = match inode_number(key) {
             Some(inode) => inode,
@@ -234,16 +158,15 @@ impl Btrfs {
         ensures reads { OverTold S.tells (S.blocks src.old) (λ image. HasRoots self.now.roots (roots_on image self.now.sup self.now.ranges.items) →
             ReadsImage self.now.ranges.items (saved_image image self.now.sup self.now.ranges.items) (image_refusals image self.now.sup self.now.ranges.items) result) }
     {
-        let tree = match self.find_tree(FILE_TREE)? {
-            Some(tree) => tree,
+        let file = match self.find_tree(FILE_TREE)? {
+            Some(file) => file,
             None => return Ok(None),
         };
-        let key = find_entry(alloc, src, tree, self.ranges.as_slice(), b"reiserfs_saved")?;
-        let number = match tree_number(key) {
-            Some(number) => number,
+        let saved = match self.saved_tree(alloc, src, file)? {
+            Some(saved) => saved,
             None => return Ok(None),
         };
-        self.read_saved(alloc, src, number)
+        self.read_saved(alloc, src, saved)
     }
 
     /// Where the blocks of the saved image lie; None exactly where it is missing: where the entry `reiserfs_saved` of the

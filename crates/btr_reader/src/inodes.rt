@@ -18,7 +18,7 @@ const INODE_KIND: u8 = 1;
 
 /// The first item of an inode, as the items of a file tree go by.
 #[derive(Drop)]
-pub struct SoughtInode {
+struct SoughtInode {
     number: u64,
     first: Option<InodeFound>,
 }

@@ -18,10 +18,11 @@ mod metadata_laws;
 mod open;
 mod piece;
 mod placed;
-mod refused;
+mod refusal;
 mod roots;
 mod row;
 mod rows;
+mod trees;
 mod volume;
 
 pub use chunk::ChunkAt;
@@ -34,5 +35,7 @@ pub use laws::{
 };
 pub use metadata_laws::{metadata_decides, reserved_blocks_are_spare, same_parts_decide};
 pub use piece::Piece;
+pub use refusal::refused;
 pub use roots::{RootFound, RootItems};
+pub use trees::FILE_TREE;
 pub use volume::Btrfs;

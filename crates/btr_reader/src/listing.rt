@@ -1,4 +1,4 @@
-ghost use Rattle.std.specs.Prelude.{◌≡◌, IsTrue};
+ghost use Rattle.std.specs.Prelude.{◌≡◌};
 ghost use Rattle.std.specs.Result.{MatchResult};
 ghost use Rattle.btr_reader_walk.specs.outside.Fault.{HasCauseOf};
 ghost use Rattle.btr_reader_walk.specs.outside.History.{OverTold, block_at};
@@ -24,18 +24,13 @@ impl Btrfs {
         ensures cause { HasCauseOf BtrAnswer.Fault (S.faults src.old) (S.faults src.new) result }
         ensures rows { OverTold S.tells (S.blocks src.old) (λ image. block.now.bytes ≡ block_at image 16 → MatchResult result (ListsBtrfs image) (RefusesBtrfsRows image)) }
     {
-        let sup = match super_by(block, src.len()) {
-            Ok(sup) => sup,
-            Err(answer) => return Err(answer),
-        };
+        let sup = super_by(block, src.len())?;
         if sup.log_root != 0 {
             return Err(BtrAnswer::Refused(BtrRefusal::LogPending {
                 address: sup.log_root,
             }));
         }
-        match Btrfs::open_with(alloc, src, sup) {
-            Ok(volume) => volume.rows(alloc, src),
-            Err(answer) => Err(answer),
-        }
+        let volume = Btrfs::open_with(alloc, src, sup)?;
+        volume.rows(alloc, src)
     }
 }

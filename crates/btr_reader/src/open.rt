@@ -1,77 +1,32 @@
-ghost use Rattle.std.specs.Prelude.{◌≡◌, ◌≤◌, [], Ok, Some, length, take, map, IfOk, IfErr, OnOk};
+ghost use Rattle.std.specs.Prelude.{◌≡◌, [], Ok, Some, map, IfOk, IfErr, OnOk};
 ghost use Rattle.btr_reader_walk.specs.outside.Fault.{HasCauseOf};
 ghost use Rattle.btr_reader_walk.specs.outside.History.{OverTold, block_at};
 ghost use Rattle.btr_super.specs.Rules.{super_of, NamesNoLog};
 ghost use Rattle.btr_reader_walk.specs.Walks.{LieOn};
 ghost use Rattle.btr_reader.specs.Chunks.{range_of};
 ghost use Rattle.btr_reader_names.specs.Refuses.{IsNoFault};
-ghost use Rattle.btr_reader.specs.Opening.{form_of, chunk_tree, root_tree, super_on, boot_chunks, opening_refusals, boot_refusals, IsOpened, IsAmong, IsInBounds, IsSuperAnswer, NamesNoLogTree};
+ghost use Rattle.btr_reader.specs.Opening.{super_on, boot_chunks, opening_refusals, boot_refusals, IsAmong, IsInBounds, IsSuperAnswer, NamesNoLogTree};
 ghost use Rattle.btr_reader.specs.Volume.{IsVolumeOn};
 
 use crate::bootstrap::array_chunks;
 use crate::chunk::{ChunkAt, add_chunks};
 use crate::chunk_tree::read_chunks;
+use crate::refusal::refused;
 use crate::roots::read_roots;
+use crate::trees::{chunk_tree, root_tree};
 use crate::volume::Btrfs;
-use btr_reader_walk::{
-    Block, BlockNo, BlockSource, BtrAnswer, BtrRefusal, BtrRule, Form, MapRange, Pointer, SumKind,
-    Tree,
-};
-use btr_super::{Super, sum_kind};
+use btr_reader_walk::{Block, BlockNo, BlockSource, BtrAnswer, BtrRefusal, BtrRule, MapRange};
+use btr_super::Super;
 use std::alloc::Global;
 
 /// The place of the first superblock.
 const SUPER_PLACE: BlockNo = 16;
-
-/// The numbers of two trees.
-const ROOT_TREE: u64 = 1;
-
-const CHUNK_TREE: u64 = 3;
 
 /// The chunks of the bootstrap array, and the map of addresses that they make.
 #[derive(Drop)]
 struct Boot {
     chunks: Vec<ChunkAt>,
     ranges: Vec<MapRange>,
-}
-
-/// What the nodes of the volume share.
-pub fn form_of(sup: &Super) -> Form
-    ensures { result ≡ form_of sup.now }
-{
-    Form {
-        fsid: sup.fsid,
-        nodesize: sup.nodesize,
-        sums: sum_kind(sup.csum_type).unwrap_or(SumKind::Crc32c),
-    }
-}
-
-fn chunk_tree(sup: &Super) -> Tree
-    ensures { result ≡ chunk_tree sup.now }
-{
-    Tree {
-        form: form_of(sup),
-        root: Pointer {
-            address: sup.chunk_root,
-            level: sup.chunk_root_level,
-            generation: sup.chunk_root_generation,
-        },
-        owner: CHUNK_TREE,
-    }
-}
-
-pub fn root_tree(sup: &Super) -> Tree
-    ensures { result ≡ root_tree sup.now }
-{
-    Tree {
-        form: form_of(sup),
-        root: Pointer {
-            address: sup.root,
-            level: sup.root_level,
-            generation: sup.generation,
-        },
-        owner: ROOT_TREE,
-    }
 }
 
 /// The superblock that a block is, read at its place.
@@ -94,17 +49,11 @@ fn read_super<S: BlockSource>(src: &mut S, device: u64) -> Result<Super, BtrAnsw
     ensures err { OverTold S.tells (S.blocks src.old) (λ image. IfErr result (IsSuperAnswer (super_on image))) }
 {
     if device <= SUPER_PLACE {
-        return Err(BtrAnswer::Refused(BtrRefusal::BadBtrfs {
-            address: 65536,
-            rule: BtrRule::SuperField,
-        }));
+        return Err(refused(65536, BtrRule::SuperField));
     }
     let mut block = Block::zero();
     src.read(SUPER_PLACE, &mut block)?;
-    match super_in(&block, device) {
-        Ok(sup) => Ok(sup),
-        Err(refusal) => Err(BtrAnswer::Refused(refusal)),
-    }
+    super_by(&block, device)
 }
 
 /// The superblock of a device of `device` blocks whose block 16 was read.
@@ -115,10 +64,7 @@ pub fn super_by(block: &Block, device: u64) -> Result<Super, BtrAnswer>
     ensures known { IfErr result NamesNoLogTree }
     ensures cause { IfErr result IsNoFault }
 {
-    match super_in(block, device) {
-        Ok(sup) => Ok(sup),
-        Err(refusal) => Err(BtrAnswer::Refused(refusal)),
-    }
+    Ok(super_in(block, device)?)
 }
 
 /// The chunks of the bootstrap array, on a device of `device` blocks.
@@ -155,10 +101,8 @@ impl Btrfs {
         ensures refused { OverTold S.tells (S.blocks src.old) (λ image. IfErr result (IsAmong (opening_refusals image))) }
     {
         let device = src.len();
-        match read_super(src, device) {
-            Ok(sup) => Btrfs::open_with(alloc, src, sup),
-            Err(e) => Err(e),
-        }
+        let sup = read_super(src, device)?;
+        Btrfs::open_with(alloc, src, sup)
     }
 
     /// The same where block 16 was read already: it is read no second time.
@@ -174,10 +118,8 @@ impl Btrfs {
         ensures opened { OverTold S.tells (S.blocks src.old) (λ image. block.now.bytes ≡ block_at image 16 → IfOk result (IsVolumeOn image)) }
         ensures refused { OverTold S.tells (S.blocks src.old) (λ image. block.now.bytes ≡ block_at image 16 → IfErr result (IsAmong (opening_refusals image))) }
     {
-        match super_by(block, src.len()) {
-            Ok(sup) => Btrfs::open_with(alloc, src, sup),
-            Err(e) => Err(e),
-        }
+        let sup = super_by(block, src.len())?;
+        Btrfs::open_with(alloc, src, sup)
     }
 
     /// Opens the volume of a source with this superblock.

@@ -1,11 +1,10 @@
-ghost use Rattle.std.specs.Prelude.{◌≡◌, ◌≤◌, ◌<◌, ℕ, Bool, Option, List, map, take, length, slice_get, Some, nat_eq, IfErr, IfOk};
+ghost use Rattle.std.specs.Prelude.{◌≡◌, ◌≤◌, ◌<◌, ℕ, Bool, Option, List, map, take, length, slice_get, Some, IfErr, IfOk};
 ghost use Rattle.std.specs.Result.{MatchResult};
 ghost use Rattle.btr_reader_walk.specs.outside.History.{Image};
 ghost use Rattle.fs_rows.specs.Rows.{row_of};
 ghost use Rattle.fs_rows.specs.declared.row.Kind.{Kind as KindOf};
 ghost use Rattle.fs_rows.specs.declared.row.Kind.TheVariants.{Symlink};
 ghost use Rattle.fs_rows.specs.declared.row.Row.{Row as RowOf};
-ghost use Rattle.indexmap.specs.IndexMap.{get};
 ghost use Rattle.fs_paths.specs.declared.link.PathTo.{PathTo as PathOf};
 ghost use Rattle.fs_paths.specs.declared.node.NodeId.{NodeId as NodeOf};
 ghost use Rattle.fs_paths.specs.Paths.{ArePaths};
@@ -13,13 +12,13 @@ ghost use Rattle.btr_reader_walk.specs.Events.{TreeItem};
 ghost use Rattle.btr_reader_walk.specs.declared.map.MapRange.{MapRange as RangeOf};
 ghost use Rattle.btr_reader_names.specs.Inodes.{kind_of_mode};
 ghost use Rattle.btr_reader_names.specs.Steps.{inode_node, links_of};
-ghost use Rattle.btr_reader_contents.specs.Contents.{wanted_inode, HasContents};
+ghost use Rattle.btr_reader_contents.specs.Contents.{wanted_inode, HasContents, known_content};
 ghost use Rattle.btr_reader_contents.specs.declared.wanted.Wanted.{Wanted as WantedOf};
 ghost use Rattle.btr_reader.specs.Made.{IsMemory, IsReadTree, bytes_at, made_row};
 ghost use Rattle.fs_rows.specs.Content.{IsContent};
 ghost use Rattle.btr_reader_names.specs.Refuses.{IsNoFault};
 
-use crate::refused::refused;
+use crate::refusal::refused;
 use crate::row::{inode_row, tree_row};
 use btr_reader_contents::{Contents, wanted_inode};
 use btr_reader_names::{Names, ROOT, kind_of_mode};
@@ -37,7 +36,7 @@ pub fn row_at(
     rows: &Rows,
 ) -> Result<Row, BtrAnswer>
     ensures cause { IfErr result IsNoFault }
-    ensures row { (named : NodeOf → Bool) (image : Image) (ranges : List RangeOf) (items : List TreeItem) (root : ℕ) (has_root : ℕ → Bool) → IsReadTree names.now named (λ ino. get nat_eq contents.now.known ino) image ranges items root has_root →
+    ensures row { (named : NodeOf → Bool) (image : Image) (ranges : List RangeOf) (items : List TreeItem) (root : ℕ) (has_root : ℕ → Bool) → IsReadTree names.now named (known_content contents.now) image ranges items root has_root →
         (list : List PathOf) → ArePaths (links_of names.now named) (inode_node 256) list → (i : ℕ) → slice_get list i ≡ Some path.now → rows.now ≡ map (λ p. row_of (made_row image ranges items list p)) (take i list) →
         MatchResult result (λ row. row ≡ row_of (made_row image ranges items list path.now)) IsMemory }
 {
@@ -59,7 +58,7 @@ pub fn row_at(
 
 /// What a row has of the bytes of an inode.
 fn content(alloc: Global, contents: &Contents, ino: u64, own: &Inode) -> Result<Content, Memory>
-    ensures { (kind : KindOf) (plan : ℕ → Option WantedOf) (image : Image) (ranges : List RangeOf) (items : List TreeItem) → HasContents plan image ranges items (λ ino. get nat_eq contents.now.known ino) → plan ino ≡ wanted_inode own.now →
+    ensures { (kind : KindOf) (plan : ℕ → Option WantedOf) (image : Image) (ranges : List RangeOf) (items : List TreeItem) → HasContents plan image ranges items (known_content contents.now) → plan ino ≡ wanted_inode own.now →
         kind_of_mode own.now.mode ≡ Some kind → (kind ≡ Symlink → own.now.size ≤ 4095) → IfOk result (λ c. IsContent kind (bytes_at image ranges items ino own.now kind) c.length c.mark c.target) }
 {
     match wanted_inode(own) {

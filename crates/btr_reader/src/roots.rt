@@ -1,10 +1,9 @@
-ghost use Rattle.std.specs.Prelude.{◌≡◌, ◌≤◌, ◌++◌, ◌∷◌, ◌||◌, [], ℕ, List, Option, if◌then◌else◌, Some, None, nat_eq, IfOk, IfErr, OnOk, IsTrue};
+ghost use Rattle.std.specs.Prelude.{◌≡◌, ◌≤◌, ◌||◌, [], ℕ, Option, if◌then◌else◌, Some, None, nat_eq, IfOk, IfErr, OnOk};
 ghost use Rattle.indexmap.specs.IndexMap.{get};
 ghost use Rattle.indexmap.specs.IndexSet.{contains};
 ghost use Rattle.btr_reader_walk.specs.outside.Fault.{HasCauseOf};
-ghost use Rattle.btr_reader_walk.specs.outside.History.{Image, OverTold};
+ghost use Rattle.btr_reader_walk.specs.outside.History.{OverTold};
 ghost use Rattle.btr_reader_walk.specs.btr_node.NodeSize.{IsNodeSize};
-ghost use Rattle.btr_reader_walk.specs.Events.{TreeItem};
 ghost use Rattle.btr_reader_walk.specs.Walks.{LieOn, found, wrong};
 ghost use Rattle.btr_reader.specs.Opening.{IsAmong, NamesNoLogTree};
 ghost use Rattle.btr_reader.specs.Roots.{pointer_of, root_pointer, HasRoots, found_root};
@@ -17,7 +16,7 @@ use indexmap::{IndexMap, IndexSet};
 use std::alloc::Global;
 
 /// The kind in the key of a root item.
-const ROOT_KIND: u8 = 132;
+pub const ROOT_KIND: u8 = 132;
 
 /// A root item: the leaf that it stands in, and the pointer to the root of its tree; None where its body is off the
 /// grammar.

@@ -1,4 +1,4 @@
-ghost use Rattle.std.specs.Prelude.{◌≡◌, ◌≢◌, ◌≤◌, ℕ, Bool, List, map, Some, Err, nat_eq, IfErr, IfOk};
+ghost use Rattle.std.specs.Prelude.{◌≡◌, ◌≢◌, ℕ, Bool, List, map, Some, Err, IfErr, IfOk};
 ghost use Rattle.std.specs.Result.{MatchResult};
 ghost use Rattle.btr_reader_walk.specs.outside.Fault.{HasCauseOf};
 ghost use Rattle.btr_reader_walk.specs.outside.History.{Image, OverTold};
@@ -9,10 +9,10 @@ ghost use Rattle.btr_reader_walk.specs.declared.tree.Pointer.{Pointer as Pointer
 ghost use Rattle.btr_reader_walk.specs.Events.{TreeItem};
 ghost use Rattle.btr_reader_walk.specs.Walks.{LieOn};
 ghost use Rattle.fs_rows.specs.Rows.{WholeRow, row_of};
-ghost use Rattle.indexmap.specs.IndexMap.{get};
 ghost use Rattle.indexmap.specs.IndexSet.{contains};
 ghost use Rattle.fs_paths.specs.Links.{same_node};
 ghost use Rattle.btr_reader_contents.specs.Blocks.{AreInBlocks};
+ghost use Rattle.btr_reader_contents.specs.Contents.{known_content};
 ghost use Rattle.btr_reader_names.specs.Roots.{has_root};
 ghost use Rattle.btr_reader_names.specs.Table.{HasNoted};
 ghost use Rattle.btr_reader.specs.Made.{IsChecked, IsMemory, IsReadTree, RefusesChecked, RefusesRows, RefusesTree};
@@ -24,7 +24,8 @@ ghost use Rattle.btr_reader.specs.Volume.{IsVolumeOn};
 ghost use Rattle.btr_reader.specs.Rows.{AreBtrfsRows, AreRows, roots_on};
 
 use crate::placed::row_at;
-use crate::refused::refused;
+use crate::refusal::refused;
+use crate::trees::FILE_TREE;
 use crate::volume::Btrfs;
 use btr_reader_contents::Contents;
 use btr_reader_names::{Names, ROOT, inode_node};
@@ -33,9 +34,6 @@ use fs_paths::{NodeId, paths};
 use fs_rows::Rows;
 use indexmap::IndexSet;
 use std::alloc::Global;
-
-/// The number of the file tree.
-const FILE_TREE: u64 = 5;
 
 impl Btrfs {
     /// The rows of the file tree, number 5: one for each path, ascending. The entry of the saved image is no part of it.
@@ -127,7 +125,7 @@ fn rows_of(
     contents: &Contents,
 ) -> Result<Rows, BtrAnswer>
     ensures cause { IfErr result IsNoFault }
-    ensures rows { (image : Image) (ranges : List RangeOf) (items : List TreeItem) (root : ℕ) (has_root : ℕ → Bool) → IsReadTree names.now (contains same_node named.now) (λ ino. get nat_eq contents.now.known ino) image ranges items root has_root →
+    ensures rows { (image : Image) (ranges : List RangeOf) (items : List TreeItem) (root : ℕ) (has_root : ℕ → Bool) → IsReadTree names.now (contains same_node named.now) (known_content contents.now) image ranges items root has_root →
         MatchResult result (λ rows. (whole : List WholeRow) × AreRows image ranges items whole × (rows ≡ map row_of whole)) IsMemory }
 {
     let links = names.links(alloc, named)?;

@@ -1,6 +1,7 @@
-ghost use Rattle.std.specs.Prelude.{◌≤◌, IsTrue};
+ghost use Rattle.std.specs.Prelude.{◌≤◌, IsSome, IsTrue};
 ghost use Rattle.btr_reader_walk.specs.Stack.{is_node_size};
 ghost use Rattle.btr_reader_walk.specs.Walks.{LieOn};
+ghost use Rattle.btr_super.specs.Sums.{known_kind};
 
 use crate::roots::RootItems;
 use btr_reader_walk::MapRange;
@@ -16,5 +17,7 @@ pub struct Btrfs {
     pub roots: RootItems,
     ghost size: { IsTrue (is_node_size sup.nodesize) },
     ghost high: { sup.root_level ≤ 7 },
+    ghost chunks_high: { sup.chunk_root_level ≤ 7 },
+    ghost kind: { IsSome (known_kind sup.csum_type) },
     ghost inside: { LieOn device ranges.items },
 }

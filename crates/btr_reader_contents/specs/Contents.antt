@@ -1,5 +1,5 @@
 -- The contents of the files and symlinks of a file tree.
-use Rattle.std.specs.Prelude.{◌≡◌, ◌⊎◌, ℕ, nat_le, Bool, true, false, if◌then◌else◌, List, [], length, replicate, Contains, Option, Some, None}
+use Rattle.std.specs.Prelude.{◌≡◌, ◌⊎◌, ℕ, nat_eq, nat_le, Bool, true, false, if◌then◌else◌, List, [], length, replicate, Contains, Option, Some, None}
 use Rattle.std.specs.Option.{option_and_then}
 use Rattle.btr_reader_walk.specs.outside.History.{Image}
 use Rattle.btr_reader_walk.specs.refusals.declared.answer.BtrAnswer.{BtrAnswer}
@@ -18,7 +18,9 @@ use Rattle.fs_rows.specs.Mark.{mark_of_bytes}
 use Rattle.fs_rows.specs.declared.row.Kind.{Kind}
 use Rattle.fs_rows.specs.declared.row.Kind.TheVariants.{Directory, File, Symlink, Character, Block, Fifo, Socket, Subvolume}
 use Rattle.fs_rows.specs.declared.content.Content.{Content}
+use Rattle.btr_reader_contents.specs.declared.contents.Contents.{Contents}
 use Rattle.btr_reader_contents.specs.declared.wanted.Wanted.{Wanted}
+use Rattle.indexmap.specs.IndexMap.{get}
 
 -- Of which inodes contents are kept: of files, and of symlinks whose target Linux allows (at most 4095 bytes).
 abbrev pub wanted_by : ℕ → Kind → Option Wanted
@@ -63,6 +65,10 @@ TellsContent image ranges items ino w (Some c) = IsContentIn image ranges items 
 -- It is told of each wanted inode.
 abbrev pub HasContents : (ℕ → Option Wanted) → Image → List MapRange → List TreeItem → (ℕ → Option Content) → Type 0
 HasContents plan image ranges items told = (ino : ℕ) (w : Wanted) → plan ino ≡ Some w → TellsContent image ranges items ino w (told ino)
+
+-- what is kept of the inode with a number
+abbrev pub known_content : Contents → ℕ → Option Content
+known_content contents ino = get nat_eq contents.known ino
 
 -- something is wrong with the extents of a wanted inode
 pub record BreaksExtents (plan : ℕ → Option Wanted) (ranges : List MapRange) (items : List TreeItem) (r : BtrRefusal) : Type 0 where

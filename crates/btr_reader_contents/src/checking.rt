@@ -70,10 +70,7 @@ impl Checked {
                 }));
             }
         };
-        match check_extent(&taken.reach, ranges, key.offset, leaf, &extent) {
-            Ok(()) => {}
-            Err(refusal) => return Err(BtrAnswer::Refused(refusal)),
-        }
+        check_extent(&taken.reach, ranges, key.offset, leaf, &extent)?;
         Ok(Checked {
             ino: taken.ino,
             reach: Reach {

@@ -1,10 +1,8 @@
-ghost use Rattle.std.specs.Prelude.{◌≡◌, ◌≤◌, true, nat_eq, ℕ, Option, Some, List, IfOk};
-ghost use Rattle.std.specs.Option.{MatchOption};
-ghost use Rattle.indexmap.specs.IndexMap.{get};
+ghost use Rattle.std.specs.Prelude.{◌≡◌, ◌≤◌, true, ℕ, Option, Some, List, IfOk};
 ghost use Rattle.btr_reader_walk.specs.outside.History.{Image};
 ghost use Rattle.btr_reader_walk.specs.declared.map.MapRange.{MapRange as RangeOf};
 ghost use Rattle.btr_reader_walk.specs.Events.{TreeItem};
-ghost use Rattle.btr_reader_contents.specs.Contents.{HasContents, content_in};
+ghost use Rattle.btr_reader_contents.specs.Contents.{HasContents, content_in, known_content};
 ghost use Rattle.btr_reader_contents.specs.declared.wanted.Wanted.{Wanted as WantedOf};
 
 use crate::hand::Hand;
@@ -24,7 +22,7 @@ impl Contents {
     /// The content of a file or symlink whose inode has this number.
     pub fn content(&self, alloc: Global, ino: u64, wanted: Wanted) -> Result<Content, Memory>
         requires short { wanted.link ≡ true → wanted.size ≤ 4095 }
-        ensures { (plan : ℕ → Option WantedOf) (image : Image) (ranges : List RangeOf) (items : List TreeItem) → HasContents plan image ranges items (λ ino. get nat_eq self.now.known ino) → plan ino ≡ Some wanted →
+        ensures { (plan : ℕ → Option WantedOf) (image : Image) (ranges : List RangeOf) (items : List TreeItem) → HasContents plan image ranges items (known_content self.now) → plan ino ≡ Some wanted →
             IfOk result (λ c. c ≡ content_in image ranges items ino wanted) }
     {
         match self.known.get(&ino) {

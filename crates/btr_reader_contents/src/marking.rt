@@ -44,10 +44,8 @@ fn read_extent<'a>(
             });
         }
     };
-    match check_extent(reach, ranges, offset, leaf, &extent) {
-        Ok(()) => Ok(extent),
-        Err(refusal) => Err(refusal),
-    }
+    check_extent(reach, ranges, offset, leaf, &extent)?;
+    Ok(extent)
 }
 
 impl ExtentMarker {
@@ -111,10 +109,7 @@ impl ExtentMarker {
         ensures marks { OverTold S.tells (S.blocks src.old) (λ image. AreInBlocks ranges.now → (given : List TreeItem) (i : TreeItem) →
             i.leaf ≡ leaf → i.key.offset ≡ offset → i.body ≡ body.now → MarksExtents self.old image ranges.now given → OnOk result (MarksExtents self.new image ranges.now (given ++ i ∷ []))) }
     {
-        let extent = match read_extent(&self.reach, ranges, leaf, offset, body) {
-            Ok(extent) => extent,
-            Err(refusal) => return Err(BtrAnswer::Refused(refusal)),
-        };
+        let extent = read_extent(&self.reach, ranges, leaf, offset, body)?;
         self.put_extent(src, ranges, offset, &extent.content)?;
         Ok(())
     }

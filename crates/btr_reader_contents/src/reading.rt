@@ -1,14 +1,13 @@
-ghost use Rattle.std.specs.Prelude.{◌≡◌, ◌≤◌, nat_eq, IsTrue, IfErr, IfOk, OnOk};
-ghost use Rattle.indexmap.specs.IndexMap.{get};
+ghost use Rattle.std.specs.Prelude.{◌≤◌, IfErr, IfOk};
 ghost use Rattle.indexmap.specs.IndexSet.{contains};
 ghost use Rattle.btr_reader_walk.specs.outside.Fault.{HasCauseOf};
-ghost use Rattle.btr_reader_walk.specs.outside.History.{Image, OverTold};
+ghost use Rattle.btr_reader_walk.specs.outside.History.{OverTold};
 ghost use Rattle.btr_reader_walk.specs.btr_node.NodeSize.{IsNodeSize};
 ghost use Rattle.btr_reader_walk.specs.Walks.{LieOn, found, wrong};
 ghost use Rattle.btr_reader_contents.specs.Blocks.{AreInBlocks};
 ghost use Rattle.btr_reader_names.specs.Table.{HasNoted};
 ghost use Rattle.fs_paths.specs.Links.{same_node};
-ghost use Rattle.btr_reader_contents.specs.Contents.{wanted_at, HasContents, RefusesContents};
+ghost use Rattle.btr_reader_contents.specs.Contents.{wanted_at, HasContents, RefusesContents, known_content};
 
 use crate::Contents;
 use crate::gathering::Gathering;
@@ -37,7 +36,7 @@ impl Contents {
         ensures kept { S.kept src.old src.new }
         ensures cause { HasCauseOf BtrAnswer.Fault (S.faults src.old) (S.faults src.new) result }
         ensures contents { OverTold S.tells (S.blocks src.old) (λ image. AreInBlocks ranges.now → HasNoted names.now (found image ranges.now tree) →
-            IfOk result (λ contents. HasContents (wanted_at (contains same_node named.now) (found image ranges.now tree)) image ranges.now (found image ranges.now tree) (λ ino. get nat_eq contents.known ino))) }
+            IfOk result (λ contents. HasContents (wanted_at (contains same_node named.now) (found image ranges.now tree)) image ranges.now (found image ranges.now tree) (known_content contents))) }
         ensures refused { OverTold S.tells (S.blocks src.old) (λ image. AreInBlocks ranges.now → HasNoted names.now (found image ranges.now tree) →
             IfErr result (RefusesContents (wanted_at (contains same_node named.now) (found image ranges.now tree)) image ranges.now tree)) }
     {

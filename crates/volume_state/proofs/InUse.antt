@@ -22,7 +22,7 @@ use Rattle.btr_reader_walk.specs.Walks.{IsAmong, found, met, wrong}
 use Rattle.btr_reader_walk.specs.declared.map.MapRange.{MapRange}
 use Rattle.btr_reader.specs.Apart.{boot_map}
 use Rattle.volume_state.specs.Using.{HoldsNodeOf, IsInFiles, IsInUse, RefusesUse, TellsReserved, chunk_node, file_part, has_log, root_node, unreadable}
-use Rattle.volume_state.proofs.Reaching.{later_none}
+use Rattle.btr_reader.proofs.Stages.{later_none}
 use Rattle.volume_state.proofs.Wider.{begins, holds_early, holds_wide, met_wide, sound_wide}
 
 first_none : (early later : List BtrRefusal) → or_later early later ≡ [] → early ≡ []

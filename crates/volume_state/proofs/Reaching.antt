@@ -1,7 +1,6 @@
 -- The file that is the saved image, and that nothing is wrong with its extents.
-use Rattle.std.proofs.Common.{◌≡◌, inl, inr, ℕ, ◌/◌, Bool, true, false, List, [], ◌∷◌, Option, Some, None, arith, refl, sym, ◌∙◌, ap, subst, if◌then◌else◌}
+use Rattle.std.proofs.Common.{◌≡◌, inl, inr, ℕ, ◌/◌, Bool, true, false, List, [], Option, Some, None, refl, sym, ◌∙◌, ap, subst, if◌then◌else◌}
 use Rattle.std.specs.Option.{option_and_then}
-use Rattle.std.specs.Prelude.{Contains}
 use Rattle.std.proofs.lemmas.Bool.{and_parts}
 use Rattle.reiser_bitmap.specs.outside.History.{Image}
 use Rattle.reiser_bitmap.specs.refusals.declared.refusal.BtrRefusal.{BtrRefusal}
@@ -19,19 +18,13 @@ use Rattle.btr_reader_walk.specs.Events.{TreeItem}
 use Rattle.btr_reader_walk.specs.declared.map.MapRange.{MapRange}
 use Rattle.btr_reader_walk.specs.declared.tree.Pointer.{Pointer}
 use Rattle.btr_reader.specs.Apart.{root_of, saved_tree}
+use Rattle.btr_reader.proofs.PartsRead.{none_in}
+use Rattle.btr_reader.proofs.Stages.{later_none}
 use Rattle.volume_state.proofs.Placed.{no_some, some_is}
 
 and_then_some : {A B : Type 0} (f : A → Option B) (o : Option A) (y : B) → option_and_then f o ≡ Some y → (x : A) × (o ≡ Some x) × (f x ≡ Some y)
 and_then_some f None y is = absurd (no_some y is)
 and_then_some f (Some x) y is = (x, refl, is)
-
-none_there : (rs : List BtrRefusal) → ((r : BtrRefusal) → ¬ Contains rs r) → rs ≡ []
-none_there [] never = refl
-none_there (r ∷ rs) never = absurd (never r (0, omega arith, refl))
-
-pub later_none : (early later : List BtrRefusal) → or_later early later ≡ [] → later ≡ []
-later_none [] later is = is
-later_none (r ∷ rs) later is = absurd (cc is)
 
 pub at_root : (next : Pointer → List BtrRefusal) (root : Option TreeItem) (p : Pointer) → pointer_in root ≡ Some p → after_root next root ≡ next p
 at_root next None p is = absurd (no_some p is)
@@ -79,8 +72,8 @@ module _ (disk : Image) (readable : IsReadable disk SavedImage) where
 
   way_clear : way_refusals disk ≡ []
   way_clear =
-      let opening : opening_refusals disk ≡ [] = none_there (opening_refusals disk) (λ r is. readable r (inl is)) in
-      none_there (way_refusals disk) (λ r is. readable r (inr (opening, is)))
+      let opening : opening_refusals disk ≡ [] = none_in (opening_refusals disk) (λ r is. readable r (inl is)) in
+      none_in (way_refusals disk) (λ r is. readable r (inr (opening, is)))
 
   abbrev below : ℕ → List BtrRefusal
   below number = refusals_below disk s ranges number (root_item number (roots_on disk s ranges))

@@ -2,19 +2,17 @@
 use Rattle.std.proofs.Common.{◌≡◌, ⊎_elim, inr, ℕ, List, [], ◌∷◌, ◌++◌, Contains, Option, Some, None, Result, Ok, Err, refl, sym, ◌∙◌, ap, subst, arith}
 use Rattle.std.specs.Option.{option_and_then}
 use Rattle.std.specs.Result.{MatchResult}
-use Rattle.std.proofs.lemmas.List.Elements.{Contains-append_left, Contains-append_right}
+use Rattle.std.proofs.lemmas.List.Elements.{Contains-append_right}
 use Rattle.reiser_bitmap.specs.outside.History.{Image}
 use Rattle.reiser_bitmap.specs.refusals.declared.answer.BtrAnswer.{BtrAnswer}
-use Rattle.reiser_bitmap.specs.refusals.declared.answer.BtrAnswer.TheVariants.{Refused, Fault, Memory}
 use Rattle.reiser_bitmap.specs.refusals.declared.refusal.BtrRefusal.{BtrRefusal}
-use Rattle.reiser_bitmap.specs.refusals.declared.refusal.BtrRefusal.TheVariants.{BadBtrfs}
-use Rattle.reiser_bitmap.specs.refusals.declared.rule.BtrRule.TheVariants.{Body}
-use Rattle.btr_reader.specs.Image.{after_pointer, after_root, entry_refusals, if_there, image_refusals, image_refusals_in, items_at, pointer_in, refusals_below, root_refusals, saved_entry, tree_number}
+use Rattle.btr_reader.specs.Image.{entry_refusals, if_there, image_refusals, image_refusals_in, items_at, pointer_in, refusals_below, root_refusals, saved_entry, saved_refusals, tree_number}
 use Rattle.btr_reader.specs.Opening.{IsOpened, or_later, tree_of}
 use Rattle.btr_reader.specs.Parts.{own_map, own_super, way_refusals}
-use Rattle.btr_reader.specs.Reading.{FindsTree}
+use Rattle.btr_reader.specs.Reading.{FindsNumbered, FindsSaved, FindsTree}
 use Rattle.btr_reader.specs.Roots.{pointer_of, root_item}
 use Rattle.btr_reader.specs.Rows.{roots_on}
+use Rattle.btr_reader.proofs.Among.{among_first, among_left}
 use Rattle.btr_reader.proofs.PartsRead.{of_disk}
 use Rattle.btr_super.specs.declared.superblock.Super.{Super}
 use Rattle.btr_reader_walk.specs.Events.{TreeItem}
@@ -25,7 +23,6 @@ use Rattle.btr_reader_walk.specs.declared.tree.Pointer.{Pointer}
 use Rattle.btr_reader_walk.specs.declared.tree.Tree.{Tree}
 use Rattle.reiser_volume.proofs.fs_paths.Lists.{at_head, head_or_tail}
 use Rattle.volume_state.specs.Nodes.{below_faults}
-use Rattle.volume_state.specs.Trees.{FindsNumbered, FindsSaved}
 use Rattle.volume_state.specs.Using.{HoldsExtent, HoldsNodeOf, HoldsPartOf, IsInFiles, TellsReserved, file_trees, named_by, numbered, tree_if}
 use Rattle.volume_state.proofs.Placed.{no_some, some_is}
 use Rattle.volume_state.proofs.Reaching.{at_root, there}
@@ -39,19 +36,8 @@ pub tells_so : (P Q : ℕ → Type 0) (blocks : ℕ) → ((b : ℕ) → P b → 
 tells_so P Q blocks to back None none = λ b reserved is. none b reserved (back b is)
 tells_so P Q blocks to back (Some b) one = (one.0, to b one.1)
 
-among_more : (early late : List BtrRefusal) (e : BtrAnswer) → IsAmong early e → IsAmong (early ++ late) e
-among_more early late (Refused r) is = Contains-append_left early late r is
-among_more early late Fault is = tt
-among_more early late Memory is = tt
-
-among_early : (early late : List BtrRefusal) (e : BtrAnswer) → IsAmong early e → IsAmong (or_later early late) e
-among_early [] late (Refused r) is = absurd (omega (arith, is.1))
-among_early [] late Fault is = tt
-among_early [] late Memory is = tt
-among_early (x ∷ xs) late e is = is
-
 pub tree_among : (image : Image) (ranges : List MapRange) (t : Tree) (e : BtrAnswer) → IsAmong (below_faults image ranges t t.root) e → IsAmong (wrong image ranges t) e
-tree_among image ranges t e is = among_more (below_faults image ranges t t.root) (order_damages None (found image ranges t)) e is
+tree_among image ranges t e is = among_left (below_faults image ranges t t.root) (order_damages None (found image ranges t)) e is
 
 -- a tree whose nodes lie in no reserved block, by its extents
 pub part_told : (image : Image) (ranges : List MapRange) (t : Tree) (blocks : ℕ) (o : Option ℕ) → TellsReserved (HoldsNodeOf image ranges t) blocks None → TellsReserved (HoldsExtent (found image ranges t) ranges) blocks o
@@ -77,7 +63,7 @@ module _ (image : Image) (s : Super) (ranges : List MapRange) where
   after_file p = or_later (entries p) (if_there below_number (named_number p))
 
   abbrev after_saved : ℕ → Pointer → List BtrRefusal
-  after_saved number p = or_later (entry_refusals image ranges (tree_of s number p)) (image_refusals_in ranges (items_at image s ranges number p))
+  after_saved number p = saved_refusals image ranges (tree_of s number p)
 
   -- a part of the two lies in the block
   pub record InTrees (b : ℕ) : Type 0 where
@@ -87,17 +73,6 @@ module _ (image : Image) (s : Super) (ranges : List MapRange) where
 
   pointer_at : (root : Option TreeItem) (i : TreeItem) (p : Pointer) → root ≡ Some i → pointer_of i.body ≡ Some p → pointer_in root ≡ Some p
   pointer_at root i p is at = ap pointer_in is ∙ at
-
-  -- a root item that is off its grammar
-  bad_root : (next : Pointer → List BtrRefusal) (root : Option TreeItem) (i : TreeItem) (r : BtrRefusal) → root ≡ Some i → pointer_of i.body ≡ None → r ≡ BadBtrfs i.leaf Body → Contains (after_root next root) r
-  bad_root next root i r is none same =
-      subst (λ (rs : List BtrRefusal). Contains rs r) (sym (ap (after_root next) is ∙ ap (λ (o : Option Pointer). after_pointer next i.leaf o) none))
-      (subst (λ (x : BtrRefusal). Contains (BadBtrfs i.leaf Body ∷ []) x) (sym same) (at_head (BadBtrfs i.leaf Body) []))
-
-  pub file_refused : (e : BtrAnswer) → FindsTree s 5 (root_item 5 roots) (Err e) → IsAmong (image_refusals image s ranges) e
-  file_refused (Refused r) finds = bad_root after_file (root_item 5 roots) finds.0 r finds.1 finds.2 finds.3
-  file_refused Fault finds = tt
-  file_refused Memory finds = tt
 
   -- no file tree
   pub no_trees : (blocks : ℕ) → root_item 5 roots ≡ None → TellsReserved InTrees blocks None
@@ -120,10 +95,10 @@ module _ (image : Image) (s : Super) (ranges : List MapRange) where
     in_way e among = subst (λ (rs : List BtrRefusal). IsAmong rs e) (sym way_is) among
 
     pub entry_among : (e : BtrAnswer) → IsAmong (entries p) e → IsAmong (image_refusals image s ranges) e
-    entry_among e among = in_way e (among_early (entries p) (if_there below_number (named_number p)) e among)
+    entry_among e among = in_way e (among_first (entries p) (if_there below_number (named_number p)) e among)
 
     pub file_among : (e : BtrAnswer) → IsAmong (wrong image ranges file) e → IsAmong (image_refusals image s ranges) e
-    file_among e among = entry_among e (among_more (wrong image ranges file) (root_refusals (found image ranges file)) e among)
+    file_among e among = entry_among e (among_left (wrong image ranges file) (root_refusals (found image ranges file)) e among)
 
     pub file_told : (blocks b : ℕ) → TellsReserved (HoldsPartOf image ranges file) blocks (Some b) → TellsReserved InTrees blocks (Some b)
     file_told blocks b one = (one.0, record { tree = file; among = subst (λ (ts : List Tree). Contains ts file) (sym trees_are) (at_head file (numbered image s ranges (named_number p))); holds = one.1 })
@@ -133,21 +108,6 @@ module _ (image : Image) (s : Super) (ranges : List MapRange) where
 
     number_among : (number : ℕ) (e : BtrAnswer) → entries p ≡ [] → named_number p ≡ Some number → IsAmong (below_number number) e → IsAmong (image_refusals image s ranges) e
     number_among number e clear named among = late_among e clear (subst (λ (rs : List BtrRefusal). IsAmong rs e) (sym (there below_number (named_number p) number named)) among)
-
-    numbered_refused : (o : Option ℕ) (e : BtrAnswer) → named_number p ≡ o → entries p ≡ [] → FindsNumbered s roots o (Err e) → IsAmong (image_refusals image s ranges) e
-    numbered_refused None e named clear finds = absurd (cc finds)
-    numbered_refused (Some number) (Refused r) named clear finds =
-        number_among number (Refused r) clear named (bad_root (after_saved number) (root_item number roots) finds.0 r finds.1 finds.2 finds.3)
-    numbered_refused (Some number) Fault named clear finds = tt
-    numbered_refused (Some number) Memory named clear finds = tt
-
-    -- the saved image's tree was looked for
-    pub saved_refused : (e : BtrAnswer) → FindsSaved s roots (entries p) (found image ranges file) (Err e) → IsAmong (image_refusals image s ranges) e
-    saved_refused e finds =
-        ⊎_elim (λ early. entry_among e (subst (IsAmong (entries p)) (sym (err_is e early.0 early.1)) early.2)) (λ late. numbered_refused (named_number p) e refl late.0 late.1) finds
-      where
-        err_is : (x y : BtrAnswer) → (let told : Result (Option Tree) BtrAnswer = Err x in told) ≡ Err y → x ≡ y
-        err_is x y h = cc h
 
     -- where there is none, the file tree is alone
     alone_by : (o : Option ℕ) → FindsNumbered s roots o (Ok None) → numbered image s ranges o ≡ []
@@ -196,10 +156,10 @@ module _ (image : Image) (s : Super) (ranges : List MapRange) where
         let q : Pointer = is_other.q in
         let number : ℕ = is_other.number in
         let own : IsAmong (wrong image ranges (tree_of s number q)) e = subst (λ (x : Tree). IsAmong (wrong image ranges x) e) is_other.tree among in
-        let entry = among_more (wrong image ranges (tree_of s number q)) (root_refusals (found image ranges (tree_of s number q))) e own in
+        let entry = among_left (wrong image ranges (tree_of s number q)) (root_refusals (found image ranges (tree_of s number q))) e own in
         number_among number e is_other.clear is_other.named
         (subst (λ (rs : List BtrRefusal). IsAmong rs e) (sym (at_root (after_saved number) (root_item number roots) q is_other.root))
-        (among_early (entry_refusals image ranges (tree_of s number q)) (image_refusals_in ranges (items_at image s ranges number q)) e entry))
+        (among_first (entry_refusals image ranges (tree_of s number q)) (image_refusals_in ranges (items_at image s ranges number q)) e entry))
 
     pub both_told : (blocks : ℕ) (t : Tree) (o : Option ℕ) → IsOther t → TellsReserved (HoldsPartOf image ranges file) blocks None → TellsReserved (HoldsPartOf image ranges t) blocks o → TellsReserved InTrees blocks o
     both_told blocks t None is_other none other = λ b reserved holds.

@@ -4,6 +4,5 @@ pub mod Moved
 pub mod Nodes
 pub mod Reserved
 pub mod Saved
-pub mod Trees
 pub mod Untouched
 pub mod Using

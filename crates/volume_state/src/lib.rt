@@ -12,7 +12,6 @@ mod moved;
 mod nodes;
 mod reserved;
 mod source;
-mod trees;
 mod using;
 
 pub use laws::spare_blocks_decide_nothing;

@@ -14,8 +14,8 @@ ghost use Rattle.volume_state.specs.Reserved.{IsMapApart};
 ghost use Rattle.volume_state.specs.Using.{HoldsNode, HoldsNodeOf, TellsReserved};
 
 use crate::reserved::reserved_in;
-use crate::trees::refused;
 use btr_node::InnerView;
+use btr_reader::refused;
 use btr_reader_walk::{MapRange, Pointer, Tree, read_node};
 use reiser_bitmap::{BlockNo, BlockSource, BtrAnswer, Memory};
 use std::alloc::Global;

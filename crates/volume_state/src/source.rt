@@ -16,8 +16,10 @@ use reiser_bitmap::{Block, BlockNo, BlockSource, Fault};
 /// faults are those of the device.
 #[derive(Drop)]
 pub struct ImageSource<'a, S: BlockSource> {
-    src: &'a mut S,
-    map: &'a ImageMap,
+    /// The device.
+    pub src: &'a mut S,
+    /// Where the blocks of the image lie on it.
+    pub map: &'a ImageMap,
     ghost inside: { map.now.device ≤ S.size src.now },
 }
 

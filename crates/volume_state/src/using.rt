@@ -15,8 +15,7 @@ ghost use Rattle.volume_state.specs.Using.{HoldsPartOf, IsInFiles, IsInUse, Refu
 
 use crate::extents::reserved_extent;
 use crate::nodes::reserved_node;
-use crate::trees::{chunk_tree, file_tree, refused, root_tree, saved_tree};
-use btr_reader::Btrfs;
+use btr_reader::{Btrfs, FILE_TREE, refused};
 use btr_reader_walk::{MapRange, Tree};
 use reiser_bitmap::{BlockNo, BlockSource, BtrAnswer, BtrRefusal, BtrRule};
 use std::alloc::Global;
@@ -51,10 +50,10 @@ pub fn reserved_used<S: BlockSource>(
         return Err(refused(65536, BtrRule::SuperField));
     }
     let ranges = volume.ranges.as_slice();
-    if let Some(block) = reserved_node(alloc, src, &chunk_tree(volume)?, ranges, blocks)? {
+    if let Some(block) = reserved_node(alloc, src, &volume.chunk_tree(), ranges, blocks)? {
         return Ok(Some(block));
     }
-    if let Some(block) = reserved_node(alloc, src, &root_tree(volume), ranges, blocks)? {
+    if let Some(block) = reserved_node(alloc, src, &volume.root_tree(), ranges, blocks)? {
         return Ok(Some(block));
     }
     reserved_file(alloc, volume, src, blocks)
@@ -74,7 +73,7 @@ fn reserved_file<S: BlockSource>(
     ensures told { OverTold S.tells (S.blocks src.old) (λ image. IsVolumeOn image volume.now → IsMapApart volume.now.ranges.items →
         MatchResult result (TellsReserved (IsInFiles image) blocks) (IsAmong (way_refusals image))) }
 {
-    let file = match file_tree(volume)? {
+    let file = match volume.find_tree(FILE_TREE)? {
         Some(tree) => tree,
         None => return Ok(None),
     };
@@ -82,7 +81,7 @@ fn reserved_file<S: BlockSource>(
     if let Some(block) = reserved_part(alloc, src, &file, ranges, blocks)? {
         return Ok(Some(block));
     }
-    match saved_tree(alloc, src, volume, &file)? {
+    match volume.saved_tree(alloc, src, file)? {
         Some(tree) => reserved_part(alloc, src, &tree, ranges, blocks),
         None => Ok(None),
     }

@@ -3,6 +3,7 @@ use Rattle.std.specs.Option.{option_map}
 use Rattle.std.proofs.lemmas.Bool.Decides.{nat_tests}
 use Rattle.btr_reader.specs.declared.chunk.ChunkAt.{ChunkAt}
 use Rattle.btr_reader.specs.Chunks.{entry_size, chunks_within, array_chunks}
+use Rattle.btr_reader.specs.Opening.{IsBadArray}
 use Rattle.btr_reader.proofs.Array.{chunk_more, no_chunk, no_more}
 use Rattle.btr_reader.proofs.bootstrap.array_chunks.Goals as goal
 
@@ -10,7 +11,7 @@ pub returns-in_default-clause-err : goal.returns-in_default-clause-err
 returns-in_default-clause-err c =
     let k = c.loop-rest.invariant in
     let some : 0 < length c.loop-rest.rest.now = grind (arith, nat_tests, c.is_empty.ensures, c.loop-rest-test.true) in
-    (refl, no_chunk k.0 c.loop-rest.rest.now c.loop-rest.chunks.items (array_chunks c.args.array.now) some k.1 (sym c.front_chunk.ensures.value ∙ c.in_default.is) k.2)
+    subst (IsBadArray (array_chunks c.args.array.now)) (sym c.refused.ensures) (refl, no_chunk k.0 c.loop-rest.rest.now c.loop-rest.chunks.items (array_chunks c.args.array.now) some k.1 (sym c.front_chunk.ensures.value ∙ c.in_default.is) k.2)
 
 pub loop-rest-preserved : goal.loop-rest-preserved
 loop-rest-preserved c =

@@ -5,5 +5,5 @@ use Rattle.btr_reader.proofs.chunk.add_chunk.Goals as goal
 
 pub returns-clause-inside : goal.returns-clause-inside
 returns-clause-inside c =
-    added_inside c.args.device c.args.ranges.now.items _ c.args.c.now c.requires.inside c.in-Ok.ensures.lies
+    added_inside c.args.device c.args.ranges.now.items _ c.args.c.now c.requires.inside c.in_ok-check_chunk.ensures.lies
     (c.in_ok-push_range.ensures.ok ∙ ap (λ (r : MapRange). c.args.ranges.now.items ++ r ∷ []) c.range_of.ensures)

@@ -1,22 +1,23 @@
-use Rattle.std.proofs.Common.{◌≡◌, List, Option, None, Some, Ok, Err, sym, ◌∙◌, subst}
+use Rattle.std.proofs.Common.{◌≡◌, List, Option, None, Some, Ok, sym, ◌∙◌, subst}
 use Rattle.std.proofs.lemmas.Result.{err_from_is_err_and}
 use Rattle.btr_reader.specs.Image.{entry_refusals}
 use Rattle.btr_reader.specs.Opening.{tree_of}
 use Rattle.btr_reader.specs.Parts.{way_refusals}
+use Rattle.btr_reader.specs.Reading.{FindsSaved}
 use Rattle.btr_reader.specs.Rows.{roots_on}
 use Rattle.btr_reader_walk.specs.Walks.{IsAmong, found, wrong}
 use Rattle.btr_reader_walk.specs.declared.map.MapRange.{MapRange}
 use Rattle.btr_reader_walk.specs.declared.tree.Tree.{Tree}
 use Rattle.volume_state.specs.Reserved.{IsMapApart}
-use Rattle.volume_state.specs.Trees.{FindsSaved}
 use Rattle.volume_state.specs.Using.{HoldsPartOf, TellsReserved}
-use Rattle.volume_state.proofs.Telling.{alone_told, both_told, file_among, file_of, file_refused, file_told, files_told, match_so, no_file, no_trees, other_among, other_of, saved_refused, way_among}
+use Rattle.btr_reader.proofs.Stages.{file_tree_refused, saved_refused}
+use Rattle.volume_state.proofs.Telling.{alone_told, both_told, file_among, file_of, file_told, files_told, match_so, no_file, no_trees, other_among, other_of, way_among}
 use Rattle.volume_state.proofs.using.reserved_file.Goals as goal
 
 pub returns-in_err-tree-clause-told : goal.returns-in_err-tree-clause-told
 returns-in_err-tree-clause-told g c = λ tells image is on apart.
     let err = err_from_is_err_and c.from_residual.result c.from_residual.ensures.1 in
-    rw err.1 (subst (IsAmong (way_refusals image)) (sym err.2) (way_among image c.args.volume.now.sup c.args.volume.now.ranges.items on.opened _ (file_refused image c.args.volume.now.sup c.args.volume.now.ranges.items _ (c.in_err-tree.ensures.finds _ on.roots))))
+    rw err.1 (subst (IsAmong (way_refusals image)) (sym err.2) (way_among image c.args.volume.now.sup c.args.volume.now.ranges.items on.opened _ (file_tree_refused image c.args.volume.now.sup c.args.volume.now.ranges.items _ (c.in_err-tree.ensures.finds _ on.roots))))
 
 pub returns-in-None-clause-told : goal.returns-in-None-clause-told
 returns-in-None-clause-told g c = λ tells image is on apart.
@@ -45,15 +46,11 @@ returns-in-Some-2-clause-told g c = λ tells image is on apart.
 
 pub returns-in_err-tree-2-clause-told : goal.returns-in_err-tree-2-clause-told
 returns-in_err-tree-2-clause-told g c = λ tells image is on apart.
-    let file = file_of image c.args.volume.now.sup c.args.volume.now.ranges.items c.in_ok-tree.field-0 c.in-Some.tree c.in-Some.is (c.in_ok-tree.ensures.finds _ on.roots) in
-    let same : c.as_slice-ranges.result.now ≡ c.args.volume.now.ranges.items = c.as_slice-ranges.ensures.value in
-    let apart_here : IsMapApart c.as_slice-ranges.result.now = subst IsMapApart (sym same) apart in
     let here : g.S.BlockSource.blocks c.reserved_part.new.src ≡ image = g.met.S.BlockSource.kept_blocks c.args.src.now c.reserved_part.new.src tells c.in_ok-block.ensures.kept ∙ is in
-    let finds =
-    subst (λ (t : Tree). FindsSaved c.args.volume.now.sup (roots_on image c.args.volume.now.sup c.args.volume.now.ranges.items) (entry_refusals image c.args.volume.now.ranges.items t) (found image c.args.volume.now.ranges.items t) (Err c.in_err-tree-2.field-0.0)) (sym file.tree)
-    (c.in_err-tree-2.ensures.finds tells image here _ on.roots) in
+    let there = rw c.in-Some.is at (c.in_ok-tree.ensures.finds _ on.roots) in
     let err = err_from_is_err_and c.from_residual-in_err-tree-2.result c.from_residual-in_err-tree-2.ensures.1 in
-    rw err.1 (subst (IsAmong (way_refusals image)) (sym err.2) (way_among image c.args.volume.now.sup c.args.volume.now.ranges.items on.opened _ (saved_refused image c.args.volume.now.sup c.args.volume.now.ranges.items file.i file.p file.is file.at c.in_err-tree-2.field-0.0 finds)))
+    rw err.1 (subst (IsAmong (way_refusals image)) (sym err.2) (way_among image c.args.volume.now.sup c.args.volume.now.ranges.items on.opened _
+    (saved_refused image c.args.volume.now.sup c.args.volume.now.ranges.items c.in-Some.tree there c.in_err-tree-2.field-0.0 (c.in_err-tree-2.ensures.finds tells image here _ on.roots))))
 
 pub returns-in-Some-3-clause-told : goal.returns-in-Some-3-clause-told
 returns-in-Some-3-clause-told g c = λ tells image is on apart.

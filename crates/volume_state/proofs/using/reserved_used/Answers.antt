@@ -1,4 +1,4 @@
-use Rattle.std.proofs.Common.{◌≡◌, List, sym, ◌∙◌, subst, arith}
+use Rattle.std.proofs.Common.{◌≡◌, List, sym, ◌∙◌, subst}
 use Rattle.std.proofs.lemmas.Result.{err_from_is_err_and}
 use Rattle.btr_reader.proofs.MapApart.{opened_apart}
 use Rattle.btr_reader.specs.Opening.{chunk_tree, root_tree}
@@ -7,7 +7,7 @@ use Rattle.btr_reader_walk.specs.declared.map.MapRange.{MapRange}
 use Rattle.btr_reader_walk.specs.declared.tree.Tree.{Tree}
 use Rattle.volume_state.specs.Reserved.{IsMapApart}
 use Rattle.volume_state.specs.Using.{HoldsNodeOf, RefusesUse, TellsReserved}
-use Rattle.volume_state.proofs.InUse.{all_told, bounds, chunk_used, chunks_sound, log_refused, none_refused, root_used, roots_sound, way_refused}
+use Rattle.volume_state.proofs.InUse.{all_told, chunk_used, chunks_sound, log_refused, none_refused, root_used, roots_sound, way_refused}
 use Rattle.volume_state.proofs.Telling.{match_so}
 use Rattle.volume_state.proofs.using.reserved_used.Goals as goal
 
@@ -15,19 +15,15 @@ pub returns-then-volume-ne0-clause-told : goal.returns-then-volume-ne0-clause-to
 returns-then-volume-ne0-clause-told g c = λ tells image is on.
     log_refused image c.args.volume.now.sup c.args.volume.now.ranges.items on.opened c.if-volume-ne0.true
 
-pub returns-in_err-chunk_tree-clause-told : goal.returns-in_err-chunk_tree-clause-told
-returns-in_err-chunk_tree-clause-told g c = λ tells image is on.
-    absurd (omega (arith, c.in_err-chunk_tree.ensures.high.0, (bounds image c.args.volume.now.sup c.args.volume.now.ranges.items on.opened).chunks))
-
 pub returns-in_err-block-clause-told : goal.returns-in_err-block-clause-told
 returns-in_err-block-clause-told g c = λ tells image is on.
     let ranges : List MapRange = c.args.volume.now.ranges.items in
     let same : c.as_slice-ranges.result.now ≡ ranges = c.as_slice-ranges.ensures.value in
     let apart : IsMapApart c.as_slice-ranges.result.now = subst IsMapApart (sym same) (opened_apart image c.args.volume.now.sup ranges on.opened) in
-    let err = err_from_is_err_and c.from_residual-in_err-block.result c.from_residual-in_err-block.ensures.1 in
+    let err = err_from_is_err_and c.from_residual.result c.from_residual.ensures.1 in
     let among : IsAmong (wrong image ranges (chunk_tree c.args.volume.now.sup)) c.in_err-block.field-0.0 =
-    subst (λ (t : Tree). IsAmong (wrong image ranges t) c.in_err-block.field-0.0) c.in_ok-chunk_tree.ensures.tree
-    (subst (λ (m : List MapRange). IsAmong (wrong image m c.in_ok-chunk_tree.field-0) c.in_err-block.field-0.0) same (c.in_err-block.ensures.told tells image is apart)) in
+    subst (λ (t : Tree). IsAmong (wrong image ranges t) c.in_err-block.field-0.0) c.chunk_tree.ensures.tree
+    (subst (λ (m : List MapRange). IsAmong (wrong image m c.chunk_tree.result) c.in_err-block.field-0.0) same (c.in_err-block.ensures.told tells image is apart)) in
     rw err.1
     (subst (RefusesUse image) (sym err.2)
     (none_refused image c.args.volume.now.sup ranges on.opened (wrong image ranges (chunk_tree c.args.volume.now.sup)) c.in_err-block.field-0.0 (chunks_sound image c.args.volume.now.sup ranges on.opened) among))
@@ -38,8 +34,8 @@ returns-in-Some-clause-told g c = λ tells image is on.
     let same : c.as_slice-ranges.result.now ≡ ranges = c.as_slice-ranges.ensures.value in
     let apart : IsMapApart c.as_slice-ranges.result.now = subst IsMapApart (sym same) (opened_apart image c.args.volume.now.sup ranges on.opened) in
     let told =
-    subst (λ (t : Tree). TellsReserved (HoldsNodeOf image ranges t) c.args.blocks c.in_ok-block.field-0) c.in_ok-chunk_tree.ensures.tree
-    (subst (λ (m : List MapRange). TellsReserved (HoldsNodeOf image m c.in_ok-chunk_tree.field-0) c.args.blocks c.in_ok-block.field-0) same (c.in_ok-block.ensures.told tells image is apart)) in
+    subst (λ (t : Tree). TellsReserved (HoldsNodeOf image ranges t) c.args.blocks c.in_ok-block.field-0) c.chunk_tree.ensures.tree
+    (subst (λ (m : List MapRange). TellsReserved (HoldsNodeOf image m c.chunk_tree.result) c.args.blocks c.in_ok-block.field-0) same (c.in_ok-block.ensures.told tells image is apart)) in
     chunk_used image c.args.volume.now.sup ranges on.opened c.args.blocks c.in-Some.block
     (subst (TellsReserved (HoldsNodeOf image ranges (chunk_tree c.args.volume.now.sup)) c.args.blocks) c.in-Some.is told)
 
@@ -79,8 +75,8 @@ returns-clause-told g c = λ tells image is on.
     let there : g.S.BlockSource.blocks c.reserved_node-2.new.src ≡ image =
     g.met.S.BlockSource.kept_blocks c.reserved_node.new.src c.reserved_node-2.new.src tells c.in_ok-block-2.ensures.kept ∙ here in
     let chunks =
-    subst (λ (t : Tree). TellsReserved (HoldsNodeOf image ranges t) c.args.blocks c.in_ok-block.field-0) c.in_ok-chunk_tree.ensures.tree
-    (subst (λ (m : List MapRange). TellsReserved (HoldsNodeOf image m c.in_ok-chunk_tree.field-0) c.args.blocks c.in_ok-block.field-0) same (c.in_ok-block.ensures.told tells image is apart)) in
+    subst (λ (t : Tree). TellsReserved (HoldsNodeOf image ranges t) c.args.blocks c.in_ok-block.field-0) c.chunk_tree.ensures.tree
+    (subst (λ (m : List MapRange). TellsReserved (HoldsNodeOf image m c.chunk_tree.result) c.args.blocks c.in_ok-block.field-0) same (c.in_ok-block.ensures.told tells image is apart)) in
     let roots =
     subst (λ (t : Tree). TellsReserved (HoldsNodeOf image ranges t) c.args.blocks c.in_ok-block-2.field-0) c.root_tree.ensures.tree
     (subst (λ (m : List MapRange). TellsReserved (HoldsNodeOf image m c.root_tree.result) c.args.blocks c.in_ok-block-2.field-0) same (c.in_ok-block-2.ensures.told tells image here apart)) in

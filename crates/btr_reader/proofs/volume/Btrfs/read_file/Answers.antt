@@ -32,9 +32,9 @@ returns-in_err-gathered-clause-reads g c = λ tells image is items items_are sou
     (file_refused image ranges c.as_slice-ranges.result.now c.args.tree items c.args.inode c.in-Some.own c.in_err-gathered.field-0.0 c.as_slice-ranges.ensures.value items_are sound finds
     (c.in_err-gathered.ensures.err tells image there)))
 
-pub returns-in-Ok-clause-reads : goal.returns-in-Ok-clause-reads
-returns-in-Ok-clause-reads g c = λ tells image is items items_are sound.
+pub returns-clause-reads : goal.returns-clause-reads
+returns-clause-reads g c = λ tells image is items items_are sound.
     let there = g.met.S.BlockSource.kept_blocks c.args.src.now c.find_inode.new.src tells c.find_inode.ensures.kept ∙ is in
     let finds = rw c.in-Some.is at (c.in_ok-own.ensures.finds _ (c.in_ok-item.ensures.inode tells image is)) in
-    file_read image c.args.self.now.ranges.items c.as_slice-ranges.result.now c.args.tree items c.args.inode c.in-Some.own c.in_ok-gathered.gathered c.in-Ok.map c.as_slice-ranges.ensures.value items_are finds
-    (c.in_ok-gathered.ensures.gathered tells image there) c.in-Ok.ensures.map
+    file_read image c.args.self.now.ranges.items c.as_slice-ranges.result.now c.args.tree items c.args.inode c.in-Some.own c.in_ok-gathered.gathered c.in_ok-map_of.field-0 c.as_slice-ranges.ensures.value items_are finds
+    (c.in_ok-gathered.ensures.gathered tells image there) c.in_ok-map_of.ensures.map

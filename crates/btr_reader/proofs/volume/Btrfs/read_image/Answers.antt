@@ -1,39 +1,39 @@
-use Rattle.std.proofs.Common.{refl, sym, ◌∙◌, subst}
-use Rattle.std.specs.Option.{option_and_then}
+use Rattle.std.proofs.Common.{sym, ◌∙◌, subst}
 use Rattle.std.proofs.lemmas.Result.{err_from_is_err_and}
-use Rattle.btr_reader.specs.Image.{entry_refusals, image_refusals, items_at, if_there, refusals_below, tree_number, saved_entry}
-use Rattle.btr_reader.specs.Opening.{IsAmong, tree_of, or_later}
-use Rattle.btr_reader.specs.Roots.{root_item}
+use Rattle.btr_reader.specs.Image.{image_refusals}
+use Rattle.btr_reader.specs.Opening.{IsAmong}
 use Rattle.btr_reader.specs.Rows.{roots_on}
-use Rattle.btr_reader.proofs.Stages.{root_item_refused, entry_refused, top_read}
+use Rattle.btr_reader.proofs.Stages.{file_tree_refused, none_saved, saved_refused, top_read}
 use Rattle.btr_reader.proofs.volume.Btrfs.read_image.Goals as goal
 
-pub returns-in_err-tree-clause-reads : goal.returns-in_err-tree-clause-reads
-returns-in_err-tree-clause-reads g c = λ tells image is right.
+pub returns-in_err-file-clause-reads : goal.returns-in_err-file-clause-reads
+returns-in_err-file-clause-reads g c = λ tells image is right.
     let sup = c.args.self.now.sup in
     let ranges = c.args.self.now.ranges.items in
     let err = err_from_is_err_and c.from_residual.result c.from_residual.ensures.1 in
-    rw err.1 (subst (IsAmong (image_refusals image sup ranges)) (sym err.2)
-    (root_item_refused sup 5
-    (λ p. or_later (entry_refusals image ranges (tree_of sup 5 p)) (if_there (λ number. refusals_below image sup ranges number (root_item number (roots_on image sup ranges))) (option_and_then tree_number (saved_entry (items_at image sup ranges 5 p)))))
-    (root_item 5 (roots_on image sup ranges)) c.in_err-tree.field-0.0 (c.in_err-tree.ensures.finds (roots_on image sup ranges) right)))
+    rw err.1 (subst (IsAmong (image_refusals image sup ranges)) (sym err.2) (file_tree_refused image sup ranges c.in_err-file.field-0.0 (c.in_err-file.ensures.finds (roots_on image sup ranges) right)))
 
-pub returns-in_err-key-clause-reads : goal.returns-in_err-key-clause-reads
-returns-in_err-key-clause-reads g c = λ tells image is right.
+pub returns-in_err-saved-clause-reads : goal.returns-in_err-saved-clause-reads
+returns-in_err-saved-clause-reads g c = λ tells image is right.
     let sup = c.args.self.now.sup in
     let ranges = c.args.self.now.ranges.items in
-    let finds = rw c.in-Some.is at (c.in_ok-tree.ensures.finds (roots_on image sup ranges) right) in
-    let err = err_from_is_err_and c.from_residual-in_err-key.result c.from_residual-in_err-key.ensures.1 in
+    let there = rw c.in-Some.is at (c.in_ok-file.ensures.finds (roots_on image sup ranges) right) in
+    let err = err_from_is_err_and c.from_residual-in_err-saved.result c.from_residual-in_err-saved.ensures.1 in
     rw err.1 (subst (IsAmong (image_refusals image sup ranges)) (sym err.2)
-    (entry_refused image sup ranges c.as_slice.result.now 5
-    (λ p. if_there (λ number. refusals_below image sup ranges number (root_item number (roots_on image sup ranges))) (option_and_then tree_number (saved_entry (items_at image sup ranges 5 p))))
-    (root_item 5 (roots_on image sup ranges)) c.in-Some.tree c.in_err-key.field-0.0 c.as_slice.ensures.value finds (c.in_err-key.ensures.err tells image is)))
+    (saved_refused image sup ranges c.in-Some.file there c.in_err-saved.field-0.0 (c.in_err-saved.ensures.finds tells image is (roots_on image sup ranges) right)))
+
+pub returns-in-None-2-clause-reads : goal.returns-in-None-2-clause-reads
+returns-in-None-2-clause-reads g c = λ tells image is right.
+    let sup = c.args.self.now.sup in
+    let ranges = c.args.self.now.ranges.items in
+    let there = rw c.in-Some.is at (c.in_ok-file.ensures.finds (roots_on image sup ranges) right) in
+    none_saved image sup ranges c.in-Some.file there (rw c.in-None-2.is at (c.in_ok-saved.ensures.finds tells image is (roots_on image sup ranges) right))
 
 pub returns-clause-reads : goal.returns-clause-reads
 returns-clause-reads g c = λ tells image is right.
-    let later = g.met.S.BlockSource.kept_blocks c.args.src.now c.find_entry.new.src tells c.find_entry.ensures.kept ∙ is in
     let sup = c.args.self.now.sup in
     let ranges = c.args.self.now.ranges.items in
-    let finds = rw c.in-Some.is at (c.in_ok-tree.ensures.finds (roots_on image sup ranges) right) in
-    top_read image sup ranges c.as_slice.result.now c.in-Some.tree c.in_ok-key.key _ c.in-Some-tree_number.number c.read_saved.result c.as_slice.ensures.value refl finds
-    (c.in_ok-key.ensures.entry tells image is) (c.in_ok-key.ensures.ok tells image is) (sym c.tree_number.ensures ∙ c.in-Some-tree_number.is) (c.read_saved.ensures.reads tells image later _ refl right)
+    let later = g.met.S.BlockSource.kept_blocks c.args.src.now c.saved_tree.new.src tells c.saved_tree.ensures.kept ∙ is in
+    let there = rw c.in-Some.is at (c.in_ok-file.ensures.finds (roots_on image sup ranges) right) in
+    top_read image sup ranges c.in-Some.file there c.in-Some-2.saved c.read_saved.result (rw c.in-Some-2.is at (c.in_ok-saved.ensures.finds tells image is (roots_on image sup ranges) right))
+    (c.read_saved.ensures.reads tells image later)
