@@ -1,1 +1,2 @@
 pub use Rattle.refusals.proofs.outside as outside
+pub mod Handed

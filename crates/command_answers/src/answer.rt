@@ -1,4 +1,4 @@
-use refusals::{BlockNo, BtrRefusal, VolumeRefusal};
+use refusals::{BlockNo, BtrAnswer, BtrRefusal, Fault, Memory, VolAnswer, VolumeRefusal};
 use thiserror::Error;
 
 /// Why a command was not done.
@@ -44,4 +44,78 @@ pub enum Answer {
     /// There was no memory.
     #[error("out of memory")]
     Memory,
+}
+
+impl From<VolumeRefusal> for Answer {
+    ghost use Rattle.std.specs.Prelude.{◌≡◌};
+    ghost use Rattle.command_answers.specs.declared.answer.Answer.TheVariants as answers;
+
+    ghost from_gives = { λ refusal e. e ≡ answers.Volume refusal };
+
+    fn from(refusal: VolumeRefusal) -> Self {
+        Answer::Volume(refusal)
+    }
+}
+
+impl From<BtrRefusal> for Answer {
+    ghost use Rattle.std.specs.Prelude.{◌≡◌};
+    ghost use Rattle.command_answers.specs.declared.answer.Answer.TheVariants as answers;
+
+    ghost from_gives = { λ refusal e. e ≡ answers.Btr refusal };
+
+    fn from(refusal: BtrRefusal) -> Self {
+        Answer::Btr(refusal)
+    }
+}
+
+impl From<Fault> for Answer {
+    ghost use Rattle.std.specs.Prelude.{◌≡◌};
+    ghost use Rattle.command_answers.specs.declared.answer.Answer.TheVariants as answers;
+
+    ghost from_gives = { λ _ e. e ≡ answers.Fault };
+
+    fn from(_: Fault) -> Self {
+        Answer::Fault
+    }
+}
+
+impl From<Memory> for Answer {
+    ghost use Rattle.std.specs.Prelude.{◌≡◌};
+    ghost use Rattle.command_answers.specs.declared.answer.Answer.TheVariants as answers;
+
+    ghost from_gives = { λ _ e. e ≡ answers.Memory };
+
+    fn from(_: Memory) -> Self {
+        Answer::Memory
+    }
+}
+
+impl From<VolAnswer> for Answer {
+    ghost use Rattle.std.specs.Prelude.{◌≡◌};
+    ghost use Rattle.command_answers.specs.Answers.{of_volume};
+
+    ghost from_gives = { λ a e. e ≡ of_volume a };
+
+    fn from(answer: VolAnswer) -> Self {
+        match answer {
+            VolAnswer::Refused(refusal) => Answer::Volume(refusal),
+            VolAnswer::Fault => Answer::Fault,
+            VolAnswer::Memory => Answer::Memory,
+        }
+    }
+}
+
+impl From<BtrAnswer> for Answer {
+    ghost use Rattle.std.specs.Prelude.{◌≡◌};
+    ghost use Rattle.command_answers.specs.Answers.{of_btrfs};
+
+    ghost from_gives = { λ a e. e ≡ of_btrfs a };
+
+    fn from(answer: BtrAnswer) -> Self {
+        match answer {
+            BtrAnswer::Refused(refusal) => Answer::Btr(refusal),
+            BtrAnswer::Fault => Answer::Fault,
+            BtrAnswer::Memory => Answer::Memory,
+        }
+    }
 }

@@ -1,5 +1,6 @@
 pub use Rattle.convert_steps.proofs.btr_item_list as btr_item_list
 pub use Rattle.unit_plan.proofs.btr_tree as btr_tree
+pub use Rattle.convert_steps.proofs.command_answers as command_answers
 pub use Rattle.convert_steps.proofs as convert_steps
 pub use Rattle.extent_pieces.proofs as extent_pieces
 pub use Rattle.convert_steps.proofs.file_items as file_items

@@ -1,19 +1,10 @@
 // The answers of the steps as those of the conversion.
 ghost use Rattle.std.specs.Prelude.{◌≡◌};
 ghost use Rattle.convert_core.specs.Answers.{by_writer};
-ghost use Rattle.convert_steps.specs.command_answers.declared.answer.Answer.TheVariants as answers;
 
 use btr_tree_writer::WriteAnswer;
 use convert_steps::Answer;
-use reiser_volume::{BlockNo, Fault, Rule, VolumeRefusal};
-
-/// The answer where a call of the device failed.
-pub fn fault_answer(fault: Fault) -> Answer
-    ensures { result ≡ answers.Fault }
-{
-    let Fault = fault;
-    Answer::Fault
-}
+use reiser_volume::{BlockNo, Rule, VolumeRefusal};
 
 /// The answer where a tree was not written, of a volume whose tree begins at this block. A misfit tells that blocks read
 /// otherwise than before.

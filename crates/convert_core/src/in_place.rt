@@ -1,25 +1,20 @@
 // The conversion.
-ghost use Rattle.std.specs.Prelude.{◌≡◌, ◌≢◌, ◌<◌, ◌^◌, Some, IfErr, IfOk, IsTrue, OnOk};
+ghost use Rattle.std.specs.Prelude.{◌≡◌, ◌≢◌, ◌<◌, ◌^◌, Some, IfErr, IsTrue, OnOk};
 ghost use Rattle.std.specs.Result.{MatchResult};
 ghost use Rattle.unit_plan.specs.btr_node.NodeSize.{IsNodeSize};
 ghost use Rattle.reiser_volume.specs.outside.Fault.{HasCauseOf};
-ghost use Rattle.reiser_volume.specs.outside.Format.{format_in};
 ghost use Rattle.reiser_volume.specs.outside.History.{EachCrash, IsSettled, OverTold, reads};
 ghost use Rattle.reiser_volume.specs.vol_block.declared.format.Format.TheVariants as formats;
 ghost use Rattle.convert_core.specs.Answers.{IsConvertAnswer, RefusesConvert};
 ghost use Rattle.convert_core.specs.Converted.{DiffersInFree, IsConverted, IsEither};
 ghost use Rattle.convert_core.specs.Surveyed.{IsSummary};
 
-use crate::answers::fault_answer;
 use crate::summary::ConvertSummary;
 use crate::volume::write_volume;
 use convert_options::Options;
-use convert_steps::{Answer, switch_to};
-use reiser_volume::{Access, Block, BlockNo, BlockSource, Disk, Format, Ids, format_of};
+use convert_steps::{Answer, Found, find_format, switch_to};
+use reiser_volume::{Access, Disk, Format, Ids};
 use std::alloc::Global;
-
-/// The block of the superblock, of both formats.
-const SUPERBLOCK: BlockNo = 16;
 
 /// Converts the ReiserFS volume of a disk to Btrfs, in place. `ids` are the identifiers that the new volume gets, and `now` is
 /// the time of the conversion in seconds since the start of 1970, below 2^63.
@@ -51,29 +46,18 @@ pub fn convert<D: Disk>(
     ensures cause { HasCauseOf Answer.Fault (D.faults disk.old) (D.faults disk.new) result }
     ensures answers { IfErr result IsConvertAnswer }
 {
-    if is_btrfs(disk)? {
+    let found = find_format(disk)?;
+    if is_btrfs(&found) {
         return Err(Answer::WrongFormat);
     }
     let written = write_volume(alloc, disk, ids, now, options)?;
-    match switch_to(disk, &written.superblock, written.blocks) {
-        Ok(()) => Ok(written.summary),
-        Err(fault) => Err(fault_answer(fault)),
-    }
+    switch_to(disk, &written.superblock, written.blocks)?;
+    Ok(written.summary)
 }
 
-/// Whether block 16 is the superblock of a Btrfs volume. A device without that block has none.
-fn is_btrfs<S: BlockSource>(src: &mut S) -> Result<bool, Answer>
-    ensures kept { S.kept src.old src.new }
-    ensures found { OverTold S.tells (S.blocks src.old) (λ image. IfOk result (λ yes. (IsTrue yes → format_in image ≡ formats.Btrfs) × (format_in image ≡ formats.Btrfs → IsTrue yes))) }
-    ensures cause { HasCauseOf Answer.Fault (S.faults src.old) (S.faults src.new) result }
-    ensures answers { IfErr result (λ e. e ≡ Answer.Fault) }
+/// Whether what was found is a Btrfs volume.
+fn is_btrfs(found: &Found) -> bool
+    ensures { (IsTrue result → found.now.format ≡ formats.Btrfs) × (found.now.format ≡ formats.Btrfs → IsTrue result) }
 {
-    if src.len() <= SUPERBLOCK {
-        return Ok(false);
-    }
-    let mut block = Block::zero();
-    match src.read(SUPERBLOCK, &mut block) {
-        Ok(()) => Ok(format_of(&block) == Format::Btrfs),
-        Err(fault) => Err(fault_answer(fault)),
-    }
+    found.format == Format::Btrfs
 }

@@ -8,7 +8,6 @@ ghost use Rattle.convert_steps.specs.btr_super.Super.{super_bytes};
 ghost use Rattle.unit_plan.specs.btr_tree.Writing.{IsInSlots};
 ghost use Rattle.convert_steps.specs.Making.{IsMaking, Making as MakingOf};
 ghost use Rattle.convert_steps.specs.Standing.{AllFit, HasTrees, IsFor, SameVolume, used_bytes};
-ghost use Rattle.convert_steps.specs.Moved.{CanMove, HoldMoved, IsPlace};
 ghost use Rattle.convert_steps.specs.Prepared.{HasPlanFor, IsPrepareAnswer, IsPrepared, RefusesConversion};
 ghost use Rattle.convert_steps.specs.Superblock.{new_super};
 ghost use Rattle.convert_steps.specs.space_items.Laws.{AreIds};
@@ -20,18 +19,15 @@ ghost use Rattle.reiser_volume.specs.vol_block.declared.ids.Ids.{Ids as IdsOf};
 ghost use Rattle.convert_core.specs.Converted.{IsConvertible, IsFree, IsPutDown};
 ghost use Rattle.convert_core.specs.Whole.{IsWhole};
 
-use crate::answers::{changed, fault_answer, write_answer};
+use crate::answers::{changed, write_answer};
 use crate::summary::{ConvertSummary, summary_of};
 use crate::whole::is_whole;
 use convert_options::Options;
-use convert_steps::{
-    Answer, NewRoots, Prepared, VolumeTrees, prepare, superblock, volume_answer, write_moved,
-};
+use convert_steps::{Answer, NewRoots, Prepared, VolumeTrees, prepare, superblock, write_moved};
 use convert_trees::write_trees;
 use convert_trees_laws::plans_suffice;
 use reiser_volume::{Access, Block, BlockSource, Cached, Disk, Ids, Room};
 use std::alloc::Global;
-use unit_plan::chunks_of;
 
 /// How many blocks are kept in memory while the volume is read and its trees are written.
 const CACHED: usize = 1024;
@@ -71,10 +67,7 @@ pub fn write_volume<D: Disk>(
     ensures cause { HasCauseOf Answer.Fault (D.faults disk.old) (D.faults disk.new) result }
     ensures answers { IfErr result IsPrepareAnswer }
 {
-    let mut room = match Room::new(alloc, CACHED) {
-        Ok(room) => room,
-        Err(_) => return Err(Answer::Memory),
-    };
+    let mut room = Room::new(alloc, CACHED)?;
     let mut cached = Cached::new(disk, &mut room);
     let prepared = prepare(alloc, &mut cached, ids, options)?;
     if !is_whole(&prepared, cached.len()) {
@@ -110,18 +103,15 @@ fn write_prepared<D: Disk>(
 {
     plans_suffice();
     know_ids(prepared.ids);
-    divide(alloc, prepared)?;
-    write_pieces(disk, prepared)?;
+    write_moved(disk, &prepared.volume, &prepared.pieces)?;
     let trees = write_nodes(alloc, disk, prepared, now, options)?;
     let superblock = superblock_of(alloc, prepared, options, &trees)?;
-    match disk.sync() {
-        Ok(()) => Ok(Written {
-            superblock,
-            blocks: prepared.volume.sup().blocks,
-            summary: summary_of(&prepared.pieces.counts(), &prepared.need),
-        }),
-        Err(fault) => Err(fault_answer(fault)),
-    }
+    disk.sync()?;
+    Ok(Written {
+        superblock,
+        blocks: prepared.volume.sup().blocks,
+        summary: summary_of(&prepared.pieces.counts(), &prepared.need),
+    })
 }
 
 /// Identifiers have 16 bytes each. It does nothing: callers learn it by the contract.
@@ -129,38 +119,6 @@ fn know_ids(ids: Ids)
     ensures { AreIds ids }
 {
     let _value = ids;
-}
-
-/// Divides the volume into chunks, as each list of the new volume does that tells of them. Want of memory for that shows
-/// before anything is written.
-fn divide(alloc: Global, prepared: &Prepared) -> Result<(), Answer>
-    requires plan { HasPlanFor prepared.now }
-    requires whole { (device : ℕ) × IsWhole prepared.now device }
-    ensures chunks { IfOk result (λ _. (chunks : List ChunkOf) × AreChunks prepared.now.plan prepared.now.volume.sup.blocks chunks) }
-    ensures answers { IfErr result (λ e. e ≡ Answer.Memory) }
-{
-    match chunks_of(alloc, &prepared.plan, prepared.volume.sup().blocks) {
-        Ok(_) => Ok(()),
-        Err(_) => Err(Answer::Memory),
-    }
-}
-
-/// Writes copies and tails to their places.
-fn write_pieces<D: Disk>(disk: &mut D, prepared: &Prepared) -> Result<(), Answer>
-    requires open { D.opened disk.old ≡ Some Access.Write }
-    ensures open { D.opened disk.new ≡ D.opened disk.old }
-    ensures size { D.size disk.new ≡ D.size disk.old }
-    ensures borrow { D.borrow disk.new ≡ D.borrow disk.old }
-    ensures only { IsTrue D.tells → WritesOnly (λ b _. IsPlace prepared.now.pieces.items.items b) (D.history disk.old) (D.history disk.new) }
-    ensures written { OverTold D.tells (reads (D.history disk.old)) (λ image. CanMove prepared.now.volume image prepared.now.pieces.items.items →
-        MatchResult result (λ _. HoldMoved prepared.now.volume image (reads (D.history disk.new)) prepared.now.pieces.items.items) (λ e. e ≡ Answer.Fault)) }
-    ensures cause { HasCauseOf Answer.Fault (D.faults disk.old) (D.faults disk.new) result }
-    ensures answers { IfErr result IsPrepareAnswer }
-{
-    match write_moved(disk, &prepared.volume, &prepared.pieces) {
-        Ok(()) => Ok(()),
-        Err(answer) => Err(volume_answer(answer)),
-    }
 }
 
 /// Writes all trees.
@@ -221,7 +179,7 @@ fn superblock_of(
         root: trees.root,
         used: trees.used,
     };
-    match superblock(
+    Ok(superblock(
         alloc,
         &prepared.plan,
         prepared.volume.sup().blocks,
@@ -229,8 +187,5 @@ fn superblock_of(
         prepared.label,
         options.nodesize,
         &roots,
-    ) {
-        Ok(block) => Ok(block),
-        Err(_) => Err(Answer::Memory),
-    }
+    )?)
 }

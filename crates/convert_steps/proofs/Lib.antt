@@ -1,5 +1,6 @@
 pub use Rattle.btr_tree_writer.proofs.btr_item_list as btr_item_list
 pub use Rattle.btr_tree.proofs as btr_tree
+pub use Rattle.command_answers.proofs as command_answers
 pub use Rattle.extent_pieces.proofs as extent_pieces
 pub use Rattle.file_items.proofs as file_items
 pub use Rattle.reiser_volume.proofs.reiser_bitmap as reiser_bitmap

@@ -4,6 +4,7 @@ use Rattle.indexmap.specs.IndexMap.{keys}
 use Rattle.reiser_volume.specs.reiser_volume_contents.Answers.{IsFaultOrMemory}
 use Rattle.command_answers.specs.outside.Fault.{HasCauseOf}
 use Rattle.command_answers.specs.outside.History.{Image}
+use Rattle.command_answers.specs.Answers.{of_volume}
 use Rattle.command_answers.specs.declared.answer.Answer.{Answer}
 use Rattle.command_answers.specs.declared.answer.Answer.TheVariants as answer
 use Rattle.command_answers.specs.refusals.declared.answer.VolAnswer.{VolAnswer}
@@ -25,17 +26,22 @@ use Rattle.convert_options.specs.declared.options.Options.{Options}
 use Rattle.unit_plan.specs.declared.plan.Plan.{Plan}
 use Rattle.unit_plan.specs.declared.plan.PlanAnswer.{PlanAnswer}
 use Rattle.unit_plan.specs.declared.plan.PlanAnswer.TheVariants as plan
-use Rattle.convert_steps.specs.Prepared.{IsPrepareAnswer, RefusesConversion, by_plan, by_volume}
+use Rattle.convert_steps.specs.Prepared.{IsPrepareAnswer, RefusesConversion, by_plan}
 
-pub by_open : (image : Image) (o : Options) (a : VolAnswer) → RefusesVolume image a → RefusesConversion image o (by_volume a)
+pub by_open : (image : Image) (o : Options) (a : VolAnswer) → RefusesVolume image a → RefusesConversion image o (of_volume a)
 by_open image o (vol.Refused r) h = h
 by_open image o vol.Fault h = tt
 by_open image o vol.Memory h = tt
 
-pub by_find : (image : Image) (o : Options) (a : VolAnswer) → IsFaultOrMemory a → RefusesConversion image o (by_volume a)
+pub by_find : (image : Image) (o : Options) (a : VolAnswer) → IsFaultOrMemory a → RefusesConversion image o (of_volume a)
 by_find image o (vol.Refused r) h = absurd h
 by_find image o vol.Fault h = tt
 by_find image o vol.Memory h = tt
+
+pub volume_answers : (a : VolAnswer) → IsPrepareAnswer (of_volume a)
+volume_answers (vol.Refused r) = tt
+volume_answers vol.Fault = tt
+volume_answers vol.Memory = tt
 
 pub plan_answers : (a : PlanAnswer) → IsPrepareAnswer (by_plan a)
 plan_answers (plan.NoSpace needed free run_needed longest) = tt

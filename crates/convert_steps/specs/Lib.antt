@@ -18,6 +18,7 @@ pub use Rattle.reiser_volume.specs.reiser_volume_objects as reiser_volume_object
 pub use Rattle.reiser_volume.specs.reiser_walk as reiser_walk
 pub use Rattle.space_items.specs as space_items
 pub use Rattle.unit_plan.specs as unit_plan
+pub mod Found
 pub mod Making
 pub mod Moved
 pub mod Prepared

@@ -3,8 +3,6 @@ use Rattle.std.specs.Prelude.{◌≡◌, ℕ, List}
 use Rattle.command_answers.specs.outside.History.{Image}
 use Rattle.command_answers.specs.declared.answer.Answer.{Answer}
 use Rattle.command_answers.specs.declared.answer.Answer.TheVariants as answer
-use Rattle.command_answers.specs.refusals.declared.answer.VolAnswer.{VolAnswer}
-use Rattle.command_answers.specs.refusals.declared.answer.VolAnswer.TheVariants as vol
 use Rattle.command_answers.specs.vol_block.declared.ids.Ids.{Ids}
 use Rattle.convert_steps.specs.Making.{ids_by, label_by, label_field}
 use Rattle.convert_steps.specs.Source.{HasPieces}
@@ -72,13 +70,7 @@ IsPrepareAnswer (answer.ReservedUsed block) = ⊥
 IsPrepareAnswer answer.Fault = Unit {0}
 IsPrepareAnswer answer.Memory = Unit {0}
 
--- the answer of a command, by that of a volume
-abbrev pub by_volume : VolAnswer → Answer
-by_volume (vol.Refused r) = answer.Volume r
-by_volume vol.Fault = answer.Fault
-by_volume vol.Memory = answer.Memory
-
--- and by that of a plan
+-- the answer of a command, by that of a plan
 abbrev pub by_plan : PlanAnswer → Answer
 by_plan (plan.NoSpace needed free run_needed longest) = answer.NoSpace needed free run_needed longest
 by_plan plan.Memory = answer.Memory

@@ -4,10 +4,10 @@ ghost use Rattle.std.specs.Result.{MatchResult};
 ghost use Rattle.command_answers.specs.outside.Fault.{HasCauseOf};
 ghost use Rattle.command_answers.specs.outside.History.{OverTold};
 ghost use Rattle.btr_tree.specs.btr_node.NodeSize.{IsNodeSize};
-ghost use Rattle.convert_steps.specs.Prepared.{HasPlanFor, IsPrepared, IsPrepareAnswer, RefusesConversion, by_plan, by_volume};
+ghost use Rattle.convert_steps.specs.Prepared.{HasPlanFor, IsPrepared, IsPrepareAnswer, RefusesConversion, by_plan};
 
 use crate::form::{ids_of, label_of};
-use command_answers::{Answer, BlockSource, Ids, VolAnswer};
+use command_answers::{Answer, BlockSource, Ids};
 use convert_options::Options;
 use extent_pieces::Pieces;
 use reiser_volume::Volume;
@@ -46,14 +46,8 @@ pub fn prepare<S: BlockSource>(
     ensures prepared { OverTold S.tells (S.blocks src.old) (λ image.
         MatchResult result (IsPrepared image options.now ids.now) (RefusesConversion image options.now)) }
 {
-    let volume = match Volume::open(alloc, src) {
-        Ok(volume) => volume,
-        Err(answer) => return Err(volume_answer(answer)),
-    };
-    let mut pieces = match Pieces::find(alloc, src, &volume, options) {
-        Ok(pieces) => pieces,
-        Err(answer) => return Err(volume_answer(answer)),
-    };
+    let volume = Volume::open(alloc, src)?;
+    let mut pieces = Pieces::find(alloc, src, &volume, options)?;
     let need = needed(&pieces.counts(), options);
     let plan = match choose(alloc, volume.bitmap(), &need) {
         Ok(plan) => plan,
@@ -70,17 +64,6 @@ pub fn prepare<S: BlockSource>(
         ids,
         label,
     })
-}
-
-/// The answer where a volume is refused, as it is opened or where it reads otherwise later, or its device failed.
-pub fn volume_answer(answer: VolAnswer) -> Answer
-    ensures { result ≡ by_volume answer }
-{
-    match answer {
-        VolAnswer::Refused(refusal) => Answer::Volume(refusal),
-        VolAnswer::Fault => Answer::Fault,
-        VolAnswer::Memory => Answer::Memory,
-    }
 }
 
 /// The answer where there is no plan.

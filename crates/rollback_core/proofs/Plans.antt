@@ -6,7 +6,7 @@ use Rattle.reiser_bitmap.specs.refusals.declared.answer.VolAnswer.{VolAnswer}
 use Rattle.reiser_bitmap.specs.refusals.declared.answer.VolAnswer.TheVariants as vol
 use Rattle.btr_super.specs.Rules.{super_of}
 use Rattle.btr_super.specs.declared.superblock.Super.{Super}
-use Rattle.convert_steps.specs.Prepared.{by_volume}
+use Rattle.convert_steps.specs.command_answers.Answers.{of_volume}
 use Rattle.reiser_volume.specs.reiser_super.declared.superblock.Super.{Super as ReiserSuper}
 use Rattle.reiser_volume.specs.Front.{RefusesFront}
 use Rattle.reiser_volume.specs.Volume.{IsFrontAccepted, superblock, used_of}
@@ -53,7 +53,7 @@ module _ (image : Image) (m : Mending) where
     }
 
 -- what is refused of superblock, journal and bitmap
-pub front_refused : (image : Image) (a : VolAnswer) → Reiser ≡ format_in image → RefusesFront image a → RefusesRecover image (by_volume a)
+pub front_refused : (image : Image) (a : VolAnswer) → Reiser ≡ format_in image → RefusesFront image a → RefusesRecover image (of_volume a)
 front_refused image (vol.Refused r) format refused = subst (λ (f : Format). IsRefusedAs f image r) format refused
 front_refused image vol.Fault format refused = tt
 front_refused image vol.Memory format refused = λ btrfs. (let both : Reiser ≡ Btrfs = format ∙ btrfs in absurd cc)

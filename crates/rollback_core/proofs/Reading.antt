@@ -3,6 +3,7 @@ use Rattle.std.proofs.Common.{◌≡◌, ◌≢◌, inl, inr, Bool, true, false,
 use Rattle.std.proofs.lemmas.Bool.{eqb-true}
 use Rattle.reiser_bitmap.specs.outside.Format.{format_in}
 use Rattle.reiser_bitmap.specs.outside.History.{Image}
+use Rattle.convert_steps.specs.command_answers.Answers.{of_btrfs}
 use Rattle.convert_steps.specs.command_answers.declared.answer.Answer.TheVariants as answer
 use Rattle.reiser_bitmap.specs.refusals.declared.answer.BtrAnswer.{BtrAnswer}
 use Rattle.reiser_bitmap.specs.refusals.declared.answer.BtrAnswer.TheVariants.{Refused, Fault, Memory}
@@ -15,7 +16,6 @@ use Rattle.btr_reader.proofs.PartsRead.{one_log}
 use Rattle.btr_super.specs.declared.superblock.Super.{Super}
 use Rattle.volume_state.specs.Using.{IsUseRefusal, RefusesUse, has_log as use_has_log, unreadable as use_unreadable}
 use Rattle.rollback_core.specs.RollbackAnswers.{IsReadRefusal, RefusesRollback, bad_tree, bad_way, has_log}
-use Rattle.rollback_core.specs.Prepared.{by_btrfs}
 
 -- ---- what is wrong with the volume
 rows_refusal : (disk : Image) (r : BtrRefusal) → IsRowsRefusal disk r → IsReadRefusal disk r
@@ -23,7 +23,7 @@ rows_refusal disk r (rows_have_log at log is) = has_log at log is
 rows_refusal disk r (rows_unreadable none bad) = bad_tree none bad
 
 -- on the way to the rows
-pub rows_refuse : (disk : Image) (e : BtrAnswer) → format_in disk ≡ Btrfs → RefusesBtrfsRows disk e → RefusesRollback disk (by_btrfs e)
+pub rows_refuse : (disk : Image) (e : BtrAnswer) → format_in disk ≡ Btrfs → RefusesBtrfsRows disk e → RefusesRollback disk (of_btrfs e)
 rows_refuse disk (Refused r) format refused = (format, rows_refusal disk r refused)
 rows_refuse disk Fault format refused = tt
 rows_refuse disk Memory format refused = tt
@@ -33,13 +33,13 @@ use_refusal disk r (use_has_log at log is) = has_log at log is
 use_refusal disk r (use_unreadable none bad) = bad_way none bad
 
 -- where the blocks in use are looked at
-pub use_refuses : (disk : Image) (e : BtrAnswer) → format_in disk ≡ Btrfs → RefusesUse disk e → RefusesRollback disk (by_btrfs e)
+pub use_refuses : (disk : Image) (e : BtrAnswer) → format_in disk ≡ Btrfs → RefusesUse disk e → RefusesRollback disk (of_btrfs e)
 use_refuses disk (Refused r) format refused = (format, use_refusal disk r refused)
 use_refuses disk Fault format refused = tt
 use_refuses disk Memory format refused = tt
 
 -- on the way to the image
-pub way_refuses : (disk : Image) (e : BtrAnswer) → format_in disk ≡ Btrfs → log_tree disk ≡ None → opening_refusals disk ≡ [] → IsAmong (way_refusals disk) e → RefusesRollback disk (by_btrfs e)
+pub way_refuses : (disk : Image) (e : BtrAnswer) → format_in disk ≡ Btrfs → log_tree disk ≡ None → opening_refusals disk ≡ [] → IsAmong (way_refusals disk) e → RefusesRollback disk (of_btrfs e)
 way_refuses disk (Refused r) format none opens among = (format, bad_way none (inr (opens, among)))
 way_refuses disk Fault format none opens among = tt
 way_refuses disk Memory format none opens among = tt

@@ -1,5 +1,4 @@
 pub use Rattle.volume_state.specs as volume_state
-pub mod Found
 pub mod Mending
 pub mod Opened
 pub mod Opens

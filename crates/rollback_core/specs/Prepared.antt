@@ -4,8 +4,6 @@ use Rattle.reiser_bitmap.specs.outside.Format.{format_in}
 use Rattle.reiser_bitmap.specs.outside.History.{Image, block_at}
 use Rattle.convert_steps.specs.command_answers.declared.answer.Answer.{Answer}
 use Rattle.convert_steps.specs.command_answers.declared.answer.Answer.TheVariants as answer
-use Rattle.reiser_bitmap.specs.refusals.declared.answer.BtrAnswer.{BtrAnswer}
-use Rattle.reiser_bitmap.specs.refusals.declared.answer.BtrAnswer.TheVariants as btrfs
 use Rattle.reiser_bitmap.specs.refusals.declared.answer.VolAnswer.{VolAnswer}
 use Rattle.reiser_bitmap.specs.refusals.declared.answer.VolAnswer.TheVariants as reiser
 use Rattle.reiser_bitmap.specs.vol_block.declared.format.Format.TheVariants.{Btrfs}
@@ -31,12 +29,7 @@ pub record IsPrepared (disk : Image) (way : WayBack) : Type 0 where
   pub second : way.second ≡ is_wiped disk 67108864
   pub summary_is : way.summary ≡ summary disk
 
--- The answer by that of the Btrfs volume, and by that of the volume in its image.
-abbrev pub by_btrfs : BtrAnswer → Answer
-by_btrfs (btrfs.Refused r) = answer.Btr r
-by_btrfs btrfs.Fault = answer.Fault
-by_btrfs btrfs.Memory = answer.Memory
-
+-- the answer by that of the volume in the saved image
 abbrev pub by_image : VolAnswer → Answer
 by_image (reiser.Refused r) = answer.ImageDamaged r
 by_image reiser.Fault = answer.Fault

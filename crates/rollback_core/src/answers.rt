@@ -1,29 +1,10 @@
 // The answers of the steps as those of a rollback.
 ghost use Rattle.std.specs.Prelude.{◌≡◌};
 ghost use Rattle.reiser_bitmap.specs.refusals.declared.refusal.VolumeRefusal.TheVariants.{Damaged};
-ghost use Rattle.rollback_core.specs.Prepared.{by_btrfs, by_image};
+ghost use Rattle.rollback_core.specs.Prepared.{by_image};
 
 use convert_steps::Answer;
-use reiser_bitmap::{BtrAnswer, Fault, Rule, VolAnswer, VolumeRefusal};
-
-/// The answer where a call of the device failed.
-pub fn fault_answer(fault: Fault) -> Answer
-    ensures { result ≡ Answer.Fault }
-{
-    let Fault = fault;
-    Answer::Fault
-}
-
-/// The answer by that of the Btrfs volume.
-pub fn btrfs_answer(answer: BtrAnswer) -> Answer
-    ensures { result ≡ by_btrfs answer }
-{
-    match answer {
-        BtrAnswer::Refused(refusal) => Answer::Btr(refusal),
-        BtrAnswer::Fault => Answer::Fault,
-        BtrAnswer::Memory => Answer::Memory,
-    }
-}
+use reiser_bitmap::{Rule, VolAnswer, VolumeRefusal};
 
 /// The answer by that of the volume in the saved image.
 pub fn image_answer(answer: VolAnswer) -> Answer

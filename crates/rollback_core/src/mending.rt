@@ -6,22 +6,16 @@ ghost use Rattle.reiser_bitmap.specs.outside.Format.{format_in};
 ghost use Rattle.reiser_bitmap.specs.outside.History.{OverTold, block_at};
 ghost use Rattle.reiser_bitmap.specs.vol_block.declared.format.Format.TheVariants as formats;
 ghost use Rattle.rollback_core.specs.RecoveryAnswers.{IsRecoverAnswer, RefusesRecover};
-ghost use Rattle.rollback_core.specs.Found.{IsFoundOn};
+ghost use Rattle.convert_steps.specs.Found.{IsFoundOn};
 ghost use Rattle.rollback_core.specs.Mending.{Gives, copied, wiped};
 ghost use Rattle.rollback_core.specs.Planned.{HasRoom, IsPlanned};
 
-use crate::finding::{Found, SUPERBLOCK, find_format};
+use crate::restore::{FIRST_COPY, SECOND_COPY};
 use btr_super::{Super, mirror};
-use convert_steps::{Answer, volume_answer};
+use convert_steps::{Answer, Found, SUPERBLOCK, find_format};
 use reiser_bitmap::{Block, BlockNo, BlockSource, Fault, Format, VolumeRefusal, has_magic};
 use reiser_volume::Front;
 use std::alloc::Global;
-
-/// The block of the first copy of a Btrfs superblock, as the Btrfs on-disk format documentation has it: at 64 MiB.
-pub const FIRST_COPY: BlockNo = 16384;
-
-/// The block of the second copy: at 256 GiB.
-pub const SECOND_COPY: BlockNo = 67_108_864;
 
 /// What is to be written to the blocks of the copies: a block for each that is to change.
 #[derive(Clone, Copy, Debug)]
@@ -42,10 +36,8 @@ pub fn plan<S: BlockSource>(alloc: Global, src: &mut S) -> Result<Mending, Answe
     ensures cause { HasCauseOf Answer.Fault (S.faults src.old) (S.faults src.new) result }
     ensures answers { IfErr result IsRecoverAnswer }
 {
-    match find_format(src) {
-        Ok(found) => plan_as(&found, alloc, src),
-        Err(Fault) => Err(Answer::Fault),
-    }
+    let found = find_format(src)?;
+    plan_as(&found, alloc, src)
 }
 
 /// What is to be written, by the format that was found.
@@ -71,14 +63,8 @@ fn plan_reiser<S: BlockSource>(alloc: Global, src: &mut S) -> Result<Mending, An
     ensures cause { HasCauseOf Answer.Fault (S.faults src.old) (S.faults src.new) result }
     ensures answers { IfErr result IsRecoverAnswer }
 {
-    let front = match Front::open(alloc, src) {
-        Ok(front) => front,
-        Err(answer) => return Err(volume_answer(answer)),
-    };
-    match wipe_both(src, &front) {
-        Ok(mending) => Ok(mending),
-        Err(Fault) => Err(Answer::Fault),
-    }
+    let front = Front::open(alloc, src)?;
+    Ok(wipe_both(src, &front)?)
 }
 
 /// What is to be written to a Btrfs volume with this superblock.
@@ -89,14 +75,8 @@ fn plan_btrfs<S: BlockSource>(src: &mut S, superblock: &Block) -> Result<Mending
     ensures cause { HasCauseOf Answer.Fault (S.faults src.old) (S.faults src.new) result }
     ensures answers { IfErr result IsRecoverAnswer }
 {
-    let sup = match Super::read(superblock, SUPERBLOCK, src.len()) {
-        Ok(sup) => sup,
-        Err(refusal) => return Err(Answer::Btr(refusal)),
-    };
-    match copy_both(src, superblock, sup.total_bytes / 4096) {
-        Ok(mending) => Ok(mending),
-        Err(Fault) => Err(Answer::Fault),
-    }
+    let sup = Super::read(superblock, SUPERBLOCK, src.len())?;
+    Ok(copy_both(src, superblock, sup.total_bytes / 4096)?)
 }
 
 /// What is to be written to a ReiserFS volume in order.

@@ -12,14 +12,14 @@ ghost use Rattle.rollback_core.specs.Opened.{IsFoundOn, IsMapOn, IsOldOf, IsOpen
 ghost use Rattle.rollback_core.specs.Prepared.{IsPrepared};
 ghost use Rattle.rollback_core.specs.Writing.{AreApart, HasRoom};
 
-use crate::answers::{btrfs_answer, changed, fault_answer, image_answer};
+use crate::answers::{changed, image_answer};
 use crate::saved::{count_reserved, read_block, read_reserved};
 use crate::wiping::wipe_both;
-use crate::{RollbackSummary, SUPERBLOCK, WayBack};
+use crate::{RollbackSummary, WayBack};
 use btr_reader::{Btrfs, ImageMap};
 use btr_super::Super;
-use convert_steps::Answer;
-use reiser_bitmap::{Bitmap, Block, BlockSource, BtrRefusal, Format, VolumeRefusal, format_of};
+use convert_steps::{Answer, SUPERBLOCK, find_format};
+use reiser_bitmap::{Bitmap, Block, BlockSource, BtrRefusal, Format, VolumeRefusal};
 use reiser_volume::Volume;
 use std::alloc::Global;
 use volume_state::{ImageSource, image_moved, reserved_used};
@@ -74,15 +74,9 @@ fn find_superblock<S: BlockSource>(src: &mut S) -> Result<Block, Answer>
     ensures cause { HasCauseOf Answer.Fault (S.faults src.old) (S.faults src.new) result }
     ensures answers { IfErr result IsRollbackAnswer }
 {
-    if src.len() <= SUPERBLOCK {
-        return Err(Answer::Volume(VolumeRefusal::NotVolume));
-    }
-    let block = match read_block(src, SUPERBLOCK) {
-        Ok(block) => block,
-        Err(fault) => return Err(fault_answer(fault)),
-    };
-    match format_of(&block) {
-        Format::Btrfs => Ok(block),
+    let found = find_format(src)?;
+    match found.format {
+        Format::Btrfs => Ok(found.block),
         Format::Reiser => Err(Answer::WrongFormat),
         Format::Neither => Err(Answer::Volume(VolumeRefusal::NotVolume)),
     }
@@ -95,19 +89,13 @@ fn open_volume<S: BlockSource>(alloc: Global, src: &mut S, block: &Block) -> Res
     ensures cause { HasCauseOf Answer.Fault (S.faults src.old) (S.faults src.new) result }
     ensures answers { IfErr result IsRollbackAnswer }
 {
-    let sup = match Super::read(block, SUPERBLOCK, src.len()) {
-        Ok(sup) => sup,
-        Err(refusal) => return Err(Answer::Btr(refusal)),
-    };
+    let sup = Super::read(block, SUPERBLOCK, src.len())?;
     if sup.log_root != 0 {
         return Err(Answer::Btr(BtrRefusal::LogPending {
             address: sup.log_root,
         }));
     }
-    match Btrfs::open_by(alloc, src, block) {
-        Ok(volume) => Ok(volume),
-        Err(answer) => Err(btrfs_answer(answer)),
-    }
+    Ok(Btrfs::open_by(alloc, src, block)?)
 }
 
 /// Whether the rows of the Btrfs volume, which a crash has to leave, can be read.
@@ -117,10 +105,8 @@ fn check_rows<S: BlockSource>(alloc: Global, src: &mut S, volume: &Btrfs) -> Res
     ensures cause { HasCauseOf Answer.Fault (S.faults src.old) (S.faults src.new) result }
     ensures answers { IfErr result IsRollbackAnswer }
 {
-    match volume.check_rows(alloc, src) {
-        Ok(()) => Ok(()),
-        Err(answer) => Err(btrfs_answer(answer)),
-    }
+    volume.check_rows(alloc, src)?;
+    Ok(())
 }
 
 /// The map of the saved image.
@@ -131,10 +117,9 @@ fn read_map<S: BlockSource>(alloc: Global, src: &mut S, volume: &Btrfs) -> Resul
     ensures cause { HasCauseOf Answer.Fault (S.faults src.old) (S.faults src.new) result }
     ensures answers { IfErr result IsRollbackAnswer }
 {
-    match volume.image_map(alloc, src) {
-        Ok(Some(map)) => Ok(map),
-        Ok(None) => Err(Answer::ImageMissing),
-        Err(answer) => Err(btrfs_answer(answer)),
+    match volume.image_map(alloc, src)? {
+        Some(map) => Ok(map),
+        None => Err(Answer::ImageMissing),
     }
 }
 
@@ -183,10 +168,9 @@ fn check_reserved<S: BlockSource>(
     ensures cause { HasCauseOf Answer.Fault (S.faults src.old) (S.faults src.new) result }
     ensures answers { IfErr result IsRollbackAnswer }
 {
-    match reserved_used(alloc, volume, src, blocks) {
-        Ok(None) => Ok(()),
-        Ok(Some(block)) => Err(Answer::ReservedUsed { block }),
-        Err(answer) => Err(btrfs_answer(answer)),
+    match reserved_used(alloc, volume, src, blocks)? {
+        None => Ok(()),
+        Some(block) => Err(Answer::ReservedUsed { block }),
     }
 }
 
@@ -207,15 +191,9 @@ fn plan<S: BlockSource>(
     ensures cause { HasCauseOf Answer.Fault (S.faults src.old) (S.faults src.new) result }
     ensures answers { IfErr result (λ e. (e ≡ Answer.Fault) ⊎ (e ≡ Answer.Memory)) }
 {
-    let (first, second) = match wipe_both(src, used) {
-        Ok(both) => both,
-        Err(fault) => return Err(fault_answer(fault)),
-    };
+    let (first, second) = wipe_both(src, used)?;
     let mut image = ImageSource::new(src, map);
-    let superblock = match read_block(&mut image, SUPERBLOCK) {
-        Ok(block) => block,
-        Err(fault) => return Err(fault_answer(fault)),
-    };
+    let superblock = read_block(&mut image, SUPERBLOCK)?;
     let reserved = match read_reserved(alloc, &mut image, used) {
         Ok(saved) => saved,
         Err(answer) => return Err(image_answer(answer)),

@@ -9,7 +9,7 @@ ghost use Rattle.rollback_core.specs.Recovered.{IsLeft, IsMend, IsRecovered, sum
 use crate::mending::plan;
 use crate::writing::write_mending;
 use convert_steps::Answer;
-use reiser_bitmap::{Access, Disk, Fault, Format};
+use reiser_bitmap::{Access, Disk, Format};
 use std::alloc::Global;
 
 /// What a recovery found and did.
@@ -45,11 +45,9 @@ pub fn recover<D: Disk>(alloc: Global, disk: &mut D) -> Result<RecoverSummary, A
     ensures answers { IfErr result IsRecoverAnswer }
 {
     let mending = plan(alloc, disk)?;
-    match write_mending(disk, &mending) {
-        Ok(mirrors) => Ok(RecoverSummary {
-            format: mending.format,
-            mirrors,
-        }),
-        Err(Fault) => Err(Answer::Fault),
-    }
+    let mirrors = write_mending(disk, &mending)?;
+    Ok(RecoverSummary {
+        format: mending.format,
+        mirrors,
+    })
 }

@@ -7,10 +7,8 @@ ghost use Rattle.reiser_bitmap.specs.vol_block.Volume.{zeros};
 ghost use Rattle.rollback_core.specs.Writing.{AreApart, AreWiped, AreWrittenBack, GoApart, HasRoom, IsPart, IsPlace, IsTurned, IsUnturned, IsWiping};
 
 use crate::way::{Saved, WayBack};
+use convert_steps::SUPERBLOCK;
 use reiser_bitmap::{Access, Block, BlockNo, Disk, Fault};
-
-/// The block of the superblock, of both formats.
-pub const SUPERBLOCK: BlockNo = 16;
 
 /// The block of the first copy of a Btrfs superblock, as the Btrfs on-disk format documentation has it: at 64 MiB.
 pub const FIRST_COPY: BlockNo = 16384;

@@ -8,7 +8,6 @@ ghost use Rattle.rollback_core.specs.Prepared.{IsPrepared};
 ghost use Rattle.rollback_core.specs.RolledBack.{IsLeft, IsRolledBack, summary};
 ghost use Rattle.rollback_core.specs.Writing.{AreApart, HasRoom};
 
-use crate::answers::fault_answer;
 use crate::prepared::prepare;
 use crate::{RollbackSummary, WayBack, write_back};
 use convert_steps::Answer;
@@ -40,10 +39,8 @@ pub fn rollback<D: Disk>(alloc: Global, disk: &mut D) -> Result<RollbackSummary,
     ensures answers { IfErr result IsRollbackAnswer }
 {
     let way = read_way(alloc, disk)?;
-    match write_back(disk, &way) {
-        Ok(()) => Ok(way.summary),
-        Err(fault) => Err(fault_answer(fault)),
-    }
+    write_back(disk, &way)?;
+    Ok(way.summary)
 }
 
 /// What is to be written, read through a cache.
@@ -55,10 +52,7 @@ fn read_way<D: Disk>(alloc: Global, disk: &mut D) -> Result<WayBack, Answer>
     ensures cause { HasCauseOf Answer.Fault (D.faults disk.old) (D.faults disk.new) result }
     ensures answers { IfErr result IsRollbackAnswer }
 {
-    let mut room = match Room::new(alloc, CACHED) {
-        Ok(room) => room,
-        Err(_) => return Err(Answer::Memory),
-    };
+    let mut room = Room::new(alloc, CACHED)?;
     let mut cached = Cached::new(disk, &mut room);
     prepare(alloc, &mut cached)
 }

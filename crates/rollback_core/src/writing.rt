@@ -5,7 +5,8 @@ ghost use Rattle.reiser_bitmap.specs.outside.History.{IsSettled, WritesOnly, blo
 ghost use Rattle.rollback_core.specs.Mending.{given};
 ghost use Rattle.rollback_core.specs.Planned.{HasRoom, IsGiven, IsGivenAt, Stands, number_of};
 
-use crate::mending::{FIRST_COPY, Mending, SECOND_COPY};
+use crate::mending::Mending;
+use crate::restore::{FIRST_COPY, SECOND_COPY};
 use reiser_bitmap::{Access, Block, BlockNo, Disk, Fault};
 
 /// Writes what is to be written, and syncs where that is anything. The number of blocks that were written.

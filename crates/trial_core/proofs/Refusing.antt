@@ -2,6 +2,7 @@
 use Rattle.std.proofs.Common.{◌≡◌, inl, inr, refl, sym, ◌∙◌, subst, None, Some}
 use Rattle.std.specs.Prelude.{◌≢◌}
 use Rattle.reiser_bitmap.specs.outside.History.{History, Image}
+use Rattle.convert_core.specs.command_answers.Answers.{of_btrfs, of_volume}
 use Rattle.convert_core.specs.command_answers.declared.answer.Answer.{Answer}
 use Rattle.convert_core.specs.command_answers.declared.answer.Answer.TheVariants as answer
 use Rattle.reiser_bitmap.specs.refusals.declared.answer.BtrAnswer.{BtrAnswer}
@@ -21,7 +22,7 @@ use Rattle.rollback_core.specs.RecoveryLaws.{InOrderHasFormat}
 use Rattle.rollback_core.specs.RollbackAnswers.{IsRollbackAnswer, RefusesRollback}
 use Rattle.rollback_core.specs.RollbackLaws.{RefusalsAreOfTouched}
 use Rattle.rollback_core.specs.volume_state.Untouched.{IsUntouched}
-use Rattle.trial_core.specs.Answers.{IsReadAnswer, IsStop, LeavesRound, RefusesRound, StopsUnless, by_btrfs, by_step, by_volume}
+use Rattle.trial_core.specs.Answers.{IsReadAnswer, IsStop, LeavesRound, RefusesRound, StopsUnless, by_step}
 use Rattle.trial_core.specs.Round.{FreeAreBytes, plain}
 
 -- ---- of a conversion
@@ -56,17 +57,17 @@ rollback_known _ known = inr refl
 
 -- ---- of what is read
 
-pub front_refused : FrontsAreJudged → (image : Image) (e : VolAnswer) → IsAccepted image → RefusesFront image e → IsStop (by_volume e)
+pub front_refused : FrontsAreJudged → (image : Image) (e : VolAnswer) → IsAccepted image → RefusesFront image e → IsStop (by_step (of_volume e))
 front_refused judged image (of_reiser.Refused r) accepted refused = absurd (judged.broken image r refused (judged.accepted image accepted))
 front_refused judged image of_reiser.Fault accepted refused = inl refl
 front_refused judged image of_reiser.Memory accepted refused = inr refl
 
-pub volume_refused : RefusalsBreakRules → (image : Image) (e : VolAnswer) → IsAccepted image → RefusesVolume image e → IsStop (by_volume e)
+pub volume_refused : RefusalsBreakRules → (image : Image) (e : VolAnswer) → IsAccepted image → RefusesVolume image e → IsStop (by_step (of_volume e))
 volume_refused breaks image (of_reiser.Refused r) accepted refused = absurd (breaks image r refused accepted)
 volume_refused breaks image of_reiser.Fault accepted refused = inl refl
 volume_refused breaks image of_reiser.Memory accepted refused = inr refl
 
-pub rows_stopped : (e : VolAnswer) → IsFaultOrMemory e → IsStop (by_volume e)
+pub rows_stopped : (e : VolAnswer) → IsFaultOrMemory e → IsStop (by_step (of_volume e))
 rows_stopped (of_reiser.Refused r) stop = absurd stop
 rows_stopped of_reiser.Fault stop = inl refl
 rows_stopped of_reiser.Memory stop = inr refl
@@ -77,7 +78,7 @@ rows_refusal disk r (has_log at log is) has =
     absurd (cc both)
 rows_refusal disk r (unreadable none bad) has = has.tree r bad
 
-pub btrfs_refused : (disk : Image) (e : BtrAnswer) → RefusesBtrfsRows disk e → StopsUnless (HasBtrfsRows disk) (by_btrfs e)
+pub btrfs_refused : (disk : Image) (e : BtrAnswer) → RefusesBtrfsRows disk e → StopsUnless (HasBtrfsRows disk) (by_step (of_btrfs e))
 btrfs_refused disk (of_btr.Refused r) refused = inr (refl, rows_refusal disk r refused)
 btrfs_refused disk of_btr.Fault refused = inl (inl refl)
 btrfs_refused disk of_btr.Memory refused = inl (inr refl)

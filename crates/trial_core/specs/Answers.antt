@@ -4,10 +4,6 @@ use Rattle.reiser_bitmap.specs.outside.Format.{format_in}
 use Rattle.reiser_bitmap.specs.outside.History.{History, Image, IsSettled, reads}
 use Rattle.convert_core.specs.command_answers.declared.answer.Answer.{Answer}
 use Rattle.convert_core.specs.command_answers.declared.answer.Answer.TheVariants as answer
-use Rattle.reiser_bitmap.specs.refusals.declared.answer.BtrAnswer.{BtrAnswer}
-use Rattle.reiser_bitmap.specs.refusals.declared.answer.BtrAnswer.TheVariants as of_btr
-use Rattle.reiser_bitmap.specs.refusals.declared.answer.VolAnswer.{VolAnswer}
-use Rattle.reiser_bitmap.specs.refusals.declared.answer.VolAnswer.TheVariants as of_reiser
 use Rattle.reiser_bitmap.specs.refusals.declared.refusal.VolumeRefusal.TheVariants.{Damaged, Short}
 use Rattle.reiser_bitmap.specs.refusals.declared.rule.Rule.TheVariants.{Reread}
 use Rattle.reiser_bitmap.specs.vol_block.declared.format.Format.TheVariants.{Neither}
@@ -29,16 +25,6 @@ by_step (answer.NoSpace needed free run_needed longest) = answer.NoSpace needed 
 by_step answer.Fault = answer.Fault
 by_step answer.Memory = answer.Memory
 by_step _ = changed
-
-abbrev pub by_volume : VolAnswer → Answer
-by_volume (of_reiser.Refused r) = changed
-by_volume of_reiser.Fault = answer.Fault
-by_volume of_reiser.Memory = answer.Memory
-
-abbrev pub by_btrfs : BtrAnswer → Answer
-by_btrfs (of_btr.Refused r) = changed
-by_btrfs of_btr.Fault = answer.Fault
-by_btrfs of_btr.Memory = answer.Memory
 
 abbrev pub by_maker : MakeAnswer → Answer
 by_maker (maker.Full needed blocks) = answer.NoSpace needed blocks 0 0

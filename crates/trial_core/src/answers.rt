@@ -1,18 +1,10 @@
 // The answers of the steps as those of a trial.
 ghost use Rattle.std.specs.Prelude.{◌≡◌};
-ghost use Rattle.trial_core.specs.Answers.{by_btrfs, by_maker, by_step, by_volume, changed as change};
+ghost use Rattle.trial_core.specs.Answers.{by_maker, by_step, changed as change};
 
 use convert_core::Answer;
-use reiser_bitmap::{BtrAnswer, Fault, Rule, VolAnswer, VolumeRefusal};
+use reiser_bitmap::{Rule, VolumeRefusal};
 use reiser_make::MakeAnswer;
-
-/// The answer where a call of the device failed.
-pub fn fault_answer(fault: Fault) -> Answer
-    ensures { result ≡ Answer.Fault }
-{
-    let Fault = fault;
-    Answer::Fault
-}
 
 /// The answer where what is read is not what was written: the device doesn't keep its blocks.
 pub fn changed() -> Answer
@@ -31,28 +23,6 @@ pub fn step_answer(answer: Answer) -> Answer
     match answer {
         Answer::NoSpace { .. } | Answer::Fault | Answer::Memory => answer,
         _ => changed(),
-    }
-}
-
-/// The answer by that of a ReiserFS volume that is to be in order.
-pub fn volume_answer(answer: VolAnswer) -> Answer
-    ensures { result ≡ by_volume answer }
-{
-    match answer {
-        VolAnswer::Refused(_) => changed(),
-        VolAnswer::Fault => Answer::Fault,
-        VolAnswer::Memory => Answer::Memory,
-    }
-}
-
-/// The answer by that of a Btrfs volume that is to be in order.
-pub fn btrfs_answer(answer: BtrAnswer) -> Answer
-    ensures { result ≡ by_btrfs answer }
-{
-    match answer {
-        BtrAnswer::Refused(_) => changed(),
-        BtrAnswer::Fault => Answer::Fault,
-        BtrAnswer::Memory => Answer::Memory,
     }
 }
 

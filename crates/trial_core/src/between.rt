@@ -6,7 +6,7 @@ ghost use Rattle.reiser_bitmap.specs.outside.History.{OverTold};
 ghost use Rattle.btr_reader.specs.Parts.{HasBtrfsRows, ListsBtrfs};
 ghost use Rattle.trial_core.specs.Answers.{IsReadAnswer, StopsUnless};
 
-use crate::answers::{btrfs_answer, fault_answer};
+use crate::answers::step_answer;
 use btr_reader::Btrfs;
 use convert_core::Answer;
 use fs_rows::Rows;
@@ -25,11 +25,9 @@ pub fn read_btrfs_rows<S: BlockSource>(alloc: Global, src: &mut S) -> Result<Row
     ensures answers { IfErr result IsReadAnswer }
 {
     let mut block = Block::zero();
-    if let Err(fault) = src.read(SUPERBLOCK, &mut block) {
-        return Err(fault_answer(fault));
-    }
+    src.read(SUPERBLOCK, &mut block)?;
     match Btrfs::list(alloc, src, &block) {
         Ok(rows) => Ok(rows),
-        Err(answer) => Err(btrfs_answer(answer)),
+        Err(answer) => Err(step_answer(Answer::from(answer))),
     }
 }

@@ -7,7 +7,7 @@ ghost use Rattle.trial_core.specs.Answers.{IsReadAnswer, IsStop, StopsUnless};
 ghost use Rattle.trial_core.specs.Round.{AreReiser, IsKnown};
 ghost use Rattle.trial_core.specs.Parts.{used_mark};
 
-use crate::answers::{changed, fault_answer, volume_answer};
+use crate::answers::{changed, step_answer};
 use crate::read_mark;
 use convert_core::Answer;
 use fs_rows::Rows;
@@ -37,10 +37,8 @@ impl Known {
     {
         let used = read_used(alloc, src)?;
         let rows = read_rows(alloc, src)?;
-        match read_mark(&used, src) {
-            Ok(mark) => Ok(Known { rows, used, mark }),
-            Err(fault) => Err(fault_answer(fault)),
-        }
+        let mark = read_mark(&used, src)?;
+        Ok(Known { rows, used, mark })
     }
 
     /// Whether the used blocks still have their mark.
@@ -52,10 +50,7 @@ impl Known {
         ensures cause { HasCauseOf Answer.Fault (S.faults src.old) (S.faults src.new) result }
         ensures answers { IfErr result IsReadAnswer }
     {
-        let mark = match read_mark(&self.used, src) {
-            Ok(mark) => mark,
-            Err(fault) => return Err(fault_answer(fault)),
-        };
+        let mark = read_mark(&self.used, src)?;
         if mark == self.mark {
             Ok(())
         } else {
@@ -75,7 +70,7 @@ fn read_used<S: BlockSource>(alloc: Global, src: &mut S) -> Result<Bitmap, Answe
     fronts_are_judged();
     match Front::open(alloc, src) {
         Ok(front) => Ok(front.bitmap),
-        Err(answer) => Err(volume_answer(answer)),
+        Err(answer) => Err(step_answer(Answer::from(answer))),
     }
 }
 
@@ -89,10 +84,10 @@ fn read_rows<S: BlockSource>(alloc: Global, src: &mut S) -> Result<Rows, Answer>
     refusals_break_rules();
     let volume = match Volume::open(alloc, src) {
         Ok(volume) => volume,
-        Err(answer) => return Err(volume_answer(answer)),
+        Err(answer) => return Err(step_answer(Answer::from(answer))),
     };
     match volume.rows(alloc, src) {
         Ok(rows) => Ok(rows),
-        Err(answer) => Err(volume_answer(answer)),
+        Err(answer) => Err(step_answer(Answer::from(answer))),
     }
 }

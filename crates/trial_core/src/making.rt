@@ -4,7 +4,7 @@ ghost use Rattle.reiser_bitmap.specs.outside.Fault.{HasCauseOf};
 ghost use Rattle.trial_core.specs.Answers.{IsMakeAnswer, LeavesRound};
 ghost use Rattle.trial_core.specs.Trial.{IsMade, needed_by};
 
-use crate::answers::{fault_answer, make_answer};
+use crate::answers::make_answer;
 use crate::scratch::BLOCKS;
 use convert_core::Answer;
 use reiser_bitmap::{Access, Disk};
@@ -30,8 +30,6 @@ pub fn make_sample<D: Disk>(alloc: Global, number: u32, disk: &mut D) -> Result<
     if let Err(answer) = make(alloc, number, BLOCKS, disk) {
         return Err(make_answer(answer));
     }
-    match disk.sync() {
-        Ok(()) => Ok(()),
-        Err(fault) => Err(fault_answer(fault)),
-    }
+    disk.sync()?;
+    Ok(())
 }

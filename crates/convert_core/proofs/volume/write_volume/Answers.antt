@@ -1,7 +1,7 @@
 use Rattle.std.proofs.Common.{◌≡◌, ◌∙◌, length, inl, inr, sym, ap, subst, true≢false, rules}
-use Rattle.std.proofs.lemmas.Result.{MatchResult-weaker, err_from_is_err_and}
+use Rattle.std.proofs.lemmas.Result.{MatchResult-weaker}
 use Rattle.reiser_volume.specs.outside.History.{History, Image, WritesOnly, reads}
-use Rattle.convert_steps.specs.Prepared.{RefusesConversion}
+use Rattle.convert_steps.proofs.command_answers.Handed.{handed_on}
 use Rattle.convert_core.specs.Converted.{IsFree}
 use Rattle.convert_core.proofs.Ending.{failed_so, fails, keeps_cause}
 use Rattle.convert_core.proofs.Putting.{convertible}
@@ -11,8 +11,7 @@ pub returns-in_err-prepared-clause-written : goal.returns-in_err-prepared-clause
 returns-in_err-prepared-clause-written g c = λ tells image is.
     let there = ap g.D.BlockSource.blocks c.new-cached.ensures.same ∙ (g.met.D.Disk.open_blocks c.args.disk.now _ tells c.requires.open ∙ is) in
     let refused = c.in_err-prepared.ensures.prepared tells image there in
-    let err = err_from_is_err_and c.from_residual.result c.from_residual.ensures.1 in
-    rw err.1 (subst (RefusesConversion image c.args.options.now) (sym err.2) refused)
+    handed_on c.from_residual-in_err-prepared.result _ _ _ c.from_residual-in_err-prepared.ensures.1 refused
 
 pub returns-then-not-is_whole-clause-open : goal.returns-then-not-is_whole-clause-open
 returns-then-not-is_whole-clause-open g c =

@@ -20,48 +20,48 @@ returns-in_err-mending-clause-recovered g c = λ tells image is.
     let err = err_from_is_err_and c.from_residual.result c.from_residual.ensures.1 in
     rw err.1 (subst (λ (e : Answer). RefusesRecover image e) (sym err.2) (c.in_err-mending.ensures.planned tells image (blocks ∙ is)))
 
-pub returns-in-Ok-clause-crash : goal.returns-in-Ok-clause-crash
-returns-in-Ok-clause-crash g c = λ tells settled image left.
+pub returns-clause-crash : goal.returns-clause-crash
+returns-clause-crash g c = λ tells settled image left.
     let same : g.D.Disk.history c.plan.new.src ≡ g.D.Disk.history c.args.disk.now = g.met.D.Disk.kept_history _ _ tells c.plan.ensures.kept in
     let planned = c.in_ok-mending.ensures.planned tells _ (g.met.D.Disk.open_blocks c.args.disk.now _ tells c.requires.«open») in
     let only = subst (λ (h : History). WritesOnly (IsGiven c.in_ok-mending.mending) h (g.D.Disk.history c.write_mending.new.disk)) same (c.write_mending.ensures.only tells) in
     inr (planned.can, crash_partly (reads (g.D.Disk.history c.args.disk.now)) c.in_ok-mending.mending planned (g.D.Disk.history c.args.disk.now) (g.D.Disk.history c.write_mending.new.disk) refl only settled image left)
 
-pub returns-in-Err-clause-crash : goal.returns-in-Err-clause-crash
-returns-in-Err-clause-crash g c = λ tells settled image left.
+pub returns-in_err-mirrors-clause-crash : goal.returns-in_err-mirrors-clause-crash
+returns-in_err-mirrors-clause-crash g c = λ tells settled image left.
     let same : g.D.Disk.history c.plan.new.src ≡ g.D.Disk.history c.args.disk.now = g.met.D.Disk.kept_history _ _ tells c.plan.ensures.kept in
     let planned = c.in_ok-mending.ensures.planned tells _ (g.met.D.Disk.open_blocks c.args.disk.now _ tells c.requires.«open») in
     let only = subst (λ (h : History). WritesOnly (IsGiven c.in_ok-mending.mending) h (g.D.Disk.history c.write_mending.new.disk)) same (c.write_mending.ensures.only tells) in
     inr (planned.can, crash_partly (reads (g.D.Disk.history c.args.disk.now)) c.in_ok-mending.mending planned (g.D.Disk.history c.args.disk.now) (g.D.Disk.history c.write_mending.new.disk) refl only settled image left)
 
-pub returns-in-Ok-clause-recovered : goal.returns-in-Ok-clause-recovered
-returns-in-Ok-clause-recovered g c = λ tells image is.
+pub returns-clause-recovered : goal.returns-clause-recovered
+returns-clause-recovered g c = λ tells image is.
     let same : g.D.Disk.history c.plan.new.src ≡ g.D.Disk.history c.args.disk.now = g.met.D.Disk.kept_history _ _ tells c.plan.ensures.kept in
     let planned = c.in_ok-mending.ensures.planned tells image (g.met.D.Disk.open_blocks c.args.disk.now _ tells c.requires.«open» ∙ is) in
     let only = subst (λ (h : History). WritesOnly (IsGiven c.in_ok-mending.mending) h (g.D.Disk.history c.write_mending.new.disk)) same (c.write_mending.ensures.only tells) in
-    let stands = subst (λ (h : History). Stands c.in_ok-mending.mending (reads h) (reads (g.D.Disk.history c.write_mending.new.disk))) same (c.in-Ok.ensures.written tells) in (
+    let stands = subst (λ (h : History). Stands c.in_ok-mending.mending (reads h) (reads (g.D.Disk.history c.write_mending.new.disk))) same (c.in_ok-mirrors.ensures.written tells) in (
       recovers image c.in_ok-mending.mending planned (g.D.Disk.history c.args.disk.now) (g.D.Disk.history c.write_mending.new.disk) is only stands,
-      summary_is image c.in_ok-mending.mending planned c.in-Ok.mirrors c.in-Ok.ensures.count,
+      summary_is image c.in_ok-mending.mending planned c.in_ok-mirrors.mirrors c.in_ok-mirrors.ensures.count,
     )
 
-pub returns-in-Ok-clause-unwritten : goal.returns-in-Ok-clause-unwritten
-returns-in-Ok-clause-unwritten g c = λ tells none.
-    c.in-Ok.ensures.unwritten tells none ∙ g.met.D.Disk.kept_history _ _ tells c.plan.ensures.kept
+pub returns-clause-unwritten : goal.returns-clause-unwritten
+returns-clause-unwritten g c = λ tells none.
+    c.in_ok-mirrors.ensures.unwritten tells none ∙ g.met.D.Disk.kept_history _ _ tells c.plan.ensures.kept
 
 pub returns-in_err-mending-clause-only : goal.returns-in_err-mending-clause-only
 returns-in_err-mending-clause-only g c = λ tells.
     subst (λ (h : History). WritesOnly (IsMend (reads (g.D.Disk.history c.args.disk.now))) (g.D.Disk.history c.args.disk.now) h) (sym (g.met.D.Disk.kept_history _ _ tells c.plan.ensures.kept))
     (writes_none (IsMend (reads (g.D.Disk.history c.args.disk.now))) (g.D.Disk.history c.args.disk.now))
 
-pub returns-in-Ok-clause-only : goal.returns-in-Ok-clause-only
-returns-in-Ok-clause-only g c = λ tells.
+pub returns-clause-only : goal.returns-clause-only
+returns-clause-only g c = λ tells.
     let same : g.D.Disk.history c.plan.new.src ≡ g.D.Disk.history c.args.disk.now = g.met.D.Disk.kept_history _ _ tells c.plan.ensures.kept in
     let planned = c.in_ok-mending.ensures.planned tells _ (g.met.D.Disk.open_blocks c.args.disk.now _ tells c.requires.«open») in
     mends_only (reads (g.D.Disk.history c.args.disk.now)) c.in_ok-mending.mending planned (g.D.Disk.history c.args.disk.now) (g.D.Disk.history c.write_mending.new.disk)
     (subst (λ (h : History). WritesOnly (IsGiven c.in_ok-mending.mending) h (g.D.Disk.history c.write_mending.new.disk)) same (c.write_mending.ensures.only tells))
 
-pub returns-in-Err-clause-only : goal.returns-in-Err-clause-only
-returns-in-Err-clause-only g c = λ tells.
+pub returns-in_err-mirrors-clause-only : goal.returns-in_err-mirrors-clause-only
+returns-in_err-mirrors-clause-only g c = λ tells.
     let same : g.D.Disk.history c.plan.new.src ≡ g.D.Disk.history c.args.disk.now = g.met.D.Disk.kept_history _ _ tells c.plan.ensures.kept in
     let planned = c.in_ok-mending.ensures.planned tells _ (g.met.D.Disk.open_blocks c.args.disk.now _ tells c.requires.«open») in
     mends_only (reads (g.D.Disk.history c.args.disk.now)) c.in_ok-mending.mending planned (g.D.Disk.history c.args.disk.now) (g.D.Disk.history c.write_mending.new.disk)

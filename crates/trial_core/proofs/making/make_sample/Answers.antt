@@ -3,8 +3,8 @@ use Rattle.reiser_bitmap.specs.outside.History.{reads}
 use Rattle.trial_core.proofs.Tried.{made_whole}
 use Rattle.trial_core.proofs.making.make_sample.Goals as goal
 
-pub returns-in-Ok-clause-made : goal.returns-in-Ok-clause-made
-returns-in-Ok-clause-made g c = λ tells.
+pub returns-clause-made : goal.returns-clause-made
+returns-clause-made g c = λ tells.
     let size : g.D.BlockSource.size c.args.disk.now ≡ length (reads (g.D.Disk.history c.args.disk.now)) = g.met.D.Disk.open_size _ _ tells c.requires.«open» in
     made_whole c.samples_are_as_described.ensures c.samples_mark_used.ensures c.args.number _ _ _ c.requires.number c.in_default.ensures.enough (omega (arith, size, c.requires.inside))
-    (c.in_default.ensures.written tells) (c.make.ensures.only tells) (c.in-Ok.ensures.effect tells)
+    (c.in_default.ensures.written tells) (c.make.ensures.only tells) (c.in_ok-sync.ensures.effect tells)

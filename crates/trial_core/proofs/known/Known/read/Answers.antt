@@ -21,20 +21,20 @@ returns-in_err-rows-clause-told g c = λ tells image is accepted.
     let err = err_from_is_err_and c.from_residual-in_err-rows.result c.from_residual-in_err-rows.ensures.1 in
     rw err.1 (subst (λ (e : Answer). IsStop e) (sym err.2) (c.in_err-rows.ensures.told tells image here accepted))
 
-pub returns-in-Ok-clause-kept : goal.returns-in-Ok-clause-kept
-returns-in-Ok-clause-kept g c = g.met.S.BlockSource.kept_trans _ _ _ (g.met.S.BlockSource.kept_trans _ _ _ c.read_used.ensures.kept c.read_rows.ensures.kept) c.read_mark.ensures.kept
+pub returns-clause-kept : goal.returns-clause-kept
+returns-clause-kept g c = g.met.S.BlockSource.kept_trans _ _ _ (g.met.S.BlockSource.kept_trans _ _ _ c.read_used.ensures.kept c.read_rows.ensures.kept) c.read_mark.ensures.kept
 
-pub returns-in-Err-clause-kept : goal.returns-in-Err-clause-kept
-returns-in-Err-clause-kept g c = g.met.S.BlockSource.kept_trans _ _ _ (g.met.S.BlockSource.kept_trans _ _ _ c.read_used.ensures.kept c.read_rows.ensures.kept) c.read_mark.ensures.kept
+pub returns-in_err-mark-clause-kept : goal.returns-in_err-mark-clause-kept
+returns-in_err-mark-clause-kept g c = g.met.S.BlockSource.kept_trans _ _ _ (g.met.S.BlockSource.kept_trans _ _ _ c.read_used.ensures.kept c.read_rows.ensures.kept) c.read_mark.ensures.kept
 
-pub returns-in-Ok-clause-told : goal.returns-in-Ok-clause-told
-returns-in-Ok-clause-told g c = λ tells image is accepted.
+pub returns-clause-told : goal.returns-clause-told
+returns-clause-told g c = λ tells image is accepted.
     let here = g.met.S.BlockSource.kept_blocks _ _ tells c.read_used.ensures.kept ∙ is in
     let now = g.met.S.BlockSource.kept_blocks _ _ tells c.read_rows.ensures.kept ∙ here in
     let used : c.in_ok-used.used ≡ used_of image = c.in_ok-used.ensures.told tells image is accepted in
     record {
       rows = c.in_ok-rows.ensures.told tells image here accepted;
       used = used;
-      mark = c.in-Ok.ensures.mark tells image now ∙ ap (λ (u : List Bool). used_mark u image) used;
-      bytes = λ b marked. c.in-Ok.ensures.bytes tells image now b (subst (λ (u : List Bool). has u b ≡ true) (sym used) marked);
+      mark = c.in_ok-mark.ensures.mark tells image now ∙ ap (λ (u : List Bool). used_mark u image) used;
+      bytes = λ b marked. c.in_ok-mark.ensures.bytes tells image now b (subst (λ (u : List Bool). has u b ≡ true) (sym used) marked);
     }

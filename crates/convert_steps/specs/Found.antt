@@ -1,9 +1,9 @@
 -- What is found of a disk before its volume is looked at.
 use Rattle.std.specs.Prelude.{◌≡◌}
-use Rattle.reiser_bitmap.specs.outside.Format.{format_in}
-use Rattle.reiser_bitmap.specs.outside.History.{Image, block_at}
-use Rattle.reiser_bitmap.specs.vol_block.declared.format.Format.TheVariants.{Btrfs}
-use Rattle.rollback_core.specs.declared.finding.Found.{Found}
+use Rattle.command_answers.specs.outside.Format.{format_in}
+use Rattle.command_answers.specs.outside.History.{Image, block_at}
+use Rattle.command_answers.specs.vol_block.declared.format.Format.TheVariants.{Btrfs}
+use Rattle.convert_steps.specs.declared.finding.Found.{Found}
 
 -- the format is that of the disk, and of a Btrfs volume the block is block 16
 pub record IsFoundOn (disk : Image) (found : Found) : Type 0 where

@@ -1,10 +1,11 @@
 // The format of a disk.
 ghost use Rattle.std.specs.Prelude.{◌≡◌, IfOk};
-ghost use Rattle.reiser_bitmap.specs.outside.Fault.{HasCause};
-ghost use Rattle.reiser_bitmap.specs.outside.History.{OverTold};
-ghost use Rattle.rollback_core.specs.Found.{IsFoundOn};
+ghost use Rattle.command_answers.specs.outside.Fault.{HasCause};
+ghost use Rattle.command_answers.specs.outside.History.{OverTold};
+ghost use Rattle.convert_steps.specs.Found.{IsFoundOn};
 
-use reiser_bitmap::{Block, BlockNo, BlockSource, Fault, Format, format_of};
+use command_answers::{Block, BlockNo, BlockSource, Fault};
+use reiser_volume::{Format, format_of};
 
 /// The block of the superblock, of both formats.
 pub const SUPERBLOCK: BlockNo = 16;
