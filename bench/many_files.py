@@ -27,6 +27,7 @@ from files_volume import (
     blocks_from,
     end_volume,
     stat,
+    write_journal_header,
     writer_of,
 )
 
@@ -89,6 +90,7 @@ def main():
             free = add_extents(leaves, number)
         else:
             free = add_files(leaves, number, {"files": FILES, "directory": number}[kind])
+        write_journal_header(leaves.write)
         end = end_volume(out, leaves, free, 32768 + number)
     print("blocks", end, "leaves", len(leaves.nodes))
 

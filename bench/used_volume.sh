@@ -1,6 +1,6 @@
 #!/usr/bin/env bash
-# used_volume.sh fresh|aged FILE [MIB]: has Linux make a ReiserFS volume of 2048 MiB, or of MIB, and fill it (bench/linux/use), in the virtual
-# machine of tests/linux.sh. It takes minutes.
+# used_volume.sh fresh|aged FILE [MIB]: has Linux make a ReiserFS volume of 256 MiB, or of MIB, and fill it (bench/linux/use), in the virtual
+# machine of tests/linux.sh. Since its processor is emulated, an aged one takes ten minutes. bench/aged_volume.py makes larger ones in seconds.
 set -euo pipefail
 
 top=$(cd "$(dirname "$(readlink -f "${BASH_SOURCE[0]}")")/.." && pwd)
@@ -15,5 +15,5 @@ perl ./use /mnt $kind || exit
 umount /mnt
 SCRIPT
 rm -f "$file"
-truncate -s "${3:-2048}M" "$file"
+truncate -s "${3:-256}M" "$file"
 ADD=$top/bench/linux/use "$top/tests/linux/machine" "$script" "$file"
