@@ -1,18 +1,21 @@
 #!/usr/bin/env python3
 """Writes a ReiserFS 3.6 volume as use would leave it: aged_volume.py fresh|aged MIB FILE.
 
-It acts out what bench/linux/use has Linux do: files of up to 64 kB, one in a hundred larger, 200 in a directory, with names in no order of time.
+It acts out what bench/linux/use has Linux do: files of up to 64 kB, one in a hundred larger, 200 in a directory, with
+names in no order of time.
 
 fresh  the volume is filled once, directory by directory, until 55 % of it is used
-aged   until 90 % is used; then four times a half of the files, drawn by lot, goes, and new files come in directories drawn by lot, four of them
-       written by turns. In the end whole directories go until 55 % is used
+aged   until 90 % is used; then four times a half of the files, drawn by lot, goes, and new files come in directories
+       drawn by lot, four of them written by turns. In the end whole directories go until 55 % is used
 
-Where blocks go: the first free one from a goal on. The goal of a file's block is the one behind the block before, that of its first block is the end of
-the directory's last file, and that of a leaf is the leaf that was split for it. A leaf that becomes empty goes, and one that fits into the leaf before
-it is merged with it. So it is near what Linux does, and nearer to it than blocks drawn by lot; Linux also keeps directories apart.
+Where blocks go is near what Linux does (fs/reiserfs/bitmap.c): the first free one from a goal on. The goal of a file's
+block is the one behind the block before, and that of its first block is the directory's group of 128 MiB, which is
+drawn by lot, behind 2048 blocks that are left to leaves. The goal of a leaf is the leaf that was split for it. A leaf
+that fits into the one before it is merged with it. So the leaves lie together, and with time in no order.
 
-The percents are those of the first seven eighths. The last eighth is never used, so that there is room for a conversion, which takes whole free MiB.
-The blocks of data are holes of the image. `reiserfsck --check` finds no corruption in such a volume.
+The percents are those of the first seven eighths. The last eighth is never used, so that there is room for a
+conversion, which takes whole free MiB. The blocks of data are holes of the image. `reiserfsck --check` finds no
+corruption in such a volume.
 """
 import bisect
 import random
@@ -40,7 +43,8 @@ from files_volume import (
 from many_files import name_of
 
 ROOT, FIRST = (1, 2), 3
-GROUP = 32768
+# a bitmap's blocks, and how many of them are left to leaves
+GROUP, FOR_LEAVES = 32768, 2048
 TURN = 4
 HEAD = 24
 
@@ -93,7 +97,7 @@ class Tree:
 
     def __init__(self, space):
         self.space = space
-        self.first, self.leaves = [(0, 0)], [[space.take(0), {}, 0]]
+        self.first, self.leaves = [(0, 0)], [[space.take(GROUP if len(space.used) > GROUP else 0), {}, 0]]
 
     def place(self, key):
         return max(bisect.bisect_right(self.first, key) - 1, 0)
@@ -140,7 +144,7 @@ class Volume:
     def __init__(self, blocks):
         self.space, self.draw = Space(blocks), random.Random(7)
         self.tree = Tree(self.space)
-        self.folders, self.goals, self.made, self.last = [], [], 0, 0
+        self.folders, self.goals, self.made = [], [], 0
 
     def size(self):
         if self.draw.random() < 0.01:
@@ -151,7 +155,7 @@ class Volume:
         """A file in the newest directory, or in one drawn by lot."""
         if not by_lot and self.made % FILES == 0:
             self.folders.append([])
-            self.goals.append(self.last)
+            self.goals.append(GROUP * (self.draw.randrange(len(self.space.used) // GROUP) + 1) + FOR_LEAVES)
         folder = self.draw.randrange(len(self.folders)) if by_lot else len(self.folders) - 1
         file = File((folder, self.made), self.size())
         self.made += 1
@@ -167,8 +171,6 @@ class Volume:
                 file.blocks.append(self.space.take(file.blocks[-1] + 1 if file.blocks else self.goals[file.key[0]]))
             if len(file.blocks) == file.whole:
                 waiting.remove(file)
-                if file.blocks:
-                    self.last = self.goals[file.key[0]] = file.blocks[-1]
                 self.tree.add(file)
 
     def remove(self, file):
@@ -222,13 +224,14 @@ def add_file(leaves, key, file):
 
 
 def write_tree(volume, write):
-    """The leaves of the directories, those of the files, and the nodes above. Answers the root, the height and the first free object id."""
+    """The leaves of the directories, those of the files, and the nodes above. Answers the root, the height and the
+    first free object id."""
     folders = [i for i, folder in enumerate(volume.folders) if folder]
     numbers, first = Numbers(volume.space), FIRST + len(volume.folders)
     leaves = Leaves(write, numbers)
+    numbers.goal = volume.tree.leaves[0][0]
     add_directory(leaves, ROOT, (0, 1), 2 + len(folders), [((ROOT[1], FIRST + i), b"d%06d" % i) for i in folders])
     for i in folders:
-        numbers.goal = next((file.blocks[0] for file in volume.folders[i] if file.blocks), 0)
         names = [((FIRST + i, first + file.key[1]), name_of(file.key[1])) for file in volume.folders[i]]
         add_directory(leaves, (ROOT[1], FIRST + i), ROOT, 2, names)
     leaves.flush()

@@ -1,8 +1,8 @@
 #!/usr/bin/env python3
 """What runs of the program would take on a spinning disk, by a model over their traced calls.
 
-    bench/disk.py [OPTION..] VOLUME                    # inspect, list, convert, and on the new volume inspect, list, recover, rollback
-    bench/disk.py [OPTION..] VOLUME convert --no-datasum    # one run with these words
+    bench/disk.py [OPTION..] VOLUME           # a round: inspect, list, convert, and what goes on the new volume
+    bench/disk.py [OPTION..] VOLUME WORDS..   # one run with these words, as convert --no-datasum
 
     --cache MIB[,MIB..]   the page cache (256); with several, there is a line for each
     --jump MS             a jump of the head (8)
@@ -10,23 +10,23 @@
     --ahead KIB           the read-ahead of Linux (128; 0 is none)
     --call KIB            how much of a range posix_fadvise(WILLNEED) takes (1024)
     --sync MS             what an fsync takes beside the writes (20)
-    --trace FOLDER        keeps the traces there, and takes those that are there already instead of a run
+    --trace FOLDER        keeps the traces there
 
-Each run is under strace, on a copy of the volume, and begins with an empty cache. RECONV names the program, by itself the one that ./reiserconv
-runs. All calls that have the volume are read: what they read and write, where, and in which order. bench/page_cache.py says what is modelled; a
-call that is not ends this with an error. A line of the table:
+Each run is under strace, on a copy of the volume, and begins with an empty cache. RECONV names the program, by itself
+the one that ./reiserconv runs. All calls that have the volume are read: what they read and write, where, and in which
+order. bench/page_cache.py says what is modelled; a call that is not ends this with an error. A line of the table:
 
-    calls       reads, writes, advices and syncs
-    read, written   MiB that the disk moves, so with what is read ahead and read again
-    each        how often the program reads each page that it reads
-    jumps       of the head
-    seconds     of the disk, by the model
-    ideal       each page that the run reads, read once in ascending order, and then each page that it writes, written once in ascending order; a page
-                that it wrote itself before it reads it need not be read
-    times       seconds by ideal
+    calls      reads, writes, advices and syncs
+    MiB read   what the disk moves, so with what is read ahead and what is read again; `written` likewise
+    each       how often the program reads a page, by mean over the pages that it reads
+    jumps      of the head, far ones and those back
+    seconds    of the disk, by the model
+    ideal      the same for each page that the run reads, once and in ascending order, and then each page that it
+               writes, once and in ascending order; what it wrote before it read it need not be read
+    times      seconds by ideal
 
-For `recover` the superblock's copy at 64 MiB is overwritten before, so that there is something to do. It needs strace (Debian's package) and
-room for a copy.
+For `recover` the superblock's copy at 64 MiB is overwritten before, so that there is something to do. It needs strace
+(Debian's package) and room for a copy.
 """
 
 import argparse
@@ -54,7 +54,9 @@ CALL = re.compile(r"(?:\d+ +)?(\w+)\((.*)\) += (-?\d+)")
 UNFINISHED, RESUMED = " <unfinished ...>", re.compile(r"<\.\.\. \w+ resumed>")
 READS = {"read": None, "readv": None, "pread64": 3, "preadv": 3}
 WRITES = {"write": None, "writev": None, "pwrite64": 3, "pwritev": 3}
-HARMLESS = set("close fcntl flock fstat fstatfs newfstatat stat lstat statx readlink access faccessat faccessat2 ioctl umount2".split())
+# calls that neither read nor write the volume
+HARMLESS = set("close flock fstat fstatfs newfstatat stat lstat statx readlink access faccessat faccessat2".split())
+ASKING = {"fcntl": r"F_(GETFD|SETFD|GETFL|SETFL|[GS]ETLKW?)", "ioctl": r"BLK\w*GET|BLKGETSIZE"}
 
 
 def program():
@@ -73,7 +75,8 @@ def trace(words, volume, out):
 
 
 def calls_of(path):
-    """(name, arguments, result) of each call that succeeded; one that another thread cut in two counts where it ends."""
+    """(name, arguments, result) of each call that succeeded; one that another thread cut in two counts where it
+    ends."""
     begun = {}
     with open(path) as lines:
         for line in lines:
@@ -89,8 +92,8 @@ def calls_of(path):
 
 
 def events_of(path):
-    """What a run does with the volume: (what, file, offset, length) with the file's number, or for an advice its name as a fifth. The offset of a read
-    where the file stands is reckoned."""
+    """What a run does with the volume: (what, file, offset, length) with the file's number, or for an advice its name
+    as a fifth. The offset of a read where the file stands is reckoned."""
     places, files, opened = {}, {}, 0
     for name, words, result in calls_of(path):
         if name in ("open", "openat"):
@@ -115,7 +118,7 @@ def events_of(path):
             yield "advise", files[number], int(words[1]), int(words[2]), "WILLNEED"
         elif name == "fadvise64":
             yield "advise", files[number], int(words[1]), int(words[2]), words[3].replace("POSIX_FADV_", "")
-        elif name not in HARMLESS:
+        elif name not in HARMLESS and not (name in ASKING and re.match(ASKING[name], words[1])):
             sys.exit(f"there is no rule for the call {name}({', '.join(words)})")
 
 
@@ -144,7 +147,8 @@ def pages_of(offset, length):
 
 
 def ideal(events, options):
-    """The disk behind a run that reads and writes each page once and in order, and how often the run reads each page."""
+    """The disk behind a run that reads and writes each page once and in order, and how often the run reads each
+    page."""
     read, written, times = set(), set(), 0
     for what, _, offset, length, *_ in events:
         if what == "read":
@@ -174,10 +178,9 @@ def lines(name, events, options, pages):
 
 
 def measure(name, words, volume, options, folder):
-    """Runs the program, or takes the trace that is there, and prints the lines."""
+    """Runs the program and prints the lines."""
     out = folder / (name.replace(", ", "-").replace(" ", "-") + ".trace")
-    if not out.exists() or "convert" in words or "rollback" in words or "recover" in words:
-        trace(words, volume, out)
+    trace(words, volume, out)
     lines(name, list(events_of(out)), options, os.path.getsize(volume) // PAGE)
 
 

@@ -1,16 +1,18 @@
 #!/usr/bin/env bash
-# growth.sh [-r RUNS] [-k KIND] [MOST]: how time and memory of `inspect`, `list`, `convert` and `rollback` grow with a volume (bench/many_files.py):
-# with a hundredth of MOST, a tenth, and all of MOST (100000) files, 200 in a directory; the same in one directory; and as many extents of one
-# file. -k takes one of these kinds alone: files, directory, extents. `list, new` is `list` of the converted volume.
+# growth.sh [-r RUNS] [-k KIND] [MOST]: how time and memory of `inspect`, `list`, `convert` and `rollback` grow with a
+# volume (bench/many_files.py): with a hundredth of MOST, a tenth, and all of MOST (100000) files, 200 in a directory;
+# the same in one directory; and as many extents of one file. -k takes one of these kinds alone: files, directory,
+# extents. `list, new` is `list` of the converted volume. A line of the table:
 #
 #     ms          the least processor time, user and system, of RUNS (3) runs with all in the page cache
 #     MiB         the most memory that the program held
 #     bytes each  how much more it held than with a tenth, by what there is more of: a file or an extent
 #     times       the time by that of a tenth
-#     n log n     `times` by what it would be if the time grew as n log n: 1 is just so, more is worse. Times below 20 ms are not compared.
+#     n log n     `times` by what it would be if the time grew as n log n: 1 is just so, more is worse. Where a tenth
+#                 took less than 20 ms, there is none
 #
-# It needs python3 and time (Debian's package), and for a MOST of 1000000 12 GB of disk that keeps files sparse, 8 GB of memory for the page cache
-# and an hour.
+# It needs python3 and time (Debian's package). A MOST of 1000000 takes 12 GB of disk that keeps files sparse, 8 GB of
+# memory for the page cache, and an hour.
 # shellcheck source=bench/begin.sh
 . "$(dirname "$(readlink -f "${BASH_SOURCE[0]}")")/begin.sh"
 
@@ -39,7 +41,8 @@ once() {
     peak=$(<"$work/peak")
 }
 
-# measured COMMAND FILE [COPY]: the least time of the runs in $least and the most memory in $held; with COPY each run has a new copy of the file there
+# measured COMMAND FILE [COPY]: the least time of the runs in $least and the most memory in $held; with COPY each run
+# has a new copy of the file there
 measured() {
     least=999999999
     held=0

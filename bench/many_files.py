@@ -3,10 +3,12 @@
 
 files      so many files, 200 in a directory
 directory  so many files in one directory
-extents    one file of so many blocks, each of which is an extent, since no two that follow each other in the file do so on the disk
+extents    one file of so many blocks, each of which is an extent, since no two that follow each other in the file do
+           so on the disk
 
-A quarter of the files has a tail of 100 to 1999 bytes, the others have one to three blocks in a row. The blocks of data are holes of the image.
-Behind the used blocks there is room for the trees of a conversion. `reiserfsck --check` finds no corruption in such a volume.
+A quarter of the files has a tail of 100 to 1999 bytes, the others have one to three blocks in a row. The blocks of data
+are holes of the image. Behind the used blocks there is room for the trees of a conversion. `reiserfsck --check` finds
+no corruption in such a volume.
 """
 import itertools
 import math

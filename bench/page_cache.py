@@ -1,26 +1,31 @@
-"""A model of a spinning disk below the page cache of Linux: what a program's reads and writes of one volume cost. bench/disk.py uses it.
+"""A model of a spinning disk below the page cache of Linux: what a program's reads and writes of one volume cost.
+bench/disk.py uses it.
 
-Disk: to go on where the last transfer ended costs nothing but the transfer. A gap forward passes under the head, as long as its bytes
-would take, and never longer than a jump. A gap back takes as long, but no less than half of a jump, since the disk has to turn. The disk's own
-cache and queue are left out, and so is the program's own time.
+Disk: to go on where the last transfer ended costs nothing but the transfer. A gap forward passes under the head, as
+long as its bytes would take, and never longer than a jump. A gap back takes as long, but no less than half of a jump,
+since the disk has to turn. The disk's own cache and queue are left out, and so is the program's own time.
 
-PageCache: pages of 4 KiB, of which the one that was used least recently goes first (Linux keeps two lists, which is near it). A write stays in
-the cache. All pages that wait are written in ascending order at each fsync, when they are more than a tenth of the cache
-(vm.dirty_background_ratio), and when one of them would have to go; the last ones when the run has ended.
+PageCache: pages of 4 KiB, of which the one that was used least recently goes first (Linux keeps two lists, which is
+near it). A write stays in the cache. All pages that wait are written in ascending order at each fsync, when they are
+more than a tenth of the cache (vm.dirty_background_ratio), and when one of them would have to go; the last ones when
+the run has ended.
 
-File: the read-ahead of an open file, as ondemand_readahead has it (mm/readahead.c of Linux 6.1). The window is 128 KiB, as
-/sys/block/*/queue/read_ahead_kb has it; a read of more pages than that has a window of its own length, up to `call` bytes.
+File: the read-ahead of an open file, as ondemand_readahead has it (mm/readahead.c of Linux 6.1). The window is 128 KiB,
+as /sys/block/*/queue/read_ahead_kb has it; a read of more pages than that has a window of its own length, up to `call`
+bytes.
 
-- A read that misses begins a stream where it is at the start of the volume, or in or right behind the page where the last read ended. Four times
-  the pages asked for are read (twice, or the window, where many are asked for), and the page behind those asked for is marked.
-- A read that misses elsewhere reads what was asked for and no more, but where the pages before it are in the cache, and more of them than were
-  asked for: then as many again are read.
-- A read that meets a marked page has the next part of the stream read, of twice the size of the last one up to the window, whose first page is
-  marked. A page that is in the cache already is left out.
+- A read that misses begins a stream where it is at the start of the volume, or in or right behind the page where the
+  last read ended. Four times the pages asked for are read (twice, or the window, where many are asked for), and the
+  page behind those asked for is marked.
+- A read that misses elsewhere reads what was asked for and no more, but where the pages before it are in the cache, and
+  more of them than were asked for: then as many again are read.
+- A read that meets a marked page has the next part of the stream read, of twice the size of the last one up to the
+  window, whose first page is marked. A page that is in the cache already is left out.
 
-posix_fadvise: WILLNEED reads those pages of the range that are not in the cache, at most `call` bytes of it, at once and in the order of the
-calls; ranges that touch are one transfer. (Linux queues them, and the disk's scheduler may sort what waits: that is left out.) DONTNEED drops
-pages that do not wait to be written, RANDOM ends the read-ahead, SEQUENTIAL doubles its window, NORMAL sets it back.
+posix_fadvise: WILLNEED reads those pages of the range that are not in the cache, at most `call` bytes of it, at once
+and in the order of the calls; ranges that touch are one transfer. (Linux queues them, and the disk's scheduler may sort
+what waits: that is left out.) DONTNEED drops pages that do not wait to be written, RANDOM ends the read-ahead,
+SEQUENTIAL doubles its window, NORMAL sets it back.
 """
 
 from collections import OrderedDict
@@ -157,8 +162,9 @@ class File:
 
     def __init__(self, cache, ahead, call):
         self.cache, self.usual, self.call = cache, ahead // PAGE, max(ahead, call) // PAGE
-        self.window, self.random, self.position = self.usual, False, 0
-        # the last part of the stream, from which page of it on none was read yet, and the page where the last read ended
+        self.window, self.random = self.usual, False
+        # the last part of the stream, from which page of it on none was read yet, and the page where the last read
+        # ended
         self.start, self.size, self.behind, self.previous = 0, 0, 0, None
 
     def read(self, offset, length):
@@ -215,8 +221,8 @@ class File:
         self.stream(page, self.start + self.size, size, size, window)
 
     def stream(self, page, start, size, behind, window):
-        """Reads a part of a stream, and marks the page from which on none is asked for yet. Where that is the page which is read now, the next part is
-        read at once."""
+        """Reads a part of a stream, and marks the page from which on none is asked for yet. Where that is the page
+        which is read now, the next part is read at once."""
         if page == start and size == behind:
             more = next_size(size, window)
             size, behind = (size + more, more) if size + more <= window else (window, window // 2)

@@ -1,6 +1,7 @@
 #!/usr/bin/env bash
-# used_volume.sh fresh|aged FILE [MIB]: has Linux make a ReiserFS volume of 256 MiB, or of MIB, and fill it (bench/linux/use), in the virtual
-# machine of tests/linux.sh. Since its processor is emulated, an aged one takes ten minutes. bench/aged_volume.py makes larger ones in seconds.
+# used_volume.sh fresh|aged FILE [MIB]: has Linux make a ReiserFS volume of 256 MiB, or of MIB, and fill it
+# (bench/linux/use), in the virtual machine of tests/linux.sh. Since its processor is emulated, an aged one takes ten
+# minutes. bench/aged_volume.py makes larger ones in seconds.
 set -euo pipefail
 
 top=$(cd "$(dirname "$(readlink -f "${BASH_SOURCE[0]}")")/.." && pwd)
