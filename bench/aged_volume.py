@@ -1,8 +1,8 @@
 #!/usr/bin/env python3
 """Writes a ReiserFS 3.6 volume as use would leave it: aged_volume.py fresh|aged MIB FILE.
 
-It acts out what bench/linux/use has Linux do: files of up to 64 kB, one in a hundred larger, 200 in a directory, with
-names in no order of time.
+MIB is 256 or more. The script acts out what bench/linux/use has Linux do: files of up to 64 kB, one in a hundred
+larger, 200 in a directory, with names in no order of time.
 
 fresh  the volume is filled once, directory by directory, until 55 % of it is used
 aged   until 90 % is used; then four times a half of the files, drawn by lot, goes, and new files come in directories
