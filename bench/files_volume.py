@@ -149,14 +149,26 @@ def write_system(write, end, root, height, first_free, blocks, journal=JOURNAL_S
             bits[block // 8] |= 1 << block % 8
         write(17 if bitmap == 0 else first, bits)
     free = blocks - end - sum(1 for bitmap in range(1, bitmaps) if bitmap * 32768 >= end)
+    write_superblock(write, blocks, free, root, height, first_free, journal)
+
+
+def write_superblock(write, blocks, free, root, height, first_free, journal=JOURNAL_SIZE):
+    """The superblock of a volume of so many blocks, whose objects have numbers below `first_free`."""
     block = bytearray(BLOCK)
     struct.pack_into("<IIIIII", block, 0, blocks, free, root, JOURNAL_FIRST, 0, journal)
     struct.pack_into("<IIIII", block, 24, 1024, 0, 900, 30, 30)
     struct.pack_into("<HHHH", block, 44, BLOCK, 972, 2, 1)
     block[52:62] = b"ReIsEr2Fs\0"
-    struct.pack_into("<HIHHH", block, 62, 0, 3, height, bitmaps, 2)
+    struct.pack_into("<HIHHH", block, 62, 0, 3, height, (blocks - 1) // 32768 + 1, 2)
     struct.pack_into("<II", block, 204, 1, first_free)
     write(16, block)
+
+
+def write_journal_header(write, journal=JOURNAL_SIZE):
+    """The header behind a journal whose transactions were all written back, the last of them before the start of the log. Without it a reader has to
+    look through the log."""
+    header = struct.pack("<IIIIIIIIIII", 1, 0, 1, JOURNAL_FIRST, 0, journal, 1024, 0, 900, 30, 30)
+    write(JOURNAL_FIRST + journal, header.ljust(BLOCK, b"\0"))
 
 
 def writer_of(out):
