@@ -19,7 +19,7 @@ use Rattle.volume_app.specs.Told.{summary_of}
 use Rattle.volume_app.specs.Text.{summary_text as btrfs_summary_text}
 use Rattle.volume_app.specs.declared.inspect.Inspected.TheVariants.{Reiser, Btrfs}
 use Rattle.volume_app.specs.declared.reiser.ReiserSummary.{ReiserSummary}
-use Rattle.volume_app.specs.Answers.{of_volume, of_btrfs}
+use Rattle.convert_core.specs.command_answers.Answers.{of_volume, of_btrfs}
 use Rattle.reiser_volume.specs.outside.Format.{format_in}
 use Rattle.volume_app.specs.Inspect.{IsInspectable, IsInspectText, Inspects, InspectRefuses, IsInspectAnswer}
 use Rattle.volume_app.specs.Reiser.{IsReiserSummary, summary_text}

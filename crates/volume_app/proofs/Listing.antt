@@ -14,7 +14,7 @@ use Rattle.reiser_volume.specs.refusals.declared.answer.VolAnswer.TheVariants.{R
 use Rattle.reiser_volume.specs.Answers.{RefusesVolume}
 use Rattle.reiser_volume.specs.Reading.{IsReadingAnswer}
 use Rattle.reiser_volume.specs.Volume.{AreRowsOf, IsAccepted}
-use Rattle.volume_app.specs.Answers.{of_volume, of_btrfs}
+use Rattle.convert_core.specs.command_answers.Answers.{of_volume, of_btrfs}
 use Rattle.btr_reader.specs.Parts.{HasBtrfsRows, AreRowsOfBtrfs, RefusesBtrfsRows}
 use Rattle.reiser_volume.specs.outside.Format.{format_in}
 use Rattle.volume_app.specs.Listing.{IsListable, AreRowsIn, IsListText, Lists, ListRefuses, IsListAnswer}

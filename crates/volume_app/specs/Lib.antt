@@ -1,8 +1,6 @@
-pub mod Answers
 pub mod Command
 pub mod Converting
 pub mod Ending
-pub mod Found
 pub mod Headline
 pub mod Inspect
 pub mod Laws

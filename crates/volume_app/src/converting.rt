@@ -87,10 +87,8 @@ fn convert<D: Disk>(
     ensures cause { HasCauseOf Answer.Fault (D.faults disk.old) (D.faults disk.new) result }
     ensures known { IfErr result IsConvertAnswer }
 {
-    match disk.open(path, Access::Write) {
-        Ok(()) => convert_core::convert(alloc, disk, ids, now, options),
-        Err(Fault) => Err(Answer::Fault),
-    }
+    disk.open(path, Access::Write)?;
+    convert_core::convert(alloc, disk, ids, now, options)
 }
 
 /// Prints what a conversion did.

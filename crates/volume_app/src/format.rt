@@ -1,19 +1,10 @@
 ghost use Rattle.std.specs.Prelude.{◌≡◌, None, IfOk, OnOk, IsTrue};
 ghost use Rattle.reiser_volume.specs.outside.Fault.{HasCause};
 ghost use Rattle.reiser_volume.specs.outside.History.{reads};
-ghost use Rattle.volume_app.specs.Found.{IsFoundOn};
+ghost use Rattle.convert_core.specs.convert_steps.Found.{IsFoundOn};
 
-use reiser_volume::{Access, Block, BlockNo, BlockSource, Disk, Fault, Format, format_of};
-
-/// The block of the superblock, of both formats.
-const SUPERBLOCK: BlockNo = 16;
-
-/// Block 16 of a disk, zeros where there is none, and the format of the volume by it.
-#[derive(Clone, Copy, Debug)]
-pub struct Found {
-    pub format: Format,
-    pub block: Block,
-}
+use convert_core::{Found, find_format};
+use reiser_volume::{Access, Disk, Fault};
 
 /// Opens the disk at a path for reading, and finds the format of its volume.
 pub fn open_format<D: Disk>(path: &str, disk: &mut D) -> Result<Found, Fault>
@@ -26,24 +17,4 @@ pub fn open_format<D: Disk>(path: &str, disk: &mut D) -> Result<Found, Fault>
 {
     disk.open(path, Access::Read)?;
     find_format(disk)
-}
-
-/// The format of block 16; without that block it is neither.
-fn find_format<S: BlockSource>(source: &mut S) -> Result<Found, Fault>
-    ensures kept { S.kept source.old source.new }
-    ensures found { IsTrue S.tells → IfOk result (IsFoundOn (S.blocks source.old)) }
-    ensures cause { HasCause (S.faults source.old) (S.faults source.new) result }
-{
-    let mut block = Block::zero();
-    if source.len() <= SUPERBLOCK {
-        return Ok(Found {
-            format: Format::Neither,
-            block,
-        });
-    }
-    source.read(SUPERBLOCK, &mut block)?;
-    Ok(Found {
-        format: format_of(&block),
-        block,
-    })
 }

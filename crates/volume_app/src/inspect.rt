@@ -5,16 +5,15 @@ ghost use Rattle.reiser_volume.specs.outside.Fault.{HasCause, HasCauseOf, Takes}
 ghost use Rattle.reiser_volume.specs.outside.History.{block_at, reads, OverTold};
 ghost use Rattle.reiser_volume.specs.vol_block.declared.format.Format.TheVariants as formats;
 ghost use Rattle.reiser_volume.specs.outside.Format.{format_in};
-ghost use Rattle.volume_app.specs.Found.{IsFoundOn};
+ghost use Rattle.convert_core.specs.convert_steps.Found.{IsFoundOn};
 ghost use Rattle.volume_app.specs.Inspect.{inspect_meaning, inspected_text, Inspects, InspectRefuses, IsInspectAnswer};
 ghost use Rattle.volume_app.specs.Outcome.{Performs};
 
 use crate::Summary;
-use crate::answers::{of_btrfs, of_volume};
 use crate::ending::{Ending, printed};
-use crate::format::{Found, open_format};
+use crate::format::open_format;
 use crate::reiser::ReiserSummary;
-use convert_core::Answer;
+use convert_core::{Answer, Found};
 use convert_options::Options;
 use reiser_volume::{Access, Block, BlockSource, Disk, Fault, Format, Sink};
 use std::alloc::Global;
@@ -76,10 +75,8 @@ fn inspect<D: Disk>(
     ensures right { IsTrue D.tells → MatchResult result (Inspects options.now (reads (D.history disk.old))) (InspectRefuses (reads (D.history disk.old))) }
     ensures known { IfErr result IsInspectAnswer }
 {
-    match open_format(path, disk) {
-        Ok(found) => inspect_as(&found, alloc, options, disk),
-        Err(Fault) => Err(Answer::Fault),
-    }
+    let found = open_format(path, disk)?;
+    inspect_as(&found, alloc, options, disk)
 }
 
 /// Checks a volume of the format that was found.
@@ -113,10 +110,8 @@ fn inspect_reiser<S: BlockSource>(
     ensures right { OverTold S.tells (S.blocks source.old) (λ image. format_in image ≢ formats.Btrfs → MatchResult result (Inspects options.now image) (InspectRefuses image)) }
     ensures known { IfErr result IsInspectAnswer }
 {
-    match ReiserSummary::read(alloc, options, source) {
-        Ok(summary) => Ok(Inspected::Reiser(summary)),
-        Err(answer) => Err(of_volume(answer)),
-    }
+    let summary = ReiserSummary::read(alloc, options, source)?;
+    Ok(Inspected::Reiser(summary))
 }
 
 /// Checks a Btrfs volume, by its block 16. What is printed of it is the same for all options of a conversion.
@@ -130,8 +125,6 @@ fn inspect_btrfs<S: BlockSource>(
     ensures right { OverTold S.tells (S.blocks source.old) (λ image. format_in image ≡ formats.Btrfs → block.now.bytes ≡ block_at image 16 → (o : Options) → MatchResult result (Inspects o image) (InspectRefuses image)) }
     ensures known { IfErr result IsInspectAnswer }
 {
-    match Summary::read(alloc, source, block) {
-        Ok(summary) => Ok(Inspected::Btrfs(summary)),
-        Err(answer) => Err(of_btrfs(answer)),
-    }
+    let summary = Summary::read(alloc, source, block)?;
+    Ok(Inspected::Btrfs(summary))
 }

@@ -4,7 +4,6 @@
 //! [`run`] is what the whole program promises; each command has a module of its own below it.
 #![tactic(auto)]
 
-mod answers;
 mod command;
 mod converting;
 mod ending;

@@ -4,18 +4,17 @@ ghost use Rattle.reiser_volume.specs.outside.Fault.{HasCauseOf};
 ghost use Rattle.reiser_volume.specs.outside.History.{block_at, reads, OverTold};
 ghost use Rattle.reiser_volume.specs.vol_block.declared.format.Format.TheVariants as formats;
 ghost use Rattle.reiser_volume.specs.outside.Format.{format_in};
-ghost use Rattle.volume_app.specs.Found.{IsFoundOn};
+ghost use Rattle.convert_core.specs.convert_steps.Found.{IsFoundOn};
 ghost use Rattle.volume_app.specs.Listing.{Lists, ListRefuses, IsListAnswer, list_meaning};
 ghost use Rattle.volume_app.specs.Outcome.{Performs};
 
-use crate::answers::{of_btrfs, of_volume};
 use crate::ending::{Ending, printed};
-use crate::format::{Found, open_format};
+use crate::format::open_format;
 use crate::reiser::reiser_rows;
 use btr_reader::Btrfs;
-use convert_core::Answer;
+use convert_core::{Answer, Found};
 use fs_rows::{Rows, write_rows};
-use reiser_volume::{Access, Block, BlockSource, Disk, Fault, Format, Sink};
+use reiser_volume::{Access, Block, BlockSource, Disk, Format, Sink};
 use std::alloc::Global;
 
 /// Lists the volume at a path: prints a line for each of its paths.
@@ -40,10 +39,8 @@ fn list<D: Disk>(alloc: Global, path: &str, disk: &mut D) -> Result<Rows, Answer
     ensures right { IsTrue D.tells → MatchResult result (Lists (reads (D.history disk.old))) (ListRefuses (reads (D.history disk.old))) }
     ensures known { IfErr result IsListAnswer }
 {
-    match open_format(path, disk) {
-        Ok(found) => list_as(&found, alloc, disk),
-        Err(Fault) => Err(Answer::Fault),
-    }
+    let found = open_format(path, disk)?;
+    list_as(&found, alloc, disk)
 }
 
 /// The rows of a volume of the format that was found.
@@ -66,10 +63,7 @@ fn list_reiser<S: BlockSource>(alloc: Global, source: &mut S) -> Result<Rows, An
     ensures right { OverTold S.tells (S.blocks source.old) (λ image. format_in image ≢ formats.Btrfs → MatchResult result (Lists image) (ListRefuses image)) }
     ensures known { IfErr result IsListAnswer }
 {
-    match reiser_rows(alloc, source) {
-        Ok(rows) => Ok(rows),
-        Err(answer) => Err(of_volume(answer)),
-    }
+    Ok(reiser_rows(alloc, source)?)
 }
 
 /// The rows of a Btrfs volume, by its block 16.
@@ -79,8 +73,5 @@ fn list_btrfs<S: BlockSource>(alloc: Global, source: &mut S, block: &Block) -> R
     ensures right { OverTold S.tells (S.blocks source.old) (λ image. format_in image ≡ formats.Btrfs → block.now.bytes ≡ block_at image 16 → MatchResult result (Lists image) (ListRefuses image)) }
     ensures known { IfErr result IsListAnswer }
 {
-    match Btrfs::list(alloc, source, block) {
-        Ok(rows) => Ok(rows),
-        Err(answer) => Err(of_btrfs(answer)),
-    }
+    Ok(Btrfs::list(alloc, source, block)?)
 }

@@ -49,10 +49,8 @@ fn recover<D: Disk>(alloc: Global, path: &str, disk: &mut D) -> Result<RecoverSu
     ensures cause { HasCauseOf Answer.Fault (D.faults disk.old) (D.faults disk.new) result }
     ensures known { IfErr result IsRecoverAnswer }
 {
-    match disk.open(path, Access::Write) {
-        Ok(()) => rollback_core::recover(alloc, disk),
-        Err(Fault) => Err(Answer::Fault),
-    }
+    disk.open(path, Access::Write)?;
+    rollback_core::recover(alloc, disk)
 }
 
 /// Prints what a recovery found and did.

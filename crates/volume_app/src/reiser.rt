@@ -135,8 +135,6 @@ pub fn reiser_rows<S: BlockSource>(alloc: Global, source: &mut S) -> Result<Rows
     ensures rows { OverTold S.tells (S.blocks source.old) (λ image. MatchResult result (ListsReiser image) (RefusesVolume image)) }
     ensures answers { IfErr result IsReadingAnswer }
 {
-    match Volume::open(alloc, source) {
-        Ok(volume) => volume.rows(alloc, source),
-        Err(answer) => Err(answer),
-    }
+    let volume = Volume::open(alloc, source)?;
+    volume.rows(alloc, source)
 }

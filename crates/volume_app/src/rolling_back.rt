@@ -46,10 +46,8 @@ fn roll_back<D: Disk>(alloc: Global, path: &str, disk: &mut D) -> Result<Rollbac
     ensures cause { HasCauseOf Answer.Fault (D.faults disk.old) (D.faults disk.new) result }
     ensures known { IfErr result IsRollbackAnswer }
 {
-    match disk.open(path, Access::Write) {
-        Ok(()) => rollback_core::rollback(alloc, disk),
-        Err(Fault) => Err(Answer::Fault),
-    }
+    disk.open(path, Access::Write)?;
+    rollback_core::rollback(alloc, disk)
 }
 
 /// Prints what a rollback did.

@@ -61,10 +61,8 @@ fn tried<D: Disk>(
     ensures cause { HasCauseOf Answer.Fault (D.faults disk.old) (D.faults disk.new) result }
     ensures known { IfErr result IsTrialAnswer }
 {
-    match disk.open(path, Access::Write) {
-        Ok(()) => trial_core::trial(alloc, number, ids, now, disk),
-        Err(Fault) => Err(Answer::Fault),
-    }
+    disk.open(path, Access::Write)?;
+    trial_core::trial(alloc, number, ids, now, disk)
 }
 
 /// Prints what a trial saw.

@@ -1,10 +1,9 @@
-use Rattle.std.proofs.Common.{◌≡◌, ◌∙◌, ap, subst, IfOk}
-use Rattle.reiser_volume.specs.outside.History.{Image, History, reads}
-use Rattle.volume_app.specs.Found.{IsFoundOn}
+use Rattle.std.proofs.Common.{◌≡◌, ◌∙◌, ap}
+use Rattle.reiser_volume.specs.outside.History.{History, reads}
 use Rattle.volume_app.proofs.format.open_format.Goals as goal
 
 pub returns-clause-found : goal.returns-clause-found
 returns-clause-found g c = λ tells.
     let same : g.D.BlockSource.blocks c.open.new.self ≡ reads (g.D.Disk.history c.args.disk.now) =
     g.met.D.Disk.open_blocks c.open.new.self _ tells c.in_ok-open.ensures.opened ∙ ap (λ (h : History). reads h) (c.open.ensures.unchanged tells) in
-    subst (λ (image : Image). IfOk c.find_format.result (IsFoundOn image)) same (c.find_format.ensures.found tells)
+    c.find_format.ensures.found tells _ same

@@ -1,17 +1,19 @@
-use Rattle.std.proofs.Common.{subst, sym}
-use Rattle.convert_core.specs.command_answers.declared.answer.Answer.{Answer}
-use Rattle.volume_app.specs.Listing.{ListRefuses, IsListAnswer}
+use Rattle.std.proofs.Common.{refl}
+use Rattle.convert_core.proofs.command_answers.Handed.{btrfs_cause, handed_on}
 use Rattle.volume_app.proofs.Listing.{btrfs_listed, btrfs_refused, btrfs_known}
 use Rattle.volume_app.proofs.list.list_btrfs.Goals as goal
 
-pub returns-in-Ok-clause-right : goal.returns-in-Ok-clause-right
-returns-in-Ok-clause-right g c = λ tells image is format block.
-    let told = c.in-Ok.ensures.rows tells image is block in
-    btrfs_listed image c.in-Ok.rows format told.0 told.1
+pub returns-clause-right : goal.returns-clause-right
+returns-clause-right g c = λ tells image is format block.
+    let told = c.in_ok-list.ensures.rows tells image is block in
+    btrfs_listed image c.in_ok-list.field-0 format told.0 told.1
 
-pub returns-in-Err-clause-right : goal.returns-in-Err-clause-right
-returns-in-Err-clause-right g c = λ tells image is format block.
-    subst (λ (a : Answer). ListRefuses image a) (sym c.of_btrfs.ensures) (btrfs_refused image c.in-Err.answer format (c.in-Err.ensures.rows tells image is block))
+pub returns-in_err-list-clause-right : goal.returns-in_err-list-clause-right
+returns-in_err-list-clause-right g c = λ tells image is format block.
+    handed_on c.from_residual.result _ _ _ c.from_residual.ensures.1 (btrfs_refused image c.in_err-list.field-0.0 format (c.in_err-list.ensures.rows tells image is block))
 
-pub returns-in-Err-clause-known : goal.returns-in-Err-clause-known
-returns-in-Err-clause-known g c = subst IsListAnswer (sym c.of_btrfs.ensures) (btrfs_known c.in-Err.answer)
+pub returns-in_err-list-clause-known : goal.returns-in_err-list-clause-known
+returns-in_err-list-clause-known g c = handed_on c.from_residual.result _ _ _ c.from_residual.ensures.1 (btrfs_known c.in_err-list.field-0.0)
+
+pub returns-in_err-list-clause-cause : goal.returns-in_err-list-clause-cause
+returns-in_err-list-clause-cause g c = btrfs_cause c.from_residual.result c.in_err-list.field-0.0 _ _ _ refl c.from_residual.ensures.1 c.in_err-list.ensures.cause

@@ -4,14 +4,14 @@ use Rattle.reiser_volume.proofs.outside.Phases.{left_unwritten}
 use Rattle.rollback_core.specs.RolledBack.{IsLeft}
 use Rattle.volume_app.proofs.rolling_back.roll_back.Goals as goal
 
-pub returns-in-Ok-clause-right : goal.returns-in-Ok-clause-right
-returns-in-Ok-clause-right g c = λ tells. c.rollback.ensures.rolled_back tells (reads (g.D.Disk.history c.args.disk.now)) (ap reads (c.open.ensures.unchanged tells))
+pub returns-clause-right : goal.returns-clause-right
+returns-clause-right g c = λ tells. c.rollback.ensures.rolled_back tells (reads (g.D.Disk.history c.args.disk.now)) (ap reads (c.open.ensures.unchanged tells))
 
-pub returns-in-Ok-clause-crash : goal.returns-in-Ok-clause-crash
-returns-in-Ok-clause-crash g c = λ tells settled image left.
+pub returns-clause-crash : goal.returns-clause-crash
+returns-clause-crash g c = λ tells settled image left.
     subst (λ (h : History). IsSettled h → LeftSince (clock h) (g.D.Disk.history c.rollback.new.disk) image → IsLeft (reads h) image)
     (c.open.ensures.unchanged tells) (λ settled left. c.rollback.ensures.crash tells settled image left) settled left
 
-pub returns-in-Err-clause-crash : goal.returns-in-Err-clause-crash
-returns-in-Err-clause-crash g c = λ tells settled image left.
+pub returns-in_err-open-clause-crash : goal.returns-in_err-open-clause-crash
+returns-in_err-open-clause-crash g c = λ tells settled image left.
     inl (left_unwritten _ _ settled (c.open.ensures.unchanged tells) image left)

@@ -3,10 +3,10 @@ use Rattle.reiser_volume.specs.outside.History.{History, reads}
 use Rattle.trial_core.specs.Answers.{LeavesRefused}
 use Rattle.volume_app.proofs.trying.tried.Goals as goal
 
-pub returns-in-Ok-clause-right : goal.returns-in-Ok-clause-right
-returns-in-Ok-clause-right g c = λ tells. c.trial.ensures.tried tells (reads (g.D.Disk.history c.args.disk.now)) (ap reads (c.open.ensures.unchanged tells))
+pub returns-clause-right : goal.returns-clause-right
+returns-clause-right g c = λ tells. c.trial.ensures.tried tells (reads (g.D.Disk.history c.args.disk.now)) (ap reads (c.open.ensures.unchanged tells))
 
-pub returns-in-Ok-clause-leaves : goal.returns-in-Ok-clause-leaves
-returns-in-Ok-clause-leaves g c = λ tells.
+pub returns-clause-leaves : goal.returns-clause-leaves
+returns-clause-leaves g c = λ tells.
     subst (λ (h : History). IfErr c.trial.result (LeavesRefused c.args.number h (g.D.Disk.history c.trial.new.disk)))
     (c.open.ensures.unchanged tells) (c.trial.ensures.leaves tells)
