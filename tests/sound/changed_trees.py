@@ -138,6 +138,11 @@ def a_root_item_of_another_level(edit):
     edit.put(forms.ROOT_TREE, SUMS_ROOT, 238, "<B", 1)
 
 
+@change("1.level")
+def a_root_item_of_a_level_too_high(edit):
+    edit.put(forms.ROOT_TREE, SUMS_ROOT, 238, "<B", 9)
+
+
 @change("1.owner")
 def a_leaf_of_another_tree(edit):
     edit.node_put(edit.first_leaf(TREE), 88, "<Q", 7)
