@@ -467,6 +467,8 @@ samples() {
 
 # shellcheck source=tests/outside/damaged.sh
 . "$top/tests/outside/damaged.sh"
+# shellcheck source=tests/outside/sound.sh
+. "$top/tests/outside/sound.sh"
 
 # ---- documents, manual page, package ---------------------------------------------------------------------------------
 
@@ -519,6 +521,7 @@ if need mkfs.reiserfs reiserfsprogs && need debugreiserfs reiserfsprogs; then
         trials
         howto_lines
         fuzzed_volumes
+        sound_volumes
     else
         lacks convert 'btrfs or zstd'
     fi
