@@ -1,6 +1,7 @@
 -- The steps on the way to the saved image.
 use Rattle.std.proofs.Common.{◌≡◌, ℕ, true, List, [], ◌∷◌, ◌++◌, length, codes, if◌then◌else◌, Option, Some, None, Result, Ok, Err, refl, sym, ◌∙◌, ap, subst, arith}
 use Rattle.std.specs.Option.{option_and_then}
+use Rattle.btrfs_format.specs.declared.object.TheConstants.{FS_TREE}
 use Rattle.btr_reader_walk.specs.outside.History.{Image}
 use Rattle.btr_reader_walk.specs.refusals.declared.answer.BtrAnswer.{BtrAnswer}
 use Rattle.btr_reader_walk.specs.refusals.declared.answer.BtrAnswer.TheVariants.{Refused, Fault, Memory}
@@ -166,14 +167,14 @@ saved_read image s ranges slice number root tree key name ino result same name_i
 
 -- the image of a volume whose file tree names a tree
 pub top_read : (image : Image) (s : Super) (ranges slice : List MapRange) (tree : Tree) (key : Option Key) (name : List ℕ) (number : ℕ) (result : Result (Option ImageMap) BtrAnswer) → slice ≡ ranges
-    → name ≡ codes "reiserfs_saved" → FindsTree s 5 (root_item 5 (roots_on image s ranges)) (Ok (Some tree)) → key ≡ entry_named (is_called name) (namings (found image slice tree))
+    → name ≡ codes "reiserfs_saved" → FindsTree s FS_TREE (root_item FS_TREE (roots_on image s ranges)) (Ok (Some tree)) → key ≡ entry_named (is_called name) (namings (found image slice tree))
     → entry_refusals image slice tree ≡ [] → option_and_then tree_number key ≡ Some number
     → ReadsImage ranges (image_below image s ranges number (root_item number (roots_on image s ranges))) (refusals_below image s ranges number (root_item number (roots_on image s ranges))) result
     → ReadsImage ranges (saved_image image s ranges) (image_refusals image s ranges) result
 top_read image s ranges slice tree key name number result same name_is (i, p, is, read, tree_is) key_is none number_is reads =
-    let at : Tree = tree_of s 5 p in
-    let items : List TreeItem = items_at image s ranges 5 p in
-    let root : Option TreeItem = root_item 5 (roots_on image s ranges) in
+    let at : Tree = tree_of s FS_TREE p in
+    let items : List TreeItem = items_at image s ranges FS_TREE p in
+    let root : Option TreeItem = root_item FS_TREE (roots_on image s ranges) in
     let right_at : entry_refusals image ranges at ≡ [] =
     subst (λ (t : Tree). entry_refusals image ranges t ≡ []) tree_is (subst (λ (r : List MapRange). entry_refusals image r tree ≡ []) same none) in
     let key_at : key ≡ saved_entry items =
@@ -185,11 +186,11 @@ top_read image s ranges slice tree key name number result same name_is (i, p, is
     reads_as ranges (image_below image s ranges number (root_item number (roots_on image s ranges))) (saved_image image s ranges)
     (refusals_below image s ranges number (root_item number (roots_on image s ranges))) (image_refusals image s ranges) result
     (sym (image_there
-    (λ q. option_and_then (λ n. image_below image s ranges n (root_item n (roots_on image s ranges))) (option_and_then tree_number (saved_entry (items_at image s ranges 5 q)))) root i p is read
+    (λ q. option_and_then (λ n. image_below image s ranges n (root_item n (roots_on image s ranges))) (option_and_then tree_number (saved_entry (items_at image s ranges FS_TREE q)))) root i p is read
     ∙ ap (option_and_then (λ n. image_below image s ranges n (root_item n (roots_on image s ranges)))) named))
     (sym (after_there
-    (λ q. or_later (entry_refusals image ranges (tree_of s 5 q))
-    (if_there (λ n. refusals_below image s ranges n (root_item n (roots_on image s ranges))) (option_and_then tree_number (saved_entry (items_at image s ranges 5 q))))) root i p is read
+    (λ q. or_later (entry_refusals image ranges (tree_of s FS_TREE q))
+    (if_there (λ n. refusals_below image s ranges n (root_item n (roots_on image s ranges))) (option_and_then tree_number (saved_entry (items_at image s ranges FS_TREE q))))) root i p is read
     ∙ (ap (λ (z : List BtrRefusal). or_later z (if_there (λ n. refusals_below image s ranges n (root_item n (roots_on image s ranges))) (option_and_then tree_number (saved_entry items)))) right_at
     ∙ ap (if_there (λ n. refusals_below image s ranges n (root_item n (roots_on image s ranges)))) named)))
     reads

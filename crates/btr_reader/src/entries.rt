@@ -16,11 +16,9 @@ use btr_reader_names::{
     NameIn, Naming, ROOT, index_entry, is_name, names_inode, names_tree, naming_of, see_name,
 };
 use btr_reader_walk::{BlockSource, BtrAnswer, BtrRule, DirEntry, Key, MapRange, Tree, TreeWalker};
+use btrfs_format::key::DIR_INDEX;
 use indexmap::IndexSet;
 use std::alloc::Global;
-
-/// The kind in the key of a directory index.
-const INDEX_KIND: u8 = 96;
 
 /// The location of an entry that is called so, unless one came before.
 fn first_called(first: Option<Key>, name: &[u8], entry: &DirEntry<'_>) -> Option<Key>
@@ -77,7 +75,7 @@ fn seek_entry(
     ensures known { IfErr result NamesNoLogTree }
     ensures cause { IfErr result IsNoFault }
 {
-    if key.kind != INDEX_KIND || key.objectid != ROOT {
+    if key.kind != DIR_INDEX || key.objectid != ROOT {
         return Ok(first);
     }
     let entry = match index_entry(body) {

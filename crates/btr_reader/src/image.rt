@@ -28,15 +28,10 @@ use crate::volume::Btrfs;
 use btr_reader_names::InodeFound;
 use btr_reader_walk::{BlockSource, BtrAnswer, BtrRule, Inode, Key, MapRange, Memory, Tree};
 use btr_super::Super;
+use btrfs_format::block::SUPER_INFO_OFFSET;
+use btrfs_format::key::{INODE_ITEM, ROOT_ITEM};
+use btrfs_format::object::FS_TREE;
 use std::alloc::Global;
-
-/// The number of the file tree.
-const FILE_TREE: u64 = 5;
-
-/// The kinds in the keys of root items and of inode items.
-const ROOT_KIND: u8 = 132;
-
-const INODE_KIND: u8 = 1;
 
 impl Btrfs {
     /// The tree of a root item that was looked for.
@@ -92,7 +87,7 @@ fn tree_number(key: Option<Key>) -> Option<u64>
 {
     match key {
         Some(key) => {
-            if key.kind == ROOT_KIND {
+            if key.kind == ROOT_ITEM {
                 Some(key.objectid)
             } else {
                 None
@@ -108,7 +103,7 @@ fn inode_number(key: Option<Key>) -> Option<u64>
 {
     match key {
         Some(key) => {
-            if key.kind == INODE_KIND {
+            if key.kind == INODE_ITEM {
                 Some(key.objectid)
             } else {
                 None
@@ -234,7 +229,7 @@ impl Btrfs {
         ensures reads { OverTold S.tells (S.blocks src.old) (λ image. HasRoots self.now.roots (roots_on image self.now.sup self.now.ranges.items) →
             ReadsImage self.now.ranges.items (saved_image image self.now.sup self.now.ranges.items) (image_refusals image self.now.sup self.now.ranges.items) result) }
     {
-        let tree = match self.find_tree(FILE_TREE)? {
+        let tree = match self.find_tree(FS_TREE)? {
             Some(tree) => tree,
             None => return Ok(None),
         };
@@ -265,12 +260,12 @@ impl Btrfs {
         ensures known { IfErr result NamesNoLogTree }
         ensures device { IfOk result (λ o. IfSome o (λ m. m.device ≡ S.size src.old)) }
         // A source with another number of blocks is no source of this volume.
-        ensures resized { S.size src.old ≢ self.now.device → result ≡ Err (BtrAnswer.Refused (BadBtrfs 65536 SuperField)) }
+        ensures resized { S.size src.old ≢ self.now.device → result ≡ Err (BtrAnswer.Refused (BadBtrfs SUPER_INFO_OFFSET SuperField)) }
         ensures reads { OverTold S.tells (S.blocks src.old) (λ image. IsVolumeOn image self.now →
             ReadsImage self.now.ranges.items (saved_image image self.now.sup self.now.ranges.items) (image_refusals image self.now.sup self.now.ranges.items) result) }
     {
         if src.len() != self.device {
-            return Err(refused(65536, BtrRule::SuperField));
+            return Err(refused(SUPER_INFO_OFFSET, BtrRule::SuperField));
         }
         self.read_image(alloc, src)
     }

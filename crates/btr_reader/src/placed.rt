@@ -24,6 +24,7 @@ use crate::row::{inode_row, tree_row};
 use btr_reader_contents::{Contents, wanted_inode};
 use btr_reader_names::{Names, ROOT, kind_of_mode};
 use btr_reader_walk::{BtrAnswer, BtrRule, Inode, Memory};
+use btrfs_format::object::FIRST_FREE_OBJECTID;
 use fs_paths::PathTo;
 use fs_rows::{Content, Row, Rows, Spot, no_content};
 use std::alloc::Global;
@@ -38,7 +39,7 @@ pub fn row_at(
 ) -> Result<Row, BtrAnswer>
     ensures cause { IfErr result IsNoFault }
     ensures row { (named : NodeOf → Bool) (image : Image) (ranges : List RangeOf) (items : List TreeItem) (root : ℕ) (has_root : ℕ → Bool) → IsReadTree names.now named (λ ino. get nat_eq contents.now.known ino) image ranges items root has_root →
-        (list : List PathOf) → ArePaths (links_of names.now named) (inode_node 256) list → (i : ℕ) → slice_get list i ≡ Some path.now → rows.now ≡ map (λ p. row_of (made_row image ranges items list p)) (take i list) →
+        (list : List PathOf) → ArePaths (links_of names.now named) (inode_node FIRST_FREE_OBJECTID) list → (i : ℕ) → slice_get list i ≡ Some path.now → rows.now ≡ map (λ p. row_of (made_row image ranges items list p)) (take i list) →
         MatchResult result (λ row. row ≡ row_of (made_row image ranges items list path.now)) IsMemory }
 {
     if path.target.space != 0 {

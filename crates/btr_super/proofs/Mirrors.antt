@@ -3,6 +3,7 @@ use Rattle.std.proofs.Common.{◌≡◌, ◌<◌, ◌≤◌, ◌+◌, ◌*◌, �
 use Rattle.std.proofs.lemmas.Bool.{lt-ltb}
 use Rattle.std.proofs.lemmas.List.{take_at, drop_at, drop-drop, drop-append-le, drop-take}
 use Rattle.std.specs.List.{starts_with}
+use Rattle.btrfs_format.specs.declared.block.TheConstants.{SUPER_INFO_OFFSET}
 use Rattle.byteorder.specs.Endian.{little_number, little_bytes}
 use Rattle.byteorder.specs.Numbers.{little_number-reads_back}
 use Rattle.refusals.specs.vol_block.Volume.{put_field}
@@ -129,7 +130,7 @@ unfolding super_of
 mirrors_read block s place device to len is below there =
     let read = unless_ok (super_refusals block place device) (super_in block) s is in
     let held =
-    three_held (is_super block place device) (is_some (known_kind (csum_type_of block))) (has_sum (known_kind (csum_type_of block)) block) bad_field (Unsupported ChecksumType (csum_type_of block)) (BadBtrfs 65536 SuperCsum)
+    three_held (is_super block place device) (is_some (known_kind (csum_type_of block))) (has_sum (known_kind (csum_type_of block)) block) bad_field (Unsupported ChecksumType (csum_type_of block)) (BadBtrfs SUPER_INFO_OFFSET SuperCsum)
     (field_rules (super_in block) place device) read.0 in
     let kind = known_of (known_kind (csum_type_of block)) held.1 in
     let magic = both_of (nat_lt place device) (has_bytes_at block 64 (codes "_BHRfS_M")) held.0 in

@@ -1,4 +1,4 @@
-// Places of the superblock, from fs/btrfs/fs.h and fs/btrfs/disk-io.h of Linux. Blocks have 4096 bytes.
+//! Places of the superblock, from fs/btrfs/fs.h and fs/btrfs/disk-io.h of Linux. Blocks have 4096 bytes.
 
 /// The magic of a superblock.
 pub const MAGIC: &[u8] = b"_BHRfS_M";
@@ -23,3 +23,9 @@ pub const MIRROR_BLOCKS: u64 = (1 << 16) / 4096;
 
 /// How many blocks are kept free at the start of a device: 1 MiB, `BTRFS_DEVICE_RANGE_RESERVED`.
 pub const RESERVED_BLOCKS: u64 = (1 << 20) / 4096;
+
+/// Where the blocks end that are kept free at the first copy.
+pub const FIRST_MIRROR_END: u64 = FIRST_MIRROR + MIRROR_BLOCKS;
+
+/// Where the blocks end that are kept free at the second copy.
+pub const SECOND_MIRROR_END: u64 = SECOND_MIRROR + MIRROR_BLOCKS;

@@ -1,4 +1,4 @@
-// Features of a volume, from include/uapi/linux/btrfs.h of Linux: `BTRFS_FEATURE_INCOMPAT_..`, and the kind of checksum.
+//! Features of a volume, from include/uapi/linux/btrfs.h of Linux: `BTRFS_FEATURE_INCOMPAT_..`, and the kind of checksum.
 
 /// Back references of both kinds. Each volume has it today.
 pub const MIXED_BACKREF: u64 = 0x1;

@@ -1,4 +1,4 @@
-// Flags and codes in the bodies of items, from include/uapi/linux/btrfs_tree.h of Linux.
+//! Flags and codes in the bodies of items, from include/uapi/linux/btrfs_tree.h of Linux.
 
 /// A chunk or block group of data.
 pub const BLOCK_GROUP_DATA: u64 = 1;

@@ -1,4 +1,4 @@
-// Kinds of keys, from include/uapi/linux/btrfs_tree.h of Linux: `BTRFS_.._KEY`.
+//! Kinds of keys, from include/uapi/linux/btrfs_tree.h of Linux: `BTRFS_.._KEY`.
 
 /// An inode: (inode, kind, 0).
 pub const INODE_ITEM: u8 = 1;

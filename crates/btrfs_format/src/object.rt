@@ -1,5 +1,5 @@
-// Numbers of trees and of other objects, from include/uapi/linux/btrfs_tree.h of Linux: `BTRFS_.._OBJECTID`. Trees stand here
-// without `_OBJECTID`.
+//! Numbers of trees and of other objects, from include/uapi/linux/btrfs_tree.h of Linux: `BTRFS_.._OBJECTID`. Trees stand here
+//! without `_OBJECTID`.
 
 /// The root tree, which has the roots of all other trees but the chunk tree.
 pub const ROOT_TREE: u64 = 1;

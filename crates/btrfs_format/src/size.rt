@@ -1,4 +1,4 @@
-// Sizes of structures in bytes, from include/uapi/linux/btrfs_tree.h of Linux.
+//! Sizes of structures in bytes, from include/uapi/linux/btrfs_tree.h of Linux.
 
 /// The room for a checksum at the start of a node or superblock: `BTRFS_CSUM_SIZE`.
 pub const CSUM_SIZE: usize = 32;
@@ -8,6 +8,9 @@ pub const KEY_SIZE: usize = 17;
 
 /// The head of a node: `struct btrfs_header`.
 pub const HEADER_SIZE: usize = 101;
+
+/// The head of a node behind its checksum.
+pub const HEADER_REST_SIZE: usize = HEADER_SIZE - CSUM_SIZE;
 
 /// The head of an item in a leaf: `struct btrfs_item`.
 pub const ITEM_SIZE: usize = 25;
@@ -53,6 +56,9 @@ pub const EXTENT_ITEM_SIZE: usize = 24;
 
 /// An inline reference to a node: `struct btrfs_extent_inline_ref`.
 pub const INLINE_BLOCK_REF_SIZE: usize = 9;
+
+/// An extent item or metadata item with the reference of a tree behind it.
+pub const METADATA_ITEM_SIZE: usize = EXTENT_ITEM_SIZE + INLINE_BLOCK_REF_SIZE;
 
 /// An inline reference to data: a kind and `struct btrfs_extent_data_ref`.
 pub const INLINE_DATA_REF_SIZE: usize = 29;

@@ -13,13 +13,11 @@ ghost use Rattle.convert_core.specs.Surveyed.{IsSummary};
 use crate::answers::fault_answer;
 use crate::summary::ConvertSummary;
 use crate::volume::write_volume;
+use btrfs_format::block::SUPER_BLOCK;
 use convert_options::Options;
 use convert_steps::{Answer, switch_to};
 use reiser_volume::{Access, Block, BlockNo, BlockSource, Disk, Format, Ids, format_of};
 use std::alloc::Global;
-
-/// The block of the superblock, of both formats.
-const SUPERBLOCK: BlockNo = 16;
 
 /// Converts the ReiserFS volume of a disk to Btrfs, in place. `ids` are the identifiers that the new volume gets, and `now` is
 /// the time of the conversion in seconds since the start of 1970, below 2^63.
@@ -68,11 +66,11 @@ fn is_btrfs<S: BlockSource>(src: &mut S) -> Result<bool, Answer>
     ensures cause { HasCauseOf Answer.Fault (S.faults src.old) (S.faults src.new) result }
     ensures answers { IfErr result (λ e. e ≡ Answer.Fault) }
 {
-    if src.len() <= SUPERBLOCK {
+    if src.len() <= SUPER_BLOCK {
         return Ok(false);
     }
     let mut block = Block::zero();
-    match src.read(SUPERBLOCK, &mut block) {
+    match src.read(SUPER_BLOCK, &mut block) {
         Ok(()) => Ok(format_of(&block) == Format::Btrfs),
         Err(fault) => Err(fault_answer(fault)),
     }

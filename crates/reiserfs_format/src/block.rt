@@ -1,4 +1,4 @@
-// Places of the superblock, the bitmap and the journal, in blocks of 4096 bytes, from Linux's fs/reiserfs/reiserfs.h.
+//! Places of the superblock, the bitmap and the journal, in blocks of 4096 bytes, from Linux's fs/reiserfs/reiserfs.h.
 
 /// The block of the superblock: `REISERFS_DISK_OFFSET_IN_BYTES`.
 pub const SUPER_BLOCK: u64 = 65536 / 4096;

@@ -1,4 +1,4 @@
-// Objects and kinds of items, from Linux's fs/reiserfs/reiserfs.h.
+//! Objects and kinds of items, from Linux's fs/reiserfs/reiserfs.h.
 
 /// The directory of the root directory: `REISERFS_ROOT_PARENT_OBJECTID`.
 pub const ROOT_PARENT_OBJECTID: u32 = 1;

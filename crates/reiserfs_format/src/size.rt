@@ -1,4 +1,4 @@
-// Sizes of structures in bytes, from Linux's fs/reiserfs/reiserfs.h.
+//! Sizes of structures in bytes, from Linux's fs/reiserfs/reiserfs.h.
 
 /// The head of a node: `struct block_head`.
 pub const BLKH_SIZE: usize = 24;

@@ -2,6 +2,7 @@
 use Rattle.std.proofs.Common.{◌≡◌, ◌≢◌, ◌∙◌, ℕ, Bool, true, false, cond, not, ◌&&◌, nat_lt, List, [], ◌∷◌, length, Some, None, codes, refl, sym, ap, true≢false}
 use Rattle.std.specs.Prelude.{◌+◌, bytes_eq, filter}
 use Rattle.std.proofs.lemmas.Slice.Eq.{bytes_eq-Decides}
+use Rattle.btrfs_format.specs.declared.block.TheConstants.{FIRST_MIRROR, SECOND_MIRROR, SUPER_BLOCK}
 use Rattle.reiser_bitmap.specs.outside.History.{Image, block_at}
 use Rattle.btr_super.specs.Super.{mirror_bytes}
 use Rattle.reiser_bitmap.specs.Bits.{has}
@@ -46,11 +47,11 @@ copy_again blocks superblock b bytes = taken_again (nat_lt b blocks) (mirror_byt
 
 pub mend_again : (f : Format) (image : Image) (b : ℕ) (bytes : List ℕ) → mended_by f image b (mended_by f image b bytes) ≡ mended_by f image b bytes
 mend_again Reiser image b bytes = wipe_again (superblock image).blocks (used_of image) b bytes
-mend_again Btrfs image b bytes = copy_again (blocks_of (block_at image 16)) (block_at image 16) b bytes
+mend_again Btrfs image b bytes = copy_again (blocks_of (block_at image SUPER_BLOCK)) (block_at image SUPER_BLOCK) b bytes
 mend_again Neither image b bytes = refl
 
 -- a disk with the same superblock, and of ReiserFS with the same used blocks, is mended alike
-pub mend_same : (f : Format) (image other : Image) → block_at other 16 ≡ block_at image 16 → (f ≡ Reiser → used_of other ≡ used_of image) → (b : ℕ) (bytes : List ℕ) → mended_by f other b bytes ≡ mended_by f image b bytes
+pub mend_same : (f : Format) (image other : Image) → block_at other SUPER_BLOCK ≡ block_at image SUPER_BLOCK → (f ≡ Reiser → used_of other ≡ used_of image) → (b : ℕ) (bytes : List ℕ) → mended_by f other b bytes ≡ mended_by f image b bytes
 mend_same Reiser image other same used b bytes =
     ap (λ (sb : List ℕ). wiped (super_of sb).blocks (used_of other) b bytes) same ∙ ap (λ (set : List Bool). wiped (superblock image).blocks set b bytes) (used refl)
 mend_same Btrfs image other same used b bytes = ap (λ (sb : List ℕ). copied (blocks_of sb) sb b bytes) same
@@ -124,17 +125,17 @@ not_true false never = refl
 pub same_bytes : (xs ys : List ℕ) → xs ≡ ys → not (bytes_eq xs ys) ≡ false
 same_bytes xs ys is = ap not ((bytes_eq-Decides xs ys).1 is)
 
-two_tests : (s t : Bool) → length {A = ℕ} (cond s (16384 ∷ cond t (67108864 ∷ []) []) (cond t (67108864 ∷ []) [])) ≡ cond s 1 0 + cond t 1 0
+two_tests : (s t : Bool) → length {A = ℕ} (cond s (FIRST_MIRROR ∷ cond t (SECOND_MIRROR ∷ []) []) (cond t (SECOND_MIRROR ∷ []) [])) ≡ cond s 1 0 + cond t 1 0
 two_tests true true = refl
 two_tests true false = refl
 two_tests false true = refl
 two_tests false false = refl
 
 -- how many of the two blocks of copies pass a test
-pub two_of : (P : ℕ → Bool) (s t : Bool) → P 16384 ≡ s → P 67108864 ≡ t → length (filter P copy_blocks) ≡ cond s 1 0 + cond t 1 0
+pub two_of : (P : ℕ → Bool) (s t : Bool) → P FIRST_MIRROR ≡ s → P SECOND_MIRROR ≡ t → length (filter P copy_blocks) ≡ cond s 1 0 + cond t 1 0
 two_of P s t first second =
-    ap (λ (u : Bool). length {A = ℕ} (cond u (16384 ∷ cond (P 67108864) (67108864 ∷ []) []) (cond (P 67108864) (67108864 ∷ []) []))) first
-    ∙ (ap (λ (u : Bool). length {A = ℕ} (cond s (16384 ∷ cond u (67108864 ∷ []) []) (cond u (67108864 ∷ []) []))) second ∙ two_tests s t)
+    ap (λ (u : Bool). length {A = ℕ} (cond u (FIRST_MIRROR ∷ cond (P SECOND_MIRROR) (SECOND_MIRROR ∷ []) []) (cond (P SECOND_MIRROR) (SECOND_MIRROR ∷ []) []))) first
+    ∙ (ap (λ (u : Bool). length {A = ℕ} (cond s (FIRST_MIRROR ∷ cond u (SECOND_MIRROR ∷ []) []) (cond u (SECOND_MIRROR ∷ []) []))) second ∙ two_tests s t)
 
 -- no Btrfs superblock is left in a block without use
 clean_chosen : (low had : Bool) (bytes : List ℕ) → low ≡ true → had ≡ false

@@ -1,5 +1,6 @@
 -- The disk before, while and after a converted volume is rolled back.
 use Rattle.std.specs.Prelude.{◌≡◌, ◌⊎◌, ℕ, nat_lt, Bool, true, false, ◌&&◌, not, List, codes, filter, length}
+use Rattle.btrfs_format.specs.declared.block.TheConstants.{SUPER_BLOCK}
 use Rattle.reiser_bitmap.specs.outside.History.{Image, block_at}
 use Rattle.reiser_bitmap.specs.vol_block.Format.{has_bytes_at}
 use Rattle.reiser_bitmap.specs.vol_block.Volume.{is_reserved, zeros}
@@ -26,7 +27,7 @@ is_wiped disk b = nat_lt b (length (old_used disk)) && (not (has (old_used disk)
 -- It still stands: nothing differs but restored blocks, none of which it uses, and its superblock is as it was.
 pub record IsStanding (disk other : Image) : Type 0 where
   pub size : length other ≡ length disk
-  pub superblock : block_at other 16 ≡ block_at disk 16
+  pub superblock : block_at other SUPER_BLOCK ≡ block_at disk SUPER_BLOCK
   pub others : (b : ℕ) → ¬ IsRestored disk b → block_at other b ≡ block_at disk b
 
 -- ---- the old volume

@@ -15,9 +15,10 @@ ghost use Rattle.rollback_core.specs.Writing.{AreApart, HasRoom};
 use crate::answers::{btrfs_answer, changed, fault_answer, image_answer};
 use crate::saved::{count_reserved, read_block, read_reserved};
 use crate::wiping::wipe_both;
-use crate::{RollbackSummary, SUPERBLOCK, WayBack};
+use crate::{RollbackSummary, WayBack};
 use btr_reader::{Btrfs, ImageMap};
 use btr_super::Super;
+use btrfs_format::block::SUPER_BLOCK;
 use convert_steps::Answer;
 use reiser_bitmap::{Bitmap, Block, BlockSource, BtrRefusal, Format, VolumeRefusal, format_of};
 use reiser_volume::Volume;
@@ -74,10 +75,10 @@ fn find_superblock<S: BlockSource>(src: &mut S) -> Result<Block, Answer>
     ensures cause { HasCauseOf Answer.Fault (S.faults src.old) (S.faults src.new) result }
     ensures answers { IfErr result IsRollbackAnswer }
 {
-    if src.len() <= SUPERBLOCK {
+    if src.len() <= SUPER_BLOCK {
         return Err(Answer::Volume(VolumeRefusal::NotVolume));
     }
-    let block = match read_block(src, SUPERBLOCK) {
+    let block = match read_block(src, SUPER_BLOCK) {
         Ok(block) => block,
         Err(fault) => return Err(fault_answer(fault)),
     };
@@ -95,7 +96,7 @@ fn open_volume<S: BlockSource>(alloc: Global, src: &mut S, block: &Block) -> Res
     ensures cause { HasCauseOf Answer.Fault (S.faults src.old) (S.faults src.new) result }
     ensures answers { IfErr result IsRollbackAnswer }
 {
-    let sup = match Super::read(block, SUPERBLOCK, src.len()) {
+    let sup = match Super::read(block, SUPER_BLOCK, src.len()) {
         Ok(sup) => sup,
         Err(refusal) => return Err(Answer::Btr(refusal)),
     };
@@ -153,7 +154,7 @@ fn open_old<S: BlockSource>(alloc: Global, src: &mut S, map: &ImageMap) -> Resul
         Err(answer) => return Err(image_answer(answer)),
     };
     let blocks = old.bitmap().len();
-    if blocks <= SUPERBLOCK || blocks > image.len() {
+    if blocks <= SUPER_BLOCK || blocks > image.len() {
         return Err(changed());
     }
     Ok(old)
@@ -212,7 +213,7 @@ fn plan<S: BlockSource>(
         Err(fault) => return Err(fault_answer(fault)),
     };
     let mut image = ImageSource::new(src, map);
-    let superblock = match read_block(&mut image, SUPERBLOCK) {
+    let superblock = match read_block(&mut image, SUPER_BLOCK) {
         Ok(block) => block,
         Err(fault) => return Err(fault_answer(fault)),
     };

@@ -2,6 +2,7 @@
 ghost use Rattle.std.specs.Prelude.{◌≤◌, ◌<◌, ◌^◌, ◌≡◌, IfOk, length, None};
 
 use btr_super::{Super, mirror};
+use btrfs_format::block::SUPER_INFO_OFFSET;
 use command_answers::Answer;
 use outside::{Access, BlockSource, Disk};
 use outside_mem::MemDisk;
@@ -191,7 +192,7 @@ fn what_is_wrong_is_refused(rt: HostRuntime) -> Result<(), Fail> {
         &rt,
         btrfs(rt.alloc(), &torn, &Block::zero())?,
         Answer::Btr(BtrRefusal::BadBtrfs {
-            address: 65536,
+            address: SUPER_INFO_OFFSET,
             rule: BtrRule::SuperCsum,
         }),
     )

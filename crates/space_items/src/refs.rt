@@ -8,11 +8,13 @@ ghost use Rattle.space_items.specs.Stream.{IsSmallPiece};
 use crate::node::TreeNode;
 use btr_space_items::{ExtentHead, InlineRef};
 use btr_tree::data_ref_hash;
+use btrfs_format::flag::EXTENT_FLAG_DATA;
+use btrfs_format::size::{EXTENT_ITEM_SIZE, INLINE_DATA_REF_SIZE};
 use std::marker::Model;
 use unit_plan::Piece;
 
 /// The most bytes that an item of the extent tree has: an extent of two references to data.
-pub const LONGEST: usize = 82;
+pub const LONGEST: usize = EXTENT_ITEM_SIZE + 2 * INLINE_DATA_REF_SIZE;
 
 /// The body of an item of the extent tree, seen as its bytes.
 #[derive(Drop)]
@@ -128,8 +130,8 @@ fn image_ref(piece: &Piece) -> Option<InlineRef>
 
 /// The body of an extent of data with two references, by descending hash. Of equal hashes the first one stands first.
 fn two_refs(first: InlineRef, other: InlineRef) -> Body
-    requires { inline_ref_size first + inline_ref_size other ≤ 58 }
-    ensures { result ≡ extent_body 1 (put_ref first (other ∷ [])) }
+    requires { inline_ref_size first + inline_ref_size other ≤ 2 * INLINE_DATA_REF_SIZE }
+    ensures { result ≡ extent_body EXTENT_FLAG_DATA (put_ref first (other ∷ [])) }
 {
     let body = Body::begun(2, 1);
     if hash_of(first) < hash_of(other) {

@@ -8,11 +8,9 @@ ghost use Rattle.trial_core.specs.Answers.{IsScratchAnswer, RefusesScratch};
 ghost use Rattle.trial_core.specs.Trial.{IsScratch};
 
 use crate::answers::fault_answer;
+use btrfs_format::block::SUPER_BLOCK;
 use convert_core::Answer;
 use reiser_bitmap::{Block, BlockNo, BlockSource, Fault, Format, VolumeRefusal, format_of};
-
-/// The block of the superblock, of both formats.
-const SUPERBLOCK: BlockNo = 16;
 
 /// How many blocks the sample's volume has: 256 MiB.
 pub const BLOCKS: u64 = 65536;
@@ -48,10 +46,10 @@ fn find_format<S: BlockSource>(src: &mut S) -> Result<Format, Fault>
     ensures found { OverTold S.tells (S.blocks src.old) (λ disk. IfOk result (λ format. format ≡ format_in disk)) }
     ensures cause { HasCause (S.faults src.old) (S.faults src.new) result }
 {
-    if src.len() <= SUPERBLOCK {
+    if src.len() <= SUPER_BLOCK {
         return Ok(Format::Neither);
     }
     let mut block = Block::zero();
-    src.read(SUPERBLOCK, &mut block)?;
+    src.read(SUPER_BLOCK, &mut block)?;
     Ok(format_of(&block))
 }

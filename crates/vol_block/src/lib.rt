@@ -17,4 +17,7 @@ pub use field::{Field, array_at, put_fields};
 pub use fields::{put_u16, put_u32, put_u64, u16_at, u32_at, u64_at};
 pub use format::{Format, format_of, has_magic, has_reiser_magic};
 pub use ids::Ids;
-pub use mode::{DT_BLK, DT_CHR, DT_DIR, DT_FIFO, DT_LNK, DT_REG, DT_SOCK, S_IFDIR, S_IFREG};
+pub use mode::{
+    DIRECTORY_MODE, DT_BLK, DT_CHR, DT_DIR, DT_FIFO, DT_LNK, DT_REG, DT_SOCK, IMAGE_MODE, S_IFDIR,
+    S_IFREG,
+};

@@ -26,3 +26,9 @@ pub const S_IFDIR: u32 = DT_DIR << 12;
 
 /// A regular file, in a whole mode.
 pub const S_IFREG: u32 = DT_REG << 12;
+
+/// The mode of a directory that only its owner may write.
+pub const DIRECTORY_MODE: u32 = S_IFDIR | 0o755;
+
+/// The mode of a file that only its owner may read, and nobody write.
+pub const IMAGE_MODE: u32 = S_IFREG | 0o400;

@@ -3,10 +3,8 @@ ghost use Rattle.reiser_volume.specs.outside.Fault.{HasCause};
 ghost use Rattle.reiser_volume.specs.outside.History.{reads};
 ghost use Rattle.volume_app.specs.Found.{IsFoundOn};
 
+use btrfs_format::block::SUPER_BLOCK;
 use reiser_volume::{Access, Block, BlockNo, BlockSource, Disk, Fault, Format, format_of};
-
-/// The block of the superblock, of both formats.
-const SUPERBLOCK: BlockNo = 16;
 
 /// Block 16 of a disk, zeros where there is none, and the format of the volume by it.
 #[derive(Clone, Copy, Debug)]
@@ -35,13 +33,13 @@ fn find_format<S: BlockSource>(source: &mut S) -> Result<Found, Fault>
     ensures cause { HasCause (S.faults source.old) (S.faults source.new) result }
 {
     let mut block = Block::zero();
-    if source.len() <= SUPERBLOCK {
+    if source.len() <= SUPER_BLOCK {
         return Ok(Found {
             format: Format::Neither,
             block,
         });
     }
-    source.read(SUPERBLOCK, &mut block)?;
+    source.read(SUPER_BLOCK, &mut block)?;
     Ok(Found {
         format: format_of(&block),
         block,

@@ -1,13 +1,15 @@
 use crate::bodies::{chunk, device, key};
 use crate::sample::{BLOCKS, CHUNK_LEAF, FSID, NODE, ROOT_LEAF, SYSTEM, Sample};
 use btr_super::Super;
+use btrfs_format::block::SUPER_INFO_OFFSET;
+use btrfs_format::object::ROOT_TREE_DIR_OBJECTID;
 use vol_block::Block;
 
 /// The block of the superblock.
 pub fn superblock(sample: &Sample) -> Block {
     let sup = Super {
         fsid: FSID,
-        bytenr: 65536,
+        bytenr: SUPER_INFO_OFFSET,
         flags: 1,
         generation: 1,
         root: ROOT_LEAF,
@@ -17,7 +19,7 @@ pub fn superblock(sample: &Sample) -> Block {
         total_bytes: BLOCKS * 4096,
         // Linux takes no superblock that has less than six nodes.
         bytes_used: 6 * 16384,
-        root_dir_objectid: 6,
+        root_dir_objectid: ROOT_TREE_DIR_OBJECTID,
         num_devices: 1,
         sectorsize: 4096,
         nodesize: NODE,

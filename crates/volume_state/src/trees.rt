@@ -18,18 +18,11 @@ use btr_node::{Key, SumKind};
 use btr_reader::{Btrfs, RootFound, find_entry};
 use btr_reader_walk::{Form, Pointer, Tree};
 use btr_super::{Super, sum_kind};
+use btrfs_format::block::SUPER_INFO_OFFSET;
+use btrfs_format::key::ROOT_ITEM;
+use btrfs_format::object::{CHUNK_TREE, FS_TREE, ROOT_TREE};
 use reiser_bitmap::{BlockSource, BtrAnswer, BtrRefusal, BtrRule};
 use std::alloc::Global;
-
-/// The numbers of three trees.
-const ROOT_TREE: u64 = 1;
-
-const CHUNK_TREE: u64 = 3;
-
-const FILE_TREE: u64 = 5;
-
-/// The kind in the key of a root item.
-const ROOT_KIND: u8 = 132;
 
 /// The answer where a rule is broken at an address, in bytes.
 pub fn refused(address: u64, rule: BtrRule) -> BtrAnswer
@@ -53,11 +46,11 @@ fn form_of(sup: &Super) -> Form
 pub fn chunk_tree(volume: &Btrfs) -> Result<Tree, BtrAnswer>
     ensures tree { IfOk result (λ t. t ≡ chunk_tree volume.now.sup) }
     ensures walkable { IfOk result IsWalkable }
-    ensures high { IfErr result (λ e. (7 < volume.now.sup.chunk_root_level) × (e ≡ BtrAnswer.Refused (BadBtrfs 65536 SuperField))) }
+    ensures high { IfErr result (λ e. (7 < volume.now.sup.chunk_root_level) × (e ≡ BtrAnswer.Refused (BadBtrfs SUPER_INFO_OFFSET SuperField))) }
 {
     let sup = &volume.sup;
     if sup.chunk_root_level > 7 {
-        return Err(refused(65536, BtrRule::SuperField));
+        return Err(refused(SUPER_INFO_OFFSET, BtrRule::SuperField));
     }
     Ok(Tree {
         form: form_of(sup),
@@ -125,12 +118,12 @@ fn find_tree(volume: &Btrfs, number: u64) -> Result<Option<Tree>, BtrAnswer>
 
 /// The file tree, if it has a root item.
 pub fn file_tree(volume: &Btrfs) -> Result<Option<Tree>, BtrAnswer>
-    ensures finds { (items : List TreeItem) → HasRoots volume.now.roots items → FindsTree volume.now.sup 5 (root_item 5 items) result }
+    ensures finds { (items : List TreeItem) → HasRoots volume.now.roots items → FindsTree volume.now.sup FS_TREE (root_item FS_TREE items) result }
     ensures walkable { IfOk result (λ o. IfSome o IsWalkable) }
     ensures known { IfErr result NamesNoLogTree }
     ensures cause { IfErr result IsNoFault }
 {
-    find_tree(volume, FILE_TREE)
+    find_tree(volume, FS_TREE)
 }
 
 /// The number of the tree that an entry names.
@@ -139,7 +132,7 @@ fn tree_number(key: Option<Key>) -> Option<u64>
 {
     match key {
         Some(key) => {
-            if key.kind == ROOT_KIND {
+            if key.kind == ROOT_ITEM {
                 Some(key.objectid)
             } else {
                 None

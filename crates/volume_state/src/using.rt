@@ -18,6 +18,7 @@ use crate::nodes::reserved_node;
 use crate::trees::{chunk_tree, file_tree, refused, root_tree, saved_tree};
 use btr_reader::Btrfs;
 use btr_reader_walk::{MapRange, Tree};
+use btrfs_format::block::SUPER_INFO_OFFSET;
 use reiser_bitmap::{BlockNo, BlockSource, BtrAnswer, BtrRefusal, BtrRule};
 use std::alloc::Global;
 
@@ -39,7 +40,7 @@ pub fn reserved_used<S: BlockSource>(
     ensures cause { HasCauseOf BtrAnswer.Fault (S.faults src.old) (S.faults src.new) result }
     // Over any source: a log tree first, and then another number of blocks.
     ensures logged { volume.now.sup.log_root ≢ 0 → result ≡ Err (BtrAnswer.Refused (LogPending volume.now.sup.log_root)) }
-    ensures resized { volume.now.sup.log_root ≡ 0 → S.size src.old ≢ volume.now.device → result ≡ Err (BtrAnswer.Refused (BadBtrfs 65536 SuperField)) }
+    ensures resized { volume.now.sup.log_root ≡ 0 → S.size src.old ≢ volume.now.device → result ≡ Err (BtrAnswer.Refused (BadBtrfs SUPER_INFO_OFFSET SuperField)) }
     ensures told { OverTold S.tells (S.blocks src.old) (λ image. IsVolumeOn image volume.now → MatchResult result (TellsReserved (IsInUse image) blocks) (RefusesUse image)) }
 {
     if volume.sup.log_root != 0 {
@@ -48,7 +49,7 @@ pub fn reserved_used<S: BlockSource>(
         }));
     }
     if src.len() != volume.device {
-        return Err(refused(65536, BtrRule::SuperField));
+        return Err(refused(SUPER_INFO_OFFSET, BtrRule::SuperField));
     }
     let ranges = volume.ranges.as_slice();
     if let Some(block) = reserved_node(alloc, src, &chunk_tree(volume)?, ranges, blocks)? {

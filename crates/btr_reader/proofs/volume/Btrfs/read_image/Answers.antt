@@ -1,6 +1,7 @@
 use Rattle.std.proofs.Common.{refl, sym, ◌∙◌, subst}
 use Rattle.std.specs.Option.{option_and_then}
 use Rattle.std.proofs.lemmas.Result.{err_from_is_err_and}
+use Rattle.btrfs_format.specs.declared.object.TheConstants.{FS_TREE}
 use Rattle.btr_reader.specs.Image.{entry_refusals, image_refusals, items_at, if_there, refusals_below, tree_number, saved_entry}
 use Rattle.btr_reader.specs.Opening.{IsAmong, tree_of, or_later}
 use Rattle.btr_reader.specs.Roots.{root_item}
@@ -14,9 +15,9 @@ returns-in_err-tree-clause-reads g c = λ tells image is right.
     let ranges = c.args.self.now.ranges.items in
     let err = err_from_is_err_and c.from_residual.result c.from_residual.ensures.1 in
     rw err.1 (subst (IsAmong (image_refusals image sup ranges)) (sym err.2)
-    (root_item_refused sup 5
-    (λ p. or_later (entry_refusals image ranges (tree_of sup 5 p)) (if_there (λ number. refusals_below image sup ranges number (root_item number (roots_on image sup ranges))) (option_and_then tree_number (saved_entry (items_at image sup ranges 5 p)))))
-    (root_item 5 (roots_on image sup ranges)) c.in_err-tree.field-0.0 (c.in_err-tree.ensures.finds (roots_on image sup ranges) right)))
+    (root_item_refused sup FS_TREE
+    (λ p. or_later (entry_refusals image ranges (tree_of sup FS_TREE p)) (if_there (λ number. refusals_below image sup ranges number (root_item number (roots_on image sup ranges))) (option_and_then tree_number (saved_entry (items_at image sup ranges FS_TREE p)))))
+    (root_item FS_TREE (roots_on image sup ranges)) c.in_err-tree.field-0.0 (c.in_err-tree.ensures.finds (roots_on image sup ranges) right)))
 
 pub returns-in_err-key-clause-reads : goal.returns-in_err-key-clause-reads
 returns-in_err-key-clause-reads g c = λ tells image is right.
@@ -25,9 +26,9 @@ returns-in_err-key-clause-reads g c = λ tells image is right.
     let finds = rw c.in-Some.is at (c.in_ok-tree.ensures.finds (roots_on image sup ranges) right) in
     let err = err_from_is_err_and c.from_residual-in_err-key.result c.from_residual-in_err-key.ensures.1 in
     rw err.1 (subst (IsAmong (image_refusals image sup ranges)) (sym err.2)
-    (entry_refused image sup ranges c.as_slice.result.now 5
-    (λ p. if_there (λ number. refusals_below image sup ranges number (root_item number (roots_on image sup ranges))) (option_and_then tree_number (saved_entry (items_at image sup ranges 5 p))))
-    (root_item 5 (roots_on image sup ranges)) c.in-Some.tree c.in_err-key.field-0.0 c.as_slice.ensures.value finds (c.in_err-key.ensures.err tells image is)))
+    (entry_refused image sup ranges c.as_slice.result.now FS_TREE
+    (λ p. if_there (λ number. refusals_below image sup ranges number (root_item number (roots_on image sup ranges))) (option_and_then tree_number (saved_entry (items_at image sup ranges FS_TREE p))))
+    (root_item FS_TREE (roots_on image sup ranges)) c.in-Some.tree c.in_err-key.field-0.0 c.as_slice.ensures.value finds (c.in_err-key.ensures.err tells image is)))
 
 pub returns-clause-reads : goal.returns-clause-reads
 returns-clause-reads g c = λ tells image is right.
