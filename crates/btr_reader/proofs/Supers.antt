@@ -1,7 +1,7 @@
 -- What is known of a superblock that is read.
 use Rattle.std.proofs.Common.{◌≡◌, ℕ, ◌*◌, ◌≤◌, eqb, nat_lt, nat_le, Bool, true, false, ◌&&◌, List, [], ◌∷◌, Result, Ok, Err, IfOk, codes, is_some, refl, sym, ap, subst, arith}
 use Rattle.std.proofs.lemmas.Bool.Decides.{nat_tests}
-use Rattle.btrfs_format.specs.declared.block.TheConstants.{SUPER_BLOCK, SUPER_INFO_OFFSET}
+use Rattle.btrfs_format.specs.declared.block.TheConstants.{SUPER_BLOCK, SUPER_INFO_OFFSET, SUPER_MAGIC_OFFSET}
 use Rattle.btr_reader_walk.specs.refusals.declared.refusal.BtrRefusal.{BtrRefusal}
 use Rattle.btr_reader_walk.specs.refusals.declared.refusal.BtrRefusal.TheVariants.{BadBtrfs, Unsupported}
 use Rattle.btr_reader_walk.specs.refusals.declared.rule.BtrRule.TheVariants.{SuperCsum, SuperField}
@@ -21,7 +21,7 @@ unfolding super_of
 no_super block device few =
     let off : nat_lt 16 device ≡ false = grind (arith, nat_tests, few) in
     ap (λ t. unless_refused
-    (failing ((t && has_bytes_at block 64 (codes "_BHRfS_M"), bad_field)
+    (failing ((t && has_bytes_at block SUPER_MAGIC_OFFSET (codes "_BHRfS_M"), bad_field)
     ∷ (is_some (known_kind (csum_type_of block)), Unsupported ChecksumType (csum_type_of block))
     ∷ (has_sum (known_kind (csum_type_of block)) block, BadBtrfs SUPER_INFO_OFFSET SuperCsum)
     ∷ field_rules (super_in block) SUPER_BLOCK device))

@@ -14,7 +14,7 @@ use crate::chunk_tree::read_chunks;
 use crate::roots::read_roots;
 use crate::volume::Btrfs;
 use btr_reader_walk::{
-    Block, BlockNo, BlockSource, BtrAnswer, BtrRefusal, BtrRule, Form, MapRange, Pointer, SumKind,
+    Block, BlockSource, BtrAnswer, BtrRefusal, BtrRule, Form, MapRange, Pointer, SumKind,
     Tree,
 };
 use btr_super::{Super, sum_kind};

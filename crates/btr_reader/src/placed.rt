@@ -22,7 +22,7 @@ ghost use Rattle.btr_reader_names.specs.Refuses.{IsNoFault};
 use crate::refused::refused;
 use crate::row::{inode_row, tree_row};
 use btr_reader_contents::{Contents, wanted_inode};
-use btr_reader_names::{Names, ROOT, kind_of_mode};
+use btr_reader_names::{Names, kind_of_mode};
 use btr_reader_walk::{BtrAnswer, BtrRule, Inode, Memory};
 use btrfs_format::object::FIRST_FREE_OBJECTID;
 use fs_paths::PathTo;
@@ -48,10 +48,10 @@ pub fn row_at(
     }
     let ino = path.target.number;
     let Some(own) = names.inode(ino) else {
-        return Err(refused(ROOT, BtrRule::NoInode));
+        return Err(refused(FIRST_FREE_OBJECTID, BtrRule::NoInode));
     };
     let Some(kind) = kind_of_mode(own.mode) else {
-        return Err(refused(ROOT, BtrRule::Body));
+        return Err(refused(FIRST_FREE_OBJECTID, BtrRule::Body));
     };
     let content = content(alloc, contents, ino, &own)?;
     let spot = spot(path, rows)?;

@@ -25,9 +25,6 @@ use btrfs_format::size::SYSTEM_CHUNK_ARRAY_SIZE;
 use refusals::{Block, BlockNo, BtrRefusal, BtrRule, Feature, u16_at};
 
 /// The bits of the incompatible features that are read.
-/// The bits of the incompatible features that are read.
-/// The bits of the incompatible features that are read.
-/// The bits of the incompatible features that are read.
 const READ: u64 = MIXED_BACKREF
     | DEFAULT_SUBVOL
     | COMPRESS_LZO

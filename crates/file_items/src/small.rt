@@ -12,19 +12,10 @@ use fs_rows::Kind;
 use reiser_volume::{Memory, name_hash};
 use std::alloc::Global;
 use unit_plan::InodeRef;
-use vol_block::{DIRECTORY_MODE, IMAGE_MODE, S_IFDIR, S_IFREG};
+use vol_block::{DIRECTORY_MODE, IMAGE_MODE};
 
 /// The name of the image.
 const IMAGE: &[u8] = b"image";
-
-/// The flags of a file that nothing changes and whose data has no checksums.
-const UNSUMMED: u64 = INODE_READONLY | INODE_NODATASUM;
-
-/// The flags of a file that nothing changes and whose data has no checksums.
-const UNSUMMED: u64 = INODE_READONLY | INODE_NODATASUM;
-
-/// The flags of a file that nothing changes and whose data has no checksums.
-const UNSUMMED: u64 = INODE_READONLY | INODE_NODATASUM;
 
 /// The flags of a file that nothing changes and whose data has no checksums.
 const UNSUMMED: u64 = INODE_READONLY | INODE_NODATASUM;

@@ -6,7 +6,6 @@ ghost use Rattle.reiser_bitmap.specs.vol_block.Format.{has_bytes_at};
 ghost use Rattle.reiser_bitmap.specs.Bits.{has};
 
 use crate::saved::read_block;
-use crate::{};
 use btrfs_format::block::{FIRST_MIRROR, SECOND_MIRROR};
 use reiser_bitmap::{Bitmap, BlockNo, BlockSource, Fault, has_magic};
 

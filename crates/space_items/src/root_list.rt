@@ -12,7 +12,7 @@ use btrfs_format::flag::FT_DIR;
 use btrfs_format::key::{DIR_ITEM, ROOT_BACKREF, ROOT_ITEM, ROOT_REF};
 use btrfs_format::object::{CONV_IMAGE_SUBVOL, FIRST_FREE_OBJECTID, FS_TREE, ROOT_TREE_DIR_OBJECTID};
 use std::alloc::Global;
-use vol_block::{DIRECTORY_MODE, S_IFDIR};
+use vol_block::DIRECTORY_MODE;
 
 /// The entry of tree 5's root that names the subvolume with the image.
 const SAVED: &[u8] = b"reiserfs_saved";
@@ -132,7 +132,7 @@ fn uuid_of(ids: &Ids, tree: u64) -> [u8; 16]
 fn root_dirid(tree: u64) -> u64
     ensures { result ≡ root_dirid tree }
 {
-    if tree == FS_TREE || tree >= 256 { 256 } else { 0 }
+    if tree == FS_TREE || tree >= FIRST_FREE_OBJECTID { FIRST_FREE_OBJECTID } else { 0 }
 }
 
 /// A root item has the inode of a directory in it, of which a kernel reads nothing.

@@ -9,6 +9,7 @@ use btrfs_format::block::{
 
 
 
+
 /// The number of a block in its volume: block b is bytes 4096·b to 4096·b + 4095.
 pub type BlockNo = u64;
 

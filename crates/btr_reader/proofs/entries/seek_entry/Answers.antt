@@ -12,7 +12,7 @@ use Rattle.btr_reader_names.specs.Passes.{HasSeen}
 use Rattle.btr_reader.specs.Image.{is_root_directory}
 use Rattle.btr_reader.specs.Opening.{IsAmong}
 use Rattle.btr_reader.proofs.RootNames.{passed_over, right_entry, in_root, with_entry, refused_entry}
-use Rattle.btr_reader.proofs.entries.seek_entry.Goals.{then-key-ne-DIR_INDEX-via-then-key-ne-DIR_INDEX, then-key-ne-DIR_INDEX-via-else-key-ne-DIR_INDEX+then-key-ne-ROOT}
+use Rattle.btr_reader.proofs.entries.seek_entry.Goals.{then-key-ne-DIR_INDEX-via-then-key-ne-DIR_INDEX, then-key-ne-DIR_INDEX-via-else-key-ne-DIR_INDEX+then-key-ne-FIRST_FREE_OBJECTID}
 use Rattle.btr_reader.proofs.entries.seek_entry.Goals as goal
 
 pub returns-then-key-ne-DIR_INDEX-clause-seen : goal.returns-then-key-ne-DIR_INDEX-clause-seen
@@ -20,9 +20,9 @@ returns-then-key-ne-DIR_INDEX-clause-seen c = λ i given key body leaf has.
     let k : Key = c.args.key.now in
     let other : ((k.kind == DIR_INDEX) && (k.objectid == FIRST_FREE_OBJECTID)) ≡ false = elim c.then-key-ne-DIR_INDEX.branch [
       | then-key-ne-DIR_INDEX-via-then-key-ne-DIR_INDEX w ↦ let kind : (k.kind == DIR_INDEX) ≡ false = grind (arith, nat_tests, w.if-key-ne-DIR_INDEX.true) in ap (λ (b : Bool). b && (k.objectid == FIRST_FREE_OBJECTID)) kind
-      | then-key-ne-DIR_INDEX-via-else-key-ne-DIR_INDEX+then-key-ne-ROOT w ↦
+      | then-key-ne-DIR_INDEX-via-else-key-ne-DIR_INDEX+then-key-ne-FIRST_FREE_OBJECTID w ↦
           let kind : (k.kind == DIR_INDEX) ≡ true = grind (arith, nat_tests, w.if-key-ne-DIR_INDEX.false) in
-          let dir : (k.objectid == FIRST_FREE_OBJECTID) ≡ false = grind (arith, nat_tests, w.if-key-ne-ROOT.true) in
+          let dir : (k.objectid == FIRST_FREE_OBJECTID) ≡ false = grind (arith, nat_tests, w.if-key-ne-FIRST_FREE_OBJECTID.true) in
           ap (λ (b : Bool). b && (k.objectid == FIRST_FREE_OBJECTID)) kind ∙ dir
     ] in
     passed_over c.args.seen.now given i (ap (λ (q : Key). (q.kind == DIR_INDEX) && (q.objectid == FIRST_FREE_OBJECTID)) key ∙ other) has
@@ -33,7 +33,7 @@ returns-in_err-see_entry-clause-err c = λ i given key body leaf has.
     let e : DirEntryValue = dir_entry_value c.in-Some.entry in
     let n : Naming = c.in_ok-naming.naming in
     let kind : (k.kind == DIR_INDEX) ≡ true = grind (arith, nat_tests, c.if-key-ne-DIR_INDEX.false) in
-    let dir : (k.objectid == FIRST_FREE_OBJECTID) ≡ true = grind (arith, nat_tests, c.if-key-ne-ROOT.false) in
+    let dir : (k.objectid == FIRST_FREE_OBJECTID) ≡ true = grind (arith, nat_tests, c.if-key-ne-FIRST_FREE_OBJECTID.false) in
     let index : is_index i ≡ true = ap (λ (q : Key). q.kind == DIR_INDEX) key ∙ kind in
     let root : is_root_directory i.key.objectid ≡ true = ap (λ (q : Key). q.objectid == FIRST_FREE_OBJECTID) key ∙ dir in
     let is : index_entry i.body ≡ Some e = ap index_entry body ∙ (sym c.index_entry.ensures ∙ ap (option_map dir_entry_value) c.in-Some.is) in
@@ -48,7 +48,7 @@ returns-clause-seen c = λ i given key body leaf has.
     let e : DirEntryValue = dir_entry_value c.in-Some.entry in
     let n : Naming = c.in_ok-naming.naming in
     let kind : (k.kind == DIR_INDEX) ≡ true = grind (arith, nat_tests, c.if-key-ne-DIR_INDEX.false) in
-    let dir : (k.objectid == FIRST_FREE_OBJECTID) ≡ true = grind (arith, nat_tests, c.if-key-ne-ROOT.false) in
+    let dir : (k.objectid == FIRST_FREE_OBJECTID) ≡ true = grind (arith, nat_tests, c.if-key-ne-FIRST_FREE_OBJECTID.false) in
     let index : is_index i ≡ true = ap (λ (q : Key). q.kind == DIR_INDEX) key ∙ kind in
     let root : is_root_directory i.key.objectid ≡ true = ap (λ (q : Key). q.objectid == FIRST_FREE_OBJECTID) key ∙ dir in
     let is : index_entry i.body ≡ Some e = ap index_entry body ∙ (sym c.index_entry.ensures ∙ ap (option_map dir_entry_value) c.in-Some.is) in
@@ -62,7 +62,7 @@ returns-clause-ok c = λ i key body leaf.
     let e : DirEntryValue = dir_entry_value c.in-Some.entry in
     let n : Naming = c.in_ok-naming.naming in
     let kind : (k.kind == DIR_INDEX) ≡ true = grind (arith, nat_tests, c.if-key-ne-DIR_INDEX.false) in
-    let dir : (k.objectid == FIRST_FREE_OBJECTID) ≡ true = grind (arith, nat_tests, c.if-key-ne-ROOT.false) in
+    let dir : (k.objectid == FIRST_FREE_OBJECTID) ≡ true = grind (arith, nat_tests, c.if-key-ne-FIRST_FREE_OBJECTID.false) in
     let index : is_index i ≡ true = ap (λ (q : Key). q.kind == DIR_INDEX) key ∙ kind in
     let root : is_root_directory i.key.objectid ≡ true = ap (λ (q : Key). q.objectid == FIRST_FREE_OBJECTID) key ∙ dir in
     let is : index_entry i.body ≡ Some e = ap index_entry body ∙ (sym c.index_entry.ensures ∙ ap (option_map dir_entry_value) c.in-Some.is) in
