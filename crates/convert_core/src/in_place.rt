@@ -16,7 +16,7 @@ use crate::volume::write_volume;
 use btrfs_format::block::SUPER_BLOCK;
 use convert_options::Options;
 use convert_steps::{Answer, switch_to};
-use reiser_volume::{Access, Block, BlockNo, BlockSource, Disk, Format, Ids, format_of};
+use reiser_volume::{Access, Block, BlockSource, Disk, Format, Ids, format_of};
 use std::alloc::Global;
 
 /// Converts the ReiserFS volume of a disk to Btrfs, in place. `ids` are the identifiers that the new volume gets, and `now` is

@@ -6,7 +6,7 @@ use Rattle.std.proofs.lemmas.Bool.{and_parts, leb-true}
 use Rattle.std.proofs.lemmas.List.Elements.{All-from_recursion}
 use Rattle.std.proofs.lemmas.List.Sums.{sum_by-cons}
 use Rattle.btrfs_format.specs.declared.object.TheConstants.{FIRST_FREE_OBJECTID}
-use Rattle.vol_block.specs.declared.mode.TheConstants.{S_IFDIR, S_IFREG}
+use Rattle.vol_block.specs.declared.mode.TheConstants.{DIRECTORY_MODE, IMAGE_MODE}
 use Rattle.btr_reader.specs.castagnoli.Castagnoli.{name_hash}
 use Rattle.indexmap.specs.IndexMap.{keys}
 use Rattle.btr_reader.proofs.fs_paths.Lists.{from_filter}

@@ -2,7 +2,7 @@
 use Rattle.std.proofs.Common.{◌≡◌, ◌≤◌, ℕ, ◌+◌, ◌*◌, Bool, is_some, List, [], ◌∷◌, length, filter, sum_by, arith}
 use Rattle.btrfs_format.specs.declared.object.TheConstants.{FIRST_FREE_OBJECTID}
 use Rattle.unit_plan.specs.declared.item_bytes.TheConstants.{FILE_EXTENT_BYTES, IMAGE_ROOM, INODE_BYTES, RELOCATION_ROOM}
-use Rattle.vol_block.specs.declared.mode.TheConstants.{S_IFDIR, S_IFREG}
+use Rattle.vol_block.specs.declared.mode.TheConstants.{DIRECTORY_MODE, IMAGE_MODE}
 use Rattle.btr_reader.specs.btr_keys.DirEntry.{dir_entry_head}
 use Rattle.btr_reader.specs.btr_keys.FileExtent.{disk_range_layout, file_extent_bytes, file_extent_head}
 use Rattle.btr_reader.specs.btr_keys.Inode.{inode_bytes, inode_layout}

@@ -5,7 +5,7 @@ use Rattle.std.specs.Option.{option_map_or}
 use Rattle.std.proofs.lemmas.Bool.Decides.{nat_tests}
 use Rattle.btrfs_format.specs.declared.key.TheConstants.{DIR_INDEX, DIR_ITEM, EXTENT_DATA, INODE_ITEM, INODE_REF}
 use Rattle.btrfs_format.specs.declared.object.TheConstants.{FIRST_FREE_OBJECTID}
-use Rattle.vol_block.specs.declared.mode.TheConstants.{S_IFDIR, S_IFREG}
+use Rattle.vol_block.specs.declared.mode.TheConstants.{DIRECTORY_MODE, IMAGE_MODE}
 use Rattle.btr_reader.specs.castagnoli.Castagnoli.{name_hash}
 use Rattle.btr_reader.specs.btr_keys.DirEntry.{dir_entry_bytes}
 use Rattle.btr_reader.specs.btr_keys.FileExtent.{file_extent_bytes}

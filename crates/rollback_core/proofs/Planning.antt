@@ -1,6 +1,6 @@
 -- What is read of the old volume is what is to be written.
 use Rattle.std.proofs.Common.{◌≡◌, ℕ, ◌==◌, nat_lt, Bool, not, ◌&&◌, List, length, codes, filter, ◌∙◌, ap, subst}
-use Rattle.btrfs_format.specs.declared.block.TheConstants.{FIRST_MIRROR, SECOND_MIRROR, SUPER_BLOCK}
+use Rattle.btrfs_format.specs.declared.block.TheConstants.{FIRST_MIRROR, SECOND_MIRROR, SUPER_BLOCK, SUPER_MAGIC_OFFSET}
 use Rattle.reiser_bitmap.specs.outside.History.{Image, block_at}
 use Rattle.reiser_bitmap.specs.vol_block.Format.{has_bytes_at}
 use Rattle.reiser_bitmap.specs.vol_block.Volume.{is_reserved}
@@ -15,7 +15,7 @@ use Rattle.rollback_core.specs.RolledBack.{summary}
 
 -- whether a block is to become zeros, by the set of used blocks
 abbrev pub wiped_in : Image → List Bool → ℕ → Bool
-wiped_in disk used b = nat_lt b (length used) && (not (has used b) && has_bytes_at (block_at disk b) 64 (codes "_BHRfS_M"))
+wiped_in disk used b = nat_lt b (length used) && (not (has used b) && has_bytes_at (block_at disk b) SUPER_MAGIC_OFFSET (codes "_BHRfS_M"))
 
 -- the reserved ones of the used blocks
 abbrev pub reserved_used : List Bool → List ℕ

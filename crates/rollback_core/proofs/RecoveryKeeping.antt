@@ -4,7 +4,7 @@ use Rattle.std.specs.Prelude.{Contains, Ok, Err, Result, bytes_eq}
 use Rattle.std.proofs.lemmas.Bool.{cases_lt}
 use Rattle.std.proofs.lemmas.Bool.Decides.{nat_tests}
 use Rattle.std.proofs.lemmas.Slice.Eq.{bytes_eq-Decides}
-use Rattle.btrfs_format.specs.declared.block.TheConstants.{FIRST_MIRROR, SECOND_MIRROR, SUPER_BLOCK}
+use Rattle.btrfs_format.specs.declared.block.TheConstants.{FIRST_MIRROR, SECOND_MIRROR, SUPER_BLOCK, SUPER_MAGIC_OFFSET}
 use Rattle.reiser_bitmap.specs.outside.Format.{format_in}
 use Rattle.reiser_bitmap.specs.outside.History.{Image, block_at}
 use Rattle.convert_steps.specs.command_answers.declared.answer.Answer.TheVariants as answer
@@ -177,7 +177,7 @@ mends = record {
   wiped = λ image other is reiser b mirror low free.
       let yes : nat_lt b (superblock image).blocks ≡ true = grind (arith, nat_tests, low) in
       let here : block_at other b ≡ mended_by Reiser image b (block_at image b) = is.copies b mirror ∙ ap (λ (f : Format). mended_by f image b (block_at image b)) reiser in
-      ap (λ (bytes : List ℕ). has_bytes_at bytes 64 (codes "_BHRfS_M")) here ∙ wiped_clean (superblock image).blocks (used_of image) b (block_at image b) yes free;
+      ap (λ (bytes : List ℕ). has_bytes_at bytes SUPER_MAGIC_OFFSET (codes "_BHRfS_M")) here ∙ wiped_clean (superblock image).blocks (used_of image) b (block_at image b) yes free;
   whole = λ image can btrfs copies. record {
     can = can;
     size = refl;

@@ -5,7 +5,7 @@ ghost use Rattle.reiser_bitmap.specs.outside.History.{OverTold};
 ghost use Rattle.rollback_core.specs.Found.{IsFoundOn};
 
 use btrfs_format::block::SUPER_BLOCK;
-use reiser_bitmap::{Block, BlockNo, BlockSource, Fault, Format, format_of};
+use reiser_bitmap::{Block, BlockSource, Fault, Format, format_of};
 
 /// Block 16 of a disk, zeros where there is none, and the format of the volume by it.
 #[derive(Clone, Copy, Debug)]

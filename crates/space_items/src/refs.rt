@@ -1,4 +1,4 @@
-ghost use Rattle.std.specs.Prelude.{◌≡◌, ◌≤◌, ◌<◌, ◌+◌, ◌^◌, ◌++◌, ◌∷◌, [], length};
+ghost use Rattle.std.specs.Prelude.{◌≡◌, ◌≤◌, ◌<◌, ◌+◌, ◌*◌, ◌^◌, ◌++◌, ◌∷◌, [], length};
 ghost use Rattle.std.specs.Option.{option_to_list};
 ghost use Rattle.btr_space_items.specs.ExtentHead.{extent_head_bytes};
 ghost use Rattle.btr_space_items.specs.InlineRef.{inline_ref_bytes, inline_ref_size};

@@ -11,7 +11,7 @@ use btr_reader::Btrfs;
 use btrfs_format::block::SUPER_BLOCK;
 use convert_core::Answer;
 use fs_rows::Rows;
-use reiser_bitmap::{Block, BlockNo, BlockSource};
+use reiser_bitmap::{Block, BlockSource};
 use std::alloc::Global;
 
 /// The rows of the Btrfs volume of a source.

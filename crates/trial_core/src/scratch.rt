@@ -10,7 +10,7 @@ ghost use Rattle.trial_core.specs.Trial.{IsScratch};
 use crate::answers::fault_answer;
 use btrfs_format::block::SUPER_BLOCK;
 use convert_core::Answer;
-use reiser_bitmap::{Block, BlockNo, BlockSource, Fault, Format, VolumeRefusal, format_of};
+use reiser_bitmap::{Block, BlockSource, Fault, Format, VolumeRefusal, format_of};
 
 /// How many blocks the sample's volume has: 256 MiB.
 pub const BLOCKS: u64 = 65536;

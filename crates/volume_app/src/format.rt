@@ -4,7 +4,7 @@ ghost use Rattle.reiser_volume.specs.outside.History.{reads};
 ghost use Rattle.volume_app.specs.Found.{IsFoundOn};
 
 use btrfs_format::block::SUPER_BLOCK;
-use reiser_volume::{Access, Block, BlockNo, BlockSource, Disk, Fault, Format, format_of};
+use reiser_volume::{Access, Block, BlockSource, Disk, Fault, Format, format_of};
 
 /// Block 16 of a disk, zeros where there is none, and the format of the volume by it.
 #[derive(Clone, Copy, Debug)]

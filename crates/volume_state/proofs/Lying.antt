@@ -5,7 +5,7 @@ use Rattle.std.proofs.lemmas.Bool.{cases_lt}
 use Rattle.std.proofs.lemmas.List.{take_all}
 use Rattle.std.proofs.lemmas.List.Elements.{All-more}
 use Rattle.std.proofs.lemmas.Bool.Decides.{nat_tests}
-use Rattle.btrfs_format.specs.declared.block.TheConstants.{FIRST_MIRROR, MIRROR_BLOCKS, SECOND_MIRROR}
+use Rattle.btrfs_format.specs.declared.block.TheConstants.{FIRST_MIRROR, FIRST_MIRROR_END, SECOND_MIRROR, SECOND_MIRROR_END}
 use Rattle.reiser_bitmap.specs.vol_block.Volume.{IsReserved}
 use Rattle.btr_reader_walk.specs.Map.{holds, place}
 use Rattle.btr_reader_walk.specs.declared.map.MapRange.{MapRange}

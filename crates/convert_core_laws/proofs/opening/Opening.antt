@@ -3,7 +3,7 @@ use Rattle.std.proofs.Common.{◌≡◌, inr, ◌<◌, ℕ, ◌^◌, nat_le, nat
 use Rattle.std.specs.Prelude.{Contains, if◌then◌else◌}
 use Rattle.std.proofs.lemmas.Bool.{and_parts}
 use Rattle.std.proofs.lemmas.Bool.Decides.{nat_tests}
-use Rattle.btrfs_format.specs.declared.block.TheConstants.{SUPER_BLOCK, SUPER_INFO_OFFSET}
+use Rattle.btrfs_format.specs.declared.block.TheConstants.{SUPER_BLOCK, SUPER_INFO_OFFSET, SUPER_MAGIC_OFFSET}
 use Rattle.btrfs_format.specs.declared.object.TheConstants.{FS_TREE}
 use Rattle.reiser_volume.specs.outside.Format.{format_in}
 use Rattle.reiser_volume.specs.outside.History.{Image, block_at}
@@ -71,7 +71,7 @@ longer n t = grind (arith, nat_tests, t)
 
 format_is : (other : Image) (s : Super) → super_on other ≡ Ok s → format_in other ≡ Btrfs
 format_is other s e =
-    let both = and_parts (nat_lt 16 (length other)) (has_bytes_at (block_at other SUPER_BLOCK) 64 (codes "_BHRfS_M")) (magic_there (block_at other SUPER_BLOCK) (length other) s e) in
+    let both = and_parts (nat_lt 16 (length other)) (has_bytes_at (block_at other SUPER_BLOCK) SUPER_MAGIC_OFFSET (codes "_BHRfS_M")) (magic_there (block_at other SUPER_BLOCK) (length other) s e) in
     ap (λ (b : Bool). if b then Neither else format (block_at other SUPER_BLOCK)) (longer (length other) both.0)
     ∙ ap (λ (b : Bool). if b then Btrfs else (if has_reiser_magic (block_at other SUPER_BLOCK) then Reiser else Neither)) both.1
 

@@ -10,7 +10,7 @@ use Rattle.std.proofs.lemmas.Nat.{mul-le}
 use Rattle.std.proofs.lemmas.List.{length-replicate}
 use Rattle.btrfs_format.specs.declared.key.TheConstants.{ROOT_BACKREF, ROOT_ITEM, ROOT_REF}
 use Rattle.btrfs_format.specs.declared.object.TheConstants.{CONV_IMAGE_SUBVOL, CSUM_TREE, DATA_RELOC_TREE, DEV_TREE, EXTENT_TREE, FS_TREE, ROOT_TREE_DIR_OBJECTID}
-use Rattle.vol_block.specs.declared.mode.TheConstants.{S_IFDIR}
+use Rattle.vol_block.specs.declared.mode.TheConstants.{DIRECTORY_MODE}
 use Rattle.reiser_volume.specs.vol_block.declared.ids.Ids.{Ids}
 use Rattle.btr_reader.specs.btr_keys.Inode.{inode_layout}
 use Rattle.btr_reader.specs.btr_keys.Key.{key_layout, make_key}

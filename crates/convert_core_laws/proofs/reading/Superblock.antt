@@ -1,5 +1,5 @@
 -- The superblock of a converted volume reads back.
-use Rattle.std.proofs.Common.{◌≡◌, ◌≤◌, ◌<◌, ℕ, ◌-◌, ◌*◌, ◌%◌, ◌^◌, ◌++◌, ◌&&◌, eqb, Bool, true, false, List, [], ◌∷◌, length, take, drop, replicate, Some, None, Ok, refl, sym, ap, subst, ◌∙◌, ⊎_elim, arith, length-append, length-drop}
+use Rattle.std.proofs.Common.{◌≡◌, ◌≤◌, ◌<◌, ℕ, ◌-◌, ◌*◌, ◌%◌, ◌^◌, ◌++◌, ◌&&◌, eqb, Bool, true, false, List, [], ◌∷◌, length, take, drop, replicate, Some, None, Ok, refl, sym, ap, subst, ◌∙◌, ⊎_elim, arith, length-append, length-drop, ◌+◌}
 use Rattle.std.specs.Prelude.{if◌then◌else◌}
 use Rattle.std.specs.List.{sum_by}
 use Rattle.std.proofs.lemmas.Bool.{eq-eqb, le-leb}

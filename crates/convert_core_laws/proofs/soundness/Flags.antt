@@ -10,7 +10,7 @@ use Rattle.std.proofs.lemmas.List.{map-append}
 use Rattle.std.proofs.lemmas.List.Elements.{Contains-append_left, Contains-append_right}
 use Rattle.btrfs_format.specs.declared.flag.TheConstants.{INODE_APPEND, INODE_IMMUTABLE, INODE_NOATIME, INODE_NODATASUM, INODE_NODUMP, INODE_SYNC}
 use Rattle.btrfs_format.specs.declared.object.TheConstants.{FIRST_FREE_OBJECTID}
-use Rattle.vol_block.specs.declared.mode.TheConstants.{S_IFREG}
+use Rattle.vol_block.specs.declared.mode.TheConstants.{IMAGE_MODE}
 use Rattle.indexmap.specs.IndexMap.{keys}
 use Rattle.reiser_volume.proofs.fs_paths.Lists.{in_filter, in_flat_map}
 use Rattle.reiser_volume.specs.outside.History.{Image}

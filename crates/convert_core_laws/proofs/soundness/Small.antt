@@ -4,7 +4,7 @@ use Rattle.std.specs.List.{AllByRecursion}
 use Rattle.std.proofs.lemmas.List.Sorted.{IsPermutation-refl}
 use Rattle.btrfs_format.specs.declared.key.TheConstants.{INODE_ITEM}
 use Rattle.btrfs_format.specs.declared.object.TheConstants.{DATA_RELOC_TREE, FIRST_FREE_OBJECTID}
-use Rattle.vol_block.specs.declared.mode.TheConstants.{S_IFDIR}
+use Rattle.vol_block.specs.declared.mode.TheConstants.{DIRECTORY_MODE}
 use Rattle.btr_reader.specs.btr_keys.Inode.{inode_bytes, inode_layout, inode_of}
 use Rattle.btr_reader.specs.btr_keys.Key.{make_key}
 use Rattle.btr_reader.specs.btr_keys.declared.inode.Inode.{Inode}
