@@ -133,7 +133,11 @@ impl<'a> FileExtent<'a> {
         match self.content {
             ExtentContent::Inline(bytes) => self.put(FILE_EXTENT_INLINE, bytes, into),
             ExtentContent::Regular(range) => self.put(FILE_EXTENT_REG, &range.to_bytes(), into),
-            ExtentContent::Prealloc(range) => self.put(FILE_EXTENT_PREALLOC, &range.to_bytes(), into),
+            ExtentContent::Prealloc(range) => self.put(
+                FILE_EXTENT_PREALLOC,
+                &range.to_bytes(),
+                into,
+            ),
         }
     }
 

@@ -2,6 +2,7 @@
 -- items.
 use Rattle.std.specs.Prelude.{◌≡◌, ℕ, ◌+◌, ◌-◌, ◌*◌, ◌≤◌, Bool, true, false, List, [], ◌∷◌, ◌++◌, length, replicate, sum_by}
 use Rattle.std.specs.List.{All, flat_map}
+use Rattle.btrfs_format.specs.declared.flag.TheConstants.{HEADER_FLAG_WRITTEN, MIXED_BACKREF_REV}
 use Rattle.btrfs_format.specs.declared.size.TheConstants.{HEADER_SIZE, ITEM_SIZE, KEY_PTR_SIZE}
 use Rattle.btr_keys.specs.Key.{key_layout}
 use Rattle.btr_keys.specs.Layout.{spelling}
@@ -61,8 +62,8 @@ head_of draft =
     record {
       fsid = draft.want.fsid;
       address = draft.want.address;
-      flags = 1 ∷ replicate 6 0;
-      revision = 1;
+      flags = HEADER_FLAG_WRITTEN ∷ replicate 6 0;
+      revision = MIXED_BACKREF_REV;
       chunk_tree = draft.chunk_tree;
       generation = draft.want.generation;
       owner = draft.want.owner;

@@ -14,6 +14,7 @@ use crate::expect::Expect;
 use crate::head::Head;
 use crate::item::ItemHead;
 use btr_keys::Key;
+use btrfs_format::flag::MIXED_BACKREF_REV;
 use btrfs_format::size::{HEADER_SIZE, ITEM_SIZE, KEY_PTR_SIZE};
 use csum_kinds::SumKind;
 use refusals::Memory;
@@ -152,7 +153,7 @@ impl NodeWriter {
             fsid: self.want.fsid,
             address: self.want.address,
             flags: [1, 0, 0, 0, 0, 0, 0],
-            revision: 1,
+            revision: MIXED_BACKREF_REV,
             chunk_tree: self.chunk_tree,
             generation: self.want.generation,
             owner: self.want.owner,

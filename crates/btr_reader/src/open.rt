@@ -14,8 +14,7 @@ use crate::chunk_tree::read_chunks;
 use crate::roots::read_roots;
 use crate::volume::Btrfs;
 use btr_reader_walk::{
-    Block, BlockSource, BtrAnswer, BtrRefusal, BtrRule, Form, MapRange, Pointer, SumKind,
-    Tree,
+    Block, BlockSource, BtrAnswer, BtrRefusal, BtrRule, Form, MapRange, Pointer, SumKind, Tree,
 };
 use btr_super::{Super, sum_kind};
 use btrfs_format::block::{SUPER_BLOCK, SUPER_INFO_OFFSET};

@@ -24,8 +24,8 @@ use btr_tree::{Access, Disk, Memory, Root, node_bound};
 use btr_tree_writer::{Trees, WriteAnswer};
 use btrfs_format::object::EXTENT_TREE;
 use space_items::{NodeList, extents, merged, own_nodes, with_own};
-use unit_plan::{PieceList, chunks_of};
 use unit_plan::item_bytes::{BLOCK_GROUP_BYTES, EXTENT_BYTES, NODE_BYTES};
+use unit_plan::{PieceList, chunks_of};
 
 /// The extent tree that was written.
 #[derive(Clone, Copy)]

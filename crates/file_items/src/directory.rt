@@ -145,7 +145,11 @@ fn saved_entry() -> DirEntry<'static>
     ensures entry { dir_entry_value result ≡ saved_entry }
     ensures short { length result.name.now < 65536 }
 {
-    new_entry(key_of(CONV_IMAGE_SUBVOL, ROOT_ITEM, u64::MAX), Kind::Subvolume, SAVED)
+    new_entry(
+        key_of(CONV_IMAGE_SUBVOL, ROOT_ITEM, u64::MAX),
+        Kind::Subvolume,
+        SAVED,
+    )
 }
 
 /// An entry of a new tree.

@@ -125,7 +125,8 @@ impl Names {
         self.far.sort()?;
         for i in 0..self.far.len() {
             let hash = self.far.key(i).objectid;
-            self.extrefs.add(key_of(ino, INODE_EXTREF, hash), self.far.body(i))?;
+            self.extrefs
+                .add(key_of(ino, INODE_EXTREF, hash), self.far.body(i))?;
         }
         Ok(())
     }

@@ -39,7 +39,11 @@ pub fn relocation_items(alloc: Global, now: u64) -> Result<ItemList, Memory>
 {
     let mut items = ItemList::new(alloc);
     let mut body = Vec::new(alloc);
-    add_inode(&mut items, FIRST_FREE_OBJECTID, &inode_made(now, DIRECTORY_MODE, 0, 0, 0))?;
+    add_inode(
+        &mut items,
+        FIRST_FREE_OBJECTID,
+        &inode_made(now, DIRECTORY_MODE, 0, 0, 0),
+    )?;
     add_root_ref(&mut items, &mut body)?;
     Ok(items)
 }
@@ -59,7 +63,11 @@ pub fn image_head(
 {
     let mut items = ItemList::new(alloc);
     let mut body = Vec::new(alloc);
-    add_inode(&mut items, FIRST_FREE_OBJECTID, &inode_made(now, DIRECTORY_MODE, 10, 0, 0))?;
+    add_inode(
+        &mut items,
+        FIRST_FREE_OBJECTID,
+        &inode_made(now, DIRECTORY_MODE, 10, 0, 0),
+    )?;
     add_root_ref(&mut items, &mut body)?;
     add_image_entry(&mut items, &mut body)?;
     let size = blocks.saturating_mul(4096);
@@ -78,8 +86,14 @@ fn add_image_entry(items: &mut ItemList, body: &mut Vec<u8>) -> Result<(), Memor
     ensures { OnOk result (items.new ≡ items.old ++ entry_items FIRST_FREE_OBJECTID image_entries) }
 {
     body.clear();
-    put_dir_entry(body, &new_entry(key_of(257, INODE_ITEM, 0), Kind::File, IMAGE))?;
-    items.add(key_of(FIRST_FREE_OBJECTID, DIR_ITEM, name_hash(IMAGE) as u64), body)?;
+    put_dir_entry(
+        body,
+        &new_entry(key_of(257, INODE_ITEM, 0), Kind::File, IMAGE),
+    )?;
+    items.add(
+        key_of(FIRST_FREE_OBJECTID, DIR_ITEM, name_hash(IMAGE) as u64),
+        body,
+    )?;
     items.add(key_of(FIRST_FREE_OBJECTID, DIR_INDEX, 2), body)
 }
 
@@ -87,9 +101,5 @@ fn add_image_entry(items: &mut ItemList, body: &mut Vec<u8>) -> Result<(), Memor
 fn image_flags(datasum: bool) -> u64
     ensures { result ≡ image_flags datasum }
 {
-    if datasum {
-        INODE_READONLY
-    } else {
-        UNSUMMED
-    }
+    if datasum { INODE_READONLY } else { UNSUMMED }
 }

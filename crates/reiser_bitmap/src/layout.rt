@@ -11,7 +11,11 @@ pub fn bitmap_block(k: u64) -> BlockNo
     requires { BITS_IN_BLOCK * k < 2 ^ 64 }
     ensures { result ≡ bitmap_block k }
 {
-    if k == 0 { FIRST_BITMAP_BLOCK } else { BITS_IN_BLOCK * k }
+    if k == 0 {
+        FIRST_BITMAP_BLOCK
+    } else {
+        BITS_IN_BLOCK * k
+    }
 }
 
 /// Whether a volume keeps the block for itself: the superblock, a bitmap block, or one of the journal, whose log of

@@ -68,6 +68,9 @@ impl InnerView<'_> {
         ensures { result ≡ child_at self.now i }
     {
         let count = u16_at(&self.block.bytes, 2) as usize;
-        u32_at(&self.block.bytes, BLKH_SIZE + KEY_SIZE * count + DC_SIZE * i) as u64
+        u32_at(
+            &self.block.bytes,
+            BLKH_SIZE + KEY_SIZE * count + DC_SIZE * i,
+        ) as u64
     }
 }

@@ -88,7 +88,10 @@ fn is_leaf(block: &Block) -> bool
 {
     let bytes = &block.bytes;
     let count = u16_at(bytes, 2) as usize;
-    if u16_at(bytes, 0) != DISK_LEAF_NODE_LEVEL || count == 0 || BLKH_SIZE + IH_SIZE * count > 4096 {
+    if u16_at(bytes, 0) != DISK_LEAF_NODE_LEVEL
+        || count == 0
+        || BLKH_SIZE + IH_SIZE * count > 4096
+    {
         return false;
     }
     let mut end = 4096;

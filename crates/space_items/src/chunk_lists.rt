@@ -9,7 +9,9 @@ use btr_space_items::{Chunk as ChunkBody, DevExtent, Device, Stripe};
 use btr_tree::{Ids, Memory};
 use btrfs_format::flag::{BLOCK_GROUP_DATA, BLOCK_GROUP_METADATA, BLOCK_GROUP_SYSTEM};
 use btrfs_format::key::{CHUNK_ITEM, DEV_EXTENT, DEV_ITEM};
-use btrfs_format::object::{CHUNK_TREE, DEV_ITEMS_OBJECTID, EXTENT_TREE, FIRST_CHUNK_TREE_OBJECTID};
+use btrfs_format::object::{
+    CHUNK_TREE, DEV_ITEMS_OBJECTID, EXTENT_TREE, FIRST_CHUNK_TREE_OBJECTID,
+};
 use std::alloc::Global;
 use unit_plan::{Chunk, Chunks, Plan, Role, chunks_of};
 
@@ -112,7 +114,10 @@ fn add_chunk(items: &mut ItemList, ids: &Ids, chunk: Chunk) -> Result<(), Memory
 {
     let mut body = [0; ChunkBody::SIZE];
     chunk_body(ids, chunk).write(&mut body);
-    items.add(key_of(FIRST_CHUNK_TREE_OBJECTID, CHUNK_ITEM, 4096 * chunk.start), &body)
+    items.add(
+        key_of(FIRST_CHUNK_TREE_OBJECTID, CHUNK_ITEM, 4096 * chunk.start),
+        &body,
+    )
 }
 
 /// The items of the device tree: what each chunk takes of the device.

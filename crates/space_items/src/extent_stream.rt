@@ -79,7 +79,11 @@ impl Next {
         ensures { result ≡ (item_of_next self.now).0 }
     {
         match self {
-            Next::Group(group) => key_of(4096 * group.chunk.start, BLOCK_GROUP_ITEM, 4096 * group.chunk.length),
+            Next::Group(group) => key_of(
+                4096 * group.chunk.start,
+                BLOCK_GROUP_ITEM,
+                4096 * group.chunk.length,
+            ),
             Next::Node(node) => key_of(node.address, METADATA_ITEM, node.level as u64),
             Next::Piece(piece) => key_of(4096 * piece.place, EXTENT_ITEM, 4096 * piece.count),
         }

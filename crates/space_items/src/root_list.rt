@@ -10,7 +10,9 @@ use btr_space_items::{RootItem, RootRef};
 use btr_tree::{DirEntry, Ids, Inode, InodeRef, Key, Memory, name_hash};
 use btrfs_format::flag::FT_DIR;
 use btrfs_format::key::{DIR_ITEM, ROOT_BACKREF, ROOT_ITEM, ROOT_REF};
-use btrfs_format::object::{CONV_IMAGE_SUBVOL, FIRST_FREE_OBJECTID, FS_TREE, ROOT_TREE_DIR_OBJECTID};
+use btrfs_format::object::{
+    CONV_IMAGE_SUBVOL, FIRST_FREE_OBJECTID, FS_TREE, ROOT_TREE_DIR_OBJECTID,
+};
 use std::alloc::Global;
 use vol_block::DIRECTORY_MODE;
 
@@ -125,14 +127,22 @@ fn root_body(ids: &Ids, nodesize: u32, root: TreeRoot) -> RootItem
 fn uuid_of(ids: &Ids, tree: u64) -> [u8; 16]
     ensures { result ≡ tree_uuid ids.now tree }
 {
-    if tree == CONV_IMAGE_SUBVOL { ids.subvolume } else { [0; 16] }
+    if tree == CONV_IMAGE_SUBVOL {
+        ids.subvolume
+    } else {
+        [0; 16]
+    }
 }
 
 /// The inode of the root directory of a tree that holds files, as tree 5 and those from 256 on; 0 for others.
 fn root_dirid(tree: u64) -> u64
     ensures { result ≡ root_dirid tree }
 {
-    if tree == FS_TREE || tree >= FIRST_FREE_OBJECTID { FIRST_FREE_OBJECTID } else { 0 }
+    if tree == FS_TREE || tree >= FIRST_FREE_OBJECTID {
+        FIRST_FREE_OBJECTID
+    } else {
+        0
+    }
 }
 
 /// A root item has the inode of a directory in it, of which a kernel reads nothing.
@@ -158,12 +168,22 @@ fn other_items(alloc: Global, index: u64, now: u64) -> Result<ItemList, Memory>
     let mut body = Vec::new(alloc);
     let saved = saved_ref(index);
     items.add(key_of(FS_TREE, ROOT_REF, CONV_IMAGE_SUBVOL), &saved)?;
-    add_inode(&mut items, ROOT_TREE_DIR_OBJECTID, &inode_made(now, DIRECTORY_MODE, 0, 0, 0))?;
+    add_inode(
+        &mut items,
+        ROOT_TREE_DIR_OBJECTID,
+        &inode_made(now, DIRECTORY_MODE, 0, 0, 0),
+    )?;
     let up = InodeRef {
         index: 0,
         name: b"..",
     };
-    add_ref(&mut items, &mut body, ROOT_TREE_DIR_OBJECTID, ROOT_TREE_DIR_OBJECTID, &up)?;
+    add_ref(
+        &mut items,
+        &mut body,
+        ROOT_TREE_DIR_OBJECTID,
+        ROOT_TREE_DIR_OBJECTID,
+        &up,
+    )?;
     add_default(&mut items, &mut body)?;
     items.add(key_of(CONV_IMAGE_SUBVOL, ROOT_BACKREF, FS_TREE), &saved)?;
     Ok(items)
@@ -196,5 +216,8 @@ fn add_default(items: &mut ItemList, body: &mut Vec<u8>) -> Result<(), Memory>
     };
     body.clear();
     put_dir_entry(body, &entry)?;
-    items.add(key_of(ROOT_TREE_DIR_OBJECTID, DIR_ITEM, name_hash(DEFAULT) as u64), body)
+    items.add(
+        key_of(ROOT_TREE_DIR_OBJECTID, DIR_ITEM, name_hash(DEFAULT) as u64),
+        body,
+    )
 }

@@ -5,11 +5,6 @@ use btrfs_format::block::{
     FIRST_MIRROR, FIRST_MIRROR_END, RESERVED_BLOCKS, SECOND_MIRROR, SECOND_MIRROR_END,
 };
 
-
-
-
-
-
 /// The number of a block in its volume: block b is bytes 4096·b to 4096·b + 4095.
 pub type BlockNo = u64;
 

@@ -55,7 +55,11 @@ pub fn superblock(sample: &Sample) -> Block {
 /// The bootstrap array: the key and the body of the system chunk.
 fn bootstrap() -> [u8; SYSTEM_CHUNK_ARRAY_SIZE] {
     let mut array = [0; SYSTEM_CHUNK_ARRAY_SIZE];
-    array[..KEY_SIZE].copy_from_slice(&key(FIRST_CHUNK_TREE_OBJECTID, CHUNK_ITEM, SYSTEM).to_bytes());
+    array[..KEY_SIZE].copy_from_slice(&key(
+        FIRST_CHUNK_TREE_OBJECTID,
+        CHUNK_ITEM,
+        SYSTEM,
+    ).to_bytes());
     array[KEY_SIZE..SYSTEM_CHUNK_SIZE].copy_from_slice(&chunk(SYSTEM, BLOCK_GROUP_SYSTEM));
     array
 }
