@@ -27,10 +27,10 @@ use crate::placed::row_at;
 use crate::refused::refused;
 use crate::volume::Btrfs;
 use btr_reader_contents::Contents;
-use btr_reader_names::{Names, ROOT, inode_node};
+use btr_reader_names::{Names, inode_node};
 use btr_reader_walk::{BlockSource, BtrAnswer, BtrRefusal, BtrRule, Tree};
 use btrfs_format::block::SUPER_INFO_OFFSET;
-use btrfs_format::object::FS_TREE;
+use btrfs_format::object::{FIRST_FREE_OBJECTID, FS_TREE};
 use fs_paths::{NodeId, paths};
 use fs_rows::Rows;
 use indexmap::IndexSet;
@@ -130,7 +130,7 @@ fn rows_of(
         MatchResult result (λ rows. (whole : List WholeRow) × AreRows image ranges items whole × (rows ≡ map row_of whole)) IsMemory }
 {
     let links = names.links(alloc, named)?;
-    let paths = paths(alloc, links, inode_node(ROOT))?;
+    let paths = paths(alloc, links, inode_node(FIRST_FREE_OBJECTID))?;
     let mut rows = Rows::new(alloc);
     for i in 0..paths.len() {
         let row = row_at(alloc, names, contents, &paths[i], &rows)?;

@@ -28,12 +28,6 @@ const FEATURES: u64 = MIXED_BACKREF | EXTENDED_IREF | SKINNY_METADATA | NO_HOLES
 /// The same of a volume with nodes larger than a page of 4096 bytes.
 const FEATURES_OF_LARGE_NODES: u64 = FEATURES | BIG_METADATA;
 
-/// The features that each new volume has.
-const FEATURES: u64 = MIXED_BACKREF | EXTENDED_IREF | SKINNY_METADATA | NO_HOLES;
-
-/// The same of a volume with nodes larger than a page of 4096 bytes.
-const FEATURES_OF_LARGE_NODES: u64 = FEATURES | BIG_METADATA;
-
 /// What the superblock says of the trees.
 #[derive(Clone, Copy, Debug, PartialEq, Eq)]
 pub struct NewRoots {
