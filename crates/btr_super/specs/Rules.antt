@@ -29,6 +29,7 @@ has_fields s place device =
     && (nat_le s.sys_chunk_array_size SYSTEM_CHUNK_ARRAY_SIZE
     && (nat_le s.total_bytes (4096 * device) && (nat_le s.total_bytes (2 ^ 48) && (s.total_bytes % 4096 == 0)))))))
 
+-- the bits of the incompatible features that are read
 abbrev pub read_bits : ℕ
 read_bits = MIXED_BACKREF + DEFAULT_SUBVOL + COMPRESS_LZO + COMPRESS_ZSTD + BIG_METADATA + EXTENDED_IREF + SKINNY_METADATA + NO_HOLES
 

@@ -89,7 +89,7 @@ fn put_entry(into: &mut [u8], e: usize, offset: u32, id: ObjectId, name: &[u8])
     let begin = into.len() - ROOM * (e + 1);
     into[begin..begin + name.len()].copy_from_slice(name);
     put_head(
-        &mut into[DEH_SIZE * e..HEAD * e + DEH_SIZE],
+        &mut into[DEH_SIZE * e..DEH_SIZE * e + DEH_SIZE],
         offset,
         id,
         begin as u16,
