@@ -51,10 +51,11 @@ PATTERNS = [
     (r"\b(?:bytenr|address) *(?:=|:) *(65536)\b", {"65536": "SUPER_INFO_OFFSET"}),
     (r"\bblock_at [\w.]+ (16)\b", {"16": "SUPER_BLOCK"}),
     (r"\bDamaged (16)\b", {"16": "SUPER_BLOCK"}),
-    (r"\b0xFFFF_?FFFE\b()", {"": "V1_INDIRECT_UNIQUENESS"}),
+    (r"\b(0xFFFF_?FFFE)\b", {"0xFFFFFFFE": "V1_INDIRECT_UNIQUENESS", "0xFFFF_FFFE": "V1_INDIRECT_UNIQUENESS"}),
 ]
-# one constant has a name once
-CONSTANT = re.compile(r"\bconst (\w+): \w+ = (\d[\d_]*);")
+# what a line has that any of these can fit
+WORDS = re.compile(r"2 \^ 64 - |u64::MAX - |0x[38F]|0x41|0o|67108|67_108|16400|make_key|key_of|kind|IsOf|items_of|nodes_from|root_of"
+                   r"|tree|Tree|objectid|BadBtrfs|bytenr|address|block_at|Damaged")
 
 # a line that has one of these has a number of another meaning
 PLACES = [
@@ -73,7 +74,7 @@ def numbers_in(path, names):
     """The bare numbers of a file, as (line, number, name)."""
     with open(path, encoding="utf-8") as lines:
         for number, line in enumerate(lines, 1):
-            if not re.search(r"\d", line):
+            if not WORDS.search(line) or not re.search(r"\d", line):
                 continue
             text = bare(line)
             if any(re.search(where, path) and re.search(what, text) for where, what in PLACES):
@@ -82,7 +83,7 @@ def numbers_in(path, names):
                 for found in pattern.finditer(text):
                     value = found.group(1)
                     if value in named:
-                        yield number, value or found.group(0), named[value]
+                        yield number, value, named[value]
 
 
 def sources(top):
