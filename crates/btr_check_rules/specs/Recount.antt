@@ -1,6 +1,8 @@
 -- What a recount of a Btrfs volume finds: its chunks, its trees, and the data that its files refer to.
 use Rattle.std.specs.Prelude.{◌≡◌, ℕ, ◌+◌, ◌-◌, ◌%◌, ◌^◌, ◌==◌, nat_le, nat_lt, Bool, ◌&&◌, ◌||◌, if◌then◌else◌, List, [], ◌∷◌, ◌++◌, filter, Option, Some, None, Contains}
 use Rattle.std.specs.List.{flat_map}
+use Rattle.btrfs_format.specs.declared.key.TheConstants.{EXTENT_DATA}
+use Rattle.btrfs_format.specs.declared.object.TheConstants.{FIRST_FREE_OBJECTID, FS_TREE}
 use Rattle.btr_reader.specs.outside.History.{Image}
 use Rattle.btr_reader.specs.btr_keys.FileExtent.{ContentValue, Inline, Regular, Prealloc, FileExtentValue, file_extent_of}
 use Rattle.btr_reader.specs.btr_keys.declared.file_extent.DiskRange.{DiskRange}
@@ -36,7 +38,7 @@ all_trees r = r.chunk_tree ∷ (r.root_tree ∷ r.others)
 
 -- tree 5 and those from 256 on hold files
 abbrev pub is_file_tree : TreeOn → Bool
-is_file_tree t = (t.number == 5) || nat_le 256 t.number
+is_file_tree t = (t.number == FS_TREE) || nat_le FIRST_FREE_OBJECTID t.number
 
 abbrev pub file_trees : Recount → List TreeOn
 file_trees r = filter is_file_tree r.others
@@ -99,7 +101,7 @@ use_in tree i None = []
 use_in tree i (Some e) = use_by tree i e.content
 
 abbrev pub uses_in : TreeOn → List DataUse
-uses_in t = flat_map (λ i. if i.0.kind == 108 then use_in t.number i (file_extent_of i.1) else []) t.items
+uses_in t = flat_map (λ i. if i.0.kind == EXTENT_DATA then use_in t.number i (file_extent_of i.1) else []) t.items
 
 -- all regular file extents of all trees
 abbrev pub data_uses : Recount → List DataUse

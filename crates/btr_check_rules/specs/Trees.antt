@@ -1,6 +1,7 @@
 -- Part 1: every tree is there.
 use Rattle.std.specs.Prelude.{◌≡◌, ◌<◌, ℕ, ◌==◌, All, AllPairs, Contains}
 use Rattle.std.specs.List.{list_any}
+use Rattle.btrfs_format.specs.declared.object.TheConstants.{CHUNK_TREE, ROOT_TREE}
 use Rattle.btr_reader.specs.outside.History.{Image}
 use Rattle.btr_reader.specs.btr_reader_names.Roots.{has_root}
 use Rattle.btr_reader.specs.Chunks.{system_kind}
@@ -12,9 +13,9 @@ use Rattle.btr_check_rules.specs.Recount.{Recount, IsTreeOn, IsRooted, roots_on,
 -- chunks.
 pub record AreTrees (image : Image) (r : Recount) : Type 0 where
   pub opened : IsOpened image r.super (chunk_map image r.super)
-  pub chunk_number : r.chunk_tree.number ≡ 3
+  pub chunk_number : r.chunk_tree.number ≡ CHUNK_TREE
   pub chunk_tree_is : IsTreeOn image r.super (chunk_tree r.super).root r.chunk_tree
-  pub root_number : r.root_tree.number ≡ 1
+  pub root_number : r.root_tree.number ≡ ROOT_TREE
   pub root_tree_is : IsTreeOn image r.super (root_tree r.super).root r.root_tree
   pub rooted : All (IsRooted image r.super) r.others
   pub once : AllPairs (λ t u. t.number < u.number) r.others

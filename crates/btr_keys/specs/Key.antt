@@ -3,6 +3,7 @@ use Rattle.std.specs.Prelude.{◌≡◌, ℕ, List, drop, Option}
 use Rattle.std.specs.declared.cmp.Ordering.{Ordering}
 use Rattle.std.specs.declared.cmp.Ordering.TheVariants.{Less}
 use Rattle.std.specs.Ordering.{nat_cmp, ordering_then}
+use Rattle.btrfs_format.specs.declared.size.TheConstants.{KEY_SIZE}
 use Rattle.btr_keys.specs.Layout.{Layout, made_by, ◌▸◌, u8, u64, whole, spelling}
 use Rattle.btr_keys.specs.declared.key.Key.{Key}
 
@@ -22,7 +23,7 @@ key_at bytes at = key_layout.read (drop at bytes)
 
 -- the key that is the whole body
 abbrev pub key_of : List ℕ → Option Key
-key_of body = whole 17 key_layout body
+key_of body = whole KEY_SIZE key_layout body
 
 -- the 17 bytes of a key
 abbrev pub key_bytes : Key → List ℕ

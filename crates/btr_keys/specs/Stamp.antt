@@ -1,5 +1,6 @@
 -- Times, as the Btrfs on-disk format documentation has them (struct btrfs_timespec).
 use Rattle.std.specs.Prelude.{ℕ, ℤ, List, drop, Option}
+use Rattle.btrfs_format.specs.declared.size.TheConstants.{TIMESPEC_SIZE}
 use Rattle.btr_keys.specs.Layout.{Layout, Row, made_by, ◌▸◌, i64, u32, part, whole, spelling}
 use Rattle.btr_keys.specs.declared.stamp.Stamp.{Stamp}
 
@@ -18,7 +19,7 @@ stamp_at bytes at = stamp_layout.read (drop at bytes)
 
 -- the time that is the whole slice
 abbrev pub stamp_of : List ℕ → Option Stamp
-stamp_of bytes = whole 12 stamp_layout bytes
+stamp_of bytes = whole TIMESPEC_SIZE stamp_layout bytes
 
 -- the 12 bytes of a time
 abbrev pub stamp_bytes : Stamp → List ℕ

@@ -1,6 +1,7 @@
 -- Leaves, as the Btrfs on-disk format documentation has them: heads of items behind the node's head, and their data
 -- anywhere behind these.
 use Rattle.std.specs.Prelude.{◌≡◌, ℕ, ◌+◌, ◌*◌, ◌≤◌, ◌==◌, nat_le, Bool, ◌&&◌, List, length, drop, map, slice_range}
+use Rattle.btrfs_format.specs.declared.size.TheConstants.{HEADER_SIZE, ITEM_SIZE}
 use Rattle.btr_keys.specs.Layout.{Layout, made_by, ◌▸◌, part, u32}
 use Rattle.btr_keys.specs.Key.{key_layout}
 use Rattle.btr_keys.specs.declared.key.Key.{Key}
@@ -24,11 +25,11 @@ item_layout =
 
 -- the heads of a leaf's items
 unfoldable pub heads_in : List ℕ → List ItemHead
-heads_in bytes = records_in 25 item_layout (count bytes) (behind_head bytes)
+heads_in bytes = records_in ITEM_SIZE item_layout (count bytes) (behind_head bytes)
 
 -- the head of item i
 abbrev pub head_at : List ℕ → ℕ → ItemHead
-head_at bytes i = item_layout.read (drop (25 * i) (behind_head bytes))
+head_at bytes i = item_layout.read (drop (ITEM_SIZE * i) (behind_head bytes))
 
 -- an item: its key and its data
 abbrev pub Item : Type 0
@@ -46,8 +47,8 @@ keys_of items = map (λ item. item.0) items
 
 -- the heads lie in the node, and the data where it may
 pub record HasLeafLayout (bytes : List ℕ) : Type 0 where
-  pub heads : 101 + 25 * count bytes ≤ length bytes
-  pub areas : HasAreas (25 * count bytes) (length (behind_head bytes)) (heads_in bytes)
+  pub heads : HEADER_SIZE + ITEM_SIZE * count bytes ≤ length bytes
+  pub areas : HasAreas (ITEM_SIZE * count bytes) (length (behind_head bytes)) (heads_in bytes)
 
 -- a leaf of which a parent says this
 pub record IsLeaf (want : Expect) (bytes : List ℕ) : Type 0 where
@@ -63,7 +64,7 @@ has_leaf_head want bytes = (want.level == 0) && has_head want bytes
 
 unfoldable pub has_leaf_layout : List ℕ → Bool
 has_leaf_layout bytes =
-    nat_le (101 + 25 * count bytes) (length bytes) && has_areas (25 * count bytes) (length (behind_head bytes)) (heads_in bytes)
+    nat_le (HEADER_SIZE + ITEM_SIZE * count bytes) (length bytes) && has_areas (ITEM_SIZE * count bytes) (length (behind_head bytes)) (heads_in bytes)
 
 abbrev pub has_leaf_order : List ℕ → Bool
 has_leaf_order bytes = ascends (keys_of (items_in bytes))

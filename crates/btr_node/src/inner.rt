@@ -6,9 +6,10 @@ ghost use Rattle.btr_node.specs.Rules.{InnerObeys, inner_damages};
 
 use crate::child::Child;
 use crate::expect::Expect;
-use crate::head::{HEAD_SIZE, Head, behind_head, has_head};
+use crate::head::{Head, behind_head, has_head};
 use crate::order::keys_ascend;
 use crate::sum::has_sum;
+use btrfs_format::size::HEADER_SIZE;
 use refusals::BtrRule;
 use std::marker::Model;
 
@@ -97,7 +98,7 @@ fn has_layout(bytes: &[u8]) -> bool
     requires { IsNodeSize (length bytes.now) }
     ensures { result ≡ has_inner_layout bytes.now }
 {
-    HEAD_SIZE + Child::SIZE * Head::of(bytes).count as usize <= bytes.len()
+    HEADER_SIZE + Child::SIZE * Head::of(bytes).count as usize <= bytes.len()
 }
 
 /// Whether the first keys of the children ascend.

@@ -2,6 +2,7 @@ ghost use Rattle.std.specs.Prelude.{◌≡◌, ◌≤◌, ◌+◌, length, drop}
 ghost use Rattle.btr_node.specs.Leaf.{item_layout};
 
 use btr_keys::Key;
+use btrfs_format::size::ITEM_SIZE;
 use refusals::u32_at;
 
 /// The head of a leaf's item, 25 bytes, as the Btrfs on-disk format documentation has it.
@@ -17,18 +18,18 @@ pub struct ItemHead {
 
 impl ItemHead {
     /// The bytes of an item's head.
-    pub const SIZE: usize = 25;
+    pub const SIZE: usize = ITEM_SIZE;
 
     /// The head in the 25 bytes from byte `at` on.
     pub fn at(bytes: &[u8], at: usize) -> ItemHead
-        requires { at + 25 ≤ length bytes.now }
+        requires { at + ITEM_SIZE ≤ length bytes.now }
         ensures { result ≡ item_layout.read (drop at bytes.now) }
     {
         ItemHead::first(&bytes[at..])
     }
 
     fn first(bytes: &[u8]) -> ItemHead
-        requires { 25 ≤ length bytes.now }
+        requires { ITEM_SIZE ≤ length bytes.now }
         ensures { result ≡ item_layout.read bytes.now }
     {
         ItemHead {

@@ -6,11 +6,12 @@ ghost use Rattle.btr_node.specs.Rules.{LeafObeys, leaf_damages};
 
 use crate::areas::has_areas;
 use crate::expect::Expect;
-use crate::head::{HEAD_SIZE, Head, behind_head, has_head};
+use crate::head::{Head, behind_head, has_head};
 use crate::item::ItemHead;
 use crate::order::keys_ascend;
 use crate::sum::has_sum;
 use btr_keys::Key;
+use btrfs_format::size::HEADER_SIZE;
 use refusals::BtrRule;
 use std::marker::Model;
 
@@ -124,7 +125,7 @@ fn has_layout(bytes: &[u8]) -> bool
     ensures { result ≡ has_leaf_layout bytes.now }
 {
     let count = Head::of(bytes).count as usize;
-    HEAD_SIZE + ItemHead::SIZE * count <= bytes.len() && has_areas(behind_head(bytes), count)
+    HEADER_SIZE + ItemHead::SIZE * count <= bytes.len() && has_areas(behind_head(bytes), count)
 }
 
 /// Whether the keys of the items ascend.

@@ -11,9 +11,11 @@ ghost use Rattle.btr_node.specs.contracts.writer.NodeWriter.{the_row};
 use crate::buffer::{add_child, add_item, clear, seal, zeroed};
 use crate::child::Child;
 use crate::expect::Expect;
-use crate::head::{HEAD_SIZE, Head};
+use crate::head::Head;
 use crate::item::ItemHead;
 use btr_keys::Key;
+use btrfs_format::flag::MIXED_BACKREF_REV;
+use btrfs_format::size::{HEADER_SIZE, ITEM_SIZE, KEY_PTR_SIZE};
 use csum_kinds::SumKind;
 use refusals::Memory;
 use std::alloc::Global;
@@ -68,7 +70,7 @@ impl NodeWriter {
             chunk_tree: [0; 16],
             items: 0,
             children: 0,
-            low: nodesize as usize - HEAD_SIZE,
+            low: nodesize as usize - HEADER_SIZE,
         })
     }
 
@@ -88,7 +90,7 @@ impl NodeWriter {
         self.chunk_tree = chunk_tree;
         self.items = 0;
         self.children = 0;
-        self.low = self.buffer.len() - HEAD_SIZE;
+        self.low = self.buffer.len() - HEADER_SIZE;
     }
 
     /// How many bytes are left for items with their heads of 25 bytes, or for children of 33 bytes.
@@ -104,7 +106,7 @@ impl NodeWriter {
         requires started { IsTrue self.old.started }
         requires leaf { self.old.want.level ≡ 0 }
         requires order { Ascends (keys_of self.old.items ++ key ∷ []) }
-        ensures full { IsErr result ↔ (room self.old < 25 + length body.now) }
+        ensures full { IsErr result ↔ (room self.old < ITEM_SIZE + length body.now) }
         ensures ok { OnOk result (self.new ≡ record self.old { items = self.old.items ++ (key, body.now) ∷ [] }) }
         ensures err { OnErr result (self.new ≡ self.old) }
     {
@@ -123,7 +125,7 @@ impl NodeWriter {
         requires started { IsTrue self.old.started }
         requires inner { 1 ≤ self.old.want.level }
         requires order { Ascends (first_keys self.old.children ++ child.key ∷ []) }
-        ensures full { IsErr result ↔ (room self.old < 33) }
+        ensures full { IsErr result ↔ (room self.old < KEY_PTR_SIZE) }
         ensures ok { OnOk result (self.new ≡ record self.old { children = self.old.children ++ child ∷ [] }) }
         ensures err { OnErr result (self.new ≡ self.old) }
     {
@@ -151,7 +153,7 @@ impl NodeWriter {
             fsid: self.want.fsid,
             address: self.want.address,
             flags: [1, 0, 0, 0, 0, 0, 0],
-            revision: 1,
+            revision: MIXED_BACKREF_REV,
             chunk_tree: self.chunk_tree,
             generation: self.want.generation,
             owner: self.want.owner,

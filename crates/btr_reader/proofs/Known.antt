@@ -1,6 +1,7 @@
 -- A named inode of a tree whose names keep the rules is there, and its kind is known.
 use Rattle.std.proofs.Common.{◌≡◌, ℕ, ◌<◌, Bool, List, [], ◌∷◌, Contains, Option, Some, None, refl, sym, ap, subst, ◌∙◌}
 use Rattle.std.specs.Option.{option_and_then}
+use Rattle.btrfs_format.specs.declared.object.TheConstants.{FIRST_FREE_OBJECTID}
 use Rattle.btr_reader_walk.specs.refusals.declared.refusal.BtrRefusal.TheVariants.{BadBtrfs}
 use Rattle.btr_reader_walk.specs.refusals.declared.rule.BtrRule.TheVariants.{Body, NoInode}
 use Rattle.btr_reader_walk.specs.btr_keys.Inode.{inode_of}
@@ -78,5 +79,5 @@ module _ (items : List TreeItem) where
   there (name ∷ names) (inode ino) to is (n, next, among, at, dir, called, names_it, rest) =
       there names next to (there_next n next among (subst (IsNamed items) (sym at) is) (subst (IsDirectory items) (sym at) dir) names_it) rest
 
-  pub leads_named : (path : NameList) (ino : ℕ) → Leads items (inode 256) path (inode ino) → IsNamed items ino
-  leads_named path ino leads = there path (inode 256) (inode ino) root leads
+  pub leads_named : (path : NameList) (ino : ℕ) → Leads items (inode FIRST_FREE_OBJECTID) path (inode ino) → IsNamed items ino
+  leads_named path ino leads = there path (inode FIRST_FREE_OBJECTID) (inode ino) root leads

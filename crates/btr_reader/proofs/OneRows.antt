@@ -4,6 +4,7 @@ use Rattle.std.proofs.lemmas.Bool.{cases_lt}
 use Rattle.std.proofs.lemmas.Bool.Decides.{nat_tests}
 use Rattle.std.proofs.lemmas.List.{get_or_default}
 use Rattle.std.proofs.Math.ListN.{get_or-append}
+use Rattle.btrfs_format.specs.declared.object.TheConstants.{FS_TREE}
 use Rattle.btr_reader_walk.specs.outside.History.{Image}
 use Rattle.btr_reader_walk.specs.btr_keys.declared.inode.Inode.{Inode}
 use Rattle.btr_reader_walk.specs.declared.map.MapRange.{MapRange}
@@ -161,7 +162,7 @@ rows_are_one image s ranges rows others first second =
     let item : first.item ≡ second.item = cc in
     let pointed : Some first.at ≡ Some second.at = sym first.has_root ∙ (ap (λ (i : TreeItem). pointer_of i.body) item ∙ second.has_root) in
     let at : first.at ≡ second.at = cc in
-    let items = found image ranges (tree_of s 5 first.at) in
+    let items = found image ranges (tree_of s FS_TREE first.at) in
     let keeps : KeepsNames (has_root (roots_on image s ranges)) items first.at.address = λ r broken. first.readable r (bad_names first.item first.at first.has_item first.has_root broken) in
     are_one (has_root (roots_on image s ranges)) items first.at.address keeps image ranges rows others first.rows_are
-    (subst (λ (p : Pointer). AreRows image ranges (found image ranges (tree_of s 5 p)) others) (sym at) second.rows_are)
+    (subst (λ (p : Pointer). AreRows image ranges (found image ranges (tree_of s FS_TREE p)) others) (sym at) second.rows_are)

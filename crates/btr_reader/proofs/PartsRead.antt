@@ -2,6 +2,7 @@
 use Rattle.std.proofs.Common.{◌≡◌, inl, inr, ℕ, ◌==◌, Bool, false, cond, List, [], ◌∷◌, length, map, Some, None, Result, Ok, Err, Contains, refl, sym, ◌∙◌, ap, subst, arith}
 use Rattle.std.specs.Result.{MatchResult}
 use Rattle.std.proofs.lemmas.Bool.Decides.{nat_tests}
+use Rattle.btrfs_format.specs.declared.block.TheConstants.{SUPER_BLOCK}
 use Rattle.fs_rows.specs.Rows.{WholeRow, row_of}
 use Rattle.fs_rows.specs.declared.row.Row.{Row}
 use Rattle.btr_reader_walk.specs.outside.History.{Image, block_at}
@@ -36,7 +37,7 @@ unfolding super_of
 fields_are block place device s read = value_is (super_refusals block place device) (super_in block) s read
 
 pub opened_super : (image : Image) (s : Super) (ranges : List MapRange) → IsOpened image s ranges → s ≡ own_super image
-opened_super image s ranges opened = fields_are (block_at image 16) 16 _ s opened.super
+opened_super image s ranges opened = fields_are (block_at image SUPER_BLOCK) 16 _ s opened.super
 
 pub opened_map : (image : Image) (s : Super) (ranges : List MapRange) → IsOpened image s ranges → ranges ≡ own_map image
 opened_map image s ranges opened = opened.map_is ∙ ap (chunk_map image) (opened_super image s ranges opened)
@@ -51,9 +52,9 @@ of_volume image s ranges P opened h =
     subst (P s) (sym (opened_map image s ranges opened)) (subst (λ (t : Super). P t (own_map image)) (sym (opened_super image s ranges opened)) h)
 
 -- the superblock of a disk whose block 16 this is
-pub read_here : (image : Image) (block : List ℕ) (device : ℕ) (read : Result Super BtrRefusal) → block ≡ block_at image 16 → device ≡ length image → super_of block 16 device ≡ read → super_on image ≡ read
+pub read_here : (image : Image) (block : List ℕ) (device : ℕ) (read : Result Super BtrRefusal) → block ≡ block_at image SUPER_BLOCK → device ≡ length image → super_of block SUPER_BLOCK device ≡ read → super_on image ≡ read
 read_here image block device read is size h =
-    sym (ap (λ (b : List ℕ). super_of b 16 device) is ∙ ap (super_of (block_at image 16) 16) size) ∙ h
+    sym (ap (λ (b : List ℕ). super_of b SUPER_BLOCK device) is ∙ ap (super_of (block_at image SUPER_BLOCK) SUPER_BLOCK) size) ∙ h
 
 none_of : (refusals : List BtrRefusal) (r : BtrRefusal) → refusals ≡ [] → Contains refusals r → ⊥
 none_of refusals r none is =
@@ -123,7 +124,7 @@ rows_checked image volume (Ok x) on none told = record {
 rows_checked image volume (Err e) on none refuses = tree_refuses image volume.sup volume.ranges.items e none on.opened refuses
 
 -- the answer of a superblock that is read from block 16
-pub super_answer : (image : Image) (block : List ℕ) (device : ℕ) (e : BtrAnswer) → block ≡ block_at image 16 → device ≡ length image → IsSuperAnswer (super_of block 16 device) e → IsSuperAnswer (super_on image) e
+pub super_answer : (image : Image) (block : List ℕ) (device : ℕ) (e : BtrAnswer) → block ≡ block_at image SUPER_BLOCK → device ≡ length image → IsSuperAnswer (super_of block SUPER_BLOCK device) e → IsSuperAnswer (super_on image) e
 super_answer image block device (Refused r) is size h = read_here image block device (Err r) is size h
 super_answer image block device Fault is size h = tt
 super_answer image block device Memory is size h = h

@@ -5,6 +5,7 @@ use Rattle.std.specs.Option.{option_and_then}
 use Rattle.std.proofs.lemmas.Bool.{cases_lt}
 use Rattle.std.proofs.lemmas.List.{get_or-map, length-map, length-take, get_or-take}
 use Rattle.std.proofs.lemmas.Option.{slice_get_within, get_or_from_slice_get, slice_get-get_or}
+use Rattle.btrfs_format.specs.declared.object.TheConstants.{FIRST_FREE_OBJECTID}
 use Rattle.btr_reader_walk.specs.outside.History.{Image}
 use Rattle.btr_reader_walk.specs.btr_keys.declared.inode.Inode.{Inode}
 use Rattle.btr_reader_walk.specs.declared.map.MapRange.{MapRange}
@@ -67,7 +68,7 @@ module _ (image : Image) (ranges : List MapRange) (items : List TreeItem) (list 
       ∙ ap (λ (k : Kind). row_by own k p.path (first_path list p) p.names (bytes_at image ranges items p.target.number own k)) kind_is)
 
 module _ (names : Names) (named : NodeId → Bool) (contents : ℕ → Option Content) (image : Image) (ranges : List MapRange) (items : List TreeItem) (root_at : ℕ) (has_root : ℕ → Bool)
-    (is_read : IsReadTree names named contents image ranges items root_at has_root) (list : List PathTo) (are : ArePaths (links_of names named) (inode_node 256) list) (i : ℕ) (p : PathTo)
+    (is_read : IsReadTree names named contents image ranges items root_at has_root) (list : List PathTo) (are : ArePaths (links_of names named) (inode_node FIRST_FREE_OBJECTID) list) (i : ℕ) (p : PathTo)
     (at : slice_get list i ≡ Some p) where
   among : Contains list p
   among = (i, slice_get_within list i p at, get_or_from_slice_get list i p p at)
@@ -76,7 +77,7 @@ module _ (names : Names) (named : NodeId → Bool) (contents : ℕ → Option Co
   target_named : p.target.space ≡ 0 → IsNamed items p.target.number
   target_named space =
       let leads = is_read.links.sound p.path p.target (are.leads p among) in
-      leads_named items p.path p.target.number (subst (Leads items (inode 256) p.path) (inode_target leads.0 p.target leads.1 space) leads.2)
+      leads_named items p.path p.target.number (subst (Leads items (inode FIRST_FREE_OBJECTID) p.path) (inode_target leads.0 p.target leads.1 space) leads.2)
 
   target_known : p.target.space ≡ 0 → IsKnown items p.target.number
   target_known space = is_known has_root items root_at is_read.keeps p.target.number (target_named space)
@@ -124,7 +125,7 @@ module _ (names : Names) (named : NodeId → Bool) (contents : ℕ → Option Co
 
     itself : length rows ≤ p.least → p.path ≡ first_path list p
     itself outside =
-        let place = first_before (links_of names named) (inode_node 256) list are p p among i within (get_or_from_slice_get list i p p at) refl in
+        let place = first_before (links_of names named) (inode_node FIRST_FREE_OBJECTID) list are p p among i within (get_or_from_slice_get list i p p at) refl in
         let same : p.least ≡ i = omega (arith, place, outside, long) in
         sym (ap (λ (q : PathTo). q.path) (ap (λ (n : ℕ). get_or list n p) same ∙ get_or_from_slice_get list i p p at))
 

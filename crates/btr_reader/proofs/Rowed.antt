@@ -3,6 +3,7 @@ use Rattle.std.proofs.Common.{◌≡◌, ℕ, ◌+◌, ◌<◌, ◌≤◌, ◌==
 use Rattle.std.specs.Ordering.{is_le}
 use Rattle.std.proofs.lemmas.Simd.{map-map}
 use Rattle.std.proofs.lemmas.List.{get_or-map, length-map, map-append, take_more, take_all, get_or_default}
+use Rattle.btrfs_format.specs.declared.object.TheConstants.{FIRST_FREE_OBJECTID}
 use Rattle.btr_reader_walk.specs.outside.History.{Image}
 use Rattle.btr_reader_walk.specs.btr_keys.declared.inode.Inode.{Inode}
 use Rattle.btr_reader_walk.specs.declared.map.MapRange.{MapRange}
@@ -100,7 +101,7 @@ module _ (links : List Link) (root : NodeId) (list : List PathTo) (are : ArePath
       (λ q other. same_least p q among other own (is_inode q) refl ∙ ap (λ (l : NameList). is_same_path l (first_path list p)) (sym (is q)))
 
 module _ (image : Image) (ranges : List MapRange) (items : List TreeItem) (has_root : ℕ → Bool) (root_at : ℕ) (keeps : KeepsNames has_root items root_at) (links : List Link)
-    (lead : AreTreeLinks items links) (list : List PathTo) (are : ArePaths links (inode_node 256) list) where
+    (lead : AreTreeLinks items links) (list : List PathTo) (are : ArePaths links (inode_node FIRST_FREE_OBJECTID) list) where
   abbrev rows : List WholeRow
   rows = map (made_row image ranges items list) list
 
@@ -113,18 +114,18 @@ module _ (image : Image) (ranges : List MapRange) (items : List TreeItem) (has_r
   least_path : (p : PathTo) (ino : ℕ) → Contains list p → p.target ≡ inode_node ino → IsLeastPath items ino (first_path list p)
   least_path p ino among own =
       let q : PathTo = get_or list p.least p in
-      let u = leads_on q (first_in links (inode_node 256) list are p among) in
-      let to : u.0 ≡ inode ino = only_inode u.0 ino (sym u.1 ∙ (first_leads links (inode_node 256) list are p among ∙ own)) in
+      let u = leads_on q (first_in links (inode_node FIRST_FREE_OBJECTID) list are p among) in
+      let to : u.0 ≡ inode ino = only_inode u.0 ino (sym u.1 ∙ (first_leads links (inode_node FIRST_FREE_OBJECTID) list are p among ∙ own)) in
       record {
         leads = subst (Leads items top q.path) to u.2;
         least = λ other leads.
             let w = are.whole other (inode_node ino) (lead.whole other (inode ino) leads) in
-            subst (λ (b : NameList). is_le (path_cmp (first_path list p) b) ≡ true) w.2 (is_least links (inode_node 256) list are p w.0 among w.1 (w.3 ∙ sym own));
+            subst (λ (b : NameList). is_le (path_cmp (first_path list p) b) ≡ true) w.2 (is_least links (inode_node FIRST_FREE_OBJECTID) list are p w.0 among w.1 (w.3 ∙ sym own));
       }
 
   names_are : (p : PathTo) (ino : ℕ) → Contains list p → p.target ≡ inode_node ino → p.names ≡ name_count rows (first_path list p)
   names_are p ino among own =
-      names_counted links (inode_node 256) list are p among (ap (λ (n : NodeId). n.space == 0) own) (λ q. (made q).least) (λ q. least_is image ranges items list q)
+      names_counted links (inode_node FIRST_FREE_OBJECTID) list are p among (ap (λ (n : NodeId). n.space == 0) own) (λ q. (made q).least) (λ q. least_is image ranges items list q)
       ∙ sym (count_map (λ (row : WholeRow). is_same_path row.least (first_path list p)) made list)
 
   inode_row : (p : PathTo) (ino : ℕ) → Contains list p → p.target ≡ inode_node ino → Leads items top p.path (inode ino) → IsInodeRow image ranges items rows ino (made p)
@@ -148,7 +149,7 @@ module _ (image : Image) (ranges : List MapRange) (items : List TreeItem) (has_r
   ascending : AscendsByPath rows
   ascending k d within =
       let long = length-map list made in
-      let any : PathTo = record { path = []; target = inode_node 256; least = 0; names = 0 } in
+      let any : PathTo = record { path = []; target = inode_node FIRST_FREE_OBJECTID; least = 0; names = 0 } in
       let next : k + 1 < length list = omega (arith, within, long) in
       let this = get_or-map made list k any d (omega (arith, next)) in
       let after = get_or-map made list (k + 1) any d next in

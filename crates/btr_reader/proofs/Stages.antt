@@ -1,6 +1,7 @@
 -- The steps on the way to the saved image.
 use Rattle.std.proofs.Common.{◌≡◌, ⊎_elim, ℕ, true, List, [], ◌∷◌, ◌++◌, length, codes, if◌then◌else◌, Option, Some, None, Result, Ok, Err, refl, sym, ◌∙◌, ap, subst, arith}
 use Rattle.std.specs.Option.{option_and_then}
+use Rattle.btrfs_format.specs.declared.object.TheConstants.{FS_TREE}
 use Rattle.btr_reader_walk.specs.outside.History.{Image}
 use Rattle.btr_reader_walk.specs.refusals.declared.answer.BtrAnswer.{BtrAnswer}
 use Rattle.btr_reader_walk.specs.refusals.declared.answer.BtrAnswer.TheVariants.{Refused, Fault, Memory}
@@ -168,14 +169,14 @@ module _ (image : Image) (s : Super) (ranges : List MapRange) where
 
   -- what comes after the pointer to a tree: the file tree, and the tree of the saved image
   abbrev after_file : Pointer → List BtrRefusal
-  after_file p = or_later (entry_refusals image ranges (tree_of s 5 p)) (if_there below (number_in (items_at image s ranges 5 p)))
+  after_file p = or_later (entry_refusals image ranges (tree_of s FS_TREE p)) (if_there below (number_in (items_at image s ranges FS_TREE p)))
 
   abbrev after_saved : ℕ → Pointer → List BtrRefusal
   after_saved number p = saved_refusals image ranges (tree_of s number p)
 
   -- the root item of the file tree is off its grammar
-  pub file_tree_refused : (e : BtrAnswer) → FindsTree s 5 (root_item 5 roots) (Err e) → IsAmong (image_refusals image s ranges) e
-  file_tree_refused e finds = root_item_refused s 5 after_file (root_item 5 roots) e finds
+  pub file_tree_refused : (e : BtrAnswer) → FindsTree s FS_TREE (root_item FS_TREE roots) (Err e) → IsAmong (image_refusals image s ranges) e
+  file_tree_refused e finds = root_item_refused s FS_TREE after_file (root_item FS_TREE roots) e finds
 
   number_refused : (o : Option ℕ) (e : BtrAnswer) → FindsNumbered s roots o (Err e) → IsAmong (if_there below o) e
   number_refused None e finds = absurd (cc finds)
@@ -193,11 +194,11 @@ module _ (image : Image) (s : Super) (ranges : List MapRange) where
       (ap (λ (t : Tree). image_in (found image ranges t)) tree_is ∙ sym (image_there (λ q. image_in (items_at image s ranges number q)) (root_item number roots) i p is read))
       (ap (λ (t : Tree). saved_refusals image ranges t) tree_is ∙ sym (after_there (after_saved number) (root_item number roots) i p is read)) reads
 
-  module _ (file : Tree) (there : FindsTree s 5 (root_item 5 roots) (Ok (Some file))) where
+  module _ (file : Tree) (there : FindsTree s FS_TREE (root_item FS_TREE roots) (Ok (Some file))) where
     -- what is wrong with the file tree or behind it
     in_way : (e : BtrAnswer) → IsAmong (or_later (entry_refusals image ranges file) (if_there below (number_in (found image ranges file)))) e → IsAmong (image_refusals image s ranges) e
     in_way e among =
-        subst (λ (z : List BtrRefusal). IsAmong z e) (sym (after_there after_file (root_item 5 roots) there.0 there.1 there.2 there.3))
+        subst (λ (z : List BtrRefusal). IsAmong z e) (sym (after_there after_file (root_item FS_TREE roots) there.0 there.1 there.2 there.3))
         (subst (λ (t : Tree). IsAmong (or_later (entry_refusals image ranges t) (if_there below (number_in (found image ranges t)))) e) there.4 among)
 
     pub saved_refused : (e : BtrAnswer) → FindsSaved s roots (entry_refusals image ranges file) (found image ranges file) (Err e) → IsAmong (image_refusals image s ranges) e
@@ -218,9 +219,9 @@ module _ (image : Image) (s : Super) (ranges : List MapRange) where
         let later : List BtrRefusal = if_there below (number_in (found image ranges file)) in
         reads_as ranges (option_and_then image_of (number_in (found image ranges file))) (saved_image image s ranges) later (image_refusals image s ranges) result
         (ap (λ (t : Tree). option_and_then image_of (number_in (found image ranges t))) there.4
-        ∙ sym (image_there (λ q. option_and_then image_of (number_in (items_at image s ranges 5 q))) (root_item 5 roots) there.0 there.1 there.2 there.3))
+        ∙ sym (image_there (λ q. option_and_then image_of (number_in (items_at image s ranges FS_TREE q))) (root_item FS_TREE roots) there.0 there.1 there.2 there.3))
         (sym (ap (λ (z : List BtrRefusal). or_later z later) clear)
-        ∙ (ap (λ (t : Tree). or_later (entry_refusals image ranges t) (if_there below (number_in (found image ranges t)))) there.4 ∙ sym (after_there after_file (root_item 5 roots) there.0 there.1 there.2 there.3))) reads
+        ∙ (ap (λ (t : Tree). or_later (entry_refusals image ranges t) (if_there below (number_in (found image ranges t)))) there.4 ∙ sym (after_there after_file (root_item FS_TREE roots) there.0 there.1 there.2 there.3))) reads
 
     -- the tree of the saved image is not there
     pub none_saved : FindsSaved s roots (entry_refusals image ranges file) (found image ranges file) (Ok None) → ReadsImage ranges (saved_image image s ranges) (image_refusals image s ranges) (Ok None)

@@ -2,6 +2,7 @@
 use Rattle.std.specs.Prelude.{◌≡◌, ℕ, ◌+◌, ◌*◌, ◌/◌, ◌<◌, Bool, false, not, ◌&&◌, nat_eq, bytes_eq, List, length, map, Contains, Option, Some, None}
 use Rattle.std.specs.List.{All}
 use Rattle.std.specs.Option.{option_and_then}
+use Rattle.btrfs_format.specs.declared.object.TheConstants.{FS_TREE}
 use Rattle.btr_reader_walk.specs.outside.History.{Image, block_at}
 use Rattle.btr_reader_contents.specs.Extents.{extents_of, is_hole}
 use Rattle.btr_reader_walk.specs.btr_keys.FileExtent.{ContentValue, FileExtentValue, Inline, Prealloc, Regular, file_extent_of}
@@ -49,7 +50,7 @@ root_of image number = pointer_in (root_item number (roots_on image (own_super i
 
 -- the number of the tree of the saved image, by the entry in the file tree with this root
 abbrev pub saved_tree : Image → Pointer → Option ℕ
-saved_tree image p = option_and_then tree_number (saved_entry (items_at image (own_super image) (own_map image) 5 p))
+saved_tree image p = option_and_then tree_number (saved_entry (items_at image (own_super image) (own_map image) FS_TREE p))
 
 -- the addresses of the chunks in the superblock
 abbrev pub boot_map : Super → List MapRange
@@ -61,9 +62,9 @@ pub record IsVolumeApart (test : ℕ → Bool) (image : Image) : Type 0 where
   pub superblock : test 16 ≡ false
   pub chunks : AreNodesApart test image (boot_map (own_super image)) (chunk_tree (own_super image))
   pub roots : AreNodesApart test image (own_map image) (root_tree (own_super image))
-  pub files : (p : Pointer) → root_of image 5 ≡ Some p → AreNodesApart test image (own_map image) (tree_of (own_super image) 5 p)
-  pub extents : (p : Pointer) → root_of image 5 ≡ Some p → AreExtentsApart test (own_map image) (items_at image (own_super image) (own_map image) 5 p)
-  pub saved : (p : Pointer) (number : ℕ) (q : Pointer) → root_of image 5 ≡ Some p → saved_tree image p ≡ Some number → root_of image number ≡ Some q → AreNodesApart test image (own_map image) (tree_of (own_super image) number q)
+  pub files : (p : Pointer) → root_of image FS_TREE ≡ Some p → AreNodesApart test image (own_map image) (tree_of (own_super image) FS_TREE p)
+  pub extents : (p : Pointer) → root_of image FS_TREE ≡ Some p → AreExtentsApart test (own_map image) (items_at image (own_super image) (own_map image) FS_TREE p)
+  pub saved : (p : Pointer) (number : ℕ) (q : Pointer) → root_of image FS_TREE ≡ Some p → saved_tree image p ≡ Some number → root_of image number ≡ Some q → AreNodesApart test image (own_map image) (tree_of (own_super image) number q)
   pub blocks : (f : ImageFile) (b place : ℕ) → saved_image image (own_super image) (own_map image) ≡ Some f → image_place (own_map image) f b ≡ Some place → test place ≡ false
 
 -- the two disks have the same in all other blocks

@@ -3,6 +3,8 @@ use Rattle.std.specs.Prelude.{ℕ, ◌+◌, ◌-◌, ◌*◌, ◌/◌, ◌%◌, 
 use Rattle.std.specs.Option.{option_map, option_and_then}
 use Rattle.std.specs.List.{list_any}
 use Rattle.std.specs.Cmp.Lexicographic.{pointwise}
+use Rattle.btrfs_format.specs.declared.key.TheConstants.{INODE_ITEM, ROOT_ITEM}
+use Rattle.btrfs_format.specs.declared.object.TheConstants.{FIRST_FREE_OBJECTID, FS_TREE}
 use Rattle.btr_reader_walk.specs.outside.History.{Image}
 use Rattle.btr_reader_walk.specs.refusals.declared.refusal.BtrRefusal.{BtrRefusal}
 use Rattle.btr_reader_walk.specs.refusals.declared.refusal.BtrRefusal.TheVariants.{BadBtrfs}
@@ -35,14 +37,14 @@ first_key (Some key) second = Some key
 -- the first entry of inode 256 with a name that passes
 abbrev pub entry_named : (List ℕ → Bool) → List Naming → Option Key
 entry_named test [] = None
-entry_named test (n ∷ ns) = if (n.dir == 256) && test n.name then Some n.location else entry_named test ns
+entry_named test (n ∷ ns) = if (n.dir == FIRST_FREE_OBJECTID) && test n.name then Some n.location else entry_named test ns
 
 -- the number of another tree, or of an inode, that a location is
 abbrev pub tree_number : Key → Option ℕ
-tree_number key = if key.kind == 132 then Some key.objectid else None
+tree_number key = if key.kind == ROOT_ITEM then Some key.objectid else None
 
 abbrev pub inode_number : Key → Option ℕ
-inode_number key = if key.kind == 1 then Some key.objectid else None
+inode_number key = if key.kind == INODE_ITEM then Some key.objectid else None
 
 -- whether a name is this one
 abbrev pub is_called : List ℕ → List ℕ → Bool
@@ -120,12 +122,12 @@ image_below image s ranges number root = option_and_then (λ p. image_in (items_
 abbrev pub image_from : Image → Super → List MapRange → Option TreeItem → Option ImageFile
 image_from image s ranges root =
     option_and_then (λ p. option_and_then (λ number. image_below image s ranges number (root_item number (roots_on image s ranges)))
-    (option_and_then tree_number (saved_entry (items_at image s ranges 5 p)))) (pointer_in root)
+    (option_and_then tree_number (saved_entry (items_at image s ranges FS_TREE p)))) (pointer_in root)
 
 -- The saved image of an opened volume. It is missing where the entry, the tree or the file is not there, or the file has not
 -- the form of an image.
 abbrev pub saved_image : Image → Super → List MapRange → Option ImageFile
-saved_image image s ranges = image_from image s ranges (root_item 5 (roots_on image s ranges))
+saved_image image s ranges = image_from image s ranges (root_item FS_TREE (roots_on image s ranges))
 
 -- the place of block b
 abbrev pub image_place : List MapRange → ImageFile → ℕ → Option ℕ
@@ -152,7 +154,7 @@ index_refusals_at i (Some e) = naming_refusals (naming_of i e)
 
 -- of a directory index of inode 256 by itself
 abbrev pub own_index_refusals : TreeItem → List BtrRefusal
-own_index_refusals i = if is_index i && (i.key.objectid == 256) then index_refusals_at i (index_entry i.body) else []
+own_index_refusals i = if is_index i && (i.key.objectid == FIRST_FREE_OBJECTID) then index_refusals_at i (index_entry i.body) else []
 
 abbrev pub index_refusals : List TreeItem → List BtrRefusal
 index_refusals [] = []
@@ -160,7 +162,7 @@ index_refusals (i ∷ items) = own_index_refusals i ++ index_refusals items
 
 -- the root directory of a file tree
 abbrev pub is_root_directory : ℕ → Bool
-is_root_directory ino = ino == 256
+is_root_directory ino = ino == FIRST_FREE_OBJECTID
 
 -- both entries are of the root directory, and of one name
 abbrev pub is_again : Naming → Naming → Bool
@@ -213,9 +215,9 @@ refusals_below image s ranges number root = after_root (λ p. saved_refusals ima
 abbrev pub refusals_from : Image → Super → List MapRange → Option TreeItem → List BtrRefusal
 refusals_from image s ranges root =
     after_root
-    (λ p. or_later (entry_refusals image ranges (tree_of s 5 p))
-    (if_there (λ number. refusals_below image s ranges number (root_item number (roots_on image s ranges))) (option_and_then tree_number (saved_entry (items_at image s ranges 5 p)))))
+    (λ p. or_later (entry_refusals image ranges (tree_of s FS_TREE p))
+    (if_there (λ number. refusals_below image s ranges number (root_item number (roots_on image s ranges))) (option_and_then tree_number (saved_entry (items_at image s ranges FS_TREE p)))))
     root
 
 abbrev pub image_refusals : Image → Super → List MapRange → List BtrRefusal
-image_refusals image s ranges = refusals_from image s ranges (root_item 5 (roots_on image s ranges))
+image_refusals image s ranges = refusals_from image s ranges (root_item FS_TREE (roots_on image s ranges))

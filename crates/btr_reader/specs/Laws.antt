@@ -1,6 +1,8 @@
 -- What holds of an opened volume.
 use Rattle.std.specs.Prelude.{◌≡◌, ℕ, ◌+◌, ◌^◌, ◌≤◌, ◌<◌, AllPairs, Contains, List, ◌++◌, length, map, Some}
 use Rattle.std.specs.List.{flat_map, AllByRecursion}
+use Rattle.btrfs_format.specs.declared.key.TheConstants.{CHUNK_ITEM}
+use Rattle.btrfs_format.specs.declared.object.TheConstants.{FIRST_CHUNK_TREE_OBJECTID}
 use Rattle.btr_reader_walk.specs.btr_keys.Key.{key_bytes, make_key}
 use Rattle.btr_space_items.specs.Chunk.{chunk_layout, chunk_bytes}
 use Rattle.btr_reader.specs.declared.chunk.ChunkAt.{ChunkAt}
@@ -39,7 +41,7 @@ OpenedMapsAreApart = (image : Image) (s : Super) (ranges : List MapRange) → Is
 
 -- a chunk of one stripe in the bootstrap array: its key and its body
 abbrev pub array_entry : ChunkAt → List ℕ
-array_entry c = key_bytes (make_key 256 228 c.logical) ++ chunk_bytes c.chunk
+array_entry c = key_bytes (make_key FIRST_CHUNK_TREE_OBJECTID CHUNK_ITEM c.logical) ++ chunk_bytes c.chunk
 
 -- its numbers fit their fields, and it has one stripe
 pub record FitsArray (c : ChunkAt) : Type 0 where

@@ -1,5 +1,6 @@
 -- The parts of a Btrfs volume that are read, and what each is refused by.
 use Rattle.std.specs.Prelude.{◌≡◌, ◌⊎◌, ◌==◌, ℕ, List, [], Contains, map, Option, Some, None, if◌then◌else◌, Result, Ok, Err}
+use Rattle.btrfs_format.specs.declared.block.TheConstants.{SUPER_BLOCK}
 use Rattle.btr_reader_walk.specs.outside.History.{Image, block_at}
 use Rattle.btr_reader_walk.specs.refusals.declared.answer.BtrAnswer.{BtrAnswer}
 use Rattle.btr_reader_walk.specs.refusals.declared.answer.BtrAnswer.TheVariants.{Refused, Fault, Memory}
@@ -23,7 +24,7 @@ pub data Part : Type 0 where
 
 -- the fields of the superblock, which is block 16, and the map of addresses by them
 abbrev pub own_super : Image → Super
-own_super image = super_in (block_at image 16)
+own_super image = super_in (block_at image SUPER_BLOCK)
 
 abbrev pub own_map : Image → List MapRange
 own_map image = chunk_map image (own_super image)

@@ -2,6 +2,7 @@
 use Rattle.std.specs.Prelude.{◌≡◌, ◌⊎◌, ℕ, ◌/◌, ◌%◌, ◌^◌, ◌==◌, pos, Bool, true, false, not, ◌&&◌, if◌then◌else◌, List, [], Contains, Some, None}
 use Rattle.std.specs.Int.{bit_at}
 use Rattle.std.specs.Ordering.{is_le}
+use Rattle.btrfs_format.specs.declared.object.TheConstants.{FIRST_FREE_OBJECTID, FS_TREE}
 use Rattle.btr_reader_walk.specs.outside.History.{Image}
 use Rattle.btr_reader_walk.specs.refusals.declared.refusal.BtrRefusal.{BtrRefusal}
 use Rattle.btr_reader_walk.specs.refusals.declared.refusal.BtrRefusal.TheVariants.{BadBtrfs}
@@ -51,7 +52,7 @@ pub record HasInode (i : Inode) (row : WholeRow) : Type 0 where
 
 -- the number of the root directory's inode
 abbrev pub top : Target
-top = inode 256
+top = inode FIRST_FREE_OBJECTID
 
 -- a path of the inode, and no path of it is below
 pub record IsLeastPath (items : List TreeItem) (ino : ℕ) (path : NameList) : Type 0 where
@@ -119,11 +120,11 @@ abbrev pub roots_on : Image → Super → List MapRange → List TreeItem
 roots_on image s ranges = found image ranges (root_tree s)
 
 pub data IsTreeRefusal (image : Image) (s : Super) (ranges : List MapRange) (r : BtrRefusal) : Type 0 where
-  no_root_item : root_item 5 (roots_on image s ranges) ≡ None → r ≡ BadBtrfs s.root NoInode → IsTreeRefusal image s ranges r
-  bad_root_item : (i : TreeItem) → root_item 5 (roots_on image s ranges) ≡ Some i → pointer_of i.body ≡ None → r ≡ BadBtrfs i.leaf Body → IsTreeRefusal image s ranges r
-  bad_tree : (i : TreeItem) (p : Pointer) → root_item 5 (roots_on image s ranges) ≡ Some i → pointer_of i.body ≡ Some p → Contains (wrong image ranges (tree_of s 5 p)) r → IsTreeRefusal image s ranges r
-  bad_names : (i : TreeItem) (p : Pointer) → root_item 5 (roots_on image s ranges) ≡ Some i → pointer_of i.body ≡ Some p → BreaksNames (has_root (roots_on image s ranges)) (found image ranges (tree_of s 5 p)) p.address r → IsTreeRefusal image s ranges r
-  bad_extents : (i : TreeItem) (p : Pointer) → root_item 5 (roots_on image s ranges) ≡ Some i → pointer_of i.body ≡ Some p → BreaksExtents ranges (found image ranges (tree_of s 5 p)) r → IsTreeRefusal image s ranges r
+  no_root_item : root_item FS_TREE (roots_on image s ranges) ≡ None → r ≡ BadBtrfs s.root NoInode → IsTreeRefusal image s ranges r
+  bad_root_item : (i : TreeItem) → root_item FS_TREE (roots_on image s ranges) ≡ Some i → pointer_of i.body ≡ None → r ≡ BadBtrfs i.leaf Body → IsTreeRefusal image s ranges r
+  bad_tree : (i : TreeItem) (p : Pointer) → root_item FS_TREE (roots_on image s ranges) ≡ Some i → pointer_of i.body ≡ Some p → Contains (wrong image ranges (tree_of s FS_TREE p)) r → IsTreeRefusal image s ranges r
+  bad_names : (i : TreeItem) (p : Pointer) → root_item FS_TREE (roots_on image s ranges) ≡ Some i → pointer_of i.body ≡ Some p → BreaksNames (has_root (roots_on image s ranges)) (found image ranges (tree_of s FS_TREE p)) p.address r → IsTreeRefusal image s ranges r
+  bad_extents : (i : TreeItem) (p : Pointer) → root_item FS_TREE (roots_on image s ranges) ≡ Some i → pointer_of i.body ≡ Some p → BreaksExtents ranges (found image ranges (tree_of s FS_TREE p)) r → IsTreeRefusal image s ranges r
 
 -- Nothing is wrong with the file tree, so that its rows can be read.
 abbrev pub CanBeRead : Image → Super → List MapRange → Type 0
@@ -133,7 +134,7 @@ CanBeRead image s ranges = (r : BtrRefusal) → ¬ IsTreeRefusal image s ranges 
 pub record AreBtrfsRows (image : Image) (s : Super) (ranges : List MapRange) (rows : List WholeRow) : Type 0 where
   pub readable : (r : BtrRefusal) → ¬ IsTreeRefusal image s ranges r
   pub item : TreeItem
-  pub has_item : root_item 5 (roots_on image s ranges) ≡ Some item
+  pub has_item : root_item FS_TREE (roots_on image s ranges) ≡ Some item
   pub at : Pointer
   pub has_root : pointer_of item.body ≡ Some at
-  pub rows_are : AreRows image ranges (found image ranges (tree_of s 5 at)) rows
+  pub rows_are : AreRows image ranges (found image ranges (tree_of s FS_TREE at)) rows

@@ -13,14 +13,13 @@ ghost use Rattle.btr_reader.specs.Opening.{IsAmong, NamesNoLogTree};
 
 use crate::refusal::refused;
 use btr_reader_names::{
-    NameIn, Naming, ROOT, index_entry, is_name, names_inode, names_tree, naming_of, see_name,
+    NameIn, Naming, index_entry, is_name, names_inode, names_tree, naming_of, see_name,
 };
 use btr_reader_walk::{BlockSource, BtrAnswer, BtrRule, DirEntry, Key, MapRange, Tree, TreeWalker};
+use btrfs_format::key::DIR_INDEX;
+use btrfs_format::object::FIRST_FREE_OBJECTID;
 use indexmap::IndexSet;
 use std::alloc::Global;
-
-/// The kind in the key of a directory index.
-const INDEX_KIND: u8 = 96;
 
 /// The location of an entry that is called so, unless one came before.
 fn first_called(first: Option<Key>, name: &[u8], entry: &DirEntry<'_>) -> Option<Key>
@@ -77,7 +76,7 @@ fn seek_entry(
     ensures known { IfErr result NamesNoLogTree }
     ensures cause { IfErr result IsNoFault }
 {
-    if key.kind != INDEX_KIND || key.objectid != ROOT {
+    if key.kind != DIR_INDEX || key.objectid != FIRST_FREE_OBJECTID {
         return Ok(first);
     }
     let entry = match index_entry(body) {

@@ -20,16 +20,14 @@ use btr_reader_walk::{
     BlockSource, BtrAnswer, BtrRule, DiskRange, ExtentContent, FileExtent, Key, MapRange, Memory,
     Tree, TreeWalker,
 };
+use btrfs_format::key::EXTENT_DATA;
 use std::alloc::Global;
-
-/// The kind in the key of a file extent.
-const EXTENT_KIND: u8 = 108;
 
 /// Whether a key is that of an extent of this inode.
 fn is_extent_key(inode: u64, key: &Key) -> bool
     ensures { result ≡ is_extent_key inode key.now }
 {
-    key.objectid == inode && key.kind == EXTENT_KIND
+    key.objectid == inode && key.kind == EXTENT_DATA
 }
 
 fn is_inline(content: &ExtentContent<'_>) -> bool

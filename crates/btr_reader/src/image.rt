@@ -23,14 +23,13 @@ use crate::gathered::Gathered;
 use crate::image_map::ImageMap;
 use crate::inodes::find_inode;
 use crate::refusal::refused;
-use crate::trees::FILE_TREE;
 use crate::volume::Btrfs;
 use btr_reader_names::InodeFound;
 use btr_reader_walk::{BlockSource, BtrAnswer, BtrRule, Inode, Key, MapRange, Memory, Tree};
+use btrfs_format::block::SUPER_INFO_OFFSET;
+use btrfs_format::key::INODE_ITEM;
+use btrfs_format::object::FS_TREE;
 use std::alloc::Global;
-
-/// The kind in the key of an inode item.
-const INODE_KIND: u8 = 1;
 
 /// The inode of an inode item that was looked for, if it is that of a regular file.
 fn file_in(item: Option<InodeFound>) -> Result<Option<Inode>, BtrAnswer>
@@ -58,7 +57,7 @@ fn inode_number(key: Option<Key>) -> Option<u64>
 {
     match key {
         Some(key) => {
-            if key.kind == INODE_KIND {
+            if key.kind == INODE_ITEM {
                 Some(key.objectid)
             } else {
                 None
@@ -158,7 +157,7 @@ impl Btrfs {
         ensures reads { OverTold S.tells (S.blocks src.old) (λ image. HasRoots self.now.roots (roots_on image self.now.sup self.now.ranges.items) →
             ReadsImage self.now.ranges.items (saved_image image self.now.sup self.now.ranges.items) (image_refusals image self.now.sup self.now.ranges.items) result) }
     {
-        let file = match self.find_tree(FILE_TREE)? {
+        let file = match self.find_tree(FS_TREE)? {
             Some(file) => file,
             None => return Ok(None),
         };
@@ -188,12 +187,12 @@ impl Btrfs {
         ensures known { IfErr result NamesNoLogTree }
         ensures device { IfOk result (λ o. IfSome o (λ m. m.device ≡ S.size src.old)) }
         // A source with another number of blocks is no source of this volume.
-        ensures resized { S.size src.old ≢ self.now.device → result ≡ Err (BtrAnswer.Refused (BadBtrfs 65536 SuperField)) }
+        ensures resized { S.size src.old ≢ self.now.device → result ≡ Err (BtrAnswer.Refused (BadBtrfs SUPER_INFO_OFFSET SuperField)) }
         ensures reads { OverTold S.tells (S.blocks src.old) (λ image. IsVolumeOn image self.now →
             ReadsImage self.now.ranges.items (saved_image image self.now.sup self.now.ranges.items) (image_refusals image self.now.sup self.now.ranges.items) result) }
     {
         if src.len() != self.device {
-            return Err(refused(65536, BtrRule::SuperField));
+            return Err(refused(SUPER_INFO_OFFSET, BtrRule::SuperField));
         }
         self.read_image(alloc, src)
     }

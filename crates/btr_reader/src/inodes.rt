@@ -11,10 +11,8 @@ use btr_reader_names::InodeFound;
 use btr_reader_walk::{
     BlockSource, BtrAnswer, Inode, Key, MapRange, Memory, Notes, Tree, note_items,
 };
+use btrfs_format::key::INODE_ITEM;
 use std::alloc::Global;
-
-/// The kind in the key of an inode item.
-const INODE_KIND: u8 = 1;
 
 /// The first item of an inode, as the items of a file tree go by.
 #[derive(Drop)]
@@ -49,7 +47,7 @@ fn seek_inode(
     if first.is_some() {
         return first;
     }
-    if key.objectid == number && key.kind == INODE_KIND && key.offset == 0 {
+    if key.objectid == number && key.kind == INODE_ITEM && key.offset == 0 {
         return Some(InodeFound {
             leaf,
             inode: Inode::read(body),

@@ -21,8 +21,9 @@ ghost use Rattle.btr_reader_names.specs.Refuses.{IsNoFault};
 use crate::refusal::refused;
 use crate::row::{inode_row, tree_row};
 use btr_reader_contents::{Contents, wanted_inode};
-use btr_reader_names::{Names, ROOT, kind_of_mode};
+use btr_reader_names::{Names, kind_of_mode};
 use btr_reader_walk::{BtrAnswer, BtrRule, Inode, Memory};
+use btrfs_format::object::FIRST_FREE_OBJECTID;
 use fs_paths::PathTo;
 use fs_rows::{Content, Row, Rows, Spot, no_content};
 use std::alloc::Global;
@@ -37,7 +38,7 @@ pub fn row_at(
 ) -> Result<Row, BtrAnswer>
     ensures cause { IfErr result IsNoFault }
     ensures row { (named : NodeOf → Bool) (image : Image) (ranges : List RangeOf) (items : List TreeItem) (root : ℕ) (has_root : ℕ → Bool) → IsReadTree names.now named (known_content contents.now) image ranges items root has_root →
-        (list : List PathOf) → ArePaths (links_of names.now named) (inode_node 256) list → (i : ℕ) → slice_get list i ≡ Some path.now → rows.now ≡ map (λ p. row_of (made_row image ranges items list p)) (take i list) →
+        (list : List PathOf) → ArePaths (links_of names.now named) (inode_node FIRST_FREE_OBJECTID) list → (i : ℕ) → slice_get list i ≡ Some path.now → rows.now ≡ map (λ p. row_of (made_row image ranges items list p)) (take i list) →
         MatchResult result (λ row. row ≡ row_of (made_row image ranges items list path.now)) IsMemory }
 {
     if path.target.space != 0 {
@@ -46,10 +47,10 @@ pub fn row_at(
     }
     let ino = path.target.number;
     let Some(own) = names.inode(ino) else {
-        return Err(refused(ROOT, BtrRule::NoInode));
+        return Err(refused(FIRST_FREE_OBJECTID, BtrRule::NoInode));
     };
     let Some(kind) = kind_of_mode(own.mode) else {
-        return Err(refused(ROOT, BtrRule::Body));
+        return Err(refused(FIRST_FREE_OBJECTID, BtrRule::Body));
     };
     let content = content(alloc, contents, ino, &own)?;
     let spot = spot(path, rows)?;

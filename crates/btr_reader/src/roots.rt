@@ -12,11 +12,9 @@ use btr_reader_walk::{
     BlockSource, BtrAnswer, Key, MapRange, Memory, Notes, Pointer, Tree, note_items,
 };
 use btr_space_items::RootItem;
+use btrfs_format::key::ROOT_ITEM;
 use indexmap::{IndexMap, IndexSet};
 use std::alloc::Global;
-
-/// The kind in the key of a root item.
-pub const ROOT_KIND: u8 = 132;
 
 /// A root item: the leaf that it stands in, and the pointer to the root of its tree; None where its body is off the
 /// grammar.
@@ -84,7 +82,7 @@ impl Notes for RootItems {
 
     /// Notes one more item of the root tree. Items of other kinds are passed over.
     fn note(&mut self, _: Global, key: &Key, body: &[u8], leaf: u64) -> Result<(), Memory> {
-        if key.kind != ROOT_KIND {
+        if key.kind != ROOT_ITEM {
             return Ok(());
         }
         let root = RootFound {

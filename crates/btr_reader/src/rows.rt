@@ -25,11 +25,12 @@ ghost use Rattle.btr_reader.specs.Rows.{AreBtrfsRows, AreRows, roots_on};
 
 use crate::placed::row_at;
 use crate::refusal::refused;
-use crate::trees::FILE_TREE;
 use crate::volume::Btrfs;
 use btr_reader_contents::Contents;
-use btr_reader_names::{Names, ROOT, inode_node};
+use btr_reader_names::{Names, inode_node};
 use btr_reader_walk::{BlockSource, BtrAnswer, BtrRefusal, BtrRule, Tree};
+use btrfs_format::block::SUPER_INFO_OFFSET;
+use btrfs_format::object::{FIRST_FREE_OBJECTID, FS_TREE};
 use fs_paths::{NodeId, paths};
 use fs_rows::Rows;
 use indexmap::IndexSet;
@@ -47,7 +48,7 @@ impl Btrfs {
         ensures cause { HasCauseOf BtrAnswer.Fault (S.faults src.old) (S.faults src.new) result }
         // Over any source: a log tree first, and then another number of blocks.
         ensures logged { self.now.sup.log_root ≢ 0 → result ≡ Err (BtrAnswer.Refused (LogPending self.now.sup.log_root)) }
-        ensures resized { self.now.sup.log_root ≡ 0 → S.size src.old ≢ self.now.device → result ≡ Err (BtrAnswer.Refused (BadBtrfs 65536 SuperField)) }
+        ensures resized { self.now.sup.log_root ≡ 0 → S.size src.old ≢ self.now.device → result ≡ Err (BtrAnswer.Refused (BadBtrfs SUPER_INFO_OFFSET SuperField)) }
         ensures rows { OverTold S.tells (S.blocks src.old) (λ image. IsVolumeOn image self.now →
             MatchResult result (λ rows. (self.now.sup.log_root ≡ 0) × ((whole : List WholeRow) × AreBtrfsRows image self.now.sup self.now.ranges.items whole × (rows ≡ map row_of whole)))
             (RefusesRows image self.now.sup self.now.ranges.items)) }
@@ -58,7 +59,7 @@ impl Btrfs {
             }));
         }
         if src.len() != self.device {
-            return Err(refused(65536, BtrRule::SuperField));
+            return Err(refused(SUPER_INFO_OFFSET, BtrRule::SuperField));
         }
         let tree = self.file_tree()?;
         self.read_rows(alloc, src, tree)
@@ -69,10 +70,10 @@ impl Btrfs {
         ensures walkable { IfOk result IsWalkable }
         ensures cause { IfErr result IsNoFault }
         ensures finds { (image : Image) → HasRoots self.now.roots (roots_on image self.now.sup self.now.ranges.items) →
-            MatchResult result (λ t. (i : TreeItem) × (p : PointerOf) × (root_item 5 (roots_on image self.now.sup self.now.ranges.items) ≡ Some i) × (pointer_of i.body ≡ Some p) × (t ≡ tree_of self.now.sup 5 p))
+            MatchResult result (λ t. (i : TreeItem) × (p : PointerOf) × (root_item FS_TREE (roots_on image self.now.sup self.now.ranges.items) ≡ Some i) × (pointer_of i.body ≡ Some p) × (t ≡ tree_of self.now.sup FS_TREE p))
             (RefusesTree image self.now.sup self.now.ranges.items) }
     {
-        match self.find_tree(FILE_TREE)? {
+        match self.find_tree(FS_TREE)? {
             Some(tree) => Ok(tree),
             None => Err(refused(self.sup.root, BtrRule::NoInode)),
         }
@@ -106,7 +107,7 @@ impl Btrfs {
         ensures kept { S.kept src.old src.new }
         ensures cause { HasCauseOf BtrAnswer.Fault (S.faults src.old) (S.faults src.new) result }
         ensures rows { OverTold S.tells (S.blocks src.old) (λ image. AreInBlocks self.now.ranges.items → HasRoots self.now.roots (roots_on image self.now.sup self.now.ranges.items) →
-            (i : TreeItem) (p : PointerOf) → root_item 5 (roots_on image self.now.sup self.now.ranges.items) ≡ Some i → pointer_of i.body ≡ Some p → tree ≡ tree_of self.now.sup 5 p →
+            (i : TreeItem) (p : PointerOf) → root_item FS_TREE (roots_on image self.now.sup self.now.ranges.items) ≡ Some i → pointer_of i.body ≡ Some p → tree ≡ tree_of self.now.sup FS_TREE p →
             MatchResult result (λ rows. (whole : List WholeRow) × AreBtrfsRows image self.now.sup self.now.ranges.items whole × (rows ≡ map row_of whole)) (RefusesTree image self.now.sup self.now.ranges.items)) }
     {
         let ranges = self.ranges.as_slice();
@@ -129,7 +130,7 @@ fn rows_of(
         MatchResult result (λ rows. (whole : List WholeRow) × AreRows image ranges items whole × (rows ≡ map row_of whole)) IsMemory }
 {
     let links = names.links(alloc, named)?;
-    let paths = paths(alloc, links, inode_node(ROOT))?;
+    let paths = paths(alloc, links, inode_node(FIRST_FREE_OBJECTID))?;
     let mut rows = Rows::new(alloc);
     for i in 0..paths.len() {
         let row = row_at(alloc, names, contents, &paths[i], &rows)?;

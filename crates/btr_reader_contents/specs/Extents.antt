@@ -1,6 +1,7 @@
 -- The bytes of a file, by its extents.
 use Rattle.std.specs.Prelude.{ℕ, zero, suc, ◌+◌, ◌-◌, ◌/◌, ◌%◌, ◌^◌, ◌==◌, nat_lt, nat_le, Bool, true, ◌&&◌, ◌||◌, if◌then◌else◌, List, [], ◌∷◌, ◌++◌, length, map, filter, Option, Some, None, slice_index}
 use Rattle.std.specs.List.{range_with_len}
+use Rattle.btrfs_format.specs.declared.key.TheConstants.{EXTENT_DATA}
 use Rattle.btr_reader_walk.specs.outside.History.{Image, block_at}
 use Rattle.btr_reader_walk.specs.refusals.declared.refusal.BtrRefusal.{BtrRefusal}
 use Rattle.btr_reader_walk.specs.refusals.declared.refusal.BtrRefusal.TheVariants.{BadBtrfs, Unsupported}
@@ -15,7 +16,7 @@ use Rattle.btr_reader_walk.specs.Events.{TreeItem}
 
 -- the extents of a file, in the order of their places in it
 abbrev pub is_extent_key : ℕ → Key → Bool
-is_extent_key ino key = (key.objectid == ino) && (key.kind == 108)
+is_extent_key ino key = (key.objectid == ino) && (key.kind == EXTENT_DATA)
 
 abbrev pub is_extent_of : ℕ → TreeItem → Bool
 is_extent_of ino i = is_extent_key ino i.key

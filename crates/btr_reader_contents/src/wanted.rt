@@ -9,12 +9,10 @@ ghost use Rattle.btr_reader_contents.specs.Gathering.{item_wanted};
 
 use btr_reader_names::{Names, inode_node, kind_of_mode};
 use btr_reader_walk::{Inode, Key};
+use btrfs_format::key::EXTENT_DATA;
 use fs_paths::NodeId;
 use fs_rows::Kind;
 use indexmap::IndexSet;
-
-/// The kind in the key of a file extent.
-const EXTENT_KIND: u8 = 108;
 
 /// The longest target of a symlink, in bytes.
 const LONGEST_TARGET: u64 = 4095;
@@ -86,7 +84,7 @@ pub fn item_wanted(names: &Names, named: &IndexSet<NodeId>, key: &Key) -> Option
     ensures wanted { (items : List TreeItem) → HasNoted names.now items → result ≡ item_wanted (wanted_at (contains same_node named.now) items) key.now }
     ensures short { IfSome result (λ w. w.link ≡ true → w.size ≤ 4095) }
 {
-    if key.kind == EXTENT_KIND {
+    if key.kind == EXTENT_DATA {
         wanted_at(names, named, key.objectid)
     } else {
         None

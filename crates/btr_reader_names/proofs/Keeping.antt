@@ -5,6 +5,7 @@ use Rattle.std.proofs.lemmas.Bool.{and_from}
 use Rattle.std.proofs.lemmas.Bool.Decides.{nat_tests}
 use Rattle.std.proofs.lemmas.List.Elements.{Contains-append_left, Contains-append_right}
 use Rattle.std.proofs.lemmas.List.Kept.{AllPairs-filter}
+use Rattle.btrfs_format.specs.declared.object.TheConstants.{FIRST_FREE_OBJECTID}
 use Rattle.btr_reader_walk.specs.refusals.declared.rule.BtrRule.{BtrRule}
 use Rattle.btr_reader_walk.specs.refusals.declared.rule.BtrRule.TheVariants.{Body, NoInode, NameForm, DirTwice}
 use Rattle.btr_reader_walk.specs.btr_keys.Inode.{inode_of}
@@ -54,7 +55,7 @@ tree_there true h = refl
 tree_there false h = absurd (some_none NoInode h)
 
 module _ (t : Names) (items : List TreeItem) (noted : HasNoted t items) (roots : ℕ → Bool) (root_at : ℕ) (has : NodeId → Bool) (named : AreNamed items has)
-    (root_dir : is_dir t 256 ≡ true) (inodes : (node : NodeId) → has node ≡ true → IsGoodNode t node) (forms : (o : OffForm) → Contains t.off_form.items o → is_open t has o.dir ≡ false)
+    (root_dir : is_dir t FIRST_FREE_OBJECTID ≡ true) (inodes : (node : NodeId) → has node ≡ true → IsGoodNode t node) (forms : (o : OffForm) → Contains t.off_form.items o → is_open t has o.dir ≡ false)
     (entries : (n : Naming) → Contains t.namings.items n → IsGoodEntry t (is_open t has) roots n) (once : AllPairs (DifferInName (is_open t has)) t.namings.items)
     (apart : AllPairs (LeadApart t has) t.namings.items) where
   -- a named inode that is there is good
@@ -72,9 +73,9 @@ module _ (t : Names) (items : List TreeItem) (noted : HasNoted t items) (roots :
       let whole = named_well (is_name n.name) (if is_followed n then target_rule t roots n else None) (entries n r.0 (open_to t items noted has named n.dir opened)) in
       sym (ap (λ (b : Bool). if b then target_rule t roots n else None) r.1) ∙ whole.1
 
-  inode_good : (n : Naming) → Contains (followed items) n → IsOpen items n.dir → names_inode n ≡ true → (has_item t n.location.objectid ≡ true) × ((n.location.objectid == 256) ≡ false)
+  inode_good : (n : Naming) → Contains (followed items) n → IsOpen items n.dir → names_inode n ≡ true → (has_item t n.location.objectid ≡ true) × ((n.location.objectid == FIRST_FREE_OBJECTID) ≡ false)
   inode_good n among opened names =
-      inode_there (has_item t n.location.objectid) (n.location.objectid == 256)
+      inode_there (has_item t n.location.objectid) (n.location.objectid == FIRST_FREE_OBJECTID)
       (sym (ap (λ (b : Bool). if b then inode_rule t n.location.objectid else (if names_tree n then tree_rule roots n.location.objectid else Some Body)) names) ∙ target_good n among opened)
 
   -- an entry of the tree by its location: no inode's key is a root's
@@ -103,9 +104,9 @@ module _ (t : Names) (items : List TreeItem) (noted : HasNoted t items) (roots :
 
   pub keeps : KeepsNames roots items root_at
   keeps r (no_root_directory none is) =
-      true≢false (sym root_dir ∙ ap (λ (f : Option InodeFound). option_map_or is_directory (option_and_then kind_found f) false) (absent_to t items noted 256 none))
+      true≢false (sym root_dir ∙ ap (λ (f : Option InodeFound). option_map_or is_directory (option_and_then kind_found f) false) (absent_to t items noted FIRST_FREE_OBJECTID none))
   keeps r (root_is_none own kind on known other is) =
-      let d = dir_from t items noted 256 root_dir in
+      let d = dir_from t items noted FIRST_FREE_OBJECTID root_dir in
       let same = same_some own d.0 (sym on ∙ d.1) in
       other (same_some kind Directory (sym known ∙ (ap (λ (i : Inode). kind_of_mode i.mode) same ∙ d.2)))
   keeps r (bad_inode ino i is there body refused) = true≢false (sym (good ino i is there) ∙ ap (λ (o : Option Inode). option_map_or is_good o false) body)
@@ -135,5 +136,5 @@ module _ (t : Names) (items : List TreeItem) (noted : HasNoted t items) (roots :
       let all = AllPairs-filter (LeadApart t has) is_followed (namings items) (subst (λ (l : List Naming). AllPairs (LeadApart t has) l) noted.namings apart) in
       pair_of (LeadApart t has) (followed items) m n all both (down m among_m open_m names_m dir_m) (down n among_n open_n names_n dir_n) same
   keeps r (root_named n among opened names top refused) =
-      let here : (n.location.objectid == 256) ≡ true = ap (λ (k : ℕ). k == 256) top in
+      let here : (n.location.objectid == FIRST_FREE_OBJECTID) ≡ true = ap (λ (k : ℕ). k == FIRST_FREE_OBJECTID) top in
       true≢false (sym here ∙ (inode_good n among opened names).1)

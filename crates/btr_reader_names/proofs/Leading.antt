@@ -5,6 +5,7 @@ use Rattle.std.proofs.lemmas.Bool.Decides.{nat_tests}
 use Rattle.std.proofs.lemmas.List.{length-map, get_or-map}
 use Rattle.std.proofs.lemmas.List.Elements.{Contains-get_or, filter_passes}
 use Rattle.std.proofs.lemmas.List.Kept.{AllPairs-filter}
+use Rattle.btrfs_format.specs.declared.object.TheConstants.{FIRST_FREE_OBJECTID}
 use Rattle.btr_reader_walk.specs.refusals.declared.refusal.BtrRefusal.TheVariants.{BadBtrfs}
 use Rattle.btr_reader_walk.specs.refusals.declared.rule.BtrRule.TheVariants.{Body, DirTwice}
 use Rattle.btr_reader_walk.specs.Events.{TreeItem}
@@ -126,11 +127,11 @@ module _ (t : Names) (items : List TreeItem) (noted : HasNoted t items) (roots :
       (and_from (names_inode n) (is_dir t n.location.objectid) target.0 (ap (is_dir t) target.1 ∙ more.1))
 
   module _ (names_once : AllPairs (DifferInName (is_open t has)) t.namings.items) (apart : AllPairs (LeadApart t has) t.namings.items) where
-    named_once : AreNamedOnce links (inode_node 256)
+    named_once : AreNamedOnce links (inode_node FIRST_FREE_OBJECTID)
     named_once = record {
       not_root = λ link among same.
           let e = entry_of link among in
-          let target = inode_target (names_inode e.0) e.0 256 (ap (λ (l : Link). l.target) e.1 ∙ same) in
+          let target = inode_target (names_inode e.0) e.0 FIRST_FREE_OBJECTID (ap (λ (l : Link). l.target) e.1 ∙ same) in
           keeps (BadBtrfs e.0.leaf DirTwice) (root_named e.0 e.3 e.4 target.0 target.1 refl);
       directories = all_pairs_map (λ (a b : Link). a.target ≡ b.target → (link : Link) → Contains links link → link.dir ≢ a.target) link_of (filter (is_link t has) t.namings.items)
           (all_pairs_passing (λ (m n : Naming). target_node m ≡ target_node n → (link : Link) → Contains links link → link.dir ≢ target_node m) (is_link t has) t.namings.items
@@ -154,6 +155,6 @@ module _ (t : Names) (items : List TreeItem) (noted : HasNoted t items) (roots :
     pub tree_links : AreTreeLinks items links
     tree_links = record {
       once = named_once;
-      sound = λ path node leads. sound path (inode 256) node leads;
-      whole = λ path to leads. whole path (inode 256) to root leads;
+      sound = λ path node leads. sound path (inode FIRST_FREE_OBJECTID) node leads;
+      whole = λ path to leads. whole path (inode FIRST_FREE_OBJECTID) to root leads;
     }

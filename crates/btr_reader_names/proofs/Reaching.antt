@@ -1,6 +1,7 @@
 -- The named inodes, as what the root reaches over the steps.
 use Rattle.std.proofs.Common.{◌≡◌, ℕ, zero, suc, Bool, true, ◌&&◌, List, map, filter, Contains, refl, sym, ap, subst, ◌∙◌}
 use Rattle.std.proofs.lemmas.Bool.{and_parts, and_from}
+use Rattle.btrfs_format.specs.declared.object.TheConstants.{FIRST_FREE_OBJECTID}
 use Rattle.btr_reader_walk.specs.Events.{TreeItem}
 use Rattle.fs_paths.specs.declared.link.Link.{Link}
 use Rattle.fs_paths.specs.declared.node.NodeId.{NodeId}
@@ -31,7 +32,7 @@ module _ (t : Names) (items : List TreeItem) (noted : HasNoted t items) where
   pub followed_to : (n : Naming) → Contains (followed items) n → Contains t.namings.items n × (is_followed n ≡ true)
   followed_to n among = let r = from_filter is_followed (namings items) n among in (naming_to n r.0, r.1)
 
-  named_from : (count : ℕ) (node : NodeId) → IsReachedBy steps (inode_node 256) count node → (node.space ≡ 0) × IsNamed items node.number
+  named_from : (count : ℕ) (node : NodeId) → IsReachedBy steps (inode_node FIRST_FREE_OBJECTID) count node → (node.space ≡ 0) × IsNamed items node.number
   named_from zero node is = (ap (λ (n : NodeId). n.space) is, subst (λ (n : NodeId). IsNamed items n.number) (sym is) root)
   named_from (suc count) node (link, among, names, before) =
       let made = from_map step_of (filter (is_step t) t.namings.items) link among in
@@ -46,7 +47,7 @@ module _ (t : Names) (items : List TreeItem) (noted : HasNoted t items) where
         subst (λ (m : NodeId). IsNamed items m.number) target (entry n (followed_from n kept.0 parts.0) named (dir_from t items noted n.dir more.1) more.0),
       )
 
-  named_to : (ino : ℕ) → IsNamed items ino → IsReached steps (inode_node 256) (inode_node ino)
+  named_to : (ino : ℕ) → IsNamed items ino → IsReached steps (inode_node FIRST_FREE_OBJECTID) (inode_node ino)
   named_to _ root = (0, refl)
   named_to _ (entry n among named dir names) =
       let r = followed_to n among in
@@ -54,7 +55,7 @@ module _ (t : Names) (items : List TreeItem) (noted : HasNoted t items) where
       let is = and_from (is_followed n) (names_inode n && is_dir t n.dir) r.1 (and_from (names_inode n) (is_dir t n.dir) names (dir_to t items noted n.dir dir)) in
       (suc before.0, (step_of n, in_map step_of (filter (is_step t) t.namings.items) n (in_filter (is_step t) t.namings.items n r.0 is), refl, before.1))
 
-  pub named_are : (has : NodeId → Bool) → AreReached steps (inode_node 256) has → AreNamed items has
+  pub named_are : (has : NodeId → Bool) → AreReached steps (inode_node FIRST_FREE_OBJECTID) has → AreNamed items has
   named_are has reached = record {
     sound = λ node is. let r = reached.sound node is in named_from r.0 node r.1;
     whole = λ ino named. reached.whole (inode_node ino) (named_to ino named);

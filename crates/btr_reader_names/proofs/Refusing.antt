@@ -4,6 +4,7 @@ use Rattle.std.specs.Option.{option_and_then, option_map_or}
 use Rattle.std.proofs.lemmas.Bool.{and_parts, eqb-true}
 use Rattle.std.proofs.lemmas.Bool.Decides.{nat_tests}
 use Rattle.std.proofs.lemmas.List.Elements.{Contains-append_cases, Contains-append_left, Contains-append_right}
+use Rattle.btrfs_format.specs.declared.object.TheConstants.{FIRST_FREE_OBJECTID}
 use Rattle.btr_reader_walk.specs.refusals.declared.refusal.BtrRefusal.{BtrRefusal}
 use Rattle.btr_reader_walk.specs.refusals.declared.refusal.BtrRefusal.TheVariants.{BadBtrfs}
 use Rattle.btr_reader_walk.specs.refusals.declared.rule.BtrRule.{BtrRule}
@@ -93,15 +94,15 @@ module _ (t : Names) (items : List TreeItem) (noted : HasNoted t items) (roots :
   unknown_bad None h = refl
   unknown_bad (Some own) h = ap (λ (k : Option Kind). option_map_or (fits_size own.size) k false) h
 
-  known_on : (i : TreeItem) (o : Option Inode) (kind : Kind) → inode_item items 256 ≡ Some i → o ≡ inode_of i.body → option_and_then (λ (own : Inode). kind_of_mode own.mode) o ≡ Some kind → (own : Inode) × (inode_on items 256 ≡ Some own) × (kind_of_mode own.mode ≡ Some kind)
+  known_on : (i : TreeItem) (o : Option Inode) (kind : Kind) → inode_item items FIRST_FREE_OBJECTID ≡ Some i → o ≡ inode_of i.body → option_and_then (λ (own : Inode). kind_of_mode own.mode) o ≡ Some kind → (own : Inode) × (inode_on items FIRST_FREE_OBJECTID ≡ Some own) × (kind_of_mode own.mode ≡ Some kind)
   known_on i None kind there body h = cc
   known_on i (Some own) kind there body h = (own, ap (λ (x : Option TreeItem). option_and_then (λ j. inode_of j.body) x) there ∙ sym body, h)
 
   pub root_refused : BlamesRoot t root_at r → Broken
-  root_refused (root_absent none is) = no_root_directory (absent_from t items noted 256 none) is
-  root_refused (root_off f has unknown is) = item_refused 256 f root has (unknown_bad f.inode unknown) is
+  root_refused (root_absent none is) = no_root_directory (absent_from t items noted FIRST_FREE_OBJECTID none) is
+  root_refused (root_off f has unknown is) = item_refused FIRST_FREE_OBJECTID f root has (unknown_bad f.inode unknown) is
   root_refused (root_other f kind has known not_dir is) =
-      let at = item_from t items noted 256 f has in
+      let at = item_from t items noted FIRST_FREE_OBJECTID f has in
       let on = known_on at.0 f.inode kind at.1 at.3 known in
       root_is_none on.0 kind on.1 on.2 (not_directory kind not_dir) is
 
@@ -117,7 +118,7 @@ module _ (t : Names) (items : List TreeItem) (noted : HasNoted t items) (roots :
       with_rule : (rule other : BtrRule) → Some other ≡ Some rule → r ≡ BadBtrfs n.leaf rule → r ≡ BadBtrfs n.leaf other
       with_rule rule other same is = is ∙ ap (λ (x : BtrRule). BadBtrfs n.leaf x) (sym (same_some other rule same))
 
-      inode_refused : is_followed n ≡ true → names_inode n ≡ true → (b : Bool) → has_item t n.location.objectid ≡ b → (e : Bool) → (n.location.objectid == 256) ≡ e
+      inode_refused : is_followed n ≡ true → names_inode n ≡ true → (b : Bool) → has_item t n.location.objectid ≡ b → (e : Bool) → (n.location.objectid == FIRST_FREE_OBJECTID) ≡ e
           → (rule : BtrRule) → (if b then (if e then Some DirTwice else None) else Some NoInode) ≡ Some rule → r ≡ BadBtrfs n.leaf rule → Broken
       inode_refused follows names true there true top rule broken is =
           root_named n (followed_from t items noted n among follows) opened names (eqb-true n.location.objectid 256 top) (with_rule rule DirTwice broken is)
@@ -136,7 +137,7 @@ module _ (t : Names) (items : List TreeItem) (noted : HasNoted t items) (roots :
       target_refused : is_followed n ≡ true → (a : Bool) → names_inode n ≡ a → (b : Bool) → names_tree n ≡ b
           → (rule : BtrRule) → (if a then inode_rule t n.location.objectid else (if b then tree_rule roots n.location.objectid else Some Body)) ≡ Some rule → r ≡ BadBtrfs n.leaf rule → Broken
       target_refused follows true names b _ rule broken is =
-          inode_refused follows names (has_item t n.location.objectid) refl (n.location.objectid == 256) refl rule broken is
+          inode_refused follows names (has_item t n.location.objectid) refl (n.location.objectid == FIRST_FREE_OBJECTID) refl rule broken is
       target_refused follows false other true names rule broken is = tree_refused follows names (roots n.location.objectid) refl rule broken is
       target_refused follows false other false neither rule broken is =
           bad_location n (followed_from t items noted n among follows) opened other neither (with_rule rule Body broken is)

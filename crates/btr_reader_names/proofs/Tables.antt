@@ -2,6 +2,7 @@
 use Rattle.std.proofs.Common.{◌≡◌, ℕ, ◌==◌, Bool, true, false, ◌&&◌, List, [], ◌∷◌, ◌++◌, Option, Some, None, unwrap_or, if◌then◌else◌, refl, sym, ◌∙◌, ap, subst, append_assoc}
 use Rattle.std.proofs.lemmas.Bool.{eqb-true}
 use Rattle.std.proofs.lemmas.List.{append-nil}
+use Rattle.btrfs_format.specs.declared.key.TheConstants.{INODE_ITEM}
 use Rattle.btr_reader_walk.specs.btr_keys.Inode.{inode_of}
 use Rattle.btr_reader_walk.specs.Events.{TreeItem}
 use Rattle.btr_reader_names.specs.declared.inodes.InodeFound.{InodeFound}
@@ -21,9 +22,9 @@ not_first f None h = h
 not_first f (Some j) h = h
 
 -- an item that is none of an inode
-pub passed_over : (told : ℕ → Option InodeFound) (items : List TreeItem) (i : TreeItem) → ((i.key.kind == 1) && (i.key.offset == 0)) ≡ false → AreNoted told items → AreNoted told (items ++ i ∷ [])
+pub passed_over : (told : ℕ → Option InodeFound) (items : List TreeItem) (i : TreeItem) → ((i.key.kind == INODE_ITEM) && (i.key.offset == 0)) ≡ false → AreNoted told items → AreNoted told (items ++ i ∷ [])
 passed_over told items i other noted ino =
-    let own : is_inode_of ino i ≡ false = and_false_right (i.key.objectid == ino) ((i.key.kind == 1) && (i.key.offset == 0)) other in
+    let own : is_inode_of ino i ≡ false = and_false_right (i.key.objectid == ino) ((i.key.kind == INODE_ITEM) && (i.key.offset == 0)) other in
     subst (TellsInode (told ino)) (sym (inode_item-push ino items i ∙ ap (λ (b : Bool). first_item (inode_item items ino) (if b then Some i else None)) own))
     (not_first (told ino) (inode_item items ino) (noted ino))
 
@@ -34,7 +35,7 @@ own_first None (Some j) f i leaf body h = absurd h
 own_first (Some g) None f i leaf body h = absurd h
 own_first (Some g) (Some j) f i leaf body h = h
 
-pub noted_first : (old new : ℕ → Option InodeFound) (items : List TreeItem) (i : TreeItem) (f : InodeFound) → ((i.key.kind == 1) && (i.key.offset == 0)) ≡ true → f.leaf ≡ i.leaf → f.inode ≡ inode_of i.body
+pub noted_first : (old new : ℕ → Option InodeFound) (items : List TreeItem) (i : TreeItem) (f : InodeFound) → ((i.key.kind == INODE_ITEM) && (i.key.offset == 0)) ≡ true → f.leaf ≡ i.leaf → f.inode ≡ inode_of i.body
     → ((ino : ℕ) → new ino ≡ (if i.key.objectid == ino then Some (unwrap_or (old i.key.objectid) f) else old ino)) → AreNoted old items → AreNoted new (items ++ i ∷ [])
 noted_first old new items i f kind leaf body updates noted ino = by (i.key.objectid == ino) refl
   where

@@ -1,6 +1,8 @@
 -- The inodes of a file tree, and what they are.
 use Rattle.std.specs.Prelude.{◌≡◌, ℕ, ◌/◌, ◌%◌, ◌==◌, Bool, ◌&&◌, if◌then◌else◌, List, [], ◌∷◌, Option, Some, None}
 use Rattle.std.specs.Option.{option_and_then}
+use Rattle.btrfs_format.specs.declared.key.TheConstants.{INODE_ITEM}
+use Rattle.vol_block.specs.declared.mode.TheConstants.{DT_BLK, DT_CHR, DT_DIR, DT_FIFO, DT_LNK, DT_REG, DT_SOCK}
 use Rattle.btr_reader_walk.specs.btr_keys.Inode.{inode_of}
 use Rattle.btr_reader_walk.specs.btr_keys.declared.inode.Inode.{Inode}
 use Rattle.fs_rows.specs.declared.row.Kind.{Kind}
@@ -10,7 +12,7 @@ use Rattle.btr_reader_names.specs.declared.inodes.InodeFound.{InodeFound}
 
 -- the item is the inode item of this inode
 abbrev pub is_inode_of : ℕ → TreeItem → Bool
-is_inode_of ino i = (i.key.objectid == ino) && ((i.key.kind == 1) && (i.key.offset == 0))
+is_inode_of ino i = (i.key.objectid == ino) && ((i.key.kind == INODE_ITEM) && (i.key.offset == 0))
 
 abbrev pub inode_item : List TreeItem → ℕ → Option TreeItem
 inode_item [] ino = None
@@ -20,13 +22,13 @@ inode_item (i ∷ items) ino = if is_inode_of ino i then Some i else inode_item 
 abbrev pub kind_of_mode : ℕ → Option Kind
 kind_of_mode mode =
     let type = mode / 4096 % 16 in
-    if type == 4 then Some Directory
-    else (if type == 8 then Some File
-    else (if type == 10 then Some Symlink
-    else (if type == 2 then Some Character
-    else (if type == 6 then Some Block
-    else (if type == 1 then Some Fifo
-    else (if type == 12 then Some Socket else None))))))
+    if type == DT_DIR then Some Directory
+    else (if type == DT_REG then Some File
+    else (if type == DT_LNK then Some Symlink
+    else (if type == DT_CHR then Some Character
+    else (if type == DT_BLK then Some Block
+    else (if type == DT_FIFO then Some Fifo
+    else (if type == DT_SOCK then Some Socket else None))))))
 
 -- the inode with this number, where its item is there and on its grammar
 abbrev pub inode_on : List TreeItem → ℕ → Option Inode

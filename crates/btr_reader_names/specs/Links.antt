@@ -2,6 +2,8 @@
 use Rattle.std.specs.Prelude.{◌≡◌, ℕ, ◌==◌, nat_lt, nat_eq, Bool, true, not, ◌&&◌, ◌||◌, if◌then◌else◌, List, [], ◌∷◌, ◌++◌, length, codes, filter, Contains, Option, Some, None}
 use Rattle.std.specs.List.{list_any}
 use Rattle.std.specs.Cmp.Lexicographic.{pointwise}
+use Rattle.btrfs_format.specs.declared.key.TheConstants.{DIR_INDEX, INODE_ITEM, ROOT_ITEM}
+use Rattle.btrfs_format.specs.declared.object.TheConstants.{FIRST_FREE_OBJECTID}
 use Rattle.btr_reader_walk.specs.btr_keys.DirEntry.{DirEntryValue, dir_items_of}
 use Rattle.btr_reader_walk.specs.Events.{TreeItem}
 use Rattle.fs_rows.specs.Rows.{NameList}
@@ -9,7 +11,7 @@ use Rattle.btr_reader_names.specs.declared.naming.Naming.{Naming}
 use Rattle.btr_reader_names.specs.Inodes.{IsDirectory}
 
 abbrev pub is_index : TreeItem → Bool
-is_index i = i.key.kind == 96
+is_index i = i.key.kind == DIR_INDEX
 
 -- a directory index has exactly one record
 abbrev pub only_one : Option (List DirEntryValue) → Option DirEntryValue
@@ -49,13 +51,13 @@ is_saved_name name = pointwise nat_eq name (codes "reiserfs_saved")
 
 -- the entry of the saved image's tree is no part of the tree
 abbrev pub is_followed : Naming → Bool
-is_followed n = not ((n.dir == 256) && is_saved_name n.name)
+is_followed n = not ((n.dir == FIRST_FREE_OBJECTID) && is_saved_name n.name)
 
 abbrev pub names_inode : Naming → Bool
-names_inode n = n.location.kind == 1
+names_inode n = n.location.kind == INODE_ITEM
 
 abbrev pub names_tree : Naming → Bool
-names_tree n = n.location.kind == 132
+names_tree n = n.location.kind == ROOT_ITEM
 
 -- the entries of named directories that are followed
 abbrev pub followed : List TreeItem → List Naming
@@ -63,7 +65,7 @@ followed items = filter is_followed (namings items)
 
 -- The inode is named: it is the root directory, or an entry of a named directory names it.
 pub data IsNamed (items : List TreeItem) : ℕ → Type 0 where
-  root : IsNamed items 256
+  root : IsNamed items FIRST_FREE_OBJECTID
   entry : (n : Naming) → Contains (followed items) n → IsNamed items n.dir → IsDirectory items n.dir → names_inode n ≡ true → IsNamed items n.location.objectid
 
 -- what stands at the end of a path

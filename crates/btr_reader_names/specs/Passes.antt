@@ -3,6 +3,7 @@ use Rattle.std.specs.Prelude.{◌≡◌, ℕ, ◌==◌, nat_lt, nat_eq, Bool, tr
 use Rattle.std.specs.List.{list_any}
 use Rattle.std.specs.Option.{option_map_or}
 use Rattle.std.specs.Cmp.Lexicographic.{pointwise}
+use Rattle.btrfs_format.specs.declared.object.TheConstants.{FIRST_FREE_OBJECTID}
 use Rattle.indexmap.specs.IndexSet.{IndexSet, contains}
 use Rattle.btr_reader_walk.specs.refusals.declared.answer.BtrAnswer.{BtrAnswer}
 use Rattle.btr_reader_walk.specs.refusals.declared.answer.BtrAnswer.TheVariants.{Refused, Fault, Memory}
@@ -27,9 +28,9 @@ use Rattle.btr_reader_names.specs.Table.{told, has_item, is_dir, kind_found}
 
 -- the root directory is not there, is off its grammar, or is no directory
 pub data BlamesRoot (t : Names) (root : ℕ) (r : BtrRefusal) : Type 0 where
-  root_absent : told t 256 ≡ None → r ≡ BadBtrfs root NoInode → BlamesRoot t root r
-  root_off : (f : InodeFound) → told t 256 ≡ Some f → kind_found f ≡ None → r ≡ BadBtrfs f.leaf Body → BlamesRoot t root r
-  root_other : (f : InodeFound) (kind : Kind) → told t 256 ≡ Some f → kind_found f ≡ Some kind → is_directory kind ≡ false → r ≡ BadBtrfs root NoInode → BlamesRoot t root r
+  root_absent : told t FIRST_FREE_OBJECTID ≡ None → r ≡ BadBtrfs root NoInode → BlamesRoot t root r
+  root_off : (f : InodeFound) → told t FIRST_FREE_OBJECTID ≡ Some f → kind_found f ≡ None → r ≡ BadBtrfs f.leaf Body → BlamesRoot t root r
+  root_other : (f : InodeFound) (kind : Kind) → told t FIRST_FREE_OBJECTID ≡ Some f → kind_found f ≡ Some kind → is_directory kind ≡ false → r ≡ BadBtrfs root NoInode → BlamesRoot t root r
 
 -- the size is one that an inode of the kind may have
 abbrev pub fits_size : ℕ → Kind → Bool
@@ -53,7 +54,7 @@ BlamesForm opened off r = (opened off.dir ≡ true) × (r ≡ BadBtrfs off.leaf 
 
 -- the rule that an entry's target breaks
 abbrev pub inode_rule : Names → ℕ → Option BtrRule
-inode_rule t ino = if has_item t ino then (if ino == 256 then Some DirTwice else None) else Some NoInode
+inode_rule t ino = if has_item t ino then (if ino == FIRST_FREE_OBJECTID then Some DirTwice else None) else Some NoInode
 
 abbrev pub tree_rule : (ℕ → Bool) → ℕ → Option BtrRule
 tree_rule roots number = if roots number then None else Some NoInode
@@ -126,7 +127,7 @@ BlamesAgain t named ns Memory = Unit {0}
 
 -- the root directory, the named inodes, and each index and entry by itself, are in order
 pub record AreGood (t : Names) (named : NodeId → Bool) (roots : ℕ → Bool) (nodes : List NodeId) : Type 0 where
-  pub root_directory : is_dir t 256 ≡ true
+  pub root_directory : is_dir t FIRST_FREE_OBJECTID ≡ true
   pub inodes : (node : NodeId) → Contains nodes node → IsGoodNode t node
   pub forms : (off : OffForm) → Contains t.off_form.items off → is_open t named off.dir ≡ false
   pub entries : (n : Naming) → Contains t.namings.items n → IsGoodEntry t (is_open t named) roots n

@@ -1,5 +1,6 @@
 -- The rules that the names of a file tree keep, and how each is refused where it fails.
 use Rattle.std.specs.Prelude.{◌≡◌, ◌≢◌, ◌<◌, ℕ, Bool, true, false, List, ◌∷◌, ◌++◌, Contains, Some, None}
+use Rattle.btrfs_format.specs.declared.object.TheConstants.{FIRST_FREE_OBJECTID}
 use Rattle.btr_reader_walk.specs.refusals.declared.refusal.BtrRefusal.{BtrRefusal}
 use Rattle.btr_reader_walk.specs.refusals.declared.refusal.BtrRefusal.TheVariants.{BadBtrfs}
 use Rattle.btr_reader_walk.specs.refusals.declared.rule.BtrRule.TheVariants.{Body, NoInode, NameForm, DirTwice}
@@ -27,8 +28,8 @@ pub record IsOpen (items : List TreeItem) (ino : ℕ) : Type 0 where
 -- Which inodes and names break which rule, in a file tree with these items, whose root node has this address. The test says
 -- which numbers of trees have a root item. Linux allows no target of a symlink above 4095 bytes (PATH_MAX with its zero).
 pub data BreaksNames (has_root : ℕ → Bool) (items : List TreeItem) (root : ℕ) (r : BtrRefusal) : Type 0 where
-  no_root_directory : inode_item items 256 ≡ None → r ≡ BadBtrfs root NoInode → BreaksNames has_root items root r
-  root_is_none : (own : Inode) (kind : Kind) → inode_on items 256 ≡ Some own → kind_of_mode own.mode ≡ Some kind → kind ≢ Directory → r ≡ BadBtrfs root NoInode → BreaksNames has_root items root r
+  no_root_directory : inode_item items FIRST_FREE_OBJECTID ≡ None → r ≡ BadBtrfs root NoInode → BreaksNames has_root items root r
+  root_is_none : (own : Inode) (kind : Kind) → inode_on items FIRST_FREE_OBJECTID ≡ Some own → kind_of_mode own.mode ≡ Some kind → kind ≢ Directory → r ≡ BadBtrfs root NoInode → BreaksNames has_root items root r
   bad_inode : (ino : ℕ) (i : TreeItem) → IsNamed items ino → inode_item items ino ≡ Some i → inode_of i.body ≡ None → r ≡ BadBtrfs i.leaf Body → BreaksNames has_root items root r
   bad_mode : (ino : ℕ) (i : TreeItem) (own : Inode) → IsNamed items ino → inode_item items ino ≡ Some i → inode_of i.body ≡ Some own → kind_of_mode own.mode ≡ None → r ≡ BadBtrfs i.leaf Body → BreaksNames has_root items root r
   long_target : (ino : ℕ) (i : TreeItem) (own : Inode) → IsNamed items ino → inode_item items ino ≡ Some i → inode_of i.body ≡ Some own → kind_of_mode own.mode ≡ Some Symlink → 4095 < own.size → r ≡ BadBtrfs i.leaf Body → BreaksNames has_root items root r
@@ -39,7 +40,7 @@ pub data BreaksNames (has_root : ℕ → Bool) (items : List TreeItem) (root : �
   no_inode : (n : Naming) → Contains (followed items) n → IsOpen items n.dir → names_inode n ≡ true → inode_item items n.location.objectid ≡ None → r ≡ BadBtrfs n.leaf NoInode → BreaksNames has_root items root r
   no_tree : (n : Naming) → Contains (followed items) n → IsOpen items n.dir → names_tree n ≡ true → has_root n.location.objectid ≡ false → r ≡ BadBtrfs n.leaf NoInode → BreaksNames has_root items root r
   directory_twice : (m n : Naming) → AreIn (followed items) m n → IsOpen items m.dir → IsOpen items n.dir → names_inode m ≡ true → names_inode n ≡ true → m.location.objectid ≡ n.location.objectid → IsDirectory items n.location.objectid → r ≡ BadBtrfs n.leaf DirTwice → BreaksNames has_root items root r
-  root_named : (n : Naming) → Contains (followed items) n → IsOpen items n.dir → names_inode n ≡ true → n.location.objectid ≡ 256 → r ≡ BadBtrfs n.leaf DirTwice → BreaksNames has_root items root r
+  root_named : (n : Naming) → Contains (followed items) n → IsOpen items n.dir → names_inode n ≡ true → n.location.objectid ≡ FIRST_FREE_OBJECTID → r ≡ BadBtrfs n.leaf DirTwice → BreaksNames has_root items root r
 
 -- no rule is broken
 abbrev pub KeepsNames : (ℕ → Bool) → List TreeItem → ℕ → Type 0

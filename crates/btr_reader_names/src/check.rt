@@ -13,9 +13,10 @@ ghost use Rattle.btr_reader_names.specs.TreeLinks.{AreTreeLinks};
 use crate::Names;
 use crate::entry_rules::check_entries;
 use crate::inode_rules::{check_forms, check_inodes, check_root};
-use crate::links::{ROOT, inode_node};
+use crate::links::inode_node;
 use crate::seen::{check_directories, check_once};
 use btr_reader_walk::{BtrAnswer, BtrRefusal, Memory};
+use btrfs_format::object::FIRST_FREE_OBJECTID;
 use fs_paths::{NodeId, reached};
 use indexmap::IndexSet;
 use std::alloc::Global;
@@ -51,7 +52,7 @@ fn reach(names: &Names, alloc: Global) -> Result<IndexSet<NodeId>, Memory>
     ensures { (items : List TreeItem) → HasNoted names.now items → IfOk result (λ named. AreNamed items (contains same_node named)) }
 {
     let steps = names.steps(alloc)?;
-    let named = reached(alloc, steps, inode_node(ROOT))?;
+    let named = reached(alloc, steps, inode_node(FIRST_FREE_OBJECTID))?;
     Ok(named)
 }
 

@@ -8,9 +8,10 @@ ghost use Rattle.btr_reader_names.specs.Passes.{inode_rule, tree_rule, target_ru
 ghost use Rattle.btr_reader_names.specs.Steps.{is_open};
 
 use crate::inode_rules::bad;
-use crate::links::{ROOT, is_followed, is_open, names_inode, names_tree};
+use crate::links::{is_followed, is_open, names_inode, names_tree};
 use crate::{Names, Naming};
 use btr_reader_walk::{BtrRefusal, BtrRule};
+use btrfs_format::object::FIRST_FREE_OBJECTID;
 use fs_paths::NodeId;
 use indexmap::IndexSet;
 
@@ -80,7 +81,7 @@ fn inode_rule(names: &Names, ino: u64) -> Option<BtrRule>
     if names.found(ino).is_none() {
         return Some(BtrRule::NoInode);
     }
-    if ino == ROOT {
+    if ino == FIRST_FREE_OBJECTID {
         return Some(BtrRule::DirTwice);
     }
     None

@@ -10,10 +10,11 @@ ghost use Rattle.btr_reader_names.specs.Table.{is_dir};
 
 use crate::Names;
 use crate::inodes::{InodeFound, kind_of_mode};
-use crate::links::{ROOT, is_open};
+use crate::links::is_open;
 use crate::naming::OffForm;
 use crate::table::kind_found;
 use btr_reader_walk::{BtrRefusal, BtrRule, Inode};
+use btrfs_format::object::FIRST_FREE_OBJECTID;
 use fs_paths::NodeId;
 use fs_rows::Kind;
 use indexmap::IndexSet;
@@ -29,10 +30,10 @@ pub fn bad(address: u64, rule: BtrRule) -> BtrRefusal
 
 /// Whether the root directory is there, and one. `root` is the address of the tree's root node.
 pub fn check_root(names: &Names, root: u64) -> Result<(), BtrRefusal>
-    ensures good { IfOk result (λ _. is_dir names.now 256 ≡ true) }
+    ensures good { IfOk result (λ _. is_dir names.now FIRST_FREE_OBJECTID ≡ true) }
     ensures blamed { IfErr result (BlamesRoot names.now root) }
 {
-    let found = match names.found(ROOT) {
+    let found = match names.found(FIRST_FREE_OBJECTID) {
         Some(found) => found,
         None => return Err(bad(root, BtrRule::NoInode)),
     };

@@ -19,7 +19,7 @@ mod table;
 pub use entry::index_entry;
 pub use entry_rules::is_name;
 pub use inodes::{InodeFound, kind_of_mode};
-pub use links::{ROOT, inode_node, names_inode, names_tree};
+pub use links::{inode_node, names_inode, names_tree};
 pub use naming::{Naming, OffForm};
 pub use seen::{NameIn, see_name};
 pub use table::{Names, naming_of};

@@ -6,13 +6,12 @@ ghost use Rattle.btr_reader_names.specs.Steps.{inode_node, target_node, is_step,
 
 use crate::{Names, Naming};
 use btr_reader_walk::Memory;
+use btrfs_format::key::{INODE_ITEM, ROOT_ITEM};
+use btrfs_format::object::FIRST_FREE_OBJECTID;
 use fs_paths::{Link, NodeId};
 use fs_rows::Name;
 use indexmap::IndexSet;
 use std::alloc::Global;
-
-/// The inode of a file tree's root directory.
-pub const ROOT: u64 = 256;
 
 /// The name under which the root directory has the saved image's tree.
 const SAVED: &[u8; 14] = b"reiserfs_saved";
@@ -45,7 +44,7 @@ fn target_node(naming: &Naming) -> NodeId
 pub fn is_followed(naming: &Naming) -> bool
     ensures { result ≡ is_followed naming.now }
 {
-    !(naming.dir == ROOT && is_saved_name(naming.name.bytes()))
+    !(naming.dir == FIRST_FREE_OBJECTID && is_saved_name(naming.name.bytes()))
 }
 
 fn is_saved_name(name: &[u8]) -> bool
@@ -58,14 +57,14 @@ fn is_saved_name(name: &[u8]) -> bool
 pub fn names_inode(naming: &Naming) -> bool
     ensures { result ≡ names_inode naming.now }
 {
-    naming.location.kind == 1
+    naming.location.kind == INODE_ITEM
 }
 
 /// Whether an entry names another tree.
 pub fn names_tree(naming: &Naming) -> bool
     ensures { result ≡ names_tree naming.now }
 {
-    naming.location.kind == 132
+    naming.location.kind == ROOT_ITEM
 }
 
 /// Whether an inode is a named directory.

@@ -10,15 +10,10 @@ use crate::entry::index_entry;
 use crate::inodes::{InodeFound, kind_of_mode};
 use crate::naming::{Naming, OffForm};
 use btr_reader_walk::{DirEntry, Inode, Key, Memory, Notes};
+use btrfs_format::key::{DIR_INDEX, INODE_ITEM};
 use fs_rows::{Kind, Name};
 use indexmap::IndexMap;
 use std::alloc::Global;
-
-/// The kind in the key of an inode item.
-const INODE_KIND: u8 = 1;
-
-/// The kind in the key of a directory index.
-const INDEX_KIND: u8 = 96;
 
 /// The inodes of a file tree, and the entries of its directories.
 #[derive(Drop)]
@@ -117,7 +112,7 @@ fn note_inode(
     ensures { (items : List TreeItem) (i : TreeItem) → i.key ≡ key.now → i.body ≡ body.now → i.leaf ≡ leaf → AreNoted (λ ino. get nat_eq inodes.old ino) items
         → OnOk result (AreNoted (λ ino. get nat_eq inodes.new ino) (items ++ i ∷ [])) }
 {
-    if key.kind != INODE_KIND {
+    if key.kind != INODE_ITEM {
         return Ok(());
     }
     if key.offset != 0 {
@@ -156,7 +151,7 @@ fn note_index(
     ensures namings { (i : TreeItem) → i.key ≡ key.now → i.body ≡ body.now → i.leaf ≡ leaf → OnOk result (namings.new.items ≡ namings.old.items ++ own_naming i) }
     ensures off_form { (i : TreeItem) → i.key ≡ key.now → i.body ≡ body.now → i.leaf ≡ leaf → OnOk result (off_form.new.items ≡ off_form.old.items ++ own_off_form i) }
 {
-    if key.kind != INDEX_KIND {
+    if key.kind != DIR_INDEX {
         return Ok(());
     }
     match index_entry(body) {

@@ -3,6 +3,7 @@ use Rattle.std.proofs.Common.{◌≡◌, ℕ, ◌+◌, ◌-◌, ◌≤◌, ◌<�
 use Rattle.std.proofs.lemmas.List.{drop_more, reverse-append, length-map}
 use Rattle.std.proofs.lemmas.List.Elements.{Contains-append_left, Contains-append_right}
 use Rattle.std.proofs.lemmas.Bool.Decides.{nat_tests}
+use Rattle.btrfs_format.specs.declared.size.TheConstants.{ITEM_SIZE, KEY_PTR_SIZE}
 use Rattle.btr_node.specs.refusals.declared.rule.BtrRule.{BtrRule}
 use Rattle.btr_node.specs.refusals.declared.rule.BtrRule.TheVariants.{NodeHead}
 use Rattle.btr_node.specs.Head.{count, behind_head}
@@ -21,11 +22,11 @@ pub count_items : (bytes : List ℕ) → length (items_in bytes) ≡ count bytes
 unfolding items_in heads_in
 count_items bytes =
     length-map (heads_in bytes) (item_of (behind_head bytes))
-    ∙ length-records_in 25 item_layout (count bytes) (behind_head bytes)
+    ∙ length-records_in ITEM_SIZE item_layout (count bytes) (behind_head bytes)
 
 pub count_children : (bytes : List ℕ) → length (children_in bytes) ≡ count bytes
 unfolding children_in
-count_children bytes = length-records_in 33 child_layout (count bytes) (behind_head bytes)
+count_children bytes = length-records_in KEY_PTR_SIZE child_layout (count bytes) (behind_head bytes)
 
 pub few_children : (bytes : List ℕ) → HasInnerLayout bytes → length (children_in bytes) ≤ fan_out (length bytes)
 few_children bytes layout = omega (arith, layout, count_children bytes)

@@ -1,5 +1,6 @@
 -- The nodes that a walk has still to meet, as a stack of pointers: the next one stands last.
 use Rattle.std.specs.Prelude.{ℕ, zero, suc, ◌+◌, ◌*◌, ◌/◌, ◌==◌, nat_le, Bool, true, ◌&&◌, ◌||◌, List, [], ◌∷◌, ◌++◌}
+use Rattle.btrfs_format.specs.declared.size.TheConstants.{KEY_PTR_SIZE}
 use Rattle.btr_reader_walk.specs.declared.tree.Pointer.{Pointer}
 use Rattle.btr_reader_walk.specs.Events.{Event}
 
@@ -10,7 +11,7 @@ stack_events below (p ∷ ps) = stack_events below ps ++ below p
 
 -- at most how many children a node of this size has; a child takes 33 bytes
 abbrev pub fan_out : ℕ → ℕ
-fan_out nodesize = nodesize / 33
+fan_out nodesize = nodesize / KEY_PTR_SIZE
 
 -- What bounds the stack: the pointers are counted from i on, and one of a lower level may stand a node's children higher.
 abbrev pub is_stack : ℕ → ℕ → ℕ → List Pointer → Bool

@@ -3,6 +3,7 @@ use Rattle.std.proofs.Common.{◌≡◌, ℕ, ◌+◌, ◌<◌, ◌≤◌, true,
 use Rattle.std.specs.Prelude.{MatchOption}
 use Rattle.std.specs.List.{flat_map, slice_get}
 use Rattle.std.proofs.lemmas.List.{length-map, length_push}
+use Rattle.btrfs_format.specs.declared.size.TheConstants.{ITEM_SIZE}
 use Rattle.btr_node.specs.outside.History.{Image}
 use Rattle.btr_node.specs.btr_keys.declared.key.Key.{Key}
 use Rattle.btr_node.specs.Draft.{node_bytes, room}
@@ -82,7 +83,7 @@ put_first b new a key body none at small is =
     })
 
 -- an item goes into the leaf in hand
-pub put_fits : (b : Building) (made : Made) (child : Child) (key : Key) (body : List ℕ) → b.hand ≡ Some child → Ascends (keys_of b.made.draft.items ++ key ∷ []) → 25 + length body ≤ room b.made.draft
+pub put_fits : (b : Building) (made : Made) (child : Child) (key : Key) (body : List ℕ) → b.hand ≡ Some child → Ascends (keys_of b.made.draft.items ++ key ∷ []) → ITEM_SIZE + length body ≤ room b.made.draft
     → made ≡ with_item b.made key body → HasPut b (record b { made = made }) (key, body)
 put_fits b made child key body some order fits is =
     subst (λ (m : Made). HasPut b (record b { made = m }) (key, body)) (sym is)
@@ -98,7 +99,7 @@ put_fits b made child key body some order fits is =
     })
 
 -- the next leaf is begun
-pub put_next : (b new : Building) (child : Child) (a : ℕ) (key : Key) (body : List ℕ) → b.hand ≡ Some child → Ascends (keys_of b.made.draft.items ++ key ∷ []) → room b.made.draft < 25 + length body
+pub put_next : (b new : Building) (child : Child) (a : ℕ) (key : Key) (body : List ℕ) → b.hand ≡ Some child → Ascends (keys_of b.made.draft.items ++ key ∷ []) → room b.made.draft < ITEM_SIZE + length body
     → ReadsBack b.made.draft (node_bytes b.made.draft) → IsNextTaken (leaf_closed b child).made a → new ≡ leaf_begun (leaf_closed b child) a key body → HasPut b new (key, body)
 put_next b new child a key body some order full read at is =
     subst (λ (x : Building). HasPut b x (key, body)) (sym is)
@@ -130,7 +131,7 @@ first_short b item items holds none short =
     omega (arith, short, whole_count b.made holds.front holds.count, ap (λ ns. length {A = List ℕ} ns) idle.no_nodes, some_leaf b.made.form.nodesize (items ++ item ∷ []))
 
 -- nor for the next one
-pub next_short : (b : Building) (child : Child) (key : Key) (body : List ℕ) (items : List Item) → Holds b items → b.hand ≡ Some child → room b.made.draft < 25 + length body
+pub next_short : (b : Building) (child : Child) (key : Key) (body : List ℕ) (items : List Item) → Holds b items → b.hand ≡ Some child → room b.made.draft < ITEM_SIZE + length body
     → length b.made.slots ≤ taken (leaf_closed b child).made → length b.made.slots < leaves_of b.made.form.nodesize (items ++ (key, body) ∷ [])
 next_short b child key body items holds some full short =
     let x : Building = all_made b holds.front in

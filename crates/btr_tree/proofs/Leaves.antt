@@ -6,6 +6,7 @@ use Rattle.std.proofs.lemmas.Bool.{or_right, lt-ltb, cases_lt}
 use Rattle.std.proofs.lemmas.List.{append-nil, take_more, length-map, length_push, map-append}
 use Rattle.std.proofs.lemmas.List.Sums.{sum_by-cons}
 use Rattle.std.proofs.lemmas.List.Elements.{All-nil, All-cons, All-head, All-tail}
+use Rattle.btrfs_format.specs.declared.size.TheConstants.{ITEM_SIZE}
 use Rattle.btr_node.specs.outside.History.{Image}
 use Rattle.btr_node.specs.Draft.{node_bytes}
 use Rattle.btr_node.specs.Head.{count, behind_head}
@@ -36,7 +37,7 @@ use Rattle.btr_tree.proofs.Standing.{leaves_more, children_more, full_more, list
 -- a leaf has as many items as it says
 count_is : (bytes : List ℕ) → length (items_in bytes) ≡ count bytes
 unfolding items_in heads_in
-count_is bytes = length-map (records_in 25 item_layout (count bytes) (behind_head bytes)) _ ∙ length-records_in 25 item_layout (count bytes) (behind_head bytes)
+count_is bytes = length-map (records_in ITEM_SIZE item_layout (count bytes) (behind_head bytes)) _ ∙ length-records_in ITEM_SIZE item_layout (count bytes) (behind_head bytes)
 
 leaves_subtrees : (law : LeavesGiveItems) (image : Image) (form : Form) (owner generation : ℕ) (bare : Bool) (slots : List ℕ) (nodes : List (List ℕ)) → IsNodeSize form.nodesize
     → All (λ a. a % form.nodesize ≡ 0) slots → All (λ a. a < 2 ^ 64) slots → length nodes ≤ length slots

@@ -7,6 +7,7 @@ use Rattle.std.proofs.lemmas.List.{append-nil, map-append, length-map, get_or_ap
 use Rattle.std.proofs.lemmas.List.Concat.{flat_map-append}
 use Rattle.std.proofs.lemmas.List.Elements.{All-nil, All-cons, All-head, All-tail}
 use Rattle.std.proofs.lemmas.Option.{get_or_from_slice_get, slice_get_within}
+use Rattle.btrfs_format.specs.declared.size.TheConstants.{ITEM_SIZE}
 use Rattle.btr_node.specs.btr_keys.declared.key.Key.{Key}
 use Rattle.btr_node.specs.Draft.{node_bytes, room}
 use Rattle.btr_node.specs.Leaf.{Item, IsLeaf, items_in, keys_of}
@@ -120,7 +121,7 @@ module _ (b : Building) (child : Child) (so_far : Standing b) (hand : IsInHand b
 
   -- and the next one is begun
   pub stands_next : (a : ℕ) (key : Key) (body : List ℕ) → IsNextSlot (with_node b.made bytes) a → Ascends (keys_of (pushed b ++ (key, body) ∷ []))
-      → room b.made.draft < 25 + length body → Standing (leaf_begun (leaf_closed b child) a key body)
+      → room b.made.draft < ITEM_SIZE + length body → Standing (leaf_begun (leaf_closed b child) a key body)
   stands_next a key body at order full =
       let next = next_is (with_node b.made bytes) a at in
       let new : Building = leaf_begun (leaf_closed b child) a key body in
@@ -148,7 +149,7 @@ module _ (b : Building) (child : Child) (so_far : Standing b) (hand : IsInHand b
         order = ap (λ items. ascends (keys_of items)) here ∙ order;
       }
 
-pub leaves_next : (b : Building) (key : Key) (body : List ℕ) → Standing b → b.made.draft.children ≡ [] → b.made.draft.nodesize ≡ b.made.form.nodesize → room b.made.draft < 25 + length body
+pub leaves_next : (b : Building) (key : Key) (body : List ℕ) → Standing b → b.made.draft.children ≡ [] → b.made.draft.nodesize ≡ b.made.form.nodesize → room b.made.draft < ITEM_SIZE + length body
     → leaves_of b.made.form.nodesize (pushed b ++ (key, body) ∷ []) ≡ length b.made.nodes + 2
 leaves_next b key body so_far no_children size full =
     let done : List (List Item) = map items_in b.made.nodes in
@@ -165,7 +166,7 @@ first_same (i ∷ items) item some = refl
 
 -- an item goes into the leaf in hand
 pub stands_fits : (b : Building) (child : Child) (key : Key) (body : List ℕ) → Standing b → IsInHand b child → b.hand ≡ Some child → Ascends (keys_of (pushed b ++ (key, body) ∷ []))
-    → 25 + length body ≤ room b.made.draft → Standing (record b { made = with_item b.made key body })
+    → ITEM_SIZE + length body ≤ room b.made.draft → Standing (record b { made = with_item b.made key body })
 stands_fits b child key body so_far hand is order fits =
     let items : List Item = b.made.draft.items in
     let new : Building = record b { made = with_item b.made key body } in

@@ -2,6 +2,7 @@
 use Rattle.std.specs.Prelude.{◌≡◌, ℕ, ◌+◌, ◌≤◌, ◌<◌, Bool, true, List, [], ◌∷◌, ◌++◌, length, map, slice_index_or, Option, Some, MatchOption}
 use Rattle.std.specs.List.{slice_get}
 use Rattle.std.specs.List.{All, flat_map}
+use Rattle.btrfs_format.specs.declared.size.TheConstants.{ITEM_SIZE}
 use Rattle.btr_node.specs.outside.History.{Image}
 use Rattle.btr_node.specs.btr_keys.declared.key.Key.{Key}
 use Rattle.btr_node.specs.Draft.{node_bytes}
@@ -66,7 +67,7 @@ IsNextTaken m address = slice_get m.slots (taken m) ≡ Some address
 
 -- the bytes that an item takes in a leaf
 abbrev pub item_size : Item → ℕ
-item_size item = 25 + length item.1
+item_size item = ITEM_SIZE + length item.1
 
 -- the leaf in hand, which is this child
 pub record IsInHand (b : Building) (child : Child) : Type 0 where

@@ -17,12 +17,10 @@ use crate::nodes::Nodes;
 use crate::{Slots, TreeAnswer};
 use btr_node::{Access, Child, Disk, Ids, Key, Memory, SumKind};
 use btr_reader_walk::{Form, leaves_give_items, subtrees_are_trees};
+use btrfs_format::size::ITEM_SIZE;
 use std::alloc::Global;
 use std::marker::Model;
 use std::mem::replace;
-
-/// The bytes of an item's head in a leaf.
-const ITEM_SIZE: usize = 25;
 
 /// Writes a tree: items go into leaves in the order of their keys, each leaf as full as the next item lets it be, and the
 /// levels above are made in the end. The nodes take slots in that order. At most 16 nodes are held until they are written,

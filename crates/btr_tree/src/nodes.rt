@@ -16,6 +16,7 @@ use crate::counter::CHILD_SIZE;
 use crate::write::write_node;
 use btr_node::{Access, Child, Disk, Expect, Fault, Key, Memory, NodeWriter};
 use btr_reader_walk::Form;
+use btrfs_format::size::{ITEM_SIZE, KEY_PTR_SIZE};
 use std::alloc::Global;
 use std::marker::Model;
 
@@ -146,7 +147,7 @@ impl Nodes {
         requires started { IsTrue self.old.draft.started }
         requires leaf { self.old.draft.want.level ≡ 0 }
         requires order { Ascends (keys_of self.old.draft.items ++ key ∷ []) }
-        requires room { 25 + length body.now ≤ room self.old.draft }
+        requires room { ITEM_SIZE + length body.now ≤ room self.old.draft }
         ensures { self.new ≡ with_item self.old key body.now }
     {
         let _ = self.writer.push(key, body);
@@ -157,7 +158,7 @@ impl Nodes {
         requires started { IsTrue self.old.draft.started }
         requires inner { 1 ≤ self.old.draft.want.level }
         requires order { Ascends (first_keys self.old.draft.children ++ child.key ∷ []) }
-        requires room { 33 ≤ room self.old.draft }
+        requires room { KEY_PTR_SIZE ≤ room self.old.draft }
         ensures { self.new ≡ with_child self.old child }
     {
         let _ = self.writer.push_child(child);

@@ -7,6 +7,7 @@ use btr_keys::Key;
 use btr_reader_walk::{Form, MapRange, Pointer, Tree, TreeWalker};
 use btr_tree::{Root, Slots};
 use btr_tree_writer::{ListItems, NodeForm, Trees, WriteAnswer, WrittenTree, write_tree};
+use btrfs_format::block::SUPER_INFO_OFFSET;
 use csum_kinds::SumKind;
 use outside::{Access, BlockSource, Disk, Memory};
 use outside_mem::MemDisk;
@@ -125,7 +126,7 @@ fn one_leaf(rt: HostRuntime) -> Result<(), Fail> {
     assert_eq!(rt;
         tree.root,
         Root {
-            address: 65536,
+            address: SUPER_INFO_OFFSET,
             level: 0,
             nodes: 1
         }

@@ -1,5 +1,6 @@
 -- The disk before, while and after a volume is converted.
 use Rattle.std.specs.Prelude.{◌≡◌, ◌≢◌, ◌≤◌, ◌⊎◌, ℕ, ◌/◌, true, List, length}
+use Rattle.btrfs_format.specs.declared.block.TheConstants.{SUPER_BLOCK}
 use Rattle.reiser_volume.specs.outside.Format.{format_in}
 use Rattle.reiser_volume.specs.outside.History.{Image, block_at}
 use Rattle.reiser_volume.specs.vol_block.declared.format.Format.TheVariants.{Btrfs}
@@ -99,7 +100,7 @@ pub record IsPutDown (o : Options) (ids : Ids) (now : ℕ) (image other : Image)
 pub record IsNew (o : Options) (ids : Ids) (now : ℕ) (image other : Image) (m : Making) (r : VolumeTrees) (nodes : List TreeNode) : Type 0 where
   pub conversion : IsConversion o ids now image m
   pub stands : StandsOn image other m r nodes
-  pub superblock : block_at other 16 ≡ superblock_of m r nodes
+  pub superblock : block_at other SUPER_BLOCK ≡ superblock_of m r nodes
   pub others : (b : ℕ) → b ≢ 16 → ¬ IsMirror b → ¬ IsTaken m.plan b → block_at other b ≡ block_at image b
   -- what lies behind the volume is as it was
   pub behind : (b : ℕ) → m.volume.sup.blocks ≤ b → block_at other b ≡ block_at image b

@@ -7,6 +7,7 @@ use Rattle.std.proofs.lemmas.Bool.Decides.{nat_tests}
 use Rattle.std.proofs.lemmas.List.{append-nil}
 use Rattle.std.proofs.lemmas.List.Elements.{filter-append}
 use Rattle.std.proofs.lemmas.Option.{get_or_from_slice_get, slice_get_within}
+use Rattle.btrfs_format.specs.declared.key.TheConstants.{DIR_INDEX, DIR_ITEM, EXTENT_DATA, INODE_EXTREF, INODE_REF}
 use Rattle.reiser_volume.specs.castagnoli.Castagnoli.{extref_hash, name_hash}
 use Rattle.btr_reader.specs.btr_keys.DirEntry.{dir_entry_bytes}
 use Rattle.btr_reader.specs.btr_keys.Extref.{extref_bytes}
@@ -38,10 +39,10 @@ no_and : (b : Bool) → (b && false) ≡ false
 no_and true = refl
 no_and false = refl
 
-other_object : (m n k : ℕ) → m ≢ n → ((m == n) && (k == 108)) ≡ false
+other_object : (m n k : ℕ) → m ≢ n → ((m == n) && (k == EXTENT_DATA)) ≡ false
 other_object m n k apart = grind (arith, nat_tests)
 
-own_object : (n : ℕ) → ((n == n) && (108 == 108)) ≡ true
+own_object : (n : ℕ) → ((n == n) && (EXTENT_DATA == EXTENT_DATA)) ≡ true
 own_object n = grind (arith, nat_tests)
 
 -- an item is of an object
@@ -63,8 +64,8 @@ module _ (s : Source) (key : ObjectKey) where
           let far : List Entry = ascending (parent_of s.keys) (filter (λ e. e.extended) (names_of s.links key)) in
           let hash : Entry → ℕ = λ e. extref_hash (parent_of s.keys e) e.link.name in
           all_append (IsOf n) (inode_refs s.keys s.links key) (extrefs s.keys s.links key)
-          (all_mapped (IsOf n) (λ (g : ℕ × List Entry). (make_key n 12 g.0, flat_map (λ e. inode_ref_bytes (inode_ref e)) g.1)) (grouped (parent_of s.keys) plain) (all_true _ (grouped (parent_of s.keys) plain) (λ g. refl)))
-          (all_mapped (IsOf n) (λ (g : ℕ × List Entry). (make_key n 13 g.0, flat_map (λ e. extref_bytes (extref s.keys e)) g.1)) (grouped hash far) (all_true _ (grouped hash far) (λ g. refl)))
+          (all_mapped (IsOf n) (λ (g : ℕ × List Entry). (make_key n INODE_REF g.0, flat_map (λ e. inode_ref_bytes (inode_ref e)) g.1)) (grouped (parent_of s.keys) plain) (all_true _ (grouped (parent_of s.keys) plain) (λ g. refl)))
+          (all_mapped (IsOf n) (λ (g : ℕ × List Entry). (make_key n INODE_EXTREF g.0, flat_map (λ e. extref_bytes (extref s.keys e)) g.1)) (grouped hash far) (all_true _ (grouped hash far) (λ g. refl)))
 
   names_no_extents : AllByRecursion (λ i. is_extent n i ≡ false) (name_items s key)
   unfolding name_items
@@ -77,11 +78,11 @@ module _ (s : Source) (key : ObjectKey) where
           let far : List Entry = ascending (parent_of s.keys) (filter (λ e. e.extended) (names_of s.links key)) in
           let hash : Entry → ℕ = λ e. extref_hash (parent_of s.keys e) e.link.name in
           all_append (λ i. is_extent n i ≡ false) (inode_refs s.keys s.links key) (extrefs s.keys s.links key)
-          (all_mapped (λ i. is_extent n i ≡ false) (λ (g : ℕ × List Entry). (make_key n 12 g.0, flat_map (λ e. inode_ref_bytes (inode_ref e)) g.1)) (grouped (parent_of s.keys) plain) (all_true _ (grouped (parent_of s.keys) plain) (λ g. no_and (n == n))))
-          (all_mapped (λ i. is_extent n i ≡ false) (λ (g : ℕ × List Entry). (make_key n 13 g.0, flat_map (λ e. extref_bytes (extref s.keys e)) g.1)) (grouped hash far) (all_true _ (grouped hash far) (λ g. no_and (n == n))))
+          (all_mapped (λ i. is_extent n i ≡ false) (λ (g : ℕ × List Entry). (make_key n INODE_REF g.0, flat_map (λ e. inode_ref_bytes (inode_ref e)) g.1)) (grouped (parent_of s.keys) plain) (all_true _ (grouped (parent_of s.keys) plain) (λ g. no_and (n == n))))
+          (all_mapped (λ i. is_extent n i ≡ false) (λ (g : ℕ × List Entry). (make_key n INODE_EXTREF g.0, flat_map (λ e. extref_bytes (extref s.keys e)) g.1)) (grouped hash far) (all_true _ (grouped hash far) (λ g. no_and (n == n))))
 
   -- what an object's extents are, for any test of the key
-  data_each : (P : Item → Type 0) → ((k : ℕ) (body : List ℕ) → P (make_key n 108 k, body)) → AllByRecursion P (extent_items s key)
+  data_each : (P : Item → Type 0) → ((k : ℕ) (body : List ℕ) → P (make_key n EXTENT_DATA k, body)) → AllByRecursion P (extent_items s key)
   unfolding extent_items
   data_each P each = by (inline_in s key)
     where
@@ -92,9 +93,9 @@ module _ (s : Source) (key : ObjectKey) where
   content_of_object : (kind : Kind) → AllByRecursion (IsOf n) (content_items s key kind)
   content_of_object Directory =
       let list : List Indexed = indexed_in (kind_in s) s.keys s.links key in
-      all_append (IsOf n) (map (λ (g : ℕ × List Indexed). (make_key n 84 g.0, flat_map (λ (e : Indexed). dir_entry_bytes e.1) g.1)) (grouped (λ (e : Indexed). name_hash e.1.name) list)) (map (λ (e : Indexed). (make_key n 96 e.0, dir_entry_bytes e.1)) list)
-      (all_mapped (IsOf n) (λ (g : ℕ × List Indexed). (make_key n 84 g.0, flat_map (λ (e : Indexed). dir_entry_bytes e.1) g.1)) (grouped (λ (e : Indexed). name_hash e.1.name) list) (all_true _ (grouped (λ (e : Indexed). name_hash e.1.name) list) (λ g. refl)))
-      (all_mapped (IsOf n) (λ (e : Indexed). (make_key n 96 e.0, dir_entry_bytes e.1)) list (all_true _ list (λ e. refl)))
+      all_append (IsOf n) (map (λ (g : ℕ × List Indexed). (make_key n DIR_ITEM g.0, flat_map (λ (e : Indexed). dir_entry_bytes e.1) g.1)) (grouped (λ (e : Indexed). name_hash e.1.name) list)) (map (λ (e : Indexed). (make_key n DIR_INDEX e.0, dir_entry_bytes e.1)) list)
+      (all_mapped (IsOf n) (λ (g : ℕ × List Indexed). (make_key n DIR_ITEM g.0, flat_map (λ (e : Indexed). dir_entry_bytes e.1) g.1)) (grouped (λ (e : Indexed). name_hash e.1.name) list) (all_true _ (grouped (λ (e : Indexed). name_hash e.1.name) list) (λ g. refl)))
+      (all_mapped (IsOf n) (λ (e : Indexed). (make_key n DIR_INDEX e.0, dir_entry_bytes e.1)) list (all_true _ list (λ e. refl)))
   content_of_object File = data_each (IsOf n) (λ k body. refl)
   content_of_object Symlink = data_each (IsOf n) (λ k body. refl)
   content_of_object Character = tt
@@ -107,7 +108,7 @@ module _ (s : Source) (key : ObjectKey) where
   unfolding object_items
   of_object = (refl, all_append (IsOf n) (name_items s key) (content_items s key (kind_in s key)) names_of_object (content_of_object (kind_in s key)))
 
-  no_extent_each : (k : ℕ) (list : List Indexed) → (k == 108) ≡ false → AllByRecursion (λ i. is_extent n i ≡ false) (map (λ (e : Indexed). (make_key n k e.0, dir_entry_bytes e.1)) list)
+  no_extent_each : (k : ℕ) (list : List Indexed) → (k == EXTENT_DATA) ≡ false → AllByRecursion (λ i. is_extent n i ≡ false) (map (λ (e : Indexed). (make_key n k e.0, dir_entry_bytes e.1)) list)
   no_extent_each k list other =
       all_mapped (λ i. is_extent n i ≡ false) (λ (e : Indexed). (make_key n k e.0, dir_entry_bytes e.1)) list (all_true _ list (λ e. ap (λ (b : Bool). (n == n) && b) other ∙ no_and (n == n)))
 
@@ -121,9 +122,9 @@ module _ (s : Source) (key : ObjectKey) where
   content_extents Directory =
       let list : List Indexed = indexed_in (kind_in s) s.keys s.links key in
       filter_none (is_extent n) (content_items s key Directory)
-      (all_append (λ i. is_extent n i ≡ false) (map (λ (g : ℕ × List Indexed). (make_key n 84 g.0, flat_map (λ (e : Indexed). dir_entry_bytes e.1) g.1)) (grouped (λ (e : Indexed). name_hash e.1.name) list)) (map (λ (e : Indexed). (make_key n 96 e.0, dir_entry_bytes e.1)) list)
-      (all_mapped (λ i. is_extent n i ≡ false) (λ (g : ℕ × List Indexed). (make_key n 84 g.0, flat_map (λ (e : Indexed). dir_entry_bytes e.1) g.1)) (grouped (λ (e : Indexed). name_hash e.1.name) list) (all_true _ (grouped (λ (e : Indexed). name_hash e.1.name) list) (λ g. no_and (n == n))))
-      (no_extent_each 96 list refl))
+      (all_append (λ i. is_extent n i ≡ false) (map (λ (g : ℕ × List Indexed). (make_key n DIR_ITEM g.0, flat_map (λ (e : Indexed). dir_entry_bytes e.1) g.1)) (grouped (λ (e : Indexed). name_hash e.1.name) list)) (map (λ (e : Indexed). (make_key n DIR_INDEX e.0, dir_entry_bytes e.1)) list)
+      (all_mapped (λ i. is_extent n i ≡ false) (λ (g : ℕ × List Indexed). (make_key n DIR_ITEM g.0, flat_map (λ (e : Indexed). dir_entry_bytes e.1) g.1)) (grouped (λ (e : Indexed). name_hash e.1.name) list) (all_true _ (grouped (λ (e : Indexed). name_hash e.1.name) list) (λ g. no_and (n == n))))
+      (no_extent_each DIR_INDEX list refl))
   content_extents Character = refl
   content_extents Block = refl
   content_extents Fifo = refl

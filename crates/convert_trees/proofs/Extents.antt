@@ -2,6 +2,7 @@
 use Rattle.std.proofs.Common.{◌≡◌, ◌∙◌, ℕ, ◌+◌, ◌≤◌, ◌++◌, List, [], ◌∷◌, length, map, drop, refl, sym, ap, subst, arith}
 use Rattle.std.specs.List.{sum_by}
 use Rattle.std.proofs.lemmas.List.Sums.{sum_by-cons}
+use Rattle.btrfs_format.specs.declared.object.TheConstants.{EXTENT_TREE}
 use Rattle.btr_tree.specs.outside.History.{Image}
 use Rattle.btr_tree.specs.btr_node.NodeSize.{IsNodeSize}
 use Rattle.btr_tree.specs.Counting.{tree_nodes}
@@ -30,19 +31,19 @@ extents_writable plan blocks chunks pieces nodes nodesize rest size are are_piec
     record { order = fit.ascend; short = λ i d h. omega (arith, fit.short i d h, roomy nodesize size); few = few }
 
 pub extents_added : (image : Image) (old new : Trees) (nodesize : ℕ) (chunks : List Chunk) (pieces : List Piece) (nodes others : List TreeNode) (x : WrittenExtents) → old.form.nodesize ≡ nodesize
-    → TreeStands image (form_of old.form) 2 (drop old.taken old.slots) (extent_items chunks pieces nodes nodesize) x.root
-    → new.nodes ≡ old.nodes ++ nodes_of_tree 2 old.form.nodesize (lengths_of (extent_items chunks pieces nodes nodesize)) (drop old.taken old.slots)
-    → nodes ≡ merged_nodes (merged_nodes old.nodes others) (nodes_of_tree 2 nodesize (lengths_of (extent_items chunks pieces nodes nodesize)) (drop old.taken old.slots))
+    → TreeStands image (form_of old.form) EXTENT_TREE (drop old.taken old.slots) (extent_items chunks pieces nodes nodesize) x.root
+    → new.nodes ≡ old.nodes ++ nodes_of_tree EXTENT_TREE old.form.nodesize (lengths_of (extent_items chunks pieces nodes nodesize)) (drop old.taken old.slots)
+    → nodes ≡ merged_nodes (merged_nodes old.nodes others) (nodes_of_tree EXTENT_TREE nodesize (lengths_of (extent_items chunks pieces nodes nodesize)) (drop old.taken old.slots))
     → x.used ≡ sum_by (used_in pieces nodes nodesize) chunks → AddsExtents image old new chunks pieces others x
 extents_added image old new nodesize chunks pieces nodes others x same stands more all used =
     let rest : List ℕ = drop old.taken old.slots in
     record {
       nodes = nodes;
       adds = record {
-        stands = subst (λ (n : ℕ). TreeStands image (form_of old.form) 2 rest (extent_items chunks pieces nodes n) x.root) (sym same) stands;
-        nodes = subst (λ (n : ℕ). new.nodes ≡ old.nodes ++ nodes_of_tree 2 old.form.nodesize (lengths_of (extent_items chunks pieces nodes n)) rest) (sym same) more;
+        stands = subst (λ (n : ℕ). TreeStands image (form_of old.form) EXTENT_TREE rest (extent_items chunks pieces nodes n) x.root) (sym same) stands;
+        nodes = subst (λ (n : ℕ). new.nodes ≡ old.nodes ++ nodes_of_tree EXTENT_TREE old.form.nodesize (lengths_of (extent_items chunks pieces nodes n)) rest) (sym same) more;
       };
-      are_all = subst (λ (n : ℕ). nodes ≡ merged_nodes (merged_nodes old.nodes others) (nodes_of_tree 2 n (lengths_of (extent_items chunks pieces nodes n)) rest)) (sym same) all;
+      are_all = subst (λ (n : ℕ). nodes ≡ merged_nodes (merged_nodes old.nodes others) (nodes_of_tree EXTENT_TREE n (lengths_of (extent_items chunks pieces nodes n)) rest)) (sym same) all;
       used = subst (λ (n : ℕ). x.used ≡ sum_by (used_in pieces nodes n) chunks) (sym same) used;
     }
 

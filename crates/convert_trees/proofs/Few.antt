@@ -2,6 +2,7 @@
 use Rattle.std.proofs.Common.{◌≡◌, ◌∙◌, ℕ, zero, suc, ◌+◌, ◌^◌, ◌<◌, ◌≤◌, List, [], ◌∷◌, length, get_or, sym, ap, subst, arith}
 use Rattle.std.specs.List.{All, AllPairs}
 use Rattle.std.proofs.lemmas.List.{length-map, length-take}
+use Rattle.btrfs_format.specs.declared.object.TheConstants.{EXTENT_TREE}
 use Rattle.btr_tree.specs.Roots.{lengths_of}
 use Rattle.space_items.specs.Extents.{extent_items}
 use Rattle.space_items.specs.Nodes.{AreNodes, merged_nodes, nodes_of_tree}
@@ -42,10 +43,10 @@ row_few t is = omega (arith, length-map t.nodes (λ (n : TreeNode). n.address), 
 
 -- of a list that is told
 pub same_nodes : (chunks : List Chunk) (pieces : List Piece) (nodesize : ℕ) (given all others old more : List TreeNode) (slots rest : List ℕ) → given ≡ all → others ≡ merged_nodes old more → slots ≡ rest
-    → all ≡ merged_nodes others (nodes_of_tree 2 nodesize (lengths_of (extent_items chunks pieces all nodesize)) slots)
-    → given ≡ merged_nodes (merged_nodes old more) (nodes_of_tree 2 nodesize (lengths_of (extent_items chunks pieces given nodesize)) rest)
+    → all ≡ merged_nodes others (nodes_of_tree EXTENT_TREE nodesize (lengths_of (extent_items chunks pieces all nodesize)) slots)
+    → given ≡ merged_nodes (merged_nodes old more) (nodes_of_tree EXTENT_TREE nodesize (lengths_of (extent_items chunks pieces given nodesize)) rest)
 same_nodes chunks pieces nodesize given all others old more slots rest is are at told =
     is ∙ (told
-    ∙ (ap (λ (ns : List TreeNode). merged_nodes ns (nodes_of_tree 2 nodesize (lengths_of (extent_items chunks pieces all nodesize)) slots)) are
-    ∙ (ap (λ (ss : List ℕ). merged_nodes (merged_nodes old more) (nodes_of_tree 2 nodesize (lengths_of (extent_items chunks pieces all nodesize)) ss)) at
-    ∙ ap (λ (ns : List TreeNode). merged_nodes (merged_nodes old more) (nodes_of_tree 2 nodesize (lengths_of (extent_items chunks pieces ns nodesize)) rest)) (sym is))))
+    ∙ (ap (λ (ns : List TreeNode). merged_nodes ns (nodes_of_tree EXTENT_TREE nodesize (lengths_of (extent_items chunks pieces all nodesize)) slots)) are
+    ∙ (ap (λ (ss : List ℕ). merged_nodes (merged_nodes old more) (nodes_of_tree EXTENT_TREE nodesize (lengths_of (extent_items chunks pieces all nodesize)) ss)) at
+    ∙ ap (λ (ns : List TreeNode). merged_nodes (merged_nodes old more) (nodes_of_tree EXTENT_TREE nodesize (lengths_of (extent_items chunks pieces ns nodesize)) rest)) (sym is))))

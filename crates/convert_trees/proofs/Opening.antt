@@ -1,6 +1,7 @@
 -- The trees that are written first: what each needs is there, and all stand in the end.
 use Rattle.std.proofs.Common.{◌≡◌, ◌∙◌, ℕ, ◌+◌, ◌-◌, ◌^◌, ◌≤◌, ◌++◌, Bool, List, [], if◌then◌else◌, drop, length, append_assoc, refl, sym, ap, subst, arith}
 use Rattle.std.proofs.lemmas.List.{length-drop}
+use Rattle.btrfs_format.specs.declared.object.TheConstants.{CONV_IMAGE_SUBVOL, CSUM_TREE, DATA_RELOC_TREE, DEV_TREE, FS_TREE}
 use Rattle.indexmap.specs.IndexMap.{keys}
 use Rattle.btr_tree.specs.outside.History.{Image, History, WritesOnly, reads}
 use Rattle.btr_tree.proofs.outside.Crash.{writes_none}
@@ -160,15 +161,15 @@ more : (a b c x y : List TreeNode) → b ≡ a ++ x → c ≡ b ++ y → c ≡ a
 more a b c x y first second = second ∙ (ap (λ (ns : List TreeNode). ns ++ y) first ∙ append_assoc a x y)
 
 pub adds_first : (image : Image) (row one two three four five : Trees) (items : FirstItems) (r : FirstRoots)
-    → Stood image row 0 5 items.files r.files row.nodes one.nodes → Stood image row (image_from r) 256 items.image_ r.image one.nodes two.nodes
-    → Stood image row (relocation_from r) (2 ^ 64 - 9) items.relocation r.relocation two.nodes three.nodes → Stood image row (sums_from r) 7 items.sums r.sums three.nodes four.nodes
-    → Stood image row (device_from r) 4 items.device r.device four.nodes five.nodes → AddsFirst image row five items r
+    → Stood image row 0 FS_TREE items.files r.files row.nodes one.nodes → Stood image row (image_from r) CONV_IMAGE_SUBVOL items.image_ r.image one.nodes two.nodes
+    → Stood image row (relocation_from r) DATA_RELOC_TREE items.relocation r.relocation two.nodes three.nodes → Stood image row (sums_from r) CSUM_TREE items.sums r.sums three.nodes four.nodes
+    → Stood image row (device_from r) DEV_TREE items.device r.device four.nodes five.nodes → AddsFirst image row five items r
 adds_first image row one two three four five items r files saved relocation sums device =
-    let a : List TreeNode = nodes_from row 5 0 items.files in
-    let b : List TreeNode = nodes_from row 256 (image_from r) items.image_ in
-    let c : List TreeNode = nodes_from row (2 ^ 64 - 9) (relocation_from r) items.relocation in
-    let d : List TreeNode = nodes_from row 7 (sums_from r) items.sums in
-    let e : List TreeNode = nodes_from row 4 (device_from r) items.device in
+    let a : List TreeNode = nodes_from row FS_TREE 0 items.files in
+    let b : List TreeNode = nodes_from row CONV_IMAGE_SUBVOL (image_from r) items.image_ in
+    let c : List TreeNode = nodes_from row DATA_RELOC_TREE (relocation_from r) items.relocation in
+    let d : List TreeNode = nodes_from row CSUM_TREE (sums_from r) items.sums in
+    let e : List TreeNode = nodes_from row DEV_TREE (device_from r) items.device in
     record {
       files = files.stands;
       image_ = saved.stands;

@@ -1,6 +1,7 @@
 -- The root tree at the slots that were kept for it, and the extent tree behind it.
 use Rattle.std.proofs.Common.{◌≡◌, ◌∙◌, ℕ, ◌+◌, ◌-◌, ◌*◌, ◌≤◌, ◌++◌, List, length, take, drop, refl, sym, ap, subst, arith}
 use Rattle.std.proofs.lemmas.List.{length-drop, length-take}
+use Rattle.btrfs_format.specs.declared.object.TheConstants.{EXTENT_TREE, ROOT_TREE}
 use Rattle.btr_tree.specs.outside.History.{History, reads, WritesOnly}
 use Rattle.btr_tree.specs.btr_node.Leaf.{Item}
 use Rattle.btr_tree.specs.btr_node.NodeSize.{IsNodeSize}
@@ -113,20 +114,20 @@ module _ (old new : History) (row mid later : Trees) (slots : List ℕ) (index n
   items form = root_items (listed first x.root) index form.ids now form.nodesize
 
   both_stand : IsRow row → mid.form ≡ row.form → mid.slots ≡ row.slots → mid.taken ≡ row.taken + root.nodes
-      → mid.nodes ≡ row.nodes ++ nodes_of_tree 1 row.form.nodesize (lengths_of (items row.form)) (drop row.taken row.slots)
+      → mid.nodes ≡ row.nodes ++ nodes_of_tree ROOT_TREE row.form.nodesize (lengths_of (items row.form)) (drop row.taken row.slots)
       → WritesOnly (λ b _. IsInSlots row.form.nodesize (take root.nodes (drop row.taken row.slots)) b) old new
       → AddsExtents (reads old) mid later chunks pieces others x
-      → TreeStands (reads new) (form_of row.form) 1 (take root.nodes (drop row.taken row.slots)) (items row.form) root
+      → TreeStands (reads new) (form_of row.form) ROOT_TREE (take root.nodes (drop row.taken row.slots)) (items row.form) root
       → AddsLast (reads new) row index now chunks pieces others (all_with chunk first x root)
   both_stand is forms at taken nodes only adds stands =
-      let ns : List TreeNode = row.nodes ++ nodes_of_tree 1 row.form.nodesize (lengths_of (items row.form)) (drop row.taken row.slots) in
+      let ns : List TreeNode = row.nodes ++ nodes_of_tree ROOT_TREE row.form.nodesize (lengths_of (items row.form)) (drop row.taken row.slots) in
       let known : AddsExtents (reads old) (behind row ns root.nodes) later chunks pieces others x =
       subst (λ (t : Trees). AddsExtents (reads old) t later chunks pieces others x) (same_row mid row ns root.nodes forms at taken nodes) adds in
       record {
         nodes = known.nodes;
         root = stands;
         extents =
-            stands_behind old new (form_of row.form) 2 root.nodes row.taken row.slots (extent_items chunks pieces known.nodes row.form.nodesize) x.root is.size is.slots only known.adds.stands;
+            stands_behind old new (form_of row.form) EXTENT_TREE root.nodes row.taken row.slots (extent_items chunks pieces known.nodes row.form.nodesize) x.root is.size is.slots only known.adds.stands;
         are_all = known.are_all;
         used = known.used;
       }
@@ -134,10 +135,10 @@ module _ (old new : History) (row mid later : Trees) (slots : List ℕ) (index n
   -- by what was called with
   abbrev Stand : NodeForm → Type 0
   Stand form =
-      mid.nodes ≡ row.nodes ++ nodes_of_tree 1 form.nodesize (lengths_of (items form)) (drop row.taken row.slots)
+      mid.nodes ≡ row.nodes ++ nodes_of_tree ROOT_TREE form.nodesize (lengths_of (items form)) (drop row.taken row.slots)
       → slots ≡ take (tree_nodes form.nodesize (lengths_of (items form))) (drop row.taken row.slots)
       → WritesOnly (λ b _. IsInSlots form.nodesize slots b) old new
-      → TreeStands (reads new) (form_of form) 1 slots (items form) root
+      → TreeStands (reads new) (form_of form) ROOT_TREE slots (items form) root
       → AddsLast (reads new) row index now chunks pieces others (all_with chunk first x root)
 
   stand : IsRow row → mid.form ≡ row.form → mid.slots ≡ row.slots → mid.taken ≡ row.taken + length slots → AddsExtents (reads old) mid later chunks pieces others x
@@ -148,7 +149,7 @@ module _ (old new : History) (row mid later : Trees) (slots : List ℕ) (index n
       let long : length slots ≡ root.nodes = omega (arith, ap (λ (s : List ℕ). length s) kept, length-take root.nodes (drop row.taken row.slots), length-drop row.taken row.slots, few, count) in
       both_stand is forms at (taken ∙ ap (λ (k : ℕ). row.taken + k) long) nodes
       (subst (λ (s : List ℕ). WritesOnly (λ b _. IsInSlots row.form.nodesize s b) old new) kept only) adds
-      (subst (λ (s : List ℕ). TreeStands (reads new) (form_of row.form) 1 s (items row.form) root) kept stands)
+      (subst (λ (s : List ℕ). TreeStands (reads new) (form_of row.form) ROOT_TREE s (items row.form) root) kept stands)
 
   pub last_stand : (form : NodeForm) → row.form ≡ form → IsRow row → mid.form ≡ row.form → mid.slots ≡ row.slots → mid.taken ≡ row.taken + length slots → AddsExtents (reads old) mid later chunks pieces others x
       → tree_nodes row.form.nodesize (lengths_of (items row.form)) ≤ length row.slots - row.taken → Stand form

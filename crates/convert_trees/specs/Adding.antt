@@ -1,6 +1,7 @@
 -- One more tree in a row of slots.
 use Rattle.std.specs.Prelude.{◌≡◌, ℕ, ◌++◌, List, drop}
 use Rattle.std.specs.List.{sum_by}
+use Rattle.btrfs_format.specs.declared.object.TheConstants.{EXTENT_TREE}
 use Rattle.btr_tree.specs.outside.History.{Image}
 use Rattle.btr_tree.specs.btr_node.Leaf.{Item}
 use Rattle.btr_tree.specs.Roots.{lengths_of}
@@ -22,6 +23,6 @@ pub record Adds (image : Image) (old new : Trees) (owner : ℕ) (items : List It
 -- The extent tree stands there, which tells of all nodes, its own among them, and the bytes of all extents are told.
 pub record AddsExtents (image : Image) (old new : Trees) (chunks : List Chunk) (pieces : List Piece) (others : List TreeNode) (x : WrittenExtents) : Type 0 where
   pub nodes : List TreeNode
-  pub adds : Adds image old new 2 (extent_items chunks pieces nodes old.form.nodesize) x.root
-  pub are_all : nodes ≡ merged_nodes (merged_nodes old.nodes others) (nodes_of_tree 2 old.form.nodesize (lengths_of (extent_items chunks pieces nodes old.form.nodesize)) (drop old.taken old.slots))
+  pub adds : Adds image old new EXTENT_TREE (extent_items chunks pieces nodes old.form.nodesize) x.root
+  pub are_all : nodes ≡ merged_nodes (merged_nodes old.nodes others) (nodes_of_tree EXTENT_TREE old.form.nodesize (lengths_of (extent_items chunks pieces nodes old.form.nodesize)) (drop old.taken old.slots))
   pub used : x.used ≡ sum_by (used_in pieces nodes old.form.nodesize) chunks

@@ -1,5 +1,6 @@
 -- The trees that are written first, one behind the other.
 use Rattle.std.specs.Prelude.{◌≡◌, ◌≤◌, ℕ, ◌+◌, ◌-◌, ◌^◌, List, [], ◌++◌, drop, length, if◌then◌else◌}
+use Rattle.btrfs_format.specs.declared.object.TheConstants.{CONV_IMAGE_SUBVOL, CSUM_TREE, DATA_RELOC_TREE, DEV_TREE, FS_TREE}
 use Rattle.btr_tree.specs.outside.History.{Image}
 use Rattle.btr_tree.specs.btr_node.Leaf.{Item}
 use Rattle.btr_tree.specs.Counting.{tree_nodes}
@@ -76,10 +77,10 @@ nodes_from row owner n items = nodes_of_tree owner row.form.nodesize (lengths_of
 
 -- They stand one behind the other at the first slots that were not taken, and their nodes are told.
 pub record AddsFirst (image : Image) (old new : Trees) (items : FirstItems) (r : FirstRoots) : Type 0 where
-  pub files : TreeStands image (form_of old.form) 5 (left_from old 0) items.files r.files
-  pub image_ : TreeStands image (form_of old.form) 256 (left_from old (image_from r)) items.image_ r.image
-  pub relocation : TreeStands image (form_of old.form) (2 ^ 64 - 9) (left_from old (relocation_from r)) items.relocation r.relocation
-  pub sums : TreeStands image (form_of old.form) 7 (left_from old (sums_from r)) items.sums r.sums
-  pub device : TreeStands image (form_of old.form) 4 (left_from old (device_from r)) items.device r.device
-  pub nodes : new.nodes ≡ old.nodes ++ (nodes_from old 5 0 items.files ++ (nodes_from old 256 (image_from r) items.image_
-      ++ (nodes_from old (2 ^ 64 - 9) (relocation_from r) items.relocation ++ (nodes_from old 7 (sums_from r) items.sums ++ nodes_from old 4 (device_from r) items.device))))
+  pub files : TreeStands image (form_of old.form) FS_TREE (left_from old 0) items.files r.files
+  pub image_ : TreeStands image (form_of old.form) CONV_IMAGE_SUBVOL (left_from old (image_from r)) items.image_ r.image
+  pub relocation : TreeStands image (form_of old.form) DATA_RELOC_TREE (left_from old (relocation_from r)) items.relocation r.relocation
+  pub sums : TreeStands image (form_of old.form) CSUM_TREE (left_from old (sums_from r)) items.sums r.sums
+  pub device : TreeStands image (form_of old.form) DEV_TREE (left_from old (device_from r)) items.device r.device
+  pub nodes : new.nodes ≡ old.nodes ++ (nodes_from old FS_TREE 0 items.files ++ (nodes_from old CONV_IMAGE_SUBVOL (image_from r) items.image_
+      ++ (nodes_from old DATA_RELOC_TREE (relocation_from r) items.relocation ++ (nodes_from old CSUM_TREE (sums_from r) items.sums ++ nodes_from old DEV_TREE (device_from r) items.device))))

@@ -1,6 +1,7 @@
 -- The root tree in a row of slots, and the extent tree behind it.
 use Rattle.std.specs.Prelude.{◌≡◌, ℕ, ◌+◌, ◌*◌, ◌++◌, count_by, List, drop, take}
 use Rattle.std.specs.List.{sum_by}
+use Rattle.btrfs_format.specs.declared.object.TheConstants.{EXTENT_TREE, ROOT_TREE}
 use Rattle.btr_tree.specs.outside.History.{Image}
 use Rattle.btr_tree.specs.btr_node.Leaf.{Item}
 use Rattle.btr_tree.specs.Counting.{node_bound, tree_nodes}
@@ -43,9 +44,9 @@ slots_needed nodesize taken count pieces chunks others =
 -- behind it. It tells of all nodes, its own among them, and the bytes of all extents are told.
 pub record AddsLast (image : Image) (row : Trees) (index now : ℕ) (chunks : List Chunk) (pieces : List Piece) (others : List TreeNode) (t : VolumeTrees) : Type 0 where
   pub nodes : List TreeNode
-  pub root : TreeStands image (form_of row.form) 1 (take t.root.nodes (drop row.taken row.slots)) (items_of_root row.form index now t) t.root
-  pub extents : TreeStands image (form_of row.form) 2 (drop (row.taken + t.root.nodes) row.slots) (extent_items chunks pieces nodes row.form.nodesize) t.extents
+  pub root : TreeStands image (form_of row.form) ROOT_TREE (take t.root.nodes (drop row.taken row.slots)) (items_of_root row.form index now t) t.root
+  pub extents : TreeStands image (form_of row.form) EXTENT_TREE (drop (row.taken + t.root.nodes) row.slots) (extent_items chunks pieces nodes row.form.nodesize) t.extents
   pub are_all : nodes ≡ merged_nodes
-      (merged_nodes (row.nodes ++ nodes_of_tree 1 row.form.nodesize (lengths_of (items_of_root row.form index now t)) (drop row.taken row.slots)) others)
-      (nodes_of_tree 2 row.form.nodesize (lengths_of (extent_items chunks pieces nodes row.form.nodesize)) (drop (row.taken + t.root.nodes) row.slots))
+      (merged_nodes (row.nodes ++ nodes_of_tree ROOT_TREE row.form.nodesize (lengths_of (items_of_root row.form index now t)) (drop row.taken row.slots)) others)
+      (nodes_of_tree EXTENT_TREE row.form.nodesize (lengths_of (extent_items chunks pieces nodes row.form.nodesize)) (drop (row.taken + t.root.nodes) row.slots))
   pub used : t.used ≡ sum_by (used_in pieces nodes row.form.nodesize) chunks

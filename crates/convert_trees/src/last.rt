@@ -22,10 +22,10 @@ use crate::sources::ExtentItems;
 use crate::writing::Writing;
 use btr_tree::{Access, Disk, Memory, Root, node_bound};
 use btr_tree_writer::{Trees, WriteAnswer};
+use btrfs_format::object::EXTENT_TREE;
 use space_items::{NodeList, extents, merged, own_nodes, with_own};
+use unit_plan::item_bytes::{BLOCK_GROUP_BYTES, EXTENT_BYTES, NODE_BYTES};
 use unit_plan::{PieceList, chunks_of};
-
-const EXTENT_TREE: u64 = 2;
 
 /// The extent tree that was written.
 #[derive(Clone, Copy)]
@@ -46,7 +46,9 @@ fn extent_bound<P: PieceList>(w: &Writing<'_, P>, others: usize) -> Result<u64, 
         → IfOk result (λ n. n ≡ own_bound chunks (P.pieces w.now.pieces.now) nodes w.now.form.nodesize) }
 {
     let chunks = chunks_of(w.alloc, w.plan, w.volume.sup().blocks)?;
-    let bytes = 107 * w.pieces.len() as u64 + 49 * chunks.len() as u64 + 58 * others as u64;
+    let bytes = EXTENT_BYTES * w.pieces.len() as u64
+        + BLOCK_GROUP_BYTES * chunks.len() as u64
+        + NODE_BYTES * others as u64;
     Ok(2 * node_bound(bytes, w.form.nodesize) + 16)
 }
 
@@ -67,7 +69,7 @@ fn all_nodes<P: PieceList>(
     ensures nodes { IfOk result AreNodes }
     ensures answers { IfErr result (λ e. (e ≡ WriteAnswer.Misfit) ⊎ (e ≡ WriteAnswer.Memory)) }
     ensures all { (chunks : List ChunkOf) → AreChunks w.now.plan.now w.now.volume.now.sup.blocks chunks → IfOk result (λ all. all ≡ merged_nodes (merged_nodes row.now.nodes chunk_nodes.now)
-        (nodes_of_tree 2 w.now.form.nodesize (lengths_of (extent_items chunks (P.pieces w.now.pieces.now) all w.now.form.nodesize)) (drop row.now.taken row.now.slots))) }
+        (nodes_of_tree EXTENT_TREE w.now.form.nodesize (lengths_of (extent_items chunks (P.pieces w.now.pieces.now) all w.now.form.nodesize)) (drop row.now.taken row.now.slots))) }
     ensures room { (chunks : List ChunkOf) → AreChunks w.now.plan.now w.now.volume.now.sup.blocks chunks
         → IfOk result (λ all. tree_nodes w.now.form.nodesize (lengths_of (extent_items chunks (P.pieces w.now.pieces.now) all w.now.form.nodesize)) ≤ length row.now.slots - row.now.taken) }
     ensures misfit { (chunks : List ChunkOf) → AreChunks w.now.plan.now w.now.volume.now.sup.blocks chunks

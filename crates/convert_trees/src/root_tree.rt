@@ -24,12 +24,11 @@ use crate::roots::{FirstRoots, counted, root_list, saved_index};
 use crate::writing::Writing;
 use btr_tree::{Access, Disk, Memory, Root, Slots};
 use btr_tree_writer::{ListItems, Trees, WriteAnswer, write_tree};
+use btrfs_format::object::ROOT_TREE;
 use convert_steps::VolumeTrees;
 use space_items::NodeList;
 use std::alloc::Global;
 use unit_plan::PieceList;
-
-const ROOT_TREE: u64 = 1;
 
 /// Keeps slots for the root tree, writes the extent tree behind them, and then the root tree.
 pub fn write_last<D: Disk, P: PieceList>(
@@ -93,7 +92,7 @@ fn keep_roots<P: PieceList>(
     ensures same { (row.new.form ≡ row.old.form) × (row.new.slots ≡ row.old.slots) }
     ensures slots { (extents : RootOf) → IfOk result (λ slots. slots ≡ take (tree_nodes w.now.form.nodesize (lengths_of (root_items (listed first extents) index w.now.form.ids w.now.time w.now.form.nodesize))) (drop row.old.taken row.old.slots)) }
     ensures taken { IfOk result (λ slots. row.new.taken ≡ row.old.taken + length slots) }
-    ensures nodes { (extents : RootOf) → OnOk result (row.new.nodes ≡ row.old.nodes ++ nodes_of_tree 1 w.now.form.nodesize (lengths_of (root_items (listed first extents) index w.now.form.ids w.now.time w.now.form.nodesize)) (drop row.old.taken row.old.slots)) }
+    ensures nodes { (extents : RootOf) → OnOk result (row.new.nodes ≡ row.old.nodes ++ nodes_of_tree ROOT_TREE w.now.form.nodesize (lengths_of (root_items (listed first extents) index w.now.form.ids w.now.time w.now.form.nodesize)) (drop row.old.taken row.old.slots)) }
     ensures answers { IfErr result (λ e. (e ≡ WriteAnswer.Misfit) ⊎ (e ≡ WriteAnswer.Memory)) }
     ensures misfit { (extents : RootOf) → row.old.taken + tree_nodes w.now.form.nodesize (lengths_of (root_items (listed first extents) index w.now.form.ids w.now.time w.now.form.nodesize)) ≤ length row.old.slots → IfErr result (λ e. e ≡ WriteAnswer.Memory) }
 {

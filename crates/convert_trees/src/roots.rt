@@ -12,6 +12,7 @@ ghost use Rattle.convert_trees.specs.Roots.{AreFew, listed};
 use crate::writing::Writing;
 use btr_item_list::ItemList;
 use btr_tree::{Counter, Memory, Root};
+use btrfs_format::object::DATA_RELOC_TREE;
 use reiser_volume::{Numbers, Volume};
 use space_items::{RootList, TreeRoot, roots};
 use unit_plan::PieceList;
@@ -44,7 +45,7 @@ pub fn root_list<P: PieceList>(
     add_root(&mut list, 5, first.files)?;
     add_root(&mut list, 7, first.sums)?;
     add_root(&mut list, 256, first.image)?;
-    add_root(&mut list, u64::MAX - 8, first.relocation)?;
+    add_root(&mut list, DATA_RELOC_TREE, first.relocation)?;
     roots(w.alloc, &list, index, &w.form.ids, w.time, w.form.nodesize)
 }
 

@@ -2,6 +2,9 @@
 use Rattle.std.proofs.Common.{◌≤◌, ◌<◌, ℕ, List, [], ◌++◌, length, length-append, map, arith}
 use Rattle.std.specs.Prelude.{AllPairs}
 use Rattle.std.proofs.lemmas.List.{length-map}
+use Rattle.btrfs_format.specs.declared.key.TheConstants.{DEV_ITEM}
+use Rattle.btrfs_format.specs.declared.object.TheConstants.{DEV_ITEMS_OBJECTID}
+use Rattle.unit_plan.specs.declared.item_bytes.TheConstants.{CHUNK_BYTES, DEV_EXTENT_BYTES, ROOT_TREE_ROOM}
 use Rattle.btr_reader.specs.vol_block.declared.ids.Ids.{Ids}
 use Rattle.btr_reader.specs.btr_node.Leaf.{Item}
 use Rattle.btr_reader.specs.btr_space_items.Chunk.{chunk_layout}
@@ -38,22 +41,22 @@ device_long ids blocks chunks are = omega (arith, are.device, are.fsid, length-a
 pub device_counted : (ids : Ids) (chunks : List Chunk) (most : ℕ) → AreIds ids → length chunks ≤ most → bytes_in (device_items ids chunks) ≤ device_tree_bytes most
 device_counted ids chunks most are few =
     let each = bytes-map (dev_extent_item ids) (λ c. 48) (λ c. extent_long ids c are) chunks in
-    let all = sum-same {A = Chunk} 73 chunks in
+    let all = sum-same {A = Chunk} DEV_EXTENT_BYTES chunks in
     omega (arith, each, all, few)
 
 pub chunks_counted : (ids : Ids) (blocks : ℕ) (chunks : List Chunk) (most : ℕ) → AreIds ids → length chunks ≤ most → bytes_in (chunk_items ids blocks chunks) ≤ chunk_tree_bytes most
 chunks_counted ids blocks chunks most are few =
-    let first = bytes-cons (make_key 1 216 1, device_bytes (device_body ids blocks chunks)) (map (chunk_item ids) chunks) in
+    let first = bytes-cons (make_key DEV_ITEMS_OBJECTID DEV_ITEM 1, device_bytes (device_body ids blocks chunks)) (map (chunk_item ids) chunks) in
     let device = device_long ids blocks chunks are in
     let each = bytes-map (chunk_item ids) (λ c. 80) (λ c. chunk_long ids c are) chunks in
-    let all = sum-same {A = Chunk} 105 chunks in
+    let all = sum-same {A = Chunk} CHUNK_BYTES chunks in
     omega (arith, first, device, each, all, few)
 
 -- ---- roots
 
 -- eleven items, of 439 bytes at most
 pub roots_counted : (list : List TreeRoot) (index : ℕ) (ids : Ids) (now nodesize : ℕ) → AreIds ids → AllPairs (λ r s. r.tree < s.tree) list → length list ≤ 6
-    → bytes_in (root_items list index ids now nodesize) ≤ 8192
+    → bytes_in (root_items list index ids now nodesize) ≤ ROOT_TREE_ROOM
 roots_counted list index ids now nodesize are ascend few =
     let roots : List Item = map (root_item ids nodesize) list in
     let many = length-merge item_cmp roots (other_root_items index now) in

@@ -5,6 +5,7 @@ use Rattle.std.specs.Ordering.{is_lt}
 use Rattle.std.proofs.lemmas.Bool.Decides.{nat_tests}
 use Rattle.std.proofs.lemmas.List.{append-nil, map-append}
 use Rattle.std.proofs.lemmas.List.Sums.{sum_by-cons}
+use Rattle.btrfs_format.specs.declared.key.TheConstants.{DIR_INDEX, DIR_ITEM, INODE_EXTREF, INODE_REF}
 use Rattle.btr_reader.specs.castagnoli.Castagnoli.{name_hash}
 use Rattle.indexmap.specs.IndexMap.{keys}
 use Rattle.btr_reader.specs.fs_rows.declared.row.Kind.{Kind}
@@ -45,7 +46,7 @@ told i (Some e) = record { leaf = 0; dir = i.0.objectid; index = i.0.offset; loc
 
 -- the entry that an item is
 abbrev own : Item → List Naming
-own i = if i.0.kind == 96 then told i (index_entry i.1) else []
+own i = if i.0.kind == DIR_INDEX then told i (index_entry i.1) else []
 
 read_one : (i : TreeItem) → map unplaced (own_naming i) ≡ own (bare_item i)
 read_one i = by (is_index i) (index_entry i.body)
@@ -65,7 +66,7 @@ flat_append : {A B : Type 0} (f : A → List B) (xs ys : List A) → flat_map f 
 flat_append f [] ys = refl
 flat_append {A} {B} f (x ∷ xs) ys = ap (λ (l : List B). f x ++ l) (flat_append f xs ys) ∙ sym (append_assoc (f x) (flat_map f xs) (flat_map f ys))
 
-none : (items : List Item) → AllByRecursion (λ i. (i.0.kind == 96) ≡ false) items → flat_map own items ≡ []
+none : (items : List Item) → AllByRecursion (λ i. (i.0.kind == DIR_INDEX) ≡ false) items → flat_map own items ≡ []
 none [] all = refl
 none (i ∷ items) all = ap (λ (b : Bool). (if b then told i (index_entry i.1) else []) ++ flat_map own items) all.0 ∙ none items all.1
 
@@ -74,18 +75,18 @@ none (i ∷ items) all = ap (λ (b : Bool). (if b then told i (index_entry i.1) 
 index_read : (e : DirEntryValue) → dir_entry_head.fits e → index_entry (dir_entry_bytes e) ≡ Some e
 index_read e fits = ap only_one (ap dir_items_of (sym (append-nil (dir_entry_bytes e))) ∙ dir_items_read_back e [] (fits, tt))
 
-indexes_read : (ino : ℕ) (list : List Indexed) → AllByRecursion (λ (e : Indexed). dir_entry_head.fits e.1) list → flat_map own (map (λ (e : Indexed). (make_key ino 96 e.0, dir_entry_bytes e.1)) list) ≡ map (naming_by ino) list
+indexes_read : (ino : ℕ) (list : List Indexed) → AllByRecursion (λ (e : Indexed). dir_entry_head.fits e.1) list → flat_map own (map (λ (e : Indexed). (make_key ino DIR_INDEX e.0, dir_entry_bytes e.1)) list) ≡ map (naming_by ino) list
 indexes_read ino [] all = refl
 indexes_read ino (e ∷ list) all =
-    ap (λ (x : Option DirEntryValue). told (make_key ino 96 e.0, dir_entry_bytes e.1) x ++ flat_map own (map (λ (f : Indexed). (make_key ino 96 f.0, dir_entry_bytes f.1)) list)) (index_read e.1 all.0)
+    ap (λ (x : Option DirEntryValue). told (make_key ino DIR_INDEX e.0, dir_entry_bytes e.1) x ++ flat_map own (map (λ (f : Indexed). (make_key ino DIR_INDEX f.0, dir_entry_bytes f.1)) list)) (index_read e.1 all.0)
     ∙ ap (λ (l : List Naming). naming_by ino e ∷ l) (indexes_read ino list all.1)
 
 pub entries_read : (ino : ℕ) (list : List Indexed) → AllByRecursion (λ (e : Indexed). dir_entry_head.fits e.1) list → flat_map own (entry_items ino list) ≡ map (naming_by ino) list
 entries_read ino list all =
-    let first : List Item = map (λ g. (make_key ino 84 g.0, flat_map (λ (e : Indexed). dir_entry_bytes e.1) g.1)) (grouped (λ (e : Indexed). name_hash e.1.name) list) in
-    let second : List Item = map (λ (e : Indexed). (make_key ino 96 e.0, dir_entry_bytes e.1)) list in
+    let first : List Item = map (λ g. (make_key ino DIR_ITEM g.0, flat_map (λ (e : Indexed). dir_entry_bytes e.1) g.1)) (grouped (λ (e : Indexed). name_hash e.1.name) list) in
+    let second : List Item = map (λ (e : Indexed). (make_key ino DIR_INDEX e.0, dir_entry_bytes e.1)) list in
     flat_append own first second
-    ∙ (ap (λ (l : List Naming). l ++ flat_map own second) (none first (all_mapped (λ i. (i.0.kind == 96) ≡ false) (λ (g : ℕ × List Indexed). (make_key ino 84 g.0, flat_map (λ (e : Indexed). dir_entry_bytes e.1) g.1)) (grouped (λ (e : Indexed). name_hash e.1.name) list) (all_true _ (grouped (λ (e : Indexed). name_hash e.1.name) list) (λ g. refl))))
+    ∙ (ap (λ (l : List Naming). l ++ flat_map own second) (none first (all_mapped (λ i. (i.0.kind == DIR_INDEX) ≡ false) (λ (g : ℕ × List Indexed). (make_key ino DIR_ITEM g.0, flat_map (λ (e : Indexed). dir_entry_bytes e.1) g.1)) (grouped (λ (e : Indexed). name_hash e.1.name) list) (all_true _ (grouped (λ (e : Indexed). name_hash e.1.name) list) (λ g. refl))))
     ∙ indexes_read ino list all)
 
 -- ---- entries fit
@@ -142,7 +143,7 @@ module _ (kind : ObjectKey → Kind) (all : List ObjectKey) (links : List Link) 
 -- ---- objects
 
 module _ (s : Source) (distinct : IsDistinct starts s.pieces) (fit : (key : ObjectKey) → AllByRecursion (λ (e : Indexed). dir_entry_head.fits e.1) (indexed_in (kind_in s) s.keys s.links key)) where
-  other_kind : (k : ℕ) → k ≤ 13 → (k == 96) ≡ false
+  other_kind : (k : ℕ) → k ≤ 13 → (k == DIR_INDEX) ≡ false
   other_kind k low = grind (arith, nat_tests)
 
   data_none : (key : ObjectKey) → flat_map own (extent_items s key) ≡ []
@@ -152,7 +153,7 @@ module _ (s : Source) (distinct : IsDistinct starts s.pieces) (fit : (key : Obje
       by : (b : Bool) → flat_map own (if b then extent_item (number_of s key) 0 (inline_extent (target_bytes (items_of key s.items) (size_in s key))) ∷ [] else extents_at (number_of s key) file_block (pieces_of s.pieces (number_of s key))) ≡ []
       by true = refl
       by false = none (extents_at (number_of s key) file_block (pieces_of s.pieces (number_of s key)))
-          (all_mapped (λ i. (i.0.kind == 96) ≡ false) (λ (p : Piece). extent_item (number_of s key) (file_block p) (regular_extent p.place p.count)) (pieces_of s.pieces (number_of s key)) (all_true _ (pieces_of s.pieces (number_of s key)) (λ p. refl)))
+          (all_mapped (λ i. (i.0.kind == DIR_INDEX) ≡ false) (λ (p : Piece). extent_item (number_of s key) (file_block p) (regular_extent p.place p.count)) (pieces_of s.pieces (number_of s key)) (all_true _ (pieces_of s.pieces (number_of s key)) (λ p. refl)))
 
   content_read : (key : ObjectKey) (kind : Kind) → flat_map own (content_items s key kind) ≡ namings_by s key kind
   content_read key Directory = entries_read (number_of s key) (indexed_in (kind_in s) s.keys s.links key) (fit key)
@@ -169,7 +170,7 @@ module _ (s : Source) (distinct : IsDistinct starts s.pieces) (fit : (key : Obje
   object_read key =
       flat_append own (name_items s key) (content_items s key (kind_in s key))
       ∙ (ap (λ (l : List Naming). l ++ flat_map own (content_items s key (kind_in s key)))
-      (none (name_items s key) (all_each (IsOf (number_of s key) 12 13) (λ i. (i.0.kind == 96) ≡ false) (name_items s key) (λ i of. other_kind i.0.kind of.high) (names_part s distinct key).each))
+      (none (name_items s key) (all_each (IsOf (number_of s key) INODE_REF INODE_EXTREF) (λ i. (i.0.kind == DIR_INDEX) ≡ false) (name_items s key) (λ i of. other_kind i.0.kind of.high) (names_part s distinct key).each))
       ∙ content_read key (kind_in s key))
 
   objects_read : (ks : List ObjectKey) → flat_map own (flat_map (object_items s) ks) ≡ flat_map (λ key. namings_by s key (kind_in s key)) ks

@@ -4,6 +4,8 @@ use Rattle.std.specs.Prelude.{Contains}
 use Rattle.std.proofs.lemmas.List.{length-take, length-drop}
 use Rattle.std.proofs.lemmas.List.Sorted.{length_permutation}
 use Rattle.std.proofs.lemmas.List.Sums.{sum_by-cons}
+use Rattle.btrfs_format.specs.declared.size.TheConstants.{DIR_ITEM_SIZE, INODE_EXTREF_SIZE, ITEM_SIZE}
+use Rattle.unit_plan.specs.declared.item_bytes.TheConstants.{FILE_EXTENT_BYTES, INODE_BYTES, NAME_BYTES}
 use Rattle.indexmap.specs.IndexMap.{keys}
 use Rattle.btr_reader.specs.outside.History.{Image}
 use Rattle.btr_reader.proofs.fs_paths.Counts.{sum_split}
@@ -81,11 +83,11 @@ sum_same n [] = omega arith
 sum_same n (x ∷ xs) = let one = sum_by-cons (λ y. n) x xs in let later = sum_same n xs in omega (arith, one, later)
 
 -- a name and an entry for each link
-links_weigh : (links : List Naming) → sum_by (λ n. 43 + length n.name) links + sum_by (λ n. 110 + 2 * length n.name) links ≡ 153 * length links + 3 * sum_by (λ n. length n.name) links
+links_weigh : (links : List Naming) → sum_by (λ n. ITEM_SIZE + INODE_EXTREF_SIZE + length n.name) links + sum_by (λ n. 2 * (ITEM_SIZE + DIR_ITEM_SIZE) + 2 * length n.name) links ≡ NAME_BYTES * length links + 3 * sum_by (λ n. length n.name) links
 links_weigh [] = refl
 links_weigh (n ∷ links) =
-    let first = sum_by-cons (λ (m : Naming). 43 + length m.name) n links in
-    let second = sum_by-cons (λ (m : Naming). 110 + 2 * length m.name) n links in
+    let first = sum_by-cons (λ (m : Naming). ITEM_SIZE + INODE_EXTREF_SIZE + length m.name) n links in
+    let second = sum_by-cons (λ (m : Naming). 2 * (ITEM_SIZE + DIR_ITEM_SIZE) + 2 * length m.name) n links in
     let third = sum_by-cons (λ (m : Naming). length m.name) n links in
     let later = links_weigh links in
     omega (arith, first, second, third, later)
@@ -101,25 +103,25 @@ module _ (s : Source) (at : ℕ) (are : AreNumbered at s.keys) (has_root : Conta
   split_sum f g = sum_split f g (λ key. f key + g key) all (λ key. refl)
 
   tree_takes : sum_by item_weight (tree_items s)
-      ≤ 175 + 185 * length s.keys + 153 * length s.links + 3 * sum_by (λ n. length n.name) s.links + 78 * length s.pieces + sum_by (inline_weight s) s.keys
+      ≤ 175 + INODE_BYTES * length s.keys + NAME_BYTES * length s.links + 3 * sum_by (λ n. length n.name) s.links + FILE_EXTENT_BYTES * length s.pieces + sum_by (inline_weight s) s.keys
   unfolding tree_items
   tree_takes =
       let flat = sum_flat (object_items s) item_weight all in
-      let each = sum_fewer (λ key. sum_by item_weight (object_items s key)) (λ key. 185 + names_weight s key + entries_weight s key + pieces_weight s key + inline_weight s key + root_weight s key) all (object_takes s) in
-      let one = split_sum (λ key. 185 + names_weight s key + entries_weight s key + pieces_weight s key + inline_weight s key) (root_weight s) in
-      let two = split_sum (λ key. 185 + names_weight s key + entries_weight s key + pieces_weight s key) (inline_weight s) in
-      let three = split_sum (λ key. 185 + names_weight s key + entries_weight s key) (pieces_weight s) in
-      let four = split_sum (λ key. 185 + names_weight s key) (entries_weight s) in
-      let five = split_sum (λ key. 185) (names_weight s) in
-      let inodes = all_once (λ key. 185) s.keys has_root in
-      let objects = sum_same 185 s.keys in
-      let names = all_weigh (number_of s) (λ (e : Entry). inode_of s.keys e.link.target) (λ (e : Entry). 43 + length e.link.name) (entries s.links) all climb in
-      let told = all_weigh (number_of s) (λ (e : Entry). inode_of s.keys e.link.dir) (λ (e : Entry). 110 + 2 * length e.link.name) (entries s.links) all climb in
-      let name_links = sum_links (λ (n : Naming). 43 + length n.name) [] s.links in
-      let told_links = sum_links (λ (n : Naming). 110 + 2 * length n.name) [] s.links in
+      let each = sum_fewer (λ key. sum_by item_weight (object_items s key)) (λ key. INODE_BYTES + names_weight s key + entries_weight s key + pieces_weight s key + inline_weight s key + root_weight s key) all (object_takes s) in
+      let one = split_sum (λ key. INODE_BYTES + names_weight s key + entries_weight s key + pieces_weight s key + inline_weight s key) (root_weight s) in
+      let two = split_sum (λ key. INODE_BYTES + names_weight s key + entries_weight s key + pieces_weight s key) (inline_weight s) in
+      let three = split_sum (λ key. INODE_BYTES + names_weight s key + entries_weight s key) (pieces_weight s) in
+      let four = split_sum (λ key. INODE_BYTES + names_weight s key) (entries_weight s) in
+      let five = split_sum (λ key. INODE_BYTES) (names_weight s) in
+      let inodes = all_once (λ key. INODE_BYTES) s.keys has_root in
+      let objects = sum_same INODE_BYTES s.keys in
+      let names = all_weigh (number_of s) (λ (e : Entry). inode_of s.keys e.link.target) (λ (e : Entry). ITEM_SIZE + INODE_EXTREF_SIZE + length e.link.name) (entries s.links) all climb in
+      let told = all_weigh (number_of s) (λ (e : Entry). inode_of s.keys e.link.dir) (λ (e : Entry). 2 * (ITEM_SIZE + DIR_ITEM_SIZE) + 2 * length e.link.name) (entries s.links) all climb in
+      let name_links = sum_links (λ (n : Naming). ITEM_SIZE + INODE_EXTREF_SIZE + length n.name) [] s.links in
+      let told_links = sum_links (λ (n : Naming). 2 * (ITEM_SIZE + DIR_ITEM_SIZE) + 2 * length n.name) [] s.links in
       let links = links_weigh s.links in
-      let extents = all_weigh (number_of s) owner_inode (λ (p : Piece). 78) s.pieces all climb in
-      let many = sum_same 78 s.pieces in
+      let extents = all_weigh (number_of s) owner_inode (λ (p : Piece). FILE_EXTENT_BYTES) s.pieces all climb in
+      let many = sum_same FILE_EXTENT_BYTES s.pieces in
       let inlines = all_once (inline_weight s) s.keys has_root in
       let root_once = one_weighs (number_of s) 256 175 all climb in
       omega (arith, flat, each, one, two, three, four, five, inodes, objects, names, told, name_links, told_links, links, extents, many, inlines, root_once)

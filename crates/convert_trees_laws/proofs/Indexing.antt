@@ -4,6 +4,7 @@ use Rattle.std.specs.List.{AllByRecursion, flat_map}
 use Rattle.std.specs.Ordering.{is_lt}
 use Rattle.std.proofs.lemmas.List.{append-nil}
 use Rattle.std.proofs.lemmas.List.Sums.{sum_by-cons}
+use Rattle.btrfs_format.specs.declared.key.TheConstants.{DIR_INDEX, DIR_ITEM, INODE_EXTREF, INODE_REF}
 use Rattle.btr_reader.specs.castagnoli.Castagnoli.{extref_hash, name_hash}
 use Rattle.indexmap.specs.IndexMap.{keys}
 use Rattle.btr_reader.specs.outside.History.{Image}
@@ -99,7 +100,7 @@ module _ (kind : ObjectKey → Kind) (all : List ObjectKey) (links : List Link) 
 
 -- an index has an entry
 abbrev IsReadable : Item → Type 0
-IsReadable i = i.0.kind ≡ 96 → index_entry i.1 ≡ None → ⊥
+IsReadable i = i.0.kind ≡ DIR_INDEX → index_entry i.1 ≡ None → ⊥
 
 not_none : (e : DirEntryValue) (r : Option DirEntryValue) → r ≡ Some e → r ≡ None → ⊥
 not_none e r some none = absurd (cc)
@@ -107,19 +108,19 @@ not_none e r some none = absurd (cc)
 index_readable : (e : DirEntryValue) → dir_entry_head.fits e → index_entry (dir_entry_bytes e) ≡ None → ⊥
 index_readable e fits = not_none e (index_entry (dir_entry_bytes e)) (ap only_one (ap dir_items_of (sym (append-nil (dir_entry_bytes e))) ∙ dir_items_read_back e [] (fits, tt)))
 
-other_kind : (k : ℕ) (r : Option DirEntryValue) → k ≤ 95 → k ≡ 96 → r ≡ None → ⊥
+other_kind : (k : ℕ) (r : Option DirEntryValue) → k ≤ 95 → k ≡ DIR_INDEX → r ≡ None → ⊥
 other_kind k r low is none = omega (arith, low, is)
 
 module _ (s : Source) (fit : (key : ObjectKey) → AllByRecursion (λ (e : Indexed). dir_entry_head.fits e.1) (indexed_in (kind_in s) s.keys s.links key)) where
   entries_readable : (ino : ℕ) (list : List Indexed) → AllByRecursion (λ (e : Indexed). dir_entry_head.fits e.1) list → AllByRecursion IsReadable (entry_items ino list)
   entries_readable ino list all =
       all_append IsReadable
-      (map (λ g. (make_key ino 84 g.0, flat_map (λ (e : Indexed). dir_entry_bytes e.1) g.1)) (grouped (λ (e : Indexed). name_hash e.1.name) list))
-      (map (λ (e : Indexed). (make_key ino 96 e.0, dir_entry_bytes e.1)) list)
-      (all_mapped IsReadable (λ (g : ℕ × List Indexed). (make_key ino 84 g.0, flat_map (λ (e : Indexed). dir_entry_bytes e.1) g.1)) (grouped (λ (e : Indexed). name_hash e.1.name) list)
+      (map (λ g. (make_key ino DIR_ITEM g.0, flat_map (λ (e : Indexed). dir_entry_bytes e.1) g.1)) (grouped (λ (e : Indexed). name_hash e.1.name) list))
+      (map (λ (e : Indexed). (make_key ino DIR_INDEX e.0, dir_entry_bytes e.1)) list)
+      (all_mapped IsReadable (λ (g : ℕ × List Indexed). (make_key ino DIR_ITEM g.0, flat_map (λ (e : Indexed). dir_entry_bytes e.1) g.1)) (grouped (λ (e : Indexed). name_hash e.1.name) list)
       (all_true _ (grouped (λ (e : Indexed). name_hash e.1.name) list) (λ g is none. absurd (omega (arith, is)))))
-      (all_mapped IsReadable (λ (e : Indexed). (make_key ino 96 e.0, dir_entry_bytes e.1)) list
-      (all_each (λ (e : Indexed). dir_entry_head.fits e.1) (λ (e : Indexed). IsReadable (make_key ino 96 e.0, dir_entry_bytes e.1)) list (λ e fits is none. index_readable e.1 fits none) all))
+      (all_mapped IsReadable (λ (e : Indexed). (make_key ino DIR_INDEX e.0, dir_entry_bytes e.1)) list
+      (all_each (λ (e : Indexed). dir_entry_head.fits e.1) (λ (e : Indexed). IsReadable (make_key ino DIR_INDEX e.0, dir_entry_bytes e.1)) list (λ e fits is none. index_readable e.1 fits none) all))
 
   data_readable : (key : ObjectKey) → AllByRecursion IsReadable (extent_items s key)
   unfolding extent_items
@@ -145,9 +146,9 @@ module _ (s : Source) (fit : (key : ObjectKey) → AllByRecursion (λ (e : Index
       let far : List Entry = ascending (parent_of s.keys) (filter (λ e. e.extended) (names_of s.links key)) in
       let hash : Entry → ℕ = λ e. extref_hash (parent_of s.keys e) e.link.name in
       all_append IsReadable (inode_refs s.keys s.links key) (extrefs s.keys s.links key)
-      (all_mapped IsReadable (λ (g : ℕ × List Entry). (make_key (number_of s key) 12 g.0, flat_map (λ (e : Entry). inode_ref_bytes (inode_ref e)) g.1)) (grouped (parent_of s.keys) plain)
+      (all_mapped IsReadable (λ (g : ℕ × List Entry). (make_key (number_of s key) INODE_REF g.0, flat_map (λ (e : Entry). inode_ref_bytes (inode_ref e)) g.1)) (grouped (parent_of s.keys) plain)
       (all_true _ (grouped (parent_of s.keys) plain) (λ g is none. absurd (omega (arith, is)))))
-      (all_mapped IsReadable (λ (g : ℕ × List Entry). (make_key (number_of s key) 13 g.0, flat_map (λ (e : Entry). extref_bytes (extref s.keys e)) g.1)) (grouped hash far)
+      (all_mapped IsReadable (λ (g : ℕ × List Entry). (make_key (number_of s key) INODE_EXTREF g.0, flat_map (λ (e : Entry). extref_bytes (extref s.keys e)) g.1)) (grouped hash far)
       (all_true _ (grouped hash far) (λ g is none. absurd (omega (arith, is)))))
 
   names_readable : (key : ObjectKey) → AllByRecursion IsReadable (name_items s key)
@@ -172,7 +173,7 @@ module _ (s : Source) (fit : (key : ObjectKey) → AllByRecursion (λ (e : Index
 
 -- each directory index of such a tree has an entry
 pub indexes_readable : (volume : Volume) (image : Image) (o : Options) (plan : Plan) (pieces : List Piece) (items : List TreeItem) (i : TreeItem) → HasPieces volume image o plan pieces
-    → ReadAs (made_from volume image o pieces) items → Contains items i → i.key.kind ≡ 96 → index_entry i.body ≡ None → ⊥
+    → ReadAs (made_from volume image o pieces) items → Contains items i → i.key.kind ≡ DIR_INDEX → index_entry i.body ≡ None → ⊥
 indexes_readable volume image o plan pieces items i has read among is none =
     let s : Source = made_from volume image o pieces in
     let few = (accepted_is_small image has.accepted).objects (keys volume.named) has.opened.are_keys in

@@ -4,6 +4,7 @@ use Rattle.std.specs.Prelude.{Contains}
 use Rattle.std.specs.List.{AllByRecursion, flat_map}
 use Rattle.std.proofs.lemmas.Bool.{cases_Bool, not_from_false}
 use Rattle.std.proofs.lemmas.Bool.Decides.{nat_tests}
+use Rattle.btrfs_format.specs.declared.key.TheConstants.{EXTENT_DATA, INODE_ITEM, INODE_REF}
 use Rattle.indexmap.specs.IndexMap.{keys}
 use Rattle.btr_reader.proofs.fs_paths.Lists.{in_filter}
 use Rattle.convert_steps.proofs.reiser_bitmap.Ranges.{contains_cases, contains_head, contains_tail}
@@ -27,7 +28,7 @@ use Rattle.convert_trees_laws.proofs.Rising.{Climb, IsOf, all_each}
 
 -- an item is that of an inode
 abbrev is_inode : ℕ → Item → Bool
-is_inode ino i = (i.0.objectid == ino) && ((i.0.kind == 1) && (i.0.offset == 0))
+is_inode ino i = (i.0.objectid == ino) && ((i.0.kind == INODE_ITEM) && (i.0.offset == 0))
 
 -- the first one of these
 abbrev first_inode : List Item → ℕ → Option Item
@@ -74,7 +75,7 @@ module _ (s : Source) where
   own_test n = grind (arith, nat_tests)
 
   -- behind the objects before it an object's own inode is the first
-  inode_at : (ks : List ObjectKey) (key : ObjectKey) → ((k : ObjectKey) → AllByRecursion (IsOf (number_of s k) 12 108) (name_items s k ++ content_items s k (kind_in s k))) → Climb (number_of s) ks → Contains ks key
+  inode_at : (ks : List ObjectKey) (key : ObjectKey) → ((k : ObjectKey) → AllByRecursion (IsOf (number_of s k) INODE_REF EXTENT_DATA) (name_items s k ++ content_items s k (kind_in s k))) → Climb (number_of s) ks → Contains ks key
       → first_inode (flat_map (object_items s) ks) (number_of s key) ≡ Some (own key)
   unfolding object_items
   inode_at [] key parts up h = absurd (omega (arith, h.1))
@@ -86,7 +87,7 @@ module _ (s : Source) where
       (λ (later : Contains ks key).
       skipped (object_items s k) (flat_map (object_items s) ks) (number_of s key) (
         other_object (number_of s key) (number_of s k) (above ks up.0 key later),
-        all_each (IsOf (number_of s k) 12 108) (λ i. is_inode (number_of s key) i ≡ false) (name_items s k ++ content_items s k (kind_in s k)) (λ i of. other_kind (number_of s key) i.0.objectid i.0.kind i.0.offset of.low) (parts k),
+        all_each (IsOf (number_of s k) INODE_REF EXTENT_DATA) (λ i. is_inode (number_of s key) i ≡ false) (name_items s k ++ content_items s k (kind_in s k)) (λ i of. other_kind (number_of s key) i.0.objectid i.0.kind i.0.offset of.low) (parts k),
       )
       ∙ inode_at ks key parts up.1 later)
       (contains_cases key k ks h)

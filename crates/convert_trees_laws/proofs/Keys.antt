@@ -9,6 +9,8 @@ use Rattle.std.proofs.lemmas.Bool.Decides.{nat_tests}
 use Rattle.std.proofs.lemmas.List.{append-nil}
 use Rattle.std.proofs.lemmas.List.Sums.{sum_by_push}
 use Rattle.std.proofs.lemmas.Option.{slice_get-get_or}
+use Rattle.btrfs_format.specs.declared.key.TheConstants.{DIR_INDEX, DIR_ITEM, EXTENT_DATA, INODE_EXTREF, INODE_ITEM, INODE_REF}
+use Rattle.btrfs_format.specs.declared.object.TheConstants.{FIRST_FREE_OBJECTID}
 use Rattle.indexmap.specs.IndexMap.{keys}
 use Rattle.btr_reader.specs.castagnoli.Castagnoli.{extref_hash}
 use Rattle.btr_reader.specs.fs_rows.declared.row.Kind.{Kind}
@@ -199,60 +201,60 @@ widened n a b c d items low high part = record {
 }
 
 module _ (s : Source) (distinct : IsDistinct starts s.pieces) (key : ObjectKey) where
-  refs_part : IsPart (number_of s key) 12 13 (inode_refs s.keys s.links key ++ extrefs s.keys s.links key)
+  refs_part : IsPart (number_of s key) INODE_REF INODE_EXTREF (inode_refs s.keys s.links key ++ extrefs s.keys s.links key)
   refs_part =
       let plain : List Entry = filter (λ e. not e.extended) (names_of s.links key) in
       let far : List Entry = ascending (parent_of s.keys) (filter (λ e. e.extended) (names_of s.links key)) in
       let hash : Entry → ℕ = λ e. extref_hash (parent_of s.keys e) e.link.name in
-      part_append (number_of s key) 12 12 13 13 (inode_refs s.keys s.links key) (extrefs s.keys s.links key) (omega arith) (omega arith) (omega arith)
-      (part_of_kind (number_of s key) 12 (λ (g : ℕ × List Entry). g.0) (λ (g : ℕ × List Entry). flat_map (λ (e : Entry). inode_ref_bytes (inode_ref e)) g.1) (grouped (parent_of s.keys) plain) (climb_groups (grouped (parent_of s.keys) plain) (rising_grouped (parent_of s.keys) plain)))
-      (part_of_kind (number_of s key) 13 (λ (g : ℕ × List Entry). g.0) (λ (g : ℕ × List Entry). flat_map (λ (e : Entry). extref_bytes (extref s.keys e)) g.1) (grouped hash far) (climb_groups (grouped hash far) (rising_grouped hash far)))
+      part_append (number_of s key) INODE_REF INODE_REF INODE_EXTREF INODE_EXTREF (inode_refs s.keys s.links key) (extrefs s.keys s.links key) (omega arith) (omega arith) (omega arith)
+      (part_of_kind (number_of s key) INODE_REF (λ (g : ℕ × List Entry). g.0) (λ (g : ℕ × List Entry). flat_map (λ (e : Entry). inode_ref_bytes (inode_ref e)) g.1) (grouped (parent_of s.keys) plain) (climb_groups (grouped (parent_of s.keys) plain) (rising_grouped (parent_of s.keys) plain)))
+      (part_of_kind (number_of s key) INODE_EXTREF (λ (g : ℕ × List Entry). g.0) (λ (g : ℕ × List Entry). flat_map (λ (e : Entry). extref_bytes (extref s.keys e)) g.1) (grouped hash far) (climb_groups (grouped hash far) (rising_grouped hash far)))
 
-  pub names_part : IsPart (number_of s key) 12 13 (name_items s key)
+  pub names_part : IsPart (number_of s key) INODE_REF INODE_EXTREF (name_items s key)
   names_part = by (same_key key root) refl
     where
-      by : (b : Bool) → same_key key root ≡ b → IsPart (number_of s key) 12 13 (name_items s key)
+      by : (b : Bool) → same_key key root ≡ b → IsPart (number_of s key) INODE_REF INODE_EXTREF (name_items s key)
       by true is =
-          subst (IsPart (number_of s key) 12 13) (sym (name_items_root s key is))
-          (subst (λ (n : ℕ). IsPart n 12 13 (root_ref ∷ [])) (sym (root_first s.keys key is))
-          (widened 256 12 12 12 13 (root_ref ∷ []) (omega arith) (omega arith) (part_one 256 12 256 (inode_ref_bytes (record { index = 0; name = 46 ∷ 46 ∷ [] })))))
-      by false is = subst (IsPart (number_of s key) 12 13) (sym (name_items_other s key s.keys s.links is refl refl)) refs_part
+          subst (IsPart (number_of s key) INODE_REF INODE_EXTREF) (sym (name_items_root s key is))
+          (subst (λ (n : ℕ). IsPart n INODE_REF INODE_EXTREF (root_ref ∷ [])) (sym (root_first s.keys key is))
+          (widened FIRST_FREE_OBJECTID INODE_REF INODE_REF INODE_REF INODE_EXTREF (root_ref ∷ []) (omega arith) (omega arith) (part_one FIRST_FREE_OBJECTID INODE_REF FIRST_FREE_OBJECTID (inode_ref_bytes (record { index = 0; name = 46 ∷ 46 ∷ [] })))))
+      by false is = subst (IsPart (number_of s key) INODE_REF INODE_EXTREF) (sym (name_items_other s key s.keys s.links is refl refl)) refs_part
 
-  data_part : IsPart (number_of s key) 84 108 (extent_items s key)
+  data_part : IsPart (number_of s key) DIR_ITEM EXTENT_DATA (extent_items s key)
   unfolding extent_items
-  data_part = widened (number_of s key) 108 108 84 108 (extent_items s key) (omega arith) (omega arith) (by (inline_in s key))
+  data_part = widened (number_of s key) EXTENT_DATA EXTENT_DATA DIR_ITEM EXTENT_DATA (extent_items s key) (omega arith) (omega arith) (by (inline_in s key))
     where
-      by : (b : Bool) → IsPart (number_of s key) 108 108
+      by : (b : Bool) → IsPart (number_of s key) EXTENT_DATA EXTENT_DATA
           (if b then extent_item (number_of s key) 0 (inline_extent (target_bytes (items_of key s.items) (size_in s key))) ∷ [] else extents_at (number_of s key) file_block (pieces_of s.pieces (number_of s key)))
-      by true = part_one (number_of s key) 108 (4096 * 0) (file_extent_bytes (inline_extent (target_bytes (items_of key s.items) (size_in s key))))
+      by true = part_one (number_of s key) EXTENT_DATA (4096 * 0) (file_extent_bytes (inline_extent (target_bytes (items_of key s.items) (size_in s key))))
       by false = extents_part (number_of s key) file_block (pieces_of s.pieces (number_of s key)) (blocks_once s.pieces (number_of s key) distinct)
 
-  content_part : (kind : Kind) → IsPart (number_of s key) 84 108 (content_items s key kind)
+  content_part : (kind : Kind) → IsPart (number_of s key) DIR_ITEM EXTENT_DATA (content_items s key kind)
   content_part Directory =
-      widened (number_of s key) 84 96 84 108 (content_items s key Directory) (omega arith) (omega arith)
+      widened (number_of s key) DIR_ITEM DIR_INDEX DIR_ITEM EXTENT_DATA (content_items s key Directory) (omega arith) (omega arith)
       (entries_part (number_of s key) (indexed_in (kind_in s) s.keys s.links key) (entries_climb (kind_in s) s.keys s.links key))
   content_part File = data_part
   content_part Symlink = data_part
-  content_part Character = no_part (number_of s key) 84 108
-  content_part Block = no_part (number_of s key) 84 108
-  content_part Fifo = no_part (number_of s key) 84 108
-  content_part Socket = no_part (number_of s key) 84 108
-  content_part Subvolume = no_part (number_of s key) 84 108
+  content_part Character = no_part (number_of s key) DIR_ITEM EXTENT_DATA
+  content_part Block = no_part (number_of s key) DIR_ITEM EXTENT_DATA
+  content_part Fifo = no_part (number_of s key) DIR_ITEM EXTENT_DATA
+  content_part Socket = no_part (number_of s key) DIR_ITEM EXTENT_DATA
+  content_part Subvolume = no_part (number_of s key) DIR_ITEM EXTENT_DATA
 
   -- what stands behind the item of the inode
-  pub rest_part : IsPart (number_of s key) 12 108 (name_items s key ++ content_items s key (kind_in s key))
-  rest_part = part_append (number_of s key) 12 13 84 108 (name_items s key) (content_items s key (kind_in s key)) (omega arith) (omega arith) (omega arith) names_part (content_part (kind_in s key))
+  pub rest_part : IsPart (number_of s key) INODE_REF EXTENT_DATA (name_items s key ++ content_items s key (kind_in s key))
+  rest_part = part_append (number_of s key) INODE_REF INODE_EXTREF DIR_ITEM EXTENT_DATA (name_items s key) (content_items s key (kind_in s key)) (omega arith) (omega arith) (omega arith) names_part (content_part (kind_in s key))
 
-  object_part : IsPart (number_of s key) 1 108 (object_items s key)
+  object_part : IsPart (number_of s key) INODE_ITEM EXTENT_DATA (object_items s key)
   unfolding object_items
   object_part =
-      part_append (number_of s key) 1 1 12 108 (inode_item (number_of s key) (inode_in s key) ∷ []) (name_items s key ++ content_items s key (kind_in s key)) (omega arith) (omega arith) (omega arith)
-      (part_one (number_of s key) 1 0 (inode_bytes (inode_in s key))) rest_part
+      part_append (number_of s key) INODE_ITEM INODE_ITEM INODE_REF EXTENT_DATA (inode_item (number_of s key) (inode_in s key) ∷ []) (name_items s key ++ content_items s key (kind_in s key)) (omega arith) (omega arith) (omega arith)
+      (part_one (number_of s key) INODE_ITEM 0 (inode_bytes (inode_in s key))) rest_part
 
 tree_rises : (s : Source) (at : ℕ) → AreNumbered at s.keys → IsDistinct starts s.pieces → Rise (tree_items s)
 unfolding tree_items
 tree_rises s at are distinct =
-    rise_objects 1 108 (number_of s) (object_items s) (by_inode s.keys) (inodes_climb s.keys at are) (all_true (λ key. IsPart (number_of s key) 1 108 (object_items s key)) (by_inode s.keys) (object_part s distinct))
+    rise_objects INODE_ITEM EXTENT_DATA (number_of s) (object_items s) (by_inode s.keys) (inodes_climb s.keys at are) (all_true (λ key. IsPart (number_of s key) INODE_ITEM EXTENT_DATA (object_items s key)) (by_inode s.keys) (object_part s distinct))
 
 pub file_keys_ascend : FileKeysAscend
 file_keys_ascend volume image o plan pieces has =

@@ -1,6 +1,7 @@
 -- The trees but the file tree take no more than was counted for them.
 use Rattle.std.proofs.Common.{◌≡◌, ◌≤◌, ◌<◌, ℕ, zero, suc, ◌^◌, ◌-◌, List, [], ◌∷◌, length, get_or, sym, ap, subst, arith, sum_by}
 use Rattle.std.specs.Prelude.{AllPairs}
+use Rattle.btrfs_format.specs.declared.object.TheConstants.{CONV_IMAGE_SUBVOL, CSUM_TREE, DATA_RELOC_TREE, DEV_TREE, EXTENT_TREE, FS_TREE}
 use Rattle.btr_reader.specs.outside.History.{Image}
 use Rattle.convert_steps.specs.Making.{IsMaking, Making, new_ids, saved_index}
 use Rattle.convert_steps.specs.Standing.{listed}
@@ -36,12 +37,12 @@ one a = λ i j d l h. absurd (omega (arith, l, h))
 
 trees_ascend : (r : VolumeTrees) → AllPairs (λ a b. a.tree < b.tree) (listed r)
 trees_ascend r =
-    let a : TreeRoot = record { tree = 2; root = r.extents } in
-    let b : TreeRoot = record { tree = 4; root = r.device } in
-    let c : TreeRoot = record { tree = 5; root = r.files } in
-    let d : TreeRoot = record { tree = 7; root = r.sums } in
-    let e : TreeRoot = record { tree = 256; root = r.image } in
-    let f : TreeRoot = record { tree = 2 ^ 64 - 9; root = r.relocation } in
+    let a : TreeRoot = record { tree = EXTENT_TREE; root = r.extents } in
+    let b : TreeRoot = record { tree = DEV_TREE; root = r.device } in
+    let c : TreeRoot = record { tree = FS_TREE; root = r.files } in
+    let d : TreeRoot = record { tree = CSUM_TREE; root = r.sums } in
+    let e : TreeRoot = record { tree = CONV_IMAGE_SUBVOL; root = r.image } in
+    let f : TreeRoot = record { tree = DATA_RELOC_TREE; root = r.relocation } in
     let last : List TreeRoot = f ∷ [] in
     two a b (c ∷ (d ∷ (e ∷ last))) (omega arith) (two b c (d ∷ (e ∷ last)) (omega arith) (two c d (e ∷ last) (omega arith) (two d e last (omega arith) (two e f [] (omega arith) (one f)))))
 

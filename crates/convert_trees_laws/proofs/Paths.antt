@@ -4,6 +4,8 @@ use Rattle.std.specs.List.{flat_map}
 use Rattle.std.proofs.lemmas.Bool.{ne_eqb}
 use Rattle.std.proofs.lemmas.List.{map-append}
 use Rattle.std.proofs.lemmas.List.Elements.{filter-append}
+use Rattle.btrfs_format.specs.declared.key.TheConstants.{INODE_ITEM, ROOT_ITEM}
+use Rattle.btrfs_format.specs.declared.object.TheConstants.{FIRST_FREE_OBJECTID}
 use Rattle.indexmap.specs.IndexMap.{keys}
 use Rattle.btr_reader.specs.outside.History.{Image}
 use Rattle.btr_reader.proofs.fs_paths.Lists.{from_filter, from_map}
@@ -61,7 +63,7 @@ module _ (volume : Volume) (image : Image) (o : Options) (plan : Plan) (pieces :
           n.2.dir ∙ ap (number_of s) leads.2,
           directory_in s items from (inode_there volume image o plan pieces has items read inodes from among) directory,
           n.2.name ∙ leads.3,
-          (ap (λ (k : Key). k.kind == 1) n.2.location, ap (λ (k : Key). k.objectid) n.2.location),
+          (ap (λ (k : Key). k.kind == INODE_ITEM) n.2.location, ap (λ (k : Key). k.objectid) n.2.location),
           down l.target names key g.target_known leads.4,
         )
 
@@ -72,7 +74,7 @@ module _ (volume : Volume) (image : Image) (o : Options) (plan : Plan) (pieces :
     goes_on n l (inode ino) to names is named leads later =
         let same : ino ≡ number_of s l.target = sym named.1 ∙ ap (λ (k : Key). k.objectid) is.location in
         later (subst (λ (i : ℕ). LeadsOn items (inode i) names to) same leads)
-    goes_on n l (tree number) to names is named leads later = absurd (true≢false (sym named.0 ∙ ap (λ (k : Key). k.kind == 132) is.location))
+    goes_on n l (tree number) to names is named leads later = absurd (true≢false (sym named.0 ∙ ap (λ (k : Key). k.kind == ROOT_ITEM) is.location))
 
     up : (from : ObjectKey) (path : NameList) (to : Target) → Contains all from → LeadsOn items (inode (number_of s from)) path to → Reaches from path to
     up from [] to among leads = (from, among, sym leads, refl)
@@ -117,7 +119,7 @@ module _ (volume : Volume) (image : Image) (o : Options) (plan : Plan) (pieces :
     other_aside key Directory among other =
         kept_none aside (map (naming_by (number_of s key)) (indexed_in (kind_in s) s.keys s.links key)) (all_from (λ n. aside n ≡ false) (map (naming_by (number_of s key)) (indexed_in (kind_in s) s.keys s.links key)) (λ n h.
         let m = from_map (naming_by (number_of s key)) (indexed_in (kind_in s) s.keys s.links key) n h in
-        let apart : (n.dir == 256) ≡ false = ne_eqb n.dir 256 (λ is. other (one_object volume image o plan pieces has key root among root_there (ap (λ (x : Naming). x.dir) m.2 ∙ is))) in
+        let apart : (n.dir == FIRST_FREE_OBJECTID) ≡ false = ne_eqb n.dir 256 (λ is. other (one_object volume image o plan pieces has key root among root_there (ap (λ (x : Naming). x.dir) m.2 ∙ is))) in
         ap (λ (b : Bool). not (not (b && is_saved_name n.name))) apart))
     other_aside key File among other = refl
     other_aside key Symlink among other = refl

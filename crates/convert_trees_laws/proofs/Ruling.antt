@@ -2,6 +2,8 @@
 use Rattle.std.proofs.Common.{◌≡◌, ◌≢◌, ◌≤◌, ◌<◌, ℕ, ◌^◌, ◌==◌, Bool, true, false, List, [], ◌∷◌, map, Contains, Option, Some, None, refl, sym, ap, subst, ◌∙◌, ⊎_elim, true≢false, if◌then◌else◌, arith}
 use Rattle.std.specs.List.{AllByRecursion, flat_map}
 use Rattle.std.proofs.lemmas.Bool.{eqb-true}
+use Rattle.btrfs_format.specs.declared.key.TheConstants.{DIR_INDEX, INODE_ITEM, ROOT_ITEM}
+use Rattle.btrfs_format.specs.declared.object.TheConstants.{FIRST_FREE_OBJECTID}
 use Rattle.indexmap.specs.IndexMap.{keys}
 use Rattle.btr_reader.specs.outside.History.{Image}
 use Rattle.btr_reader.specs.refusals.declared.refusal.BtrRefusal.{BtrRefusal}
@@ -167,10 +169,10 @@ module _ (volume : Volume) (image : Image) (o : Options) (plan : Plan) (pieces :
     link_by n h = let l = link_told volume image o plan pieces has items read entries n h in record { link_ = l.0; among = l.1; is = l.2 }
 
     names_one : (n : Naming) → Contains (followed items) n → names_inode n ≡ true
-    names_one n h = let l = link_by n h in ap (λ (k : Key). k.kind == 1) l.is.location
+    names_one n h = let l = link_by n h in ap (λ (k : Key). k.kind == INODE_ITEM) l.is.location
 
     names_no_tree : (n : Naming) → Contains (followed items) n → names_tree n ≡ false
-    names_no_tree n h = let l = link_by n h in ap (λ (k : Key). k.kind == 132) l.is.location
+    names_no_tree n h = let l = link_by n h in ap (λ (k : Key). k.kind == ROOT_ITEM) l.is.location
 
     leads_to : (n : Naming) (l : Link) → IsLinkOf s n l → n.location.objectid ≡ number_of s l.target
     leads_to n l is = ap (λ (k : Key). k.objectid) is.location
@@ -233,10 +235,10 @@ module _ (volume : Volume) (image : Image) (o : Options) (plan : Plan) (pieces :
         by (saved dir name location) = ap is_name name
 
     keeps : (has_root : ℕ → Bool) (at : ℕ) (r : BtrRefusal) → BreaksNames has_root items at r → ⊥
-    keeps has_root at r (no_root_directory none is) = let own = inode_of_key root root_there in some_item own.item (item_of items 256) (ap (item_of items) (sym (root_number volume image o plan pieces has)) ∙ own.found) none
+    keeps has_root at r (no_root_directory none is) = let own = inode_of_key root root_there in some_item own.item (item_of items FIRST_FREE_OBJECTID) (ap (item_of items) (sym (root_number volume image o plan pieces has)) ∙ own.found) none
     keeps has_root at r (root_is_none own kind on known_kind other is) =
         let there = inode_of_key root root_there in
-        let same : there.own ≡ own = same_inode there.own own (inode_on items 256) (ap (inode_on items) (sym (root_number volume image o plan pieces has)) ∙ on_tree s items root there) on in
+        let same : there.own ≡ own = same_inode there.own own (inode_on items FIRST_FREE_OBJECTID) (ap (inode_on items) (sym (root_number volume image o plan pieces has)) ∙ on_tree s items root there) on in
         let root_kind = directory_there volume image has.accepted has.opened o pieces root has.accepted.objects.root_directory in
         other (same_kind kind (kind_in s root) (tree_kind own.mode) known_kind (ap (λ (j : Inode). tree_kind j.mode) (sym same) ∙ there.kind) ∙ root_kind)
     keeps has_root at r (bad_inode ino i named found none is) = let own = read_named ino named in some_inode own.at.own (inode_of i.body) (read_own ino i own found) none
@@ -245,7 +247,7 @@ module _ (volume : Volume) (image : Image) (o : Options) (plan : Plan) (pieces :
         let same : there.at.own ≡ own = same_inode there.at.own own (inode_of i.body) (read_own ino i there found) told in
         some_kind (kind_in s there.key) (tree_kind own.mode) (ap (λ (j : Inode). tree_kind j.mode) (sym same) ∙ there.at.kind) none
     keeps has_root at r (long_target ino i own named found told kind long is) = let few = short_target ino i own named found told kind in omega (arith, few, long)
-    keeps has_root at r (bad_index i among index opened none is) = indexes_readable volume image o plan pieces items i has read among (eqb-true i.key.kind 96 index) none
+    keeps has_root at r (bad_index i among index opened none is) = indexes_readable volume image o plan pieces items i has read among (eqb-true i.key.kind DIR_INDEX index) none
     keeps has_root at r (bad_name n among opened bad is) = never (is_name n.name) (good_name n among) bad
     keeps has_root at r (twice m n are opened dir name is) = apart_in Differ (namings items) m n names_differ are dir name
     keeps has_root at r (bad_location n among opened no_one no_other is) = never (names_inode n) (names_one n among) no_one

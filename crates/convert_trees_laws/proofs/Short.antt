@@ -5,6 +5,7 @@ use Rattle.std.specs.List.{AllByRecursion, flat_map}
 use Rattle.std.proofs.lemmas.Bool.Decides.{nat_tests}
 use Rattle.std.proofs.lemmas.List.{length-take}
 use Rattle.std.proofs.lemmas.List.Sums.{sum_by-append, sum_by-cons}
+use Rattle.btrfs_format.specs.declared.key.TheConstants.{DIR_INDEX, DIR_ITEM, INODE_EXTREF, INODE_REF}
 use Rattle.btr_reader.specs.castagnoli.Castagnoli.{name_hash, extref_hash}
 use Rattle.convert_steps.proofs.reiser_bitmap.Ranges.{contains_head, contains_tail}
 use Rattle.btr_reader.specs.fs_rows.declared.row.Kind.{Kind}
@@ -248,17 +249,17 @@ pub refs_short : (all : List ObjectKey) (links : List Naming) (key : ObjectKey) 
     → ((m : ℕ) → extended_crowd_of links all key m ≤ 3900) → AllByRecursion IsShort (inode_refs all links key ++ extrefs all links key)
 refs_short all links key one known few =
     all_append IsShort (inode_refs all links key) (extrefs all links key)
-    (groups_short (inode_of all key) 12 (parent_of all) (λ (e : Entry). inode_ref_bytes (inode_ref e)) (λ (e : Entry). 10 + length e.link.name) (filter (λ e. not e.extended) (names_of links key)) (λ e. ref_long (inode_ref e)) (λ m. refs_sum all one key m links known))
-    (groups_short (inode_of all key) 13 (λ (e : Entry). extref_hash (parent_of all e) e.link.name) (λ (e : Entry). extref_bytes (extref all e)) (λ (e : Entry). 18 + length e.link.name) (ascending (parent_of all) (filter (λ e. e.extended) (names_of links key))) (λ e. far_long (extref all e))
+    (groups_short (inode_of all key) INODE_REF (parent_of all) (λ (e : Entry). inode_ref_bytes (inode_ref e)) (λ (e : Entry). 10 + length e.link.name) (filter (λ e. not e.extended) (names_of links key)) (λ e. ref_long (inode_ref e)) (λ m. refs_sum all one key m links known))
+    (groups_short (inode_of all key) INODE_EXTREF (λ (e : Entry). extref_hash (parent_of all e) e.link.name) (λ (e : Entry). extref_bytes (extref all e)) (λ (e : Entry). 18 + length e.link.name) (ascending (parent_of all) (filter (λ e. e.extended) (names_of links key))) (λ e. far_long (extref all e))
     (λ m. far_sum all one key m links (few m)))
 
 -- the items of entries with short names, where those of no hash take too much
 pub entry_items_short : (ino : ℕ) (list : List Indexed) → AllByRecursion (λ (e : Indexed). length e.1.name ≤ 255) list → ((m : ℕ) → sum_by (λ (e : Indexed). 30 + length e.1.name) (filter (λ e. name_hash e.1.name == m) list) ≤ 3900)
     → AllByRecursion IsShort (entry_items ino list)
 entry_items_short ino list low few =
-    all_append IsShort (map (λ g. (make_key ino 84 g.0, flat_map (λ (e : Indexed). dir_entry_bytes e.1) g.1)) (grouped (λ (e : Indexed). name_hash e.1.name) list)) (map (λ (e : Indexed). (make_key ino 96 e.0, dir_entry_bytes e.1)) list)
-    (groups_short ino 84 (λ (e : Indexed). name_hash e.1.name) (λ (e : Indexed). dir_entry_bytes e.1) (λ (e : Indexed). 30 + length e.1.name) list (λ e. entry_long e.1) few)
-    (all_mapped IsShort (λ (e : Indexed). (make_key ino 96 e.0, dir_entry_bytes e.1)) list (all_each (λ (e : Indexed). length e.1.name ≤ 255) (λ (e : Indexed). IsShort (make_key ino 96 e.0, dir_entry_bytes e.1)) list (λ e short. let long = entry_long e.1 in omega (arith, long, short)) low))
+    all_append IsShort (map (λ g. (make_key ino DIR_ITEM g.0, flat_map (λ (e : Indexed). dir_entry_bytes e.1) g.1)) (grouped (λ (e : Indexed). name_hash e.1.name) list)) (map (λ (e : Indexed). (make_key ino DIR_INDEX e.0, dir_entry_bytes e.1)) list)
+    (groups_short ino DIR_ITEM (λ (e : Indexed). name_hash e.1.name) (λ (e : Indexed). dir_entry_bytes e.1) (λ (e : Indexed). 30 + length e.1.name) list (λ e. entry_long e.1) few)
+    (all_mapped IsShort (λ (e : Indexed). (make_key ino DIR_INDEX e.0, dir_entry_bytes e.1)) list (all_each (λ (e : Indexed). length e.1.name ≤ 255) (λ (e : Indexed). IsShort (make_key ino DIR_INDEX e.0, dir_entry_bytes e.1)) list (λ e short. let long = entry_long e.1 in omega (arith, long, short)) low))
 
 -- ---- entries
 

@@ -5,6 +5,8 @@ use Rattle.std.specs.List.{AllByRecursion}
 use Rattle.std.proofs.lemmas.Bool.{and_parts, leb-true}
 use Rattle.std.proofs.lemmas.List.Elements.{All-from_recursion}
 use Rattle.std.proofs.lemmas.List.Sums.{sum_by-cons}
+use Rattle.btrfs_format.specs.declared.object.TheConstants.{FIRST_FREE_OBJECTID}
+use Rattle.vol_block.specs.declared.mode.TheConstants.{DIRECTORY_MODE, IMAGE_MODE}
 use Rattle.btr_reader.specs.castagnoli.Castagnoli.{name_hash}
 use Rattle.indexmap.specs.IndexMap.{keys}
 use Rattle.btr_reader.proofs.fs_paths.Lists.{from_filter}
@@ -52,7 +54,7 @@ ref_short : (ino parent index : ℕ) (name : List ℕ) → length name ≤ 255 �
 ref_short ino parent index name low = let long = ref_long (record { index = index; name = name }) in omega (arith, long, low)
 
 root_short : (now : ℕ) (list : List Indexed) → AllByRecursion (λ (e : Indexed). length e.1.name ≤ 255) list → ((m : ℕ) → sum_by (λ (e : Indexed). 30 + length e.1.name) (filter (λ e. name_hash e.1.name == m) list) ≤ 3900) → AllByRecursion IsShort (root_items now list)
-root_short now list low few = (inode_short 256 (inode_made now 0x41ED (2 * letters list) 0 0), (ref_short 256 256 0 (46 ∷ 46 ∷ []) (omega arith), entry_items_short 256 list low few))
+root_short now list low few = (inode_short FIRST_FREE_OBJECTID (inode_made now DIRECTORY_MODE (2 * letters list) 0 0), (ref_short FIRST_FREE_OBJECTID FIRST_FREE_OBJECTID 0 (46 ∷ 46 ∷ []) (omega arith), entry_items_short FIRST_FREE_OBJECTID list low few))
 
 relocation_short : (now : ℕ) → AllByRecursion IsShort (relocation_items now)
 unfolding relocation_items
@@ -71,11 +73,11 @@ image_few m = by (name_hash image_name == m)
 image_short : (blocks : ℕ) (pieces : List Piece) (datasum : Bool) (now : ℕ) → AllByRecursion IsShort (image_items blocks pieces datasum now)
 unfolding image_items image_head
 image_short blocks pieces datasum now =
-    let inode : Item = inode_item 257 (inode_made now 0x8100 (4096 * blocks) (piece_bytes (pieces_of_volume pieces)) (image_flags datasum)) in
-    let name : Item = ref_item 257 256 2 image_name in
+    let inode : Item = inode_item 257 (inode_made now IMAGE_MODE (4096 * blocks) (piece_bytes (pieces_of_volume pieces)) (image_flags datasum)) in
+    let name : Item = ref_item 257 FIRST_FREE_OBJECTID 2 image_name in
     all_append IsShort (root_items now image_entries ++ (inode ∷ name ∷ [])) (extents_at 257 source_block (pieces_of_volume pieces))
     (all_append IsShort (root_items now image_entries) (inode ∷ name ∷ []) (root_short now image_entries (name_low, tt) image_few)
-    (inode_short 257 (inode_made now 0x8100 (4096 * blocks) (piece_bytes (pieces_of_volume pieces)) (image_flags datasum)), (ref_short 257 256 2 image_name name_low, tt)))
+    (inode_short 257 (inode_made now IMAGE_MODE (4096 * blocks) (piece_bytes (pieces_of_volume pieces)) (image_flags datasum)), (ref_short 257 FIRST_FREE_OBJECTID 2 image_name name_low, tt)))
     (extents_short 257 source_block (pieces_of_volume pieces))
 
 -- ---- the file tree
@@ -170,7 +172,7 @@ module _ (volume : Volume) (image : Image) (o : Options) (pieces : List Piece) (
   names_short key = by (same_key key root) refl
     where
       by : (b : Bool) → same_key key root ≡ b → AllByRecursion IsShort (name_items s key)
-      by true is = subst (AllByRecursion IsShort) (sym (name_items_root s key is)) (ref_short 256 256 0 (46 ∷ 46 ∷ []) (omega arith), tt)
+      by true is = subst (AllByRecursion IsShort) (sym (name_items_root s key is)) (ref_short FIRST_FREE_OBJECTID FIRST_FREE_OBJECTID 0 (46 ∷ 46 ∷ []) (omega arith), tt)
       by false is = subst (AllByRecursion IsShort) (sym (name_items_other s key s.keys s.links is refl refl)) (refs_short all links key one known (far key))
 
   object_short : (key : ObjectKey) → IsNamed items key → AllByRecursion IsShort (object_items s key)

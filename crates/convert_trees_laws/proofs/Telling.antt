@@ -2,6 +2,8 @@
 use Rattle.std.proofs.Common.{◌≡◌, ◌<◌, ℕ, ◌-◌, ◌^◌, ◌==◌, ◌&&◌, not, Bool, true, false, List, [], ◌∷◌, map, filter, Contains, Option, Some, option_and_then, if◌then◌else◌, refl, sym, ap, subst, ◌∙◌, ◌⊎◌, inl, inr, ⊎_elim, true≢false, arith}
 use Rattle.std.proofs.lemmas.Bool.{cases_Bool, eqb-true, not_from_false}
 use Rattle.std.proofs.lemmas.List.Elements.{Contains-append_cases, Contains-append_left}
+use Rattle.btrfs_format.specs.declared.key.TheConstants.{INODE_ITEM, ROOT_ITEM}
+use Rattle.btrfs_format.specs.declared.object.TheConstants.{CONV_IMAGE_SUBVOL, FIRST_FREE_OBJECTID}
 use Rattle.indexmap.specs.IndexMap.{keys}
 use Rattle.btr_reader.specs.outside.History.{Image}
 use Rattle.btr_reader.proofs.fs_paths.Nodes.{same_name-true}
@@ -85,14 +87,14 @@ pub record IsEntryIn (s : Source) (key : ObjectKey) (n : Naming) : Type 0 where
 
 -- an entry is a link, or the root's entry for the tree of the saved image
 pub data IsTold (s : Source) (n : Naming) : Type 0 where
-  link : (l : Link) → Contains s.links l → n.dir ≡ number_of s l.dir → n.name ≡ l.name → n.location ≡ make_key (number_of s l.target) 1 0 → IsTold s n
-  saved : n.dir ≡ 256 → n.name ≡ saved_name → n.location ≡ make_key 256 132 (2 ^ 64 - 1) → IsTold s n
+  link : (l : Link) → Contains s.links l → n.dir ≡ number_of s l.dir → n.name ≡ l.name → n.location ≡ make_key (number_of s l.target) INODE_ITEM 0 → IsTold s n
+  saved : n.dir ≡ FIRST_FREE_OBJECTID → n.name ≡ saved_name → n.location ≡ make_key CONV_IMAGE_SUBVOL ROOT_ITEM (2 ^ 64 - 1) → IsTold s n
 
 -- the entry that a link is
 pub record IsLinkOf (s : Source) (n : Naming) (l : Link) : Type 0 where
   pub dir : n.dir ≡ number_of s l.dir
   pub name : n.name ≡ l.name
-  pub location : n.location ≡ make_key (number_of s l.target) 1 0
+  pub location : n.location ≡ make_key (number_of s l.target) INODE_ITEM 0
 
 entry_cases : (s : Source) (key : ObjectKey) (e : Indexed) → Contains (indexed_in (kind_in s) s.keys s.links key) e
     → ((f : Entry) × Contains (names_in s.links key) f × (indexed (kind_in s) s.keys f ≡ e)) ⊎ ((key ≡ root) × ((next_index s.links key, saved_entry) ≡ e))
@@ -107,7 +109,7 @@ entry_cases s key e h =
     by false is h = absurd (omega (arith, h.1))
 
 -- the root's entry for the saved image is not followed
-saved_apart : (n : Naming) → n.dir ≡ 256 → n.name ≡ saved_name → is_followed n ≡ false
+saved_apart : (n : Naming) → n.dir ≡ FIRST_FREE_OBJECTID → n.name ≡ saved_name → is_followed n ≡ false
 saved_apart n dir name = ap (λ (d : ℕ). not ((d == 256) && is_saved_name n.name)) dir ∙ ap (λ (x : List ℕ). not (is_saved_name x)) name
 
 in_order : (all : List ObjectKey) (key : ObjectKey) → Contains all key → Contains (by_inode all) key
@@ -204,9 +206,9 @@ module _ (volume : Volume) (image : Image) (o : Options) (plan : Plan) (pieces :
 
     -- a link is followed
     pub link_followed : (n : Naming) (l : Link) → Contains s.links l → IsLinkOf s n l → is_followed n ≡ true
-    link_followed n l h is = by (n.dir == 256) (is_saved_name n.name) refl refl
+    link_followed n l h is = by (n.dir == FIRST_FREE_OBJECTID) (is_saved_name n.name) refl refl
       where
-        by : (a b : Bool) → (n.dir == 256) ≡ a → is_saved_name n.name ≡ b → not (a && b) ≡ true
+        by : (a b : Bool) → (n.dir == FIRST_FREE_OBJECTID) ≡ a → is_saved_name n.name ≡ b → not (a && b) ≡ true
         by false b dir name = refl
         by true false dir name = refl
         by true true dir name =
@@ -230,6 +232,6 @@ module _ (volume : Volume) (image : Image) (o : Options) (plan : Plan) (pieces :
         let is : IsLinkOf s m.0 l = record {
           dir = ap (λ (x : Naming). x.dir) m.2;
           name = ap (λ (x : Naming). x.name) m.2 ∙ ap (λ (x : Link). x.name) f.2;
-          location = ap (λ (x : Naming). x.location) m.2 ∙ ap (λ (x : Link). make_key (number_of s x.target) 1 0) f.2;
+          location = ap (λ (x : Naming). x.location) m.2 ∙ ap (λ (x : Link). make_key (number_of s x.target) INODE_ITEM 0) f.2;
         } in
         (m.0, in_filter is_followed (namings items) m.0 m.1 (link_followed m.0 l h is), is)

@@ -1,5 +1,6 @@
 -- What the names of a tree of the file tree's items are.
 use Rattle.std.specs.Prelude.{◌≡◌, ℕ, Bool, not, List, [], ◌∷◌, map, filter, Contains}
+use Rattle.btrfs_format.specs.declared.object.TheConstants.{FIRST_FREE_OBJECTID}
 use Rattle.btr_reader.specs.outside.History.{Image}
 use Rattle.btr_reader.specs.btr_reader_names.Links.{Target, inode, namings, is_followed, Leads as LeadsOn}
 use Rattle.btr_reader.specs.btr_reader_names.Rules.{KeepsNames}
@@ -25,8 +26,8 @@ ReadAs s items = map bare_item items ≡ tree_items s
 -- The paths of the tree are those of the volume, and lead to the inodes of the same objects. Each object has an inode of its own.
 -- Of all entries one alone is no part of this: the root directory's last one, which leads to the tree of the saved image.
 pub record HasSamePaths (s : Source) (items : List TreeItem) : Type 0 where
-  pub kept : (path : NameList) (key : ObjectKey) → Leads s.links root path key → LeadsOn items (inode 256) path (inode (number_of s key))
-  pub only : (path : NameList) (to : Target) → LeadsOn items (inode 256) path to → (key : ObjectKey) × Contains s.keys key × (to ≡ inode (number_of s key)) × Leads s.links root path key
+  pub kept : (path : NameList) (key : ObjectKey) → Leads s.links root path key → LeadsOn items (inode FIRST_FREE_OBJECTID) path (inode (number_of s key))
+  pub only : (path : NameList) (to : Target) → LeadsOn items (inode FIRST_FREE_OBJECTID) path to → (key : ObjectKey) × Contains s.keys key × (to ≡ inode (number_of s key)) × Leads s.links root path key
   pub apart : (a b : ObjectKey) → Contains s.keys a → Contains s.keys b → number_of s a ≡ number_of s b → a ≡ b
   pub saved : map unplaced (filter (λ n. not (is_followed n)) (namings items)) ≡ naming_by 256 (next_index s.links root, saved_entry) ∷ []
 

@@ -4,6 +4,7 @@ use Rattle.std.specs.Prelude.{unwrap_or}
 use Rattle.std.specs.Option.{option_map_or}
 use Rattle.std.proofs.lemmas.List.{append_assoc, length-map}
 use Rattle.std.proofs.lemmas.List.Sums.{length-filter, sum_by-cons, sum_by-append}
+use Rattle.btrfs_format.specs.declared.key.TheConstants.{INODE_ITEM}
 use Rattle.fs_rows.specs.declared.row.Kind.{Kind}
 use Rattle.fs_rows.specs.declared.row.Kind.TheVariants.{Directory}
 use Rattle.fs_rows.specs.Kinds.{is_directory}
@@ -127,19 +128,19 @@ inode_of_object s key flags stat kind size nbytes nlink flags_are stat_is kind_i
     ∙ ap (λ (k : Kind). inode_from s.datasum s.flags (stat_in s key) k (size_by s key k) (bytes_by s key) (if is_directory k then 1 else count_by (λ n. same_key n.target key) s.links)) kind_is))))
 
 -- an object begins by its inode, its names and its content
-pub begins : (s : Source) (key : ObjectKey) (file : FileInHand) (ino : ℕ) (inode : Inode) (items₀ items₁ items₂ items₃ : List Item) → ino ≡ number_of s key → inode ≡ inode_in s key → items₁ ≡ items₀ ++ (make_key ino 1 0, inode_bytes inode) ∷ [] → items₂ ≡ items₁ ++ name_items s key
+pub begins : (s : Source) (key : ObjectKey) (file : FileInHand) (ino : ℕ) (inode : Inode) (items₀ items₁ items₂ items₃ : List Item) → ino ≡ number_of s key → inode ≡ inode_in s key → items₁ ≡ items₀ ++ (make_key ino INODE_ITEM 0, inode_bytes inode) ∷ [] → items₂ ≡ items₁ ++ name_items s key
     → HasContent s key file items₂ items₃ → Begins s key file items₀ items₃
 unfolding object_items
 begins s key file ino inode items₀ items₁ items₂ items₃ ino_is inode_is one two content = record {
-  item = (make_key ino 1 0, inode_bytes inode);
+  item = (make_key ino INODE_ITEM 0, inode_bytes inode);
   items = name_items s key ++ content.items;
   added =
       content.added
       ∙ (ap (λ (l : List Item). l ++ content.items) (two ∙ ap (λ (l : List Item). l ++ name_items s key) one)
-      ∙ (ap (λ (l : List Item). l ++ content.items) (append_assoc items₀ ((make_key ino 1 0, inode_bytes inode) ∷ []) (name_items s key))
-      ∙ append_assoc items₀ ((make_key ino 1 0, inode_bytes inode) ∷ name_items s key) content.items));
+      ∙ (ap (λ (l : List Item). l ++ content.items) (append_assoc items₀ ((make_key ino INODE_ITEM 0, inode_bytes inode) ∷ []) (name_items s key))
+      ∙ append_assoc items₀ ((make_key ino INODE_ITEM 0, inode_bytes inode) ∷ name_items s key) content.items));
   are =
-      ap (λ (i : ℕ). (make_key i 1 0, inode_bytes (inode_in s key)) ∷ (name_items s key ++ content_items s key (kind_in s key))) (sym ino_is)
-      ∙ (ap (λ (i : Inode). (make_key ino 1 0, inode_bytes i) ∷ (name_items s key ++ content_items s key (kind_in s key))) (sym inode_is)
-      ∙ ap (λ (l : List Item). (make_key ino 1 0, inode_bytes inode) ∷ l) (ap (λ (l : List Item). name_items s key ++ l) content.are ∙ sym (append_assoc (name_items s key) content.items (file_ahead file s.pieces))));
+      ap (λ (i : ℕ). (make_key i INODE_ITEM 0, inode_bytes (inode_in s key)) ∷ (name_items s key ++ content_items s key (kind_in s key))) (sym ino_is)
+      ∙ (ap (λ (i : Inode). (make_key ino INODE_ITEM 0, inode_bytes i) ∷ (name_items s key ++ content_items s key (kind_in s key))) (sym inode_is)
+      ∙ ap (λ (l : List Item). (make_key ino INODE_ITEM 0, inode_bytes inode) ∷ l) (ap (λ (l : List Item). name_items s key ++ l) content.are ∙ sym (append_assoc (name_items s key) content.items (file_ahead file s.pieces))));
 }

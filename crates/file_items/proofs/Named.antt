@@ -5,6 +5,7 @@ use Rattle.std.proofs.lemmas.List.{map-append}
 use Rattle.std.proofs.lemmas.List.Elements.{filter-append, filter_passes}
 use Rattle.std.proofs.lemmas.List.Sums.{sum_by_push, sum_by-cons}
 use Rattle.std.proofs.lemmas.Option.{slice_get_within, get_or_from_slice_get, slice_get-get_or}
+use Rattle.btrfs_format.specs.declared.key.TheConstants.{INODE_ITEM}
 use Rattle.fs_rows.specs.declared.row.Kind.{Kind}
 use Rattle.reiser_volume.specs.outside.History.{Image}
 use Rattle.unit_plan.specs.btr_keys.DirEntry.{DirEntryValue}
@@ -135,10 +136,10 @@ names_more all ino done more e old new has one more_is = record {
         flip false = refl
 
 -- the entry that is made of a link
-pub entry_made : (ino ino' kind kind' : ℕ) (location : Key) (name name' : List ℕ) (value : DirEntryValue) → value ≡ record { location = location; transid = 1; data_length = 0; kind = kind; name = name } → location ≡ make_key ino 1 0 → ino ≡ ino' → kind ≡ kind' → name ≡ name'
-    → value ≡ record { location = make_key ino' 1 0; transid = 1; data_length = 0; kind = kind'; name = name' }
+pub entry_made : (ino ino' kind kind' : ℕ) (location : Key) (name name' : List ℕ) (value : DirEntryValue) → value ≡ record { location = location; transid = 1; data_length = 0; kind = kind; name = name } → location ≡ make_key ino INODE_ITEM 0 → ino ≡ ino' → kind ≡ kind' → name ≡ name'
+    → value ≡ record { location = make_key ino' INODE_ITEM 0; transid = 1; data_length = 0; kind = kind'; name = name' }
 entry_made ino ino' kind kind' location name name' value is location_is ino_is kind_is name_is =
-    is ∙ (ap (λ (l : Key). made l kind name) (location_is ∙ ap (λ (i : ℕ). make_key i 1 0) ino_is) ∙ (ap (λ (k : ℕ). made (make_key ino' 1 0) k name) kind_is ∙ ap (made (make_key ino' 1 0) kind') name_is))
+    is ∙ (ap (λ (l : Key). made l kind name) (location_is ∙ ap (λ (i : ℕ). make_key i INODE_ITEM 0) ino_is) ∙ (ap (λ (k : ℕ). made (make_key ino' INODE_ITEM 0) k name) kind_is ∙ ap (made (make_key ino' INODE_ITEM 0) kind') name_is))
   where
     made : Key → ℕ → List ℕ → DirEntryValue
     made l k n = record { location = l; transid = 1; data_length = 0; kind = k; name = n }

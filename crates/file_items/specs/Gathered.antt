@@ -1,5 +1,6 @@
 -- What was gathered of an object, in the order of the links.
 use Rattle.std.specs.Prelude.{◌≡◌, ℕ, ◌+◌, not, List, [], ◌∷◌, ◌++◌, map, filter, length, if◌then◌else◌}
+use Rattle.btrfs_format.specs.declared.key.TheConstants.{INODE_EXTREF}
 use Rattle.unit_plan.specs.btr_keys.Key.{make_key}
 use Rattle.unit_plan.specs.btr_node.Leaf.{Item}
 use Rattle.btr_item_list.specs.Groups.{ascending}
@@ -22,7 +23,7 @@ pub record HasNames (keys : List ObjectKey) (ino : ℕ) (es : List Entry) (names
 
 -- the records of extended names under their hashes, in the order of their directories' inodes
 abbrev pub AreExtrefs : ℕ → List Item → List Item → Type 0
-AreExtrefs ino far extrefs = extrefs ≡ map (λ i. (make_key ino 13 i.0.objectid, i.1)) (ascending offset_of far)
+AreExtrefs ino far extrefs = extrefs ≡ map (λ i. (make_key ino INODE_EXTREF i.0.objectid, i.1)) (ascending offset_of far)
 
 -- one more entry of a directory
 pub record HasEntry (ino : ℕ) (e : Indexed) (old new : Directory) : Type 0 where

@@ -15,6 +15,9 @@ ghost use Rattle.file_items.specs.Names.{entry_kind, entry_to, entry_items, Inde
 
 use crate::link_index::{LinkIndex, index_at};
 use btr_item_list::{ItemList, key_of, put_dir_entry, short};
+use btrfs_format::flag::{FT_BLKDEV, FT_CHRDEV, FT_DIR, FT_FIFO, FT_REG_FILE, FT_SOCK, FT_SYMLINK};
+use btrfs_format::key::{DIR_INDEX, DIR_ITEM, INODE_ITEM, ROOT_ITEM};
+use btrfs_format::object::CONV_IMAGE_SUBVOL;
 use fs_rows::Kind;
 use reiser_volume::{Memory, Numbers, Volume, name_hash};
 use reiser_volume_objects::kind_of_mode;
@@ -103,8 +106,8 @@ impl Directory {
         self.body.clear();
         put_dir_entry(&mut self.body, entry)?;
         let hash = name_hash(entry.name) as u64;
-        self.hashed.add(key_of(ino, 84, hash), &self.body)?;
-        self.indexes.add(key_of(ino, 96, index), &self.body)?;
+        self.hashed.add(key_of(ino, DIR_ITEM, hash), &self.body)?;
+        self.indexes.add(key_of(ino, DIR_INDEX, index), &self.body)?;
         self.letters = self.letters.saturating_add(entry.name.len() as u64);
         Ok(())
     }
@@ -120,7 +123,7 @@ impl Directory {
     pub fn add_items(&mut self, items: &mut ItemList, ino: u64) -> Result<(), Memory>
         ensures { (list : List Indexed) → HasEntries ino list self.old → OnOk result (items.new ≡ items.old ++ entry_items ino list) }
     {
-        items.add_joined(ino, 84, &mut self.hashed, &mut self.body)?;
+        items.add_joined(ino, DIR_ITEM, &mut self.hashed, &mut self.body)?;
         items.append(&self.indexes)
     }
 }
@@ -133,7 +136,7 @@ fn entry_of(volume: &Volume, numbers: Numbers, number: usize) -> DirEntry<'_>
     ensures short { length result.name.now < 65536 }
 {
     let link = volume.link(number);
-    let location = key_of(numbers.inode(link.object), 1, 0);
+    let location = key_of(numbers.inode(link.object), INODE_ITEM, 0);
     new_entry(location, kind_at(volume, link.object), short(link.name))
 }
 
@@ -142,7 +145,11 @@ fn saved_entry() -> DirEntry<'static>
     ensures entry { dir_entry_value result ≡ saved_entry }
     ensures short { length result.name.now < 65536 }
 {
-    new_entry(key_of(256, 132, u64::MAX), Kind::Subvolume, SAVED)
+    new_entry(
+        key_of(CONV_IMAGE_SUBVOL, ROOT_ITEM, u64::MAX),
+        Kind::Subvolume,
+        SAVED,
+    )
 }
 
 /// An entry of a new tree.
@@ -164,13 +171,13 @@ fn entry_kind(kind: Kind) -> u8
     ensures { result ≡ entry_kind kind }
 {
     match kind {
-        Kind::File => 1,
-        Kind::Directory | Kind::Subvolume => 2,
-        Kind::Character => 3,
-        Kind::Block => 4,
-        Kind::Fifo => 5,
-        Kind::Socket => 6,
-        Kind::Symlink => 7,
+        Kind::File => FT_REG_FILE,
+        Kind::Directory | Kind::Subvolume => FT_DIR,
+        Kind::Character => FT_CHRDEV,
+        Kind::Block => FT_BLKDEV,
+        Kind::Fifo => FT_FIFO,
+        Kind::Socket => FT_SOCK,
+        Kind::Symlink => FT_SYMLINK,
     }
 }
 

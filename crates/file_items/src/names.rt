@@ -9,6 +9,7 @@ ghost use Rattle.file_items.specs.Names.{Entry, entries, names_of, inode_refs, e
 
 use crate::link_index::LinkIndex;
 use btr_item_list::{ItemList, key_of, put_extref, put_inode_ref, short};
+use btrfs_format::key::{INODE_EXTREF, INODE_REF};
 use reiser_volume::{Memory, Numbers, Volume, extref_hash};
 use std::alloc::Global;
 use unit_plan::{Extref, InodeRef};
@@ -55,8 +56,8 @@ impl Names {
         let ino = numbers.inode(place);
         self.gather(volume, links, numbers, place, ino)?;
         self.order_far(ino)?;
-        items.add_joined(ino, 12, &mut self.refs, &mut self.body)?;
-        items.add_joined(ino, 13, &mut self.extrefs, &mut self.body)
+        items.add_joined(ino, INODE_REF, &mut self.refs, &mut self.body)?;
+        items.add_joined(ino, INODE_EXTREF, &mut self.extrefs, &mut self.body)
     }
 
     /// The names of the object, in the order of the links.
@@ -108,10 +109,10 @@ impl Names {
             };
             put_extref(&mut self.body, &record)?;
             let hash = extref_hash(parent, name) as u64;
-            self.far.add(key_of(hash, 13, parent), &self.body)
+            self.far.add(key_of(hash, INODE_EXTREF, parent), &self.body)
         } else {
             put_inode_ref(&mut self.body, &InodeRef { index, name })?;
-            self.refs.add(key_of(ino, 12, parent), &self.body)
+            self.refs.add(key_of(ino, INODE_REF, parent), &self.body)
         }
     }
 
@@ -124,7 +125,8 @@ impl Names {
         self.far.sort()?;
         for i in 0..self.far.len() {
             let hash = self.far.key(i).objectid;
-            self.extrefs.add(key_of(ino, 13, hash), self.far.body(i))?;
+            self.extrefs
+                .add(key_of(ino, INODE_EXTREF, hash), self.far.body(i))?;
         }
         Ok(())
     }

@@ -8,6 +8,7 @@ use crate::status_line::StatusLine;
 use crate::trouble::{Call, Cause, Trouble};
 use crate::watch::{Task, Watch};
 use crate::{Place, Signature, Use};
+use btrfs_format::block::SUPER_BLOCK;
 use outside::{Access, Block, BlockNo, BlockSource, Disk, Fault, Format, format_of};
 use std::fs::{File, Files, OpenOptions};
 use std::io::ErrorKind;
@@ -39,9 +40,6 @@ pub struct FileDisk<'a, R: Files<File = File> + AllocGlobal + Clock + Clone + Dr
     watch: Watch<'a>,
     is_overwritten: bool,
 }
-
-/// The block of the superblock of both formats that the rest of the program knows.
-const SUPERBLOCK: BlockNo = 16;
 
 impl<'a, R: Files<File = File> + AllocGlobal + Clock + Clone + Drop> FileDisk<'a, R> {
     /// A disk that is not open. It will find its file by these files, and show on this line what it does.
@@ -142,9 +140,9 @@ fn unopened(e: io::Error) -> Cause {
 
 /// Checks that nothing lies on a file but what the rest of the program knows.
 fn check_blank(opened: &Opened) -> Result<(), Cause> {
-    if opened.blocks > SUPERBLOCK {
+    if opened.blocks > SUPER_BLOCK {
         let mut block = Block::zero();
-        opened.read(SUPERBLOCK, &mut block)?;
+        opened.read(SUPER_BLOCK, &mut block)?;
         if format_of(&block) != Format::Neither {
             return Ok(());
         }

@@ -1,6 +1,7 @@
 -- Where blocks go: below the end of what is used.
 use Rattle.std.proofs.Common.{◌≡◌, ◌≤◌, ◌<◌, ℕ, zero, suc, ◌+◌, ◌-◌, ◌*◌, ◌%◌, Bool, true, false, ◌&&◌, ◌||◌, ◌==◌, List, [], ◌∷◌, length, take, get_or, refl, sym, ap, subst, ◌∙◌, arith, eq-eqb, add-zero}
 use Rattle.std.specs.Prelude.{nat_lt, IsTrue}
+use Rattle.reiserfs_format.specs.declared.block.TheConstants.{BITS_IN_BLOCK}
 use Rattle.reiser_make.proofs.Counting.{leaves_some}
 use Rattle.reiser_make.proofs.Rising.{root_low}
 use Rattle.std.proofs.lemmas.Bool.Decides.{nat_tests}
@@ -33,13 +34,13 @@ pub used_below : (s : Shape) (usage : Usage) (b : ℕ) → IsUsage s usage → b
 used_below s usage b is lt =
     let low : b < usage.needed = omega (arith, is.needed, lt) in
     let inside : b < usage.blocks = omega (arith, low, is.fits) in
-    both_true (nat_lt b usage.blocks) (nat_lt b usage.needed) (b % 32768 == 0) (grind (arith, nat_tests)) (grind (arith, nat_tests))
+    both_true (nat_lt b usage.blocks) (nat_lt b usage.needed) (b % BITS_IN_BLOCK == 0) (grind (arith, nat_tests)) (grind (arith, nat_tests))
 
 -- a bitmap block
-pub used_bitmap : (usage : Usage) (k : ℕ) → 32768 * k < usage.blocks → IsUsed usage (32768 * k)
+pub used_bitmap : (usage : Usage) (k : ℕ) → BITS_IN_BLOCK * k < usage.blocks → IsUsed usage (BITS_IN_BLOCK * k)
 used_bitmap usage k lt =
-    let whole : 32768 * k % 32768 ≡ 0 = omega arith in
-    both_true_last (nat_lt (32768 * k) usage.blocks) (nat_lt (32768 * k) usage.needed) (32768 * k % 32768 == 0) (grind (arith, nat_tests)) (eq-eqb _ _ whole)
+    let whole : BITS_IN_BLOCK * k % BITS_IN_BLOCK ≡ 0 = omega arith in
+    both_true_last (nat_lt (BITS_IN_BLOCK * k) usage.blocks) (nat_lt (BITS_IN_BLOCK * k) usage.needed) (BITS_IN_BLOCK * k % BITS_IN_BLOCK == 0) (grind (arith, nat_tests)) (eq-eqb _ _ whole)
 
 pub place_below : (j total : ℕ) → j < total → place j < end_of total
 unfolding place

@@ -2,6 +2,7 @@
 use Rattle.std.specs.Prelude.{◌≡◌, ◌≤◌, ◌<◌, ℕ, ◌+◌, ◌-◌, ◌*◌, ◌^◌, ◌==◌, nat_lt, Bool, true, false, List, [], ◌∷◌, ◌++◌, length, slice_index_or, if◌then◌else◌}
 use Rattle.std.specs.Int.{div_ceil}
 use Rattle.std.specs.List.{range_with_len, flat_map}
+use Rattle.vol_block.specs.declared.mode.TheConstants.{DIRECTORY_MODE}
 use Rattle.byteorder.specs.Endian.{little_bytes}
 use Rattle.reiser_items.specs.reiser_node.declared.head.ItemHead.{ItemHead}
 use Rattle.reiser_items.specs.reiser_node.declared.head.ItemKind.{ItemKind}
@@ -77,7 +78,7 @@ stat_item old id stat = item id 0 Stat old 0xFFFF (stat_length old) (Attributes 
 -- a directory of so many entries; each takes 24 bytes, since no name of a sample has more than 8
 abbrev pub directory_items : Bool → ObjectId → ℕ → ℕ → Body → List Item
 directory_items old id nlink count body =
-    stat_item old id (attributes 0x41ED nlink (24 * count) System base_time (div_ceil (24 * count) 512) no_direct_byte)
+    stat_item old id (attributes DIRECTORY_MODE nlink (24 * count) System base_time (div_ceil (24 * count) 512) no_direct_byte)
     ∷ item id 1 Directory true count (24 * count) body
     ∷ []
 

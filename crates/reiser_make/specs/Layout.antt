@@ -1,6 +1,7 @@
 -- A sample volume: which blocks are written, and with what.
 use Rattle.std.specs.Prelude.{◌≡◌, ◌≤◌, ℕ, ◌+◌, ◌-◌, ◌*◌, ◌^◌, ◌==◌, nat_lt, Bool, ◌&&◌, List, [], ◌∷◌, ◌++◌, length, map, IsTrue, slice_index_or, slice_set, if◌then◌else◌}
 use Rattle.std.specs.List.{range_with_len, flat_map}
+use Rattle.reiserfs_format.specs.declared.block.TheConstants.{BITS_IN_BLOCK}
 use Rattle.reiser_items.specs.vol_block.Volume.{zeros}
 use Rattle.fs_rows.specs.outside.History.{Image}
 use Rattle.reiser_make.specs.Bitmap.{bitmap_bytes}
@@ -67,7 +68,7 @@ abbrev pub inner_part : Shape → List Placed
 inner_part s = flat_map (level_part s) (range_with_len 1 (root_level (length (leaves s)) - 1))
 
 abbrev pub bitmap_placed : ℕ → ℕ → ℕ → Placed
-bitmap_placed needed blocks k = (32768 * k, bitmap_bytes needed blocks k)
+bitmap_placed needed blocks k = (BITS_IN_BLOCK * k, bitmap_bytes needed blocks k)
 
 -- the bitmap blocks behind the first
 abbrev pub bitmap_part : ℕ → ℕ → List Placed

@@ -1,5 +1,6 @@
 -- Leaves: items packed in order, each leaf as full as the next item lets it be.
 use Rattle.std.specs.Prelude.{ℕ, ◌+◌, ◌-◌, ◌*◌, ◌^◌, nat_le, Bool, true, false, List, [], ◌∷◌, ◌++◌, length, replicate, sum_by, if◌then◌else◌}
+use Rattle.reiserfs_format.specs.declared.key.TheConstants.{V1_DIRECT_UNIQUENESS, V1_DIRENTRY_UNIQUENESS, V1_INDIRECT_UNIQUENESS}
 use Rattle.byteorder.specs.Endian.{little_bytes}
 use Rattle.reiser_items.specs.reiser_node.declared.head.ItemHead.{ItemHead}
 use Rattle.reiser_items.specs.reiser_node.declared.head.ItemKind.{ItemKind}
@@ -39,9 +40,9 @@ leaves s = leaves_of (items s)
 -- the number of a kind in the keys of version 0 (`uniqueness`)
 abbrev pub old_code : ItemKind → ℕ
 old_code Stat = 0
-old_code Indirect = 0xFFFFFFFE
-old_code Direct = 0xFFFFFFFF
-old_code Directory = 500
+old_code Indirect = V1_INDIRECT_UNIQUENESS
+old_code Direct = V1_DIRECT_UNIQUENESS
+old_code Directory = V1_DIRENTRY_UNIQUENESS
 
 -- offset and kind in a key, by the version
 abbrev pub place_bytes : Bool → ℕ → ItemKind → List ℕ

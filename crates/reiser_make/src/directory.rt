@@ -7,9 +7,7 @@ use crate::name::{directory_name, entry_offset, file_name};
 use crate::node::clear;
 use crate::object::{ObjectId, directory_count, named_by, names_in};
 use reiser_items::{Field, put_fields};
-
-/// The bytes of an entry's head.
-const HEAD: usize = 16;
+use reiserfs_format::size::DEH_SIZE;
 
 /// The bytes that each name takes: those of a sample have at most eight.
 const ROOM: usize = 8;
@@ -91,7 +89,7 @@ fn put_entry(into: &mut [u8], e: usize, offset: u32, id: ObjectId, name: &[u8])
     let begin = into.len() - ROOM * (e + 1);
     into[begin..begin + name.len()].copy_from_slice(name);
     put_head(
-        &mut into[HEAD * e..HEAD * e + HEAD],
+        &mut into[DEH_SIZE * e..DEH_SIZE * e + DEH_SIZE],
         offset,
         id,
         begin as u16,

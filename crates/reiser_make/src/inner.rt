@@ -5,11 +5,12 @@ ghost use Rattle.reiser_make.specs.Inner.{inner_bytes, child, children, child_ke
 ghost use Rattle.reiser_make.specs.Leaf.{leaves};
 ghost use Rattle.reiser_make.specs.Levels.{level_of};
 
-use crate::leaf::{ItemPlace, NODE_HEAD, NODE_ROOM};
+use crate::leaf::{ItemPlace, NODE_ROOM};
 use crate::level::Level;
 use crate::node::{key_bytes, put_node_head};
 use crate::plan::Plan;
 use reiser_items::{Block, Field, ItemHead, put_fields};
+use reiserfs_format::size::{BLKH_SIZE, DC_SIZE, KEY_SIZE};
 
 /// A node as its parent names it.
 #[derive(Clone, Copy, Debug, PartialEq, Eq)]
@@ -21,12 +22,6 @@ pub struct Child {
     /// The bytes that it uses behind its head.
     pub size: u16,
 }
-
-/// The bytes of a key.
-const KEY: usize = 16;
-
-/// The bytes of a pointer.
-const POINTER: usize = 8;
 
 /// A walk over the leaves, to find one by its number. It is short where numbers rise.
 #[derive(Clone, Copy, Debug, PartialEq, Eq)]
@@ -122,12 +117,12 @@ impl Plan {
             below.number + 1,
             (count - 1) as u16,
             NODE_ROOM - inner_size(count),
-            &mut into[..NODE_HEAD],
+            &mut into[..BLKH_SIZE],
         );
         self.put_keys(below, first, count, walk, into);
-        let pointers = NODE_HEAD + KEY * (count as usize - 1);
+        let pointers = BLKH_SIZE + KEY_SIZE * (count as usize - 1);
         self.put_pointers(below, first, count, walk, pointers, into);
-        clear_from(into, pointers + POINTER * count as usize);
+        clear_from(into, pointers + DC_SIZE * count as usize);
     }
 
     /// Writes the keys of so many nodes of a level from node `first` on, but for the first one, behind the head of a node.
@@ -144,7 +139,7 @@ impl Plan {
         ensures stands { Stands self.now.sample walk.new }
     {
         for i in 1..count {
-            let at = NODE_HEAD + KEY * (i as usize - 1);
+            let at = BLKH_SIZE + KEY_SIZE * (i as usize - 1);
             self.put_key(level, first + i, walk, at, into);
         }
     }
@@ -161,7 +156,7 @@ impl Plan {
         ensures stands { Stands self.now.sample walk.new }
     {
         match self.child(level, m, walk) {
-            Some(child) => into[at..at + KEY].copy_from_slice(&key_bytes(&child.head)),
+            Some(child) => into[at..at + KEY_SIZE].copy_from_slice(&key_bytes(&child.head)),
             None => {}
         }
     }
@@ -187,7 +182,7 @@ impl Plan {
         ensures stands { Stands self.now.sample walk.new }
     {
         for i in 0..count {
-            self.put_pointer(level, first + i, walk, start + POINTER * i as usize, into);
+            self.put_pointer(level, first + i, walk, start + DC_SIZE * i as usize, into);
         }
     }
 
@@ -203,7 +198,7 @@ impl Plan {
         ensures stands { Stands self.now.sample walk.new }
     {
         match self.child(level, m, walk) {
-            Some(child) => put_child_pointer(&child, &mut into[at..at + POINTER]),
+            Some(child) => put_child_pointer(&child, &mut into[at..at + DC_SIZE]),
             None => {}
         }
     }

@@ -26,6 +26,7 @@ use crate::content::Content;
 use crate::object::{ObjectId, directory_count, name_count, names_in};
 use crate::sample::{Sample, stored_of};
 use reiser_items::{ItemHead, ItemKind, StatData};
+use vol_block::DIRECTORY_MODE;
 
 /// What the body of an item is.
 #[derive(Clone, Copy, Debug, PartialEq, Eq)]
@@ -116,7 +117,7 @@ impl Sample {
     {
         let length = 24 * count;
         let stat = attributes(
-            0x41ED,
+            DIRECTORY_MODE as u16,
             links as u32,
             length as u64,
             Owner::System,

@@ -23,7 +23,7 @@ ghost use Rattle.reiser_make.specs.Levels.{level_of};
 ghost use Rattle.reiser_make.specs.Shape.{stored_block, stored_before, stored_of, stored_in};
 ghost use Rattle.reiser_make.specs.Walk.{items_behind};
 
-use crate::bitmap::{BITS, Usage};
+use crate::bitmap::Usage;
 use crate::body::put_block;
 use crate::content::Content;
 use crate::inner::LeafWalk;
@@ -34,6 +34,7 @@ use crate::plan::Plan;
 use crate::sample::stored_of;
 use fs_rows::{Access, Disk, Fault};
 use reiser_items::Block;
+use reiserfs_format::block::BITS_IN_BLOCK;
 
 /// Writes all blocks of a sample volume, each once, and no other one.
 pub fn write_volume<D: Disk>(plan: &Plan, usage: &Usage, disk: &mut D) -> Result<(), Fault>
@@ -263,7 +264,7 @@ fn write_bitmaps<D: Disk>(usage: &Usage, disk: &mut D) -> Result<(), Fault>
     let mut block = Block::zero();
     for k in 1..usage.bitmap_blocks() {
         usage.put_bitmap(k, &mut block);
-        disk.write(BITS * k as u64, &block)?;
+        disk.write(BITS_IN_BLOCK * k as u64, &block)?;
     }
     Ok(())
 }

@@ -10,15 +10,10 @@ use crate::node::{clear, put_head, put_node_head};
 use crate::object::object_count;
 use crate::sample::Sample;
 use reiser_items::{Block, ItemHead};
-
-/// The bytes of a node's head.
-pub const NODE_HEAD: usize = 24;
+use reiserfs_format::size::{BLKH_SIZE, IH_SIZE};
 
 /// The bytes of a node behind its head.
 pub const NODE_ROOM: u16 = 4072;
-
-/// The bytes of an item's head.
-const ITEM_HEAD: usize = 24;
 
 /// A place in the list of items: before item `part` of an object.
 #[derive(Clone, Copy, Debug, PartialEq, Eq)]
@@ -141,8 +136,8 @@ impl Sample {
         requires room { length into.old ≡ 4096 }
         ensures { into.new ≡ leaf_bytes self.now (take leaf.now.count (items_behind self.now at)) }
     {
-        put_node_head(1, leaf.count, NODE_ROOM - leaf.used, &mut into[..NODE_HEAD]);
-        self.put_items(at, leaf.count, &mut into[NODE_HEAD..]);
+        put_node_head(1, leaf.count, NODE_ROOM - leaf.used, &mut into[..BLKH_SIZE]);
+        self.put_items(at, leaf.count, &mut into[BLKH_SIZE..]);
     }
 
     /// Writes so many items from a place on into the bytes of a leaf behind its head.
@@ -188,11 +183,11 @@ impl Sample {
     {
         let begin = low - item.head.length as usize;
         self.put_body(item, &mut behind[begin..low]);
-        let at = ITEM_HEAD * i;
+        let at = IH_SIZE * i;
         put_head(
             &item.head,
-            (NODE_HEAD + begin) as u16,
-            &mut behind[at..at + ITEM_HEAD],
+            (BLKH_SIZE + begin) as u16,
+            &mut behind[at..at + IH_SIZE],
         );
         begin
     }

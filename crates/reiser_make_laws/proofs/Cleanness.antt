@@ -2,6 +2,7 @@
 use Rattle.std.proofs.Common.{◌≡◌, ℕ, zero, suc, ◌+◌, ◌^◌, ◌≤◌, ◌<◌, Bool, true, false, cond, List, [], ◌∷◌, length, map, drop, filter, refl, sym, ◌∙◌, ap, subst, arith}
 use Rattle.std.specs.Prelude.{nat_le}
 use Rattle.std.specs.List.{range_with_len}
+use Rattle.reiserfs_format.specs.declared.block.TheConstants.{SUPER_BLOCK}
 use Rattle.byteorder.specs.Numbers.{little_number-reads_back}
 use Rattle.reiser_volume.specs.vol_block.Format.{has_reiser_magic}
 use Rattle.reiser_volume.specs.vol_block.Volume.{field, zeros}
@@ -145,24 +146,24 @@ empty_block s blocks b low = grind (arith, low)
 
 -- the superblock behind a make
 pub super_made : (number : ℕ) (old : Bool) (blocks : ℕ) (image : Image) → Fits number old blocks image
-    → HasFields (shape number old) blocks (block_at (made (shape number old) blocks image) 16)
+    → HasFields (shape number old) blocks (block_at (made (shape number old) blocks image) SUPER_BLOCK)
 super_made number old blocks image fits =
     let s : Shape = shape number old in
     let long : 8210 < needed s = system_below (total s) 8210 (total_some s) (omega arith) in
-    let block : block_at (made s blocks image) 16 ≡ super_bytes s blocks = system_is s blocks 16 image (omega arith) (omega (arith, long, fits.needed_low, fits.inside)) in
+    let block : block_at (made s blocks image) SUPER_BLOCK ≡ super_bytes s blocks = system_is s blocks 16 image (omega arith) (omega (arith, long, fits.needed_low, fits.inside)) in
     subst (λ (bytes : List ℕ). HasFields s blocks bytes) (sym block) (has_fields s blocks fits.needed_low fits.blocks_low)
 
 pub clean : (number : ℕ) (old : Bool) (blocks : ℕ) (image : Image) → Fits number old blocks image → IsClean (made (shape number old) blocks image)
 clean number old blocks image fits =
     let s : Shape = shape number old in
     let long : 8210 < needed s = system_below (total s) 8210 (total_some s) (omega arith) in
-    let has : HasFields s blocks (block_at (made s blocks image) 16) = super_made number old blocks image fits in
+    let has : HasFields s blocks (block_at (made s blocks image) SUPER_BLOCK) = super_made number old blocks image fits in
     let device : length (made s blocks image) ≡ length image = length-laid_over (volume_blocks s blocks) image in
     record {
       superblock = clean_super s blocks (length (made s blocks image)) _ fits.needed_low fits.blocks_low (omega (arith, fits.inside, device)) has;
-      journal = no_pending (super_of (block_at (made s blocks image) 16)) (made s blocks image)
+      journal = no_pending (super_of (block_at (made s blocks image) SUPER_BLOCK)) (made s blocks image)
           (λ place low.
-          let b : ℕ = (super_of (block_at (made s blocks image) 16)).journal_first + place in
+          let b : ℕ = (super_of (block_at (made s blocks image) SUPER_BLOCK)).journal_first + place in
           system_is s blocks b image (omega (arith, low, has.fixed_ones.first, has.fixed_ones.size)) (omega (arith, low, has.fixed_ones.first, has.fixed_ones.size, long, fits.needed_low, fits.inside))
           ∙ empty_block s blocks b (omega (arith, has.fixed_ones.first)));
     }

@@ -6,6 +6,7 @@ use Rattle.std.specs.List.{list_any}
 use Rattle.std.proofs.lemmas.Bool.{cond_both}
 use Rattle.std.proofs.lemmas.Bool.Decides.{nat_tests}
 use Rattle.std.proofs.lemmas.List.Folds.{list_any_none}
+use Rattle.vol_block.specs.declared.mode.TheConstants.{DIRECTORY_MODE}
 use Rattle.reiser_volume.specs.fs_rows.declared.row.Kind.{Kind}
 use Rattle.reiser_volume.specs.fs_rows.declared.row.Kind.TheVariants as kinds
 use Rattle.reiser_volume.specs.reiser_node.declared.head.ItemHead.{ItemHead}
@@ -86,7 +87,7 @@ object_by s found key kind id stat rest room known size are fits clear =
 
 -- the stat data of a directory of so many entries, the dots among them
 abbrev pub directory_stat : ℕ → ℕ → StatData
-directory_stat nlink count = attributes 0x41ED nlink (24 * count) System base_time (div_ceil (24 * count) 512) no_direct_byte
+directory_stat nlink count = attributes DIRECTORY_MODE nlink (24 * count) System base_time (div_ceil (24 * count) 512) no_direct_byte
 
 directory_room : (nlink count : ℕ) → nlink ≤ 102 → count ≤ 102 → HasStatRoom (directory_stat nlink count)
 directory_room nlink count low few = record {

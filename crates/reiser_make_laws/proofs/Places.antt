@@ -5,6 +5,7 @@ use Rattle.std.specs.List.{range_with_len, flat_map, sum_by}
 use Rattle.std.proofs.Math.Seq.{take-length}
 use Rattle.std.proofs.lemmas.List.{get_or-set_same, take_more}
 use Rattle.std.proofs.lemmas.List.Sums.{sum_by-append}
+use Rattle.reiserfs_format.specs.declared.block.TheConstants.{BITS_IN_BLOCK}
 use Rattle.reiser_volume.specs.outside.History.{Image, block_at}
 use Rattle.reiser_make.specs.Inner.{needed, total, root_level, level_nodes, nodes_below}
 use Rattle.reiser_make.specs.Layout.{Placed, laid_over, volume_blocks, system_part, system_row, system_placed, data_part, data_of_name, data_of_content, data_placed, leaf_part, leaf_placed, inner_part, level_part, inner_placed, bitmap_part, bitmap_placed}
@@ -86,7 +87,7 @@ pub place_behind : (b j : ℕ) → b < 8211 → b ≢ place j
 unfolding place
 place_behind b j low = λ same. omega (arith, low, same)
 
-pub place_no_map : (j k : ℕ) → place j ≢ 32768 * k
+pub place_no_map : (j k : ℕ) → place j ≢ BITS_IN_BLOCK * k
 unfolding place
 place_no_map j k = λ same. omega (arith, same)
 

@@ -3,6 +3,7 @@ use Rattle.std.proofs.Common.{◌≡◌, ℕ, ◌+◌, ◌-◌, ◌*◌, ◌/◌
 use Rattle.std.specs.Prelude.{nat_le}
 use Rattle.std.specs.Int.{div_ceil}
 use Rattle.std.specs.List.{range_with_len, flat_map}
+use Rattle.vol_block.specs.declared.mode.TheConstants.{DIRECTORY_MODE}
 use Rattle.reiser_volume.specs.outside.History.{Image, block_at}
 use Rattle.reiser_volume.specs.fs_rows.Rows.{NameList, WholeRow}
 use Rattle.reiser_volume.specs.fs_rows.declared.row.Kind.TheVariants as kinds
@@ -78,7 +79,7 @@ module _ (image : Image) (flags : ℕ) (s : Shape) (shaped : IsSampleShape s) (f
           leads = path_leads s shaped.few found are [] root (at_root refl refl);
           stat = stat_by o.stat_is.leaf s.old (read_back s.old (directory_stat (2 + dirs) (2 + dirs)));
           has_stat = o.stat_is.has;
-          fields = has_stat flags o.stat_is.leaf s.old 0x41ED (2 + dirs) size System base_time (div_ceil size 512) no_direct_byte [] kinds.Directory [] 0 [] refl refl (omega arith);
+          fields = has_stat flags o.stat_is.leaf s.old DIRECTORY_MODE (2 + dirs) size System base_time (div_ceil size 512) no_direct_byte [] kinds.Directory [] 0 [] refl refl (omega arith);
           least = root_least s shaped.few found are;
           names = refl;
           bytes = refl;
@@ -95,7 +96,7 @@ module _ (image : Image) (flags : ℕ) (s : Shape) (shaped : IsSampleShape s) (f
           leads = path_leads s shaped.few found are path (directory_key k) (at_directory k lt refl refl);
           stat = stat_by o.stat_is.leaf s.old (read_back s.old (directory_stat 2 (2 + names_in number k)));
           has_stat = o.stat_is.has;
-          fields = has_stat flags o.stat_is.leaf s.old 0x41ED 2 size System base_time (div_ceil size 512) no_direct_byte path kinds.Directory path 0 [] refl refl (omega arith);
+          fields = has_stat flags o.stat_is.leaf s.old DIRECTORY_MODE 2 size System base_time (div_ceil size 512) no_direct_byte path kinds.Directory path 0 [] refl refl (omega arith);
           least = directory_least s shaped.few found are k lt;
           names = refl;
           bytes = refl;

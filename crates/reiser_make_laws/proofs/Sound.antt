@@ -3,6 +3,7 @@ use Rattle.std.proofs.Common.{◌≡◌, ◌≢◌, ◌⊎◌, inl, inr, ℕ, �
 use Rattle.std.specs.Prelude.{nat_le, AllPairs}
 use Rattle.std.proofs.lemmas.Bool.Decides.{nat_tests}
 use Rattle.std.proofs.lemmas.List.FromFn.{length-map-range_with_len}
+use Rattle.reiserfs_format.specs.declared.block.TheConstants.{BITS_IN_BLOCK, SUPER_BLOCK}
 use Rattle.reiser_volume.specs.outside.History.{Image, block_at}
 use Rattle.reiser_volume.specs.reiser_bitmap.Bits.{has}
 use Rattle.reiser_volume.specs.reiser_bitmap.Layout.{bitmap_block, is_marked}
@@ -52,7 +53,7 @@ own_none j =
     let high : 8211 ≤ b = place_high j in
     none_of (b == 16) (is_bitmap_block b) (nat_le 18 b) (nat_le b 8210)
     (ne_eqb b 16 (λ is. omega (arith, is, high)))
-    (ne_eqb b (bitmap_block (b / 32768)) (no_map_by j (b / 32768) (grind arith)))
+    (ne_eqb b (bitmap_block (b / BITS_IN_BLOCK)) (no_map_by j (b / BITS_IN_BLOCK) (grind arith)))
     (grind (arith, nat_tests, high))
 
 module _ (number : ℕ) (old : Bool) (blocks : ℕ) (image : Image) (fits : Fits number old blocks image) where
@@ -82,7 +83,7 @@ module _ (number : ℕ) (old : Bool) (blocks : ℕ) (image : Image) (fits : Fits
   abbrev events : List Event
   events = laid_events s root 0 16
 
-  has_super : HasFields s blocks (block_at volume 16)
+  has_super : HasFields s blocks (block_at volume SUPER_BLOCK)
   has_super = super_made number old blocks image fits
 
   size : length (used_of volume) ≡ blocks

@@ -5,6 +5,7 @@ use Rattle.std.specs.List.{range_with_len, flat_map}
 use Rattle.std.proofs.Math.Seq.{drop-cons, drop-length}
 use Rattle.std.proofs.lemmas.Bool.Decides.{nat_tests}
 use Rattle.std.proofs.lemmas.List.FromFn.{get_or-map-range_with_len, length-map-range_with_len}
+use Rattle.reiserfs_format.specs.declared.block.TheConstants.{SUPER_BLOCK}
 use Rattle.reiser_volume.specs.outside.History.{Image, block_at}
 use Rattle.reiser_volume.specs.reiser_bitmap.Layout.{is_marked}
 use Rattle.reiser_make.specs.Inner.{needed, node_place, leaf_at, level_nodes, root_level, first_child, child_count, child, children}
@@ -126,7 +127,7 @@ module _ (number : ℕ) (old : Bool) (blocks : ℕ) (image : Image) (fits : Fits
 
   walked : tree_events (tree_of (superblock volume)) volume (length (used_of volume)) ≡ laid_events s (root_level leaf_count) 0 16
   walked =
-      let has : HasFields s blocks (block_at volume 16) = super_made number old blocks image fits in
+      let has : HasFields s blocks (block_at volume SUPER_BLOCK) = super_made number old blocks image fits in
       let size : length (used_of volume) ≡ blocks = length-map-range_with_len (is_marked volume) 0 (superblock volume).blocks ∙ has.blocks_is in
       let level : (superblock volume).height - 1 ≡ root_level leaf_count = omega (arith, has.height_is) in
       ap (λ n. node_events volume n ((superblock volume).height - 1) 16 (superblock volume).root) size

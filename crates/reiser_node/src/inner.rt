@@ -2,6 +2,7 @@ ghost use Rattle.std.specs.Prelude.{◌≡◌, ◌<◌, ◌↔◌, IsSome, IfSom
 ghost use Rattle.reiser_node.specs.Inner.{IsInner, children, child_at, is_inner};
 ghost use Rattle.reiser_node.specs.Leaf.{level};
 
+use reiserfs_format::size::{BLKH_SIZE, DC_SIZE, KEY_SIZE};
 use std::marker::Model;
 use vol_block::{Block, BlockNo, u16_at, u32_at};
 
@@ -38,7 +39,7 @@ impl InnerView<'_> {
         if u16_at(&block.bytes, 0) == level
             && (2..=6).contains(&level)
             && count >= 1
-            && 24 + 16 * count + 8 * (count + 1) <= 4096
+            && BLKH_SIZE + KEY_SIZE * count + DC_SIZE * (count + 1) <= 4096
         {
             Some(InnerView { block })
         } else {
@@ -67,6 +68,9 @@ impl InnerView<'_> {
         ensures { result ≡ child_at self.now i }
     {
         let count = u16_at(&self.block.bytes, 2) as usize;
-        u32_at(&self.block.bytes, 24 + 16 * count + 8 * i) as u64
+        u32_at(
+            &self.block.bytes,
+            BLKH_SIZE + KEY_SIZE * count + DC_SIZE * i,
+        ) as u64
     }
 }

@@ -4,16 +4,13 @@ ghost use Rattle.std.specs.Result.{MatchResult, result_err};
 use refusals::{
     Block, BlockNo, Feature, Rule, VolumeRefusal, has_magic, has_reiser_magic, u16_at, u32_at,
 };
+use reiserfs_format::block::{SUPER_BLOCK, SUPER_MAGIC_OFFSET, VALID_FS};
 
 /// The most blocks of a volume that is converted: 2 TiB.
 const MAX_BLOCKS: u64 = 1 << 29;
 
-/// The flag of the superblock that says that the attributes of all stat data were cleared at first, and so mean something:
-/// `reiserfs_attrs_cleared` of the Linux headers.
-pub const ATTRS_CLEARED: u32 = 1;
-
 const OUT_OF_BOUNDS: VolumeRefusal = VolumeRefusal::Damaged {
-    block: 16,
+    block: SUPER_BLOCK,
     rule: Rule::SuperField,
 };
 
@@ -76,9 +73,9 @@ impl Super {
         let journal_device = u32_at(&block.bytes, 16) as u64;
         let checker_state = u16_at(&block.bytes, 62) as u64;
         let state = u16_at(&block.bytes, 50);
-        let is_old = has_magic(block, 52, b"ReIsErFs");
+        let is_old = has_magic(block, SUPER_MAGIC_OFFSET, b"ReIsErFs");
         check(
-            device > 16 && has_reiser_magic(block),
+            device > SUPER_BLOCK && has_reiser_magic(block),
             VolumeRefusal::NotVolume,
         )?;
         check_feature(!is_old, Feature::OldMagic, 35)?;
@@ -86,7 +83,7 @@ impl Super {
         check_feature(journal_device == 0, Feature::JournalDevice, journal_device)?;
         check_feature(checker_state == 0, Feature::FsState, checker_state)?;
         check_feature(blocks <= MAX_BLOCKS, Feature::BlockCount, blocks)?;
-        check(state == 1, VolumeRefusal::Unclean { state })?;
+        check(state == VALID_FS, VolumeRefusal::Unclean { state })?;
         check(self.is_in_bounds(), OUT_OF_BOUNDS)?;
         check(
             blocks <= device,

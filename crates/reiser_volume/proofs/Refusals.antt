@@ -3,6 +3,7 @@ use Rattle.std.proofs.Common.{◌≡◌, ℕ, ◌≤◌, ◌&&◌, Bool, true, f
 use Rattle.std.specs.Prelude.{nat_lt, Result, Err, IfErr}
 use Rattle.std.proofs.lemmas.Bool.Decides.{nat_tests}
 use Rattle.std.proofs.lemmas.List.Elements.{All-cons, All-contains}
+use Rattle.reiserfs_format.specs.declared.block.TheConstants.{SUPER_BLOCK}
 use Rattle.reiser_bitmap.specs.outside.History.{Image, block_at}
 use Rattle.reiser_bitmap.specs.refusals.declared.answer.VolAnswer.{VolAnswer}
 use Rattle.reiser_bitmap.specs.refusals.declared.answer.VolAnswer.TheVariants.{Refused, Fault, Memory}
@@ -71,16 +72,16 @@ no_block true magic o is = absurd (true≢false is)
 
 pub short_refused : (image : Image) → length image ≤ 16 → IsFrontRefusal image NotVolume
 short_refused image short =
-    let no : nat_lt 16 (length image) ≡ false = grind (arith, nat_tests) in
-    superblock_rule (no_block (nat_lt 16 (length image)) (has_reiser_magic (block_at image 16)) _ no)
+    let no : nat_lt SUPER_BLOCK (length image) ≡ false = grind (arith, nat_tests) in
+    superblock_rule (no_block (nat_lt SUPER_BLOCK (length image)) (has_reiser_magic (block_at image SUPER_BLOCK)) _ no)
 
-pub super_found : (image : Image) (bytes : List ℕ) (device : ℕ) (s : Super) → s ≡ super_of bytes → IsCleanSuper bytes device → bytes ≡ block_at image 16 → device ≡ length image → IsSuperOf image s
+pub super_found : (image : Image) (bytes : List ℕ) (device : ℕ) (s : Super) → s ≡ super_of bytes → IsCleanSuper bytes device → bytes ≡ block_at image SUPER_BLOCK → device ≡ length image → IsSuperOf image s
 super_found image bytes device s fields clean same size = record {
   fields = fields ∙ ap super_of same;
   clean = subst (λ (b : List ℕ). IsCleanSuper b (length image)) same (subst (λ (n : ℕ). IsCleanSuper bytes n) size clean);
 }
 
-pub super_refused : (image : Image) (bytes : List ℕ) (device : ℕ) (r : VolumeRefusal) → Some r ≡ superblock_refusal bytes device → bytes ≡ block_at image 16 → device ≡ length image → IsFrontRefusal image r
+pub super_refused : (image : Image) (bytes : List ℕ) (device : ℕ) (r : VolumeRefusal) → Some r ≡ superblock_refusal bytes device → bytes ≡ block_at image SUPER_BLOCK → device ≡ length image → IsFrontRefusal image r
 super_refused image bytes device r is same size =
     superblock_rule (subst (λ (b : List ℕ). superblock_refusal b (length image) ≡ Some r) same (subst (λ (n : ℕ). superblock_refusal bytes n ≡ Some r) size (sym is)))
 

@@ -2,6 +2,7 @@
 use Rattle.std.proofs.Common.{◌≡◌, ◌≤◌, ◌↔◌, ◌+◌, ℕ, true, false, Bool, List, [], length, sym, ◌∙◌, ap, subst, arith}
 use Rattle.std.specs.Prelude.{Contains}
 use Rattle.std.specs.List.{list_any}
+use Rattle.reiserfs_format.specs.declared.block.TheConstants.{SUPER_BLOCK}
 use Rattle.reiser_bitmap.specs.outside.History.{Image, block_at}
 use Rattle.fs_rows.specs.Rows.{WholeRow}
 use Rattle.indexmap.specs.IndexMap.{keys}
@@ -62,7 +63,7 @@ module _ (image other : Image) (a : IsAccepted image) (same : SameUsed (used_of 
   system_same : (b : ℕ) → Contains (system_blocks (superblock image).blocks (superblock image).journal_first (superblock image).journal_size) b → block_at other b ≡ block_at image b
   system_same b h = same b (a.system b h)
 
-  block_same : block_at other 16 ≡ block_at image 16
+  block_same : block_at other SUPER_BLOCK ≡ block_at image SUPER_BLOCK
   block_same = let s = superblock image in system_same 16 (superblock_in s.blocks s.journal_first s.journal_size)
 
   fields_same : superblock other ≡ superblock image
@@ -74,7 +75,7 @@ module _ (image other : Image) (a : IsAccepted image) (same : SameUsed (used_of 
       let none : pending_transactions s other ≡ [] =
       same_pending s other image (λ place low. system_same (s.journal_first + place) (journal_in s.blocks s.journal_first s.journal_size (s.journal_first + place) (omega arith) (omega (arith, low)))) ∙ a.clean.journal in
       record {
-        superblock = subst (λ (bytes : List ℕ). IsCleanSuper bytes (length other)) (sym block_same) (clean_elsewhere (block_at image 16) (length image) (length other) room a.clean.superblock);
+        superblock = subst (λ (bytes : List ℕ). IsCleanSuper bytes (length other)) (sym block_same) (clean_elsewhere (block_at image SUPER_BLOCK) (length image) (length other) room a.clean.superblock);
         journal = subst (λ (t : Super). pending_transactions t other ≡ []) (sym fields_same) none;
       }
 

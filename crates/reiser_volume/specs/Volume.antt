@@ -1,5 +1,6 @@
 -- Which ReiserFS volumes are accepted, and how each other one is refused: the groups of rules one after the other.
 use Rattle.std.specs.Prelude.{◌≡◌, ℕ, List, Bool, [], length, Some, Contains}
+use Rattle.reiserfs_format.specs.declared.block.TheConstants.{SUPER_BLOCK}
 use Rattle.reiser_bitmap.specs.outside.History.{Image, block_at}
 use Rattle.reiser_bitmap.specs.refusals.declared.refusal.VolumeRefusal.{VolumeRefusal}
 use Rattle.reiser_bitmap.specs.refusals.declared.refusal.VolumeRefusal.TheVariants.{JournalPending}
@@ -21,7 +22,7 @@ use Rattle.reiser_volume.specs.Rows.{AreReiserRows}
 use Rattle.std.specs.Prelude.{true}
 
 abbrev pub superblock : Image → Super
-superblock image = super_of (block_at image 16)
+superblock image = super_of (block_at image SUPER_BLOCK)
 
 -- the used blocks, as the bitmap marks them
 abbrev pub used_of : Image → List Bool
@@ -58,8 +59,8 @@ pub record IsAccepted (image : Image) : Type 0 where
 
 -- A refusal of superblock, journal or bitmap is that of the first of the three of which a rule fails.
 pub data IsFrontRefusal (image : Image) (r : VolumeRefusal) : Type 0 where
-  superblock_rule : superblock_refusal (block_at image 16) (length image) ≡ Some r → IsFrontRefusal image r
-  journal_rule : (trans : ℕ) → IsCleanSuper (block_at image 16) (length image) → Contains (pending_transactions (superblock image) image) trans → r ≡ JournalPending trans → IsFrontRefusal image r
+  superblock_rule : superblock_refusal (block_at image SUPER_BLOCK) (length image) ≡ Some r → IsFrontRefusal image r
+  journal_rule : (trans : ℕ) → IsCleanSuper (block_at image SUPER_BLOCK) (length image) → Contains (pending_transactions (superblock image) image) trans → r ≡ JournalPending trans → IsFrontRefusal image r
   bitmap_rule : IsClean image → NamesFreeBlock (used_of image) (superblock image).journal_first (superblock image).journal_size r → IsFrontRefusal image r
 
 -- A refusal is that of the first group of which a rule fails.

@@ -1,5 +1,6 @@
 -- Which object an item of a ReiserFS tree belongs to: the first two numbers of its key.
 use Rattle.std.specs.Prelude.{◌==◌, Bool, ◌&&◌, List, filter}
+use Rattle.reiserfs_format.specs.declared.key.TheConstants.{ROOT_OBJECTID, ROOT_PARENT_OBJECTID}
 use Rattle.reiser_items.specs.reiser_node.declared.head.ItemHead.{ItemHead}
 use Rattle.reiser_walk.specs.Items.{Item}
 use Rattle.reiser_volume_objects.specs.declared.key.ObjectKey.{ObjectKey}
@@ -13,7 +14,7 @@ key_of head = record { dir = head.dir; object = head.object }
 
 -- the root directory
 abbrev pub root : ObjectKey
-root = record { dir = 1; object = 2 }
+root = record { dir = ROOT_PARENT_OBJECTID; object = ROOT_OBJECTID }
 
 -- the items of an object, in their order
 abbrev pub items_of : ObjectKey → List Item → List Item

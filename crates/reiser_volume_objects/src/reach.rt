@@ -18,10 +18,14 @@ use fs_rows::Name;
 use indexmap::IndexSet;
 use reiser_bitmap::{Memory, Rule, VolAnswer, VolumeRefusal};
 use reiser_items::BlockNo;
+use reiserfs_format::key::{ROOT_OBJECTID, ROOT_PARENT_OBJECTID};
 use std::alloc::Global;
 
 /// The root directory.
-pub const ROOT: ObjectKey = ObjectKey { dir: 1, object: 2 };
+pub const ROOT: ObjectKey = ObjectKey {
+    dir: ROOT_PARENT_OBJECTID,
+    object: ROOT_OBJECTID,
+};
 
 /// The name of the root's private directory, in which Linux keeps extended attributes.
 const PRIVATE: &[u8; 14] = b".reiserfs_priv";

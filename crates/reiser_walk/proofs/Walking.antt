@@ -5,6 +5,7 @@ use Rattle.std.proofs.lemmas.List.{append-nil, length-replicate, get_or-replicat
 use Rattle.std.proofs.lemmas.List.Concat.{flat_map-append}
 use Rattle.std.proofs.lemmas.List.Elements.{Contains-append_left, Contains-append_right}
 use Rattle.std.proofs.lemmas.Bool.Decides.{nat_tests}
+use Rattle.reiserfs_format.specs.declared.block.TheConstants.{SUPER_BLOCK}
 use Rattle.reiser_bitmap.specs.outside.History.{Image, block_at}
 use Rattle.reiser_items.specs.reiser_node.Leaf.{count, is_leaf}
 use Rattle.reiser_items.specs.reiser_node.Inner.{children, is_inner}
@@ -29,7 +30,7 @@ use Rattle.reiser_walk.proofs.Paths.{path_nil, path_last}
 
 -- the pointer to the root comes last
 pub root_next : (image : Image) (n : ℕ) (w : Walker) (steps : List Step) → path_rest image n (w.tree.height - 1) w.path.items ≡ [] → steps ≡ [] → w.at_start ≡ true
-    → pending image n w ≡ node_events image n (w.tree.height - 1 - length steps) 16 w.tree.root ++ (path_rest image n (w.tree.height - 1) steps ++ [])
+    → pending image n w ≡ node_events image n (w.tree.height - 1 - length steps) SUPER_BLOCK w.tree.root ++ (path_rest image n (w.tree.height - 1) steps ++ [])
 root_next image n w steps none empty start =
     rw (none, start, empty, path_nil image n (w.tree.height - 1)) (let e : w.tree.height - 1 - 0 ≡ w.tree.height - 1 = omega arith in rw (e, append-nil) refl)
 

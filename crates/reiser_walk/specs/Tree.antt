@@ -1,5 +1,6 @@
 -- The tree of a ReiserFS volume, as one list of what a walk meets: visits of nodes, items, and blocks that are reached.
 use Rattle.std.specs.Prelude.{ℕ, zero, suc, ◌-◌, nat_lt, ◌&&◌, List, [], ◌∷◌, ◌++◌, if◌then◌else◌}
+use Rattle.reiserfs_format.specs.declared.block.TheConstants.{SUPER_BLOCK}
 use Rattle.reiser_bitmap.specs.outside.History.{Image, block_at}
 use Rattle.reiser_items.specs.reiser_node.Leaf.{count, is_leaf}
 use Rattle.reiser_items.specs.reiser_node.Inner.{is_inner, children, child_at}
@@ -28,7 +29,7 @@ node_events image n (suc (suc level)) holder b =
 -- What a walk of the whole tree meets, in a volume of n blocks. The root has the level below the tree's height, and the
 -- superblock, block 16, holds the pointer to it.
 abbrev pub tree_events : Tree → Image → ℕ → List Event
-tree_events tree image n = node_events image n (tree.height - 1) 16 tree.root
+tree_events tree image n = node_events image n (tree.height - 1) SUPER_BLOCK tree.root
 
 -- a visit of a node: the pointer that leads to it, and the level that it should have
 pub record Visit : Type 0 where

@@ -25,13 +25,11 @@ use crate::pointer::Pointer;
 use crate::tree::Tree;
 use reiser_bitmap::{Bitmap, BlockSource, Fault, Memory, Rule, VolAnswer, VolumeRefusal};
 use reiser_items::{Block, BlockNo, ItemHead, LeafView};
+use reiserfs_format::block::SUPER_BLOCK;
 use std::alloc::Global;
 
 /// How many inner nodes lie above a leaf at most.
 const DEPTH: usize = 5;
-
-/// The block of the superblock, which holds the pointer to the root.
-const SUPERBLOCK: BlockNo = 16;
 
 impl Walker {
     /// A walk that has not begun, over the tree of a volume with this bitmap. The root has the level `height` - 1; the
@@ -97,7 +95,7 @@ impl Walker {
         self.at_start = false;
         Some(Pointer {
             block: self.tree.root,
-            holder: SUPERBLOCK,
+            holder: SUPER_BLOCK,
         })
     }
 

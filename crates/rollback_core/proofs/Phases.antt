@@ -1,6 +1,7 @@
 -- What a crash leaves in each phase of writing the old volume back.
 use Rattle.std.proofs.Common.{◌≡◌, ◌≢◌, ◌⊎◌, inl, inr, ⊎_elim, ℕ, ◌<◌, Bool, true, List, [], length, set, get_or, Result, Ok, Err, OnOk, sym, ◌∙◌, ap, subst, arith, get_or-set_same, get_or-set_other}
 use Rattle.std.proofs.lemmas.List.{length-set}
+use Rattle.btrfs_format.specs.declared.block.TheConstants.{FIRST_MIRROR, SECOND_MIRROR, SUPER_BLOCK}
 use Rattle.reiser_bitmap.specs.vol_block.Volume.{zeros}
 use Rattle.reiser_bitmap.specs.outside.History.{Image, History, block_at, reads, clock, IsSettled, IsBlock, LeftSince, WritesBlock, WritesOnly}
 use Rattle.reiser_bitmap.proofs.outside.Crash.{left_each, writes_length, reads_only}
@@ -37,7 +38,7 @@ module _ (way : WayBack) (apart : AreApart way) (old : Image) where
 
   -- block 16 over the saved blocks is turned
   over_saved : (mid image : Image) → IsUnturned way old mid → AreWrittenBack saved mid → length image ≡ length mid
-      → block_at image 16 ≡ way.superblock.bytes → ((b : ℕ) → b ≢ 16 → block_at image b ≡ block_at mid b) → IsTurned way old image
+      → block_at image SUPER_BLOCK ≡ way.superblock.bytes → ((b : ℕ) → b ≢ 16 → block_at image b ≡ block_at mid b) → IsTurned way old image
   over_saved mid image before stand size is same = record {
     size = size ∙ before.size;
     superblock = is;
@@ -98,7 +99,7 @@ pub superblock_stands : (way : WayBack) (h₀ h₁ h₂ : History) → AreApart 
 superblock_stands way h₀ h₁ h₂ apart only₁ stand long is =
     over_saved way apart (reads h₀) (reads h₁) (reads h₂) (reads_unturned way h₀ h₁ only₁) stand
     (ap (λ (image : Image). length image) is ∙ length-set (reads h₁) 16 way.superblock.bytes)
-    (ap (λ (image : Image). block_at image 16) is ∙ get_or-set_same (reads h₁) 16 way.superblock.bytes [] long)
+    (ap (λ (image : Image). block_at image SUPER_BLOCK) is ∙ get_or-set_same (reads h₁) 16 way.superblock.bytes [] long)
     (λ b not. ap (λ (image : Image). block_at image b) is ∙ get_or-set_other (reads h₁) 16 b way.superblock.bytes [] not)
 
 -- what each phase writes is part of what is written
@@ -119,24 +120,24 @@ abbrev pub WipesOne : Bool → ℕ → ℕ → List ℕ → Type 0
 WipesOne wiped place b bytes = (wiped ≡ true) × IsBlock place zeros b bytes
 
 module _ (way : WayBack) where
-  pub first_wiping : (b : ℕ) (bytes : List ℕ) → WipesOne way.first 16384 b bytes → IsWiping way b bytes
+  pub first_wiping : (b : ℕ) (bytes : List ℕ) → WipesOne way.first FIRST_MIRROR b bytes → IsWiping way b bytes
   first_wiping b bytes is = (inl (is.1.0, is.0), is.1.1)
 
-  pub second_wiping : (b : ℕ) (bytes : List ℕ) → WipesOne way.second 67108864 b bytes → IsWiping way b bytes
+  pub second_wiping : (b : ℕ) (bytes : List ℕ) → WipesOne way.second SECOND_MIRROR b bytes → IsWiping way b bytes
   second_wiping b bytes is = (inr (is.1.0, is.0), is.1.1)
 
   -- both are zeros
-  pub both_wiped : (h₁ h₂ : History) → (way.first ≡ true → block_at (reads h₁) 16384 ≡ zeros) → (way.second ≡ true → block_at (reads h₂) 67108864 ≡ zeros)
-      → WritesOnly (WipesOne way.second 67108864) h₁ h₂ → AreWiped way (reads h₂)
+  pub both_wiped : (h₁ h₂ : History) → (way.first ≡ true → block_at (reads h₁) FIRST_MIRROR ≡ zeros) → (way.second ≡ true → block_at (reads h₂) SECOND_MIRROR ≡ zeros)
+      → WritesOnly (WipesOne way.second SECOND_MIRROR) h₁ h₂ → AreWiped way (reads h₂)
   both_wiped h₁ h₂ one two only b wiped = ⊎_elim first second wiped
     where
-      first : (b ≡ 16384) × (way.first ≡ true) → block_at (reads h₂) b ≡ zeros
+      first : (b ≡ FIRST_MIRROR) × (way.first ≡ true) → block_at (reads h₂) b ≡ zeros
       first is =
-          let kept : block_at (reads h₂) 16384 ≡ block_at (reads h₁) 16384 =
-          ⊎_elim (λ same. same) (λ other. absurd (omega (arith, other.1.0))) (reads_only (WipesOne way.second 67108864) h₁ h₂ only 16384) in
+          let kept : block_at (reads h₂) FIRST_MIRROR ≡ block_at (reads h₁) FIRST_MIRROR =
+          ⊎_elim (λ same. same) (λ other. absurd (omega (arith, other.1.0))) (reads_only (WipesOne way.second SECOND_MIRROR) h₁ h₂ only FIRST_MIRROR) in
           subst (λ (n : ℕ). block_at (reads h₂) n ≡ zeros) (sym is.0) (kept ∙ one is.1)
 
-      second : (b ≡ 67108864) × (way.second ≡ true) → block_at (reads h₂) b ≡ zeros
+      second : (b ≡ SECOND_MIRROR) × (way.second ≡ true) → block_at (reads h₂) b ≡ zeros
       second is = subst (λ (n : ℕ). block_at (reads h₂) n ≡ zeros) (sym is.0) (two is.1)
 
 module _ (wiped : Bool) (place : ℕ) (bytes : List ℕ) (h₀ h₁ : History) {T E : Type 0} (result : Result T E) (zero_bytes : bytes ≡ zeros) where

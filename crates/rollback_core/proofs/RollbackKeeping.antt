@@ -2,6 +2,7 @@
 use Rattle.std.proofs.Common.{◌≡◌, ◌≢◌, inl, inr, ⊎_elim, ℕ, ◌≤◌, eqb, nat_lt, Bool, true, false, not, ◌&&◌, List, length, codes, refl, sym, ◌∙◌, ap, subst, arith, true≢false}
 use Rattle.std.proofs.lemmas.Bool.{and_parts}
 use Rattle.std.proofs.lemmas.Bool.Decides.{nat_tests}
+use Rattle.btrfs_format.specs.declared.block.TheConstants.{SUPER_MAGIC_OFFSET}
 use Rattle.reiser_bitmap.specs.outside.History.{Image, block_at}
 use Rattle.volume_state.specs.Laws.{is_spare}
 use Rattle.volume_state.specs.Saved.{image_blocks}
@@ -59,7 +60,7 @@ module _ (disk left other : Image) (u : IsUntouched disk) (is : IsStanding disk 
   left_same b free = is.others b (λ restored. true≢false (sym restored.used ∙ free))
 
   abbrev wiped_by : List Bool → List ℕ → ℕ → Bool
-  wiped_by used bytes b = nat_lt b (length used) && (not (has used b) && has_bytes_at bytes 64 (codes "_BHRfS_M"))
+  wiped_by used bytes b = nat_lt b (length used) && (not (has used b) && has_bytes_at bytes SUPER_MAGIC_OFFSET (codes "_BHRfS_M"))
 
   wiped_same : (b : ℕ) → has (old_used disk) b ≡ false → is_wiped left b ≡ is_wiped disk b
   wiped_same b free = ap (λ (used : List Bool). wiped_by used (block_at left b) b) used_same ∙ ap (λ (bytes : List ℕ). wiped_by (old_used disk) bytes b) (left_same b free)

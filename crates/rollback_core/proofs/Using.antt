@@ -3,6 +3,7 @@ use Rattle.std.proofs.Common.{◌≡◌, ◌↔◌, ⊎_elim, inl, inr, ℕ, Boo
 use Rattle.std.specs.Prelude.{bytes_eq}
 use Rattle.std.specs.Option.{option_and_then}
 use Rattle.std.proofs.lemmas.Slice.Eq.{bytes_eq-Decides}
+use Rattle.btrfs_format.specs.declared.object.TheConstants.{FS_TREE}
 use Rattle.reiser_bitmap.specs.outside.History.{Image, block_at}
 use Rattle.btr_reader.specs.Chunks.{with_items}
 use Rattle.btr_reader.specs.Image.{items_at, pointer_in, saved_entry, tree_number}
@@ -56,28 +57,28 @@ module _ (test : ℕ → Bool) (disk other : Image) (apart : AreTreesApart test 
 
   -- ---- the two trees
   abbrev named : Image → Pointer → Option ℕ
-  named x p = option_and_then tree_number (saved_entry (items_at x s ranges 5 p))
+  named x p = option_and_then tree_number (saved_entry (items_at x s ranges FS_TREE p))
 
-  named_same : (p : Pointer) → root_of disk 5 ≡ Some p → named other p ≡ named disk p
+  named_same : (p : Pointer) → root_of disk FS_TREE ≡ Some p → named other p ≡ named disk p
   named_same p root =
-      ap (λ (items : List TreeItem). option_and_then tree_number (saved_entry items)) (found_same test disk other same ranges (tree_of s 5 p) (apart.files p root))
+      ap (λ (items : List TreeItem). option_and_then tree_number (saved_entry items)) (found_same test disk other same ranges (tree_of s FS_TREE p) (apart.files p root))
 
-  saved_same : (p : Pointer) → root_of disk 5 ≡ Some p → saved_tree other p ≡ saved_tree disk p
-  saved_same p root = both (λ t m. option_and_then tree_number (saved_entry (items_at other t m 5 p))) ∙ named_same p root
+  saved_same : (p : Pointer) → root_of disk FS_TREE ≡ Some p → saved_tree other p ≡ saved_tree disk p
+  saved_same p root = both (λ t m. option_and_then tree_number (saved_entry (items_at other t m FS_TREE p))) ∙ named_same p root
 
   numbered_same : (o : Option ℕ) → numbered other s ranges o ≡ numbered disk s ranges o
   numbered_same None = refl
   numbered_same (Some number) = ap (λ (items : List TreeItem). tree_if s number (pointer_in (root_item number items))) roots_same
 
-  below_same : (o : Option Pointer) → root_of disk 5 ≡ o → named_by other s ranges o ≡ named_by disk s ranges o
+  below_same : (o : Option Pointer) → root_of disk FS_TREE ≡ o → named_by other s ranges o ≡ named_by disk s ranges o
   below_same None root = refl
   below_same (Some p) root = numbered_same (named other p) ∙ ap (λ (o : Option ℕ). numbered disk s ranges o) (named_same p root)
 
   trees_same : file_trees other (own_super other) (own_map other) ≡ file_trees disk s ranges
   trees_same =
       both (λ t m. file_trees other t m)
-      ∙ (ap (λ (items : List TreeItem). tree_if s 5 (pointer_in (root_item 5 items)) ++ named_by other s ranges (pointer_in (root_item 5 items))) roots_same
-      ∙ ap (λ (more : List Tree). tree_if s 5 (file_pointer disk s ranges) ++ more) (below_same (file_pointer disk s ranges) refl))
+      ∙ (ap (λ (items : List TreeItem). tree_if s FS_TREE (pointer_in (root_item FS_TREE items)) ++ named_by other s ranges (pointer_in (root_item FS_TREE items))) roots_same
+      ∙ ap (λ (more : List Tree). tree_if s FS_TREE (file_pointer disk s ranges) ++ more) (below_same (file_pointer disk s ranges) refl))
 
   -- ---- what is in use
   nodes_of : (m : List MapRange) (t : Tree) → AreNodesApart test disk m t → (b : ℕ) → HoldsNodeOf other m t b → HoldsNodeOf disk m t b
@@ -107,9 +108,9 @@ module _ (test : ℕ → Bool) (disk other : Image) (apart : AreTreesApart test 
     superblock = apart.superblock;
     chunks = subst (λ (t : Super). AreNodesApart test other (boot_map t) (chunk_tree t)) (sym fields_same) (apart_same test disk other same (boot_map s) (chunk_tree s) apart.chunks);
     roots = over (λ t m. AreNodesApart test other m (root_tree t)) (apart_same test disk other same ranges (root_tree s) apart.roots);
-    files = λ p root. nodes_again 5 p (apart.files p (sym (root_same 5) ∙ root));
+    files = λ p root. nodes_again FS_TREE p (apart.files p (sym (root_same FS_TREE) ∙ root));
     saved = λ p number q root entry at.
-        let here = sym (root_same 5) ∙ root in
+        let here = sym (root_same FS_TREE) ∙ root in
         nodes_again number q (apart.saved p number q here (sym (saved_same p here) ∙ entry) (sym (root_same number) ∙ at));
   }
 

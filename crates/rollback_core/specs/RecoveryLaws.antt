@@ -1,5 +1,6 @@
 -- What a recovery and its crashes keep.
 use Rattle.std.specs.Prelude.{◌≡◌, ◌≢◌, ◌⊎◌, ◌↔◌, ℕ, ◌<◌, false, List, length, codes, Contains}
+use Rattle.btrfs_format.specs.declared.block.TheConstants.{SUPER_BLOCK, SUPER_MAGIC_OFFSET}
 use Rattle.reiser_bitmap.specs.outside.Format.{format_in}
 use Rattle.reiser_bitmap.specs.outside.History.{Image, block_at}
 use Rattle.convert_steps.specs.command_answers.declared.answer.Answer.{Answer}
@@ -49,10 +50,10 @@ pub record RecoveryKeeps : Type 0 where
 -- What stands in the blocks of copies: on a Btrfs volume the copies of its superblock, on a ReiserFS volume no Btrfs superblock in a
 -- block without use. A Btrfs volume whose copies stand is recovered as it is.
 pub record RecoveryMends : Type 0 where
-  pub copies : (image other : Image) → IsRecovered image other → format_in image ≡ Btrfs → HasCopies (block_at image 16) (blocks_of (block_at image 16)) other
+  pub copies : (image other : Image) → IsRecovered image other → format_in image ≡ Btrfs → HasCopies (block_at image SUPER_BLOCK) (blocks_of (block_at image SUPER_BLOCK)) other
   pub wiped : (image other : Image) → IsRecovered image other → format_in image ≡ Reiser
-      → (b : ℕ) → IsMirror b → b < (superblock image).blocks → has (used_of image) b ≡ false → has_bytes_at (block_at other b) 64 (codes "_BHRfS_M") ≡ false
-  pub whole : (image : Image) → IsRecoverable image → format_in image ≡ Btrfs → HasCopies (block_at image 16) (blocks_of (block_at image 16)) image → IsRecovered image image
+      → (b : ℕ) → IsMirror b → b < (superblock image).blocks → has (used_of image) b ≡ false → has_bytes_at (block_at other b) SUPER_MAGIC_OFFSET (codes "_BHRfS_M") ≡ false
+  pub whole : (image : Image) → IsRecoverable image → format_in image ≡ Btrfs → HasCopies (block_at image SUPER_BLOCK) (blocks_of (block_at image SUPER_BLOCK)) image → IsRecovered image image
 
 -- The blocks that are counted, no two of which are one, are those that differ.
 abbrev pub RecoveryCounts : Type 0

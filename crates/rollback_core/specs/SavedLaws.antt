@@ -1,5 +1,6 @@
 -- What decides the saved image of a Btrfs volume, the blocks in use, and whether the volume before can be had back.
 use Rattle.std.specs.Prelude.{◌≡◌, ◌↔◌, ℕ, ◌/◌, Bool, false, length}
+use Rattle.btrfs_format.specs.declared.block.TheConstants.{SUPER_BLOCK}
 use Rattle.reiser_bitmap.specs.outside.History.{Image, block_at}
 use Rattle.btr_reader.specs.Parts.{IsReadable, SavedImage, own_super}
 use Rattle.volume_state.specs.Laws.{IsSameUntouched}
@@ -13,7 +14,7 @@ use Rattle.volume_state.specs.Using.{IsInUse, IsReservedFree}
 -- The two disks are as long as each other, and have the same in block 16, which is that of the superblock, and in each block in use.
 pub record IsSameInUse (disk other : Image) : Type 0 where
   pub size : length other ≡ length disk
-  pub superblock : block_at other 16 ≡ block_at disk 16
+  pub superblock : block_at other SUPER_BLOCK ≡ block_at disk SUPER_BLOCK
   pub used : (b : ℕ) → IsInUse disk b → block_at other b ≡ block_at disk b
 
 -- The other disk holds the same Btrfs volume with the same saved image and the same blocks in use, and the volume before can be had back

@@ -1,5 +1,6 @@
 -- What is written back, and what that leaves.
 use Rattle.std.specs.Prelude.{◌≡◌, ◌≢◌, ◌⊎◌, ℕ, ◌<◌, true, All, AllPairs, Any, List, length}
+use Rattle.btrfs_format.specs.declared.block.TheConstants.{FIRST_MIRROR, SECOND_MIRROR, SUPER_BLOCK}
 use Rattle.reiser_bitmap.specs.outside.History.{Image, IsBlock, block_at}
 use Rattle.reiser_bitmap.specs.vol_block.Volume.{zeros}
 use Rattle.rollback_core.specs.declared.way.Saved.{Saved}
@@ -13,7 +14,7 @@ IsPlace saved b = Any (λ s. b ≡ s.at) saved
 
 -- block b is to become zeros
 abbrev pub IsWiped : WayBack → ℕ → Type 0
-IsWiped way b = ((b ≡ 16384) × (way.first ≡ true)) ⊎ ((b ≡ 67108864) × (way.second ≡ true))
+IsWiped way b = ((b ≡ FIRST_MIRROR) × (way.first ≡ true)) ⊎ ((b ≡ SECOND_MIRROR) × (way.second ≡ true))
 
 -- and zeros go there
 abbrev pub IsWiping : WayBack → ℕ → List ℕ → Type 0
@@ -29,8 +30,8 @@ IsPart way b bytes = IsPlace way.reserved.items b ⊎ (IsBlock 16 way.superblock
 pub record HasRoom (size : ℕ) (way : WayBack) : Type 0 where
   pub superblock : 16 < size
   pub reserved : All (λ s. s.at < size) way.reserved.items
-  pub first : way.first ≡ true → 16384 < size
-  pub second : way.second ≡ true → 67108864 < size
+  pub first : way.first ≡ true → FIRST_MIRROR < size
+  pub second : way.second ≡ true → SECOND_MIRROR < size
 
 -- no two blocks go to one place
 abbrev pub GoApart : List Saved → Type 0
@@ -56,7 +57,7 @@ AreWrittenBack saved other = All (λ s. block_at other s.at ≡ s.block.bytes) s
 -- Block 16 and the saved blocks stand. The blocks that are to become zeros are as they were, or zeros.
 pub record IsTurned (way : WayBack) (old other : Image) : Type 0 where
   pub size : length other ≡ length old
-  pub superblock : block_at other 16 ≡ way.superblock.bytes
+  pub superblock : block_at other SUPER_BLOCK ≡ way.superblock.bytes
   pub written : AreWrittenBack way.reserved.items other
   pub others : (b : ℕ) → b ≢ 16 → ¬ IsPlace way.reserved.items b → (block_at other b ≡ block_at old b) ⊎ IsWiping way b (block_at other b)
 

@@ -7,14 +7,9 @@ ghost use Rattle.reiser_bitmap.specs.vol_block.Volume.{zeros};
 ghost use Rattle.rollback_core.specs.Writing.{AreApart, AreWiped, AreWrittenBack, GoApart, HasRoom, IsPart, IsPlace, IsTurned, IsUnturned, IsWiping};
 
 use crate::way::{Saved, WayBack};
+use btrfs_format::block::{FIRST_MIRROR, SECOND_MIRROR};
 use convert_steps::SUPERBLOCK;
 use reiser_bitmap::{Access, Block, BlockNo, Disk, Fault};
-
-/// The block of the first copy of a Btrfs superblock, as the Btrfs on-disk format documentation has it: at 64 MiB.
-pub const FIRST_COPY: BlockNo = 16384;
-
-/// The block of the second copy: at 256 GiB.
-pub const SECOND_COPY: BlockNo = 67_108_864;
 
 /// Writes the old volume back, in three steps, each of which is on the disk before the next begins: its reserved blocks, then block 16,
 /// and then zeros over copies of the Btrfs superblock.
@@ -75,8 +70,8 @@ fn wipe_copies<D: Disk>(disk: &mut D, way: &WayBack) -> Result<(), Fault>
     ensures settled { IsTrue D.tells → OnOk result (IsSettled (D.history disk.new)) }
     ensures cause { HasCause (D.faults disk.old) (D.faults disk.new) result }
 {
-    wipe_if(disk, way.first, FIRST_COPY)?;
-    wipe_if(disk, way.second, SECOND_COPY)?;
+    wipe_if(disk, way.first, FIRST_MIRROR)?;
+    wipe_if(disk, way.second, SECOND_MIRROR)?;
     disk.sync()
 }
 

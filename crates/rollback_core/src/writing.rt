@@ -6,7 +6,7 @@ ghost use Rattle.rollback_core.specs.Mending.{given};
 ghost use Rattle.rollback_core.specs.Planned.{HasRoom, IsGiven, IsGivenAt, Stands, number_of};
 
 use crate::mending::Mending;
-use crate::restore::{FIRST_COPY, SECOND_COPY};
+use btrfs_format::block::{FIRST_MIRROR, SECOND_MIRROR};
 use reiser_bitmap::{Access, Block, BlockNo, Disk, Fault};
 
 /// Writes what is to be written, and syncs where that is anything. The number of blocks that were written.
@@ -23,8 +23,8 @@ pub fn write_mending<D: Disk>(disk: &mut D, mending: &Mending) -> Result<u64, Fa
     ensures settled { IsTrue D.tells → IfOk result (λ n. n ≢ 0 → IsSettled (D.history disk.new)) }
     ensures cause { HasCause (D.faults disk.old) (D.faults disk.new) result }
 {
-    let first = write_given(disk, FIRST_COPY, &mending.first)?;
-    let second = write_given(disk, SECOND_COPY, &mending.second)?;
+    let first = write_given(disk, FIRST_MIRROR, &mending.first)?;
+    let second = write_given(disk, SECOND_MIRROR, &mending.second)?;
     let written = first + second;
     if written == 0 {
         return Ok(0);

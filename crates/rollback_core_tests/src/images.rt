@@ -1,6 +1,7 @@
 // The saved image of a small disk.
 use btr_reader::{Btrfs, ImageMap, Piece};
 use btr_reader_walk::MapRange;
+use btrfs_format::block::SUPER_INFO_OFFSET;
 use outside::{Access, BlockSource, Disk};
 use outside_mem::MemDisk;
 use refusals::{BtrAnswer, BtrRefusal, BtrRule};
@@ -204,7 +205,7 @@ fn another_device_is_told(rt: HostRuntime) -> Result<(), Fail> {
     let volume = Btrfs::open(rt.alloc(), &mut disk)?;
     let told = reserved_used(rt.alloc(), &volume, &mut device(rt.alloc())?, 8448);
     let size = BtrRefusal::BadBtrfs {
-        address: 65536,
+        address: SUPER_INFO_OFFSET,
         rule: BtrRule::SuperField,
     };
     assert_eq!(rt; told, Err(BtrAnswer::Refused(size)));

@@ -6,6 +6,7 @@ use Rattle.std.proofs.lemmas.Cmp.{ranked}
 use Rattle.std.proofs.lemmas.List.{get_or-map, get_or-take, length-map, length-take, map-append, drop-drop}
 use Rattle.std.proofs.lemmas.List.Sums.{sum_by-cons}
 use Rattle.std.proofs.Math.Seq.{take-add}
+use Rattle.btrfs_format.specs.declared.object.TheConstants.{EXTENT_TREE}
 use Rattle.btr_tree.specs.btr_reader_walk.declared.tree.Pointer.{Pointer}
 use Rattle.btr_tree.specs.Counting.{tree_nodes}
 use Rattle.btr_tree.specs.Packing.{leaves, tree_levels}
@@ -51,7 +52,7 @@ module _ (nodes : List TreeNode) (slots : List ℕ) (are : AreNodes nodes) (up :
   }
 
   pub with_leaves : (n : ℕ) → AreNodes (merged_nodes nodes (own_at slots n))
-  with_leaves n = with_others n (own_at slots n) (map-map (λ (m : TreeNode). m.address) (λ a. record { address = a; level = 0; owner = 2 }) (take n slots) ∙ map-id (take n slots))
+  with_leaves n = with_others n (own_at slots n) (map-map (λ (m : TreeNode). m.address) (λ a. record { address = a; level = 0; owner = EXTENT_TREE }) (take n slots) ∙ map-id (take n slots))
 
 -- the nodes of all levels lie at the slots in their order
 pub upper_at : (owner level skip : ℕ) (slots sizes : List ℕ) → addresses (upper owner slots level skip sizes) ≡ take (sum sizes) (drop skip slots)

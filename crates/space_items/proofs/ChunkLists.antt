@@ -5,6 +5,8 @@ use Rattle.std.specs.List.{sum_by}
 use Rattle.std.proofs.lemmas.List.{map-append, take_all}
 use Rattle.std.proofs.lemmas.List.Sums.{sum_by-cons, sum_by_more, sum_by_more_le}
 use Rattle.std.proofs.lemmas.Option.{slice_get_within, get_or_from_slice_get}
+use Rattle.btrfs_format.specs.declared.key.TheConstants.{DEV_ITEM}
+use Rattle.btrfs_format.specs.declared.object.TheConstants.{DEV_ITEMS_OBJECTID}
 use Rattle.btr_tree.specs.btr_keys.declared.key.Key.{Key}
 use Rattle.btr_tree.specs.btr_keys.Key.{make_key}
 use Rattle.btr_tree.specs.btr_node.Leaf.{Item}
@@ -76,10 +78,10 @@ mapped_all f front items plan blocks inside cs list i same past built are others
 
 -- the device's item, and those of the chunks
 pub with_device : (ids : Ids) (plan : Plan) (blocks : ℕ) (cs list : List Chunk) (none front items : List Item) (key : Key) (body : List ℕ) (device : Device) → AreChunks plan blocks cs
-    → AreChunks plan blocks list → none ≡ [] → key ≡ make_key 1 216 1 → body ≡ device_bytes device → device ≡ device_body ids blocks cs → front ≡ none ++ (key, body) ∷ []
+    → AreChunks plan blocks list → none ≡ [] → key ≡ make_key DEV_ITEMS_OBJECTID DEV_ITEM 1 → body ≡ device_bytes device → device ≡ device_body ids blocks cs → front ≡ none ++ (key, body) ∷ []
     → items ≡ front ++ map (chunk_item ids) list → items ≡ chunk_items ids blocks list
 with_device ids plan blocks cs list none front items key body device are others empty key_is body_is device_is first all =
     let bytes : body ≡ device_bytes (device_body ids blocks list) = body_is ∙ ap device_bytes (device_is ∙ ap (device_body ids blocks) (chunks_one plan blocks cs list are others)) in
-    let one : front ≡ (make_key 1 216 1, device_bytes (device_body ids blocks list)) ∷ [] =
-    first ∙ (ap (λ (l : List Item). l ++ (key, body) ∷ []) empty ∙ (ap (λ (k : Key). (k, body) ∷ []) key_is ∙ ap (λ (b : List ℕ). (make_key 1 216 1, b) ∷ []) bytes)) in
+    let one : front ≡ (make_key DEV_ITEMS_OBJECTID DEV_ITEM 1, device_bytes (device_body ids blocks list)) ∷ [] =
+    first ∙ (ap (λ (l : List Item). l ++ (key, body) ∷ []) empty ∙ (ap (λ (k : Key). (k, body) ∷ []) key_is ∙ ap (λ (b : List ℕ). (make_key DEV_ITEMS_OBJECTID DEV_ITEM 1, b) ∷ []) bytes)) in
     all ∙ ap (λ (l : List Item). l ++ map (chunk_item ids) list) one

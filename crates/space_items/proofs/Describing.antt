@@ -4,6 +4,8 @@ use Rattle.std.proofs.lemmas.Bool.{cases_lt}
 use Rattle.std.proofs.lemmas.Cmp.{nat_cmp_total, on_total}
 use Rattle.std.proofs.lemmas.List.{take_more, take_all, map_push, length-map, length-take}
 use Rattle.std.specs.Cmp.{IsTotalOrder}
+use Rattle.btrfs_format.specs.declared.object.TheConstants.{EXTENT_TREE}
+use Rattle.unit_plan.specs.declared.item_bytes.TheConstants.{NODE_BYTES}
 use Rattle.btr_tree.specs.btr_node.NodeSize.{IsNodeSize}
 use Rattle.btr_tree.specs.Counting.{Counted, Tally, bytes_of, node_bound, tree_nodes}
 use Rattle.btr_tree.specs.Roots.{lengths_of}
@@ -33,8 +35,8 @@ module _ (chunks : List Chunk) (pieces : List Piece) (others : List TreeNode) (s
 
   one_slot_more : (x : ℕ) → x < length slots → count_with x ≤ count_with (x + 1)
   one_slot_more x more =
-      let y : TreeNode = record { address = get_or slots x 0; level = 0; owner = 2 } in
-      let own : own_at slots (x + 1) ≡ own_at slots x ++ y ∷ [] = ap (nodes_at 2 0) (take_more slots x 0 more) ∙ map_push (λ a. record { address = a; level = 0; owner = 2 }) (take x slots) (get_or slots x 0) in
+      let y : TreeNode = record { address = get_or slots x 0; level = 0; owner = EXTENT_TREE } in
+      let own : own_at slots (x + 1) ≡ own_at slots x ++ y ∷ [] = ap (nodes_at EXTENT_TREE 0) (take_more slots x 0 more) ∙ map_push (λ a. record { address = a; level = 0; owner = EXTENT_TREE }) (take x slots) (get_or slots x 0) in
       let put : IsMore node_cmp y (merge node_cmp others (own_at slots x ++ [])) (merge node_cmp others (own_at slots x ++ y ∷ [])) = more_second node_cmp node_total y others (own_at slots x) [] tt in
       more_nodes chunks pieces nodesize y (merged_nodes others (own_at slots x)) (merged_nodes others (own_at slots (x + 1))) size
       (subst₂ (λ xs ys. IsMore node_cmp y (merge node_cmp others xs) (merge node_cmp others ys)) (append-nil (own_at slots x)) (sym own) put)
@@ -44,7 +46,7 @@ module _ (chunks : List Chunk) (pieces : List Piece) (others : List TreeNode) (s
       ⊎_elim (λ (more : x < length slots). one_slot_more x more)
       (λ (past : length slots ≤ x).
       let same : take (x + 1) slots ≡ take x slots = take_all (x + 1) slots (omega arith) ∙ sym (take_all x slots past) in
-      let counts : count_with (x + 1) ≡ count_with x = ap (λ xs. tree_nodes nodesize (lengths_of (extent_items chunks pieces (merged_nodes others (nodes_at 2 0 xs)) nodesize))) same in
+      let counts : count_with (x + 1) ≡ count_with x = ap (λ xs. tree_nodes nodesize (lengths_of (extent_items chunks pieces (merged_nodes others (nodes_at EXTENT_TREE 0 xs)) nodesize))) same in
       omega (arith, counts))
       (cases_lt x (length slots))
 
@@ -55,13 +57,13 @@ module _ (chunks : List Chunk) (pieces : List Piece) (others : List TreeNode) (s
   pub count_up : (x y : ℕ) → x ≤ y → count_with x ≤ count_with y
   count_up x y h = let e : x + (y - x) ≡ y = omega arith in subst (λ (z : ℕ). count_with x ≤ count_with z) e (steps (y - x) x)
 
-  own_bytes : (x : ℕ) → bytes_of (own_lengths chunks pieces others slots nodesize x) ≤ extent_bytes (length pieces) (length chunks) (length others) + 58 * x
+  own_bytes : (x : ℕ) → bytes_of (own_lengths chunks pieces others slots nodesize x) ≤ extent_bytes (length pieces) (length chunks) (length others) + NODE_BYTES * x
   own_bytes x =
       omega (
         arith,
         bytes-le chunks pieces (merged_nodes others (own_at slots x)) nodesize,
         length-merge node_cmp others (own_at slots x),
-        length-map {B = TreeNode} (take x slots) (λ a. record { address = a; level = 0; owner = 2 }),
+        length-map {B = TreeNode} (take x slots) (λ a. record { address = a; level = 0; owner = EXTENT_TREE }),
         length-take x slots,
       )
 
@@ -78,7 +80,7 @@ module _ (chunks : List Chunk) (pieces : List Piece) (others : List TreeNode) (s
           bounded = omega (
             arith,
             low,
-            bound_up (bytes_of (own_lengths chunks pieces others slots nodesize count)) (bytes + 58 * count) nodesize size (own_bytes count),
+            bound_up (bytes_of (own_lengths chunks pieces others slots nodesize count)) (bytes + NODE_BYTES * count) nodesize size (own_bytes count),
             bound_holds bytes count nodesize size so_far.bounded,
           );
         }

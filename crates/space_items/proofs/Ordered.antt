@@ -9,6 +9,9 @@ use Rattle.std.proofs.lemmas.Bool.{and_parts, and_from, false≢true}
 use Rattle.std.proofs.lemmas.Cmp.{on_total}
 use Rattle.std.proofs.lemmas.List.Elements.{All-cons, All-nil}
 use Rattle.std.proofs.lemmas.List.Kept.{AllPairs-cons}
+use Rattle.btrfs_format.specs.declared.key.TheConstants.{DEV_ITEM, ROOT_ITEM}
+use Rattle.btrfs_format.specs.declared.object.TheConstants.{DEV_ITEMS_OBJECTID}
+use Rattle.vol_block.specs.declared.mode.TheConstants.{DIRECTORY_MODE}
 use Rattle.btr_tree.specs.vol_block.declared.ids.Ids.{Ids}
 use Rattle.btr_tree.specs.btr_keys.Key.{key_cmp, key_layout, IsBefore, make_key}
 use Rattle.btr_tree.specs.btr_keys.DirEntry.{dir_entry_head}
@@ -111,7 +114,7 @@ device_first item chunks f low up = AllPairs-cons (λ a b. item_cmp a b ≡ Less
 
 pub chunk_items_fit : ChunkItemsFit
 chunk_items_fit plan blocks ids chunks are chunked =
-    let device : Item = (make_key 1 216 1, device_bytes (device_body ids blocks chunks)) in (
+    let device : Item = (make_key DEV_ITEMS_OBJECTID DEV_ITEM 1, device_bytes (device_body ids blocks chunks)) in (
       record {
         ascend = rise_ascends (chunk_items ids blocks chunks) (device_first device chunks (chunk_item ids) (λ c. refl) (chunks_rise plan blocks chunks chunked ids));
         short = All-cons (λ i. length i.1 ≤ 439) device (map (chunk_item ids) chunks) (short_device ids blocks chunks are) (all_mapped (chunk_item ids) (λ i. length i.1 ≤ 439) chunks (λ k d h. short_chunk ids (get_or chunks k d) are));
@@ -151,7 +154,7 @@ short_default = omega arith
 
 short_others : (index now k : ℕ) (d : Item) → k < length (other_root_items index now) → length (get_or (other_root_items index now) k d).1 ≤ 439
 short_others index now zero d h = short_saved index
-short_others index now (suc zero) d h = short_inode (inode_made now 0x41ED 0 0 0)
+short_others index now (suc zero) d h = short_inode (inode_made now DIRECTORY_MODE 0 0 0)
 short_others index now (suc (suc zero)) d h = short_name 0
 short_others index now (suc (suc (suc zero))) d h = short_default
 short_others index now (suc (suc (suc (suc zero)))) d h = short_saved index
@@ -163,7 +166,7 @@ others_rise index now = ascends_rise (other_root_items index now) refl
 roots_rise : (ids : Ids) (nodesize : ℕ) (list : List TreeRoot) → AllPairs (λ r s. r.tree < s.tree) list → Rise (map (root_item ids nodesize) list)
 roots_rise ids nodesize list up =
     rise_mapped (root_item ids nodesize) list
-    (λ i j d l h. ap (λ (o : Ordering). ordering_then o (ordering_then (nat_cmp 132 132) (nat_cmp 0 0))) (nat_less (get_or list i d).tree (get_or list j d).tree (up i j d l h)))
+    (λ i j d l h. ap (λ (o : Ordering). ordering_then o (ordering_then (nat_cmp ROOT_ITEM ROOT_ITEM) (nat_cmp 0 0))) (nat_less (get_or list i d).tree (get_or list j d).tree (up i j d l h)))
 
 pub root_items_fit : RootItemsFit
 root_items_fit list index ids now nodesize are up =

@@ -11,6 +11,8 @@ use Rattle.std.proofs.lemmas.Grind.{div_ceil_times}
 use Rattle.std.proofs.lemmas.List.FromFn.{get_or-range_with_len, length-range_with_len}
 use Rattle.std.proofs.lemmas.List.Elements.{All-append, All-cons, All-head, All-nil, All-tail, All-weaker}
 use Rattle.std.proofs.lemmas.List.Kept.{AllPairs-cons}
+use Rattle.btrfs_format.specs.declared.key.TheConstants.{EXTENT_CSUM}
+use Rattle.btrfs_format.specs.declared.object.TheConstants.{EXTENT_CSUM_OBJECTID}
 use Rattle.btr_tree.specs.outside.History.{Image, block_at}
 use Rattle.btr_tree.specs.btr_keys.Key.{IsBefore}
 use Rattle.btr_tree.specs.btr_node.Leaf.{Item}
@@ -95,8 +97,8 @@ extent_items_fit plan blocks chunks pieces nodes nodesize are_chunks are_pieces 
 
 -- an item with checksums of blocks from one on to before another
 record IsSumAt (low high : ℕ) (i : Item) : Type 0 where
-  objectid : i.0.objectid ≡ 2 ^ 64 - 10
-  kind : i.0.kind ≡ 128
+  objectid : i.0.objectid ≡ EXTENT_CSUM_OBJECTID
+  kind : i.0.kind ≡ EXTENT_CSUM
   from : low ≤ i.0.offset
   to : i.0.offset < high
 

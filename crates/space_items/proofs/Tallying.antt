@@ -4,6 +4,8 @@ use Rattle.std.specs.Prelude.{All}
 use Rattle.std.proofs.lemmas.List.{get_or_at, map-append}
 use Rattle.std.proofs.lemmas.List.Elements.{All-head, All-tail, All-cons, All-nil}
 use Rattle.std.proofs.lemmas.List.Sums.{sum_by-cons}
+use Rattle.btrfs_format.specs.declared.size.TheConstants.{ITEM_SIZE}
+use Rattle.unit_plan.specs.declared.item_bytes.TheConstants.{EXTENT_BYTES}
 use Rattle.btr_tree.specs.btr_node.Leaf.{Item}
 use Rattle.btr_tree.specs.Counting.{Tally, Counted, bytes_of}
 use Rattle.btr_tree.specs.Packing.{weight}
@@ -38,7 +40,7 @@ front : {A : Type 0} (P : A → Type 0) (xs ys : List A) → All P (xs ++ ys) �
 front P [] ys all = All-nil P
 front P (x ∷ xs) ys all = All-cons P x xs (All-head P x (xs ++ ys) all) (front P xs ys (All-tail P x (xs ++ ys) all))
 
-light : (items : List Item) → All (λ i. length i.1 ≤ 82) items → bytes_of (lengths_of items) ≤ 107 * length items
+light : (items : List Item) → All (λ i. length i.1 ≤ 82) items → bytes_of (lengths_of items) ≤ EXTENT_BYTES * length items
 light [] all = omega arith
 light (i ∷ items) all = omega (arith, sum_by-cons weight (length i.1) (lengths_of items), light items (All-tail (λ j. length j.1 ≤ 82) i items all), All-head (λ j. length j.1 ≤ 82) i items all)
 
@@ -57,7 +59,7 @@ module _ (nodesize : ℕ) (items : List Item) (short : AreShort items) where
         let here : length (get_or (so_far.done ++ i ∷ rest) (length so_far.done) i).1 ≤ 82 = all (length so_far.done) i (omega (arith, length-append so_far.done (i ∷ rest))) in
         omega (arith, here, ap (λ (j : Item). length j.1) at)
 
-    pub next_light : tally.bytes + 25 + length i.1 < 2 ^ 60
+    pub next_light : tally.bytes + ITEM_SIZE + length i.1 < 2 ^ 60
     next_light =
         let all : All (λ j. length j.1 ≤ 82) (so_far.done ++ i ∷ rest) = subst (All (λ j. length j.1 ≤ 82)) whole short.short in
         omega (

@@ -7,6 +7,11 @@ ghost use Rattle.space_items.specs.Chunks.{chunk_kind, chunk_body, chunk_item, c
 use btr_item_list::{ItemList, key_of};
 use btr_space_items::{Chunk as ChunkBody, DevExtent, Device, Stripe};
 use btr_tree::{Ids, Memory};
+use btrfs_format::flag::{BLOCK_GROUP_DATA, BLOCK_GROUP_METADATA, BLOCK_GROUP_SYSTEM};
+use btrfs_format::key::{CHUNK_ITEM, DEV_EXTENT, DEV_ITEM};
+use btrfs_format::object::{
+    CHUNK_TREE, DEV_ITEMS_OBJECTID, EXTENT_TREE, FIRST_CHUNK_TREE_OBJECTID,
+};
 use std::alloc::Global;
 use unit_plan::{Chunk, Chunks, Plan, Role, chunks_of};
 
@@ -15,9 +20,9 @@ pub fn chunk_kind(role: Role) -> u64
     ensures { result ≡ chunk_kind role }
 {
     match role {
-        Role::Data => 1,
-        Role::System => 2,
-        Role::Metadata => 4,
+        Role::Data => BLOCK_GROUP_DATA,
+        Role::System => BLOCK_GROUP_SYSTEM,
+        Role::Metadata => BLOCK_GROUP_METADATA,
     }
 }
 
@@ -33,7 +38,7 @@ pub fn chunk_body(ids: &Ids, chunk: Chunk) -> ChunkBody
     } = chunk;
     ChunkBody {
         length: 4096 * length,
-        owner: 2,
+        owner: EXTENT_TREE,
         stripe_len: 65536,
         kind: chunk_kind(role),
         io_align: 4096,
@@ -95,7 +100,7 @@ pub fn chunks(alloc: Global, plan: &Plan, blocks: u64, ids: &Ids) -> Result<Item
     let mut items = ItemList::new(alloc);
     let mut body = [0; Device::SIZE];
     device_body(ids, blocks, &chunks).write(&mut body);
-    items.add(key_of(1, 216, 1), &body)?;
+    items.add(key_of(DEV_ITEMS_OBJECTID, DEV_ITEM, 1), &body)?;
     for i in 0..chunks.len() {
         add_chunk(&mut items, ids, chunks.get(i))?;
     }
@@ -109,7 +114,10 @@ fn add_chunk(items: &mut ItemList, ids: &Ids, chunk: Chunk) -> Result<(), Memory
 {
     let mut body = [0; ChunkBody::SIZE];
     chunk_body(ids, chunk).write(&mut body);
-    items.add(key_of(256, 228, 4096 * chunk.start), &body)
+    items.add(
+        key_of(FIRST_CHUNK_TREE_OBJECTID, CHUNK_ITEM, 4096 * chunk.start),
+        &body,
+    )
 }
 
 /// The items of the device tree: what each chunk takes of the device.
@@ -132,13 +140,13 @@ fn add_dev_extent(items: &mut ItemList, ids: &Ids, chunk: Chunk) -> Result<(), M
     ensures { OnOk result (items.new ≡ items.old ++ dev_extent_item ids.now chunk ∷ []) }
 {
     let extent = DevExtent {
-        chunk_tree: 3,
-        chunk_objectid: 256,
+        chunk_tree: CHUNK_TREE,
+        chunk_objectid: FIRST_CHUNK_TREE_OBJECTID,
         chunk_offset: 4096 * chunk.start,
         length: 4096 * chunk.length,
         chunk_tree_uuid: ids.chunk_tree,
     };
     let mut body = [0; DevExtent::SIZE];
     extent.write(&mut body);
-    items.add(key_of(1, 204, 4096 * chunk.start), &body)
+    items.add(key_of(1, DEV_EXTENT, 4096 * chunk.start), &body)
 }

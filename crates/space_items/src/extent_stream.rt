@@ -13,6 +13,7 @@ use crate::node::{NodeList, TreeNode};
 use crate::refs::{Body, node_body, piece_body};
 use btr_item_list::key_of;
 use btr_tree::{Key, Memory};
+use btrfs_format::key::{BLOCK_GROUP_ITEM, EXTENT_ITEM, METADATA_ITEM};
 use std::alloc::Global;
 use unit_plan::{Piece, PieceList, Plan, chunks_of};
 
@@ -78,9 +79,13 @@ impl Next {
         ensures { result ≡ (item_of_next self.now).0 }
     {
         match self {
-            Next::Group(group) => key_of(4096 * group.chunk.start, 192, 4096 * group.chunk.length),
-            Next::Node(node) => key_of(node.address, 169, node.level as u64),
-            Next::Piece(piece) => key_of(4096 * piece.place, 168, 4096 * piece.count),
+            Next::Group(group) => key_of(
+                4096 * group.chunk.start,
+                BLOCK_GROUP_ITEM,
+                4096 * group.chunk.length,
+            ),
+            Next::Node(node) => key_of(node.address, METADATA_ITEM, node.level as u64),
+            Next::Piece(piece) => key_of(4096 * piece.place, EXTENT_ITEM, 4096 * piece.count),
         }
     }
 

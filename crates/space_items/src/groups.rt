@@ -7,6 +7,7 @@ use crate::chunk_lists::chunk_kind;
 use crate::node::NodeList;
 use btr_space_items::BlockGroup;
 use btr_tree::{CopyList, Memory};
+use btrfs_format::object::FIRST_CHUNK_TREE_OBJECTID;
 use std::alloc::Global;
 use unit_plan::{Chunk, Chunks, PieceList};
 
@@ -27,7 +28,7 @@ impl Group {
     {
         let group = BlockGroup {
             used: self.used,
-            chunk_objectid: 256,
+            chunk_objectid: FIRST_CHUNK_TREE_OBJECTID,
             flags: chunk_kind(self.chunk.role),
         };
         group.to_bytes()

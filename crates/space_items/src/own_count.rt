@@ -12,11 +12,9 @@ ghost use Rattle.space_items.specs.Stream.{ArePieces};
 use crate::extent_stream::extents;
 use crate::node::{NodeList, TreeNode};
 use btr_tree::{Counter, Memory, Slots};
+use btrfs_format::object::EXTENT_TREE;
 use std::alloc::Global;
 use unit_plan::{PieceList, Plan};
-
-/// The number of the extent tree.
-const EXTENT_TREE: u64 = 2;
 
 /// How many nodes the extent tree has: the least number x for which the tree of `others` and of its own nodes at the first
 /// x slots of `rest` has x nodes. It is counted again from none until the number describes itself.

@@ -1,4 +1,4 @@
-ghost use Rattle.std.specs.Prelude.{◌≡◌, ◌≤◌, ◌<◌, ◌+◌, ◌^◌, ◌++◌, ◌∷◌, [], length};
+ghost use Rattle.std.specs.Prelude.{◌≡◌, ◌≤◌, ◌<◌, ◌+◌, ◌*◌, ◌^◌, ◌++◌, ◌∷◌, [], length};
 ghost use Rattle.std.specs.Option.{option_to_list};
 ghost use Rattle.btr_space_items.specs.ExtentHead.{extent_head_bytes};
 ghost use Rattle.btr_space_items.specs.InlineRef.{inline_ref_bytes, inline_ref_size};
@@ -8,11 +8,13 @@ ghost use Rattle.space_items.specs.Stream.{IsSmallPiece};
 use crate::node::TreeNode;
 use btr_space_items::{ExtentHead, InlineRef};
 use btr_tree::data_ref_hash;
+use btrfs_format::flag::{EXTENT_FLAG_DATA, EXTENT_FLAG_TREE_BLOCK};
+use btrfs_format::size::{EXTENT_ITEM_SIZE, INLINE_DATA_REF_SIZE};
 use std::marker::Model;
 use unit_plan::Piece;
 
 /// The most bytes that an item of the extent tree has: an extent of two references to data.
-pub const LONGEST: usize = 82;
+pub const LONGEST: usize = EXTENT_ITEM_SIZE + 2 * INLINE_DATA_REF_SIZE;
 
 /// The body of an item of the extent tree, seen as its bytes.
 #[derive(Drop)]
@@ -93,7 +95,7 @@ impl Body {
 pub fn node_body(node: TreeNode) -> Body
     ensures { result ≡ (node_item node).1 }
 {
-    Body::begun(1, 2).with(InlineRef::TreeBlock { root: node.owner })
+    Body::begun(1, EXTENT_FLAG_TREE_BLOCK).with(InlineRef::TreeBlock { root: node.owner })
 }
 
 /// The body of a piece's extent. References stand by descending hash, and of equal ones that of tree 5 stands first.
@@ -102,8 +104,8 @@ pub fn piece_body(piece: &Piece) -> Body
     ensures { result ≡ (piece_item piece.now).1 }
 {
     match (owner_ref(piece), image_ref(piece)) {
-        (None, None) => Body::begun(0, 1),
-        (Some(one), None) | (None, Some(one)) => Body::begun(1, 1).with(one),
+        (None, None) => Body::begun(0, EXTENT_FLAG_DATA),
+        (Some(one), None) | (None, Some(one)) => Body::begun(1, EXTENT_FLAG_DATA).with(one),
         (Some(owner), Some(image)) => two_refs(owner, image),
     }
 }
@@ -128,10 +130,10 @@ fn image_ref(piece: &Piece) -> Option<InlineRef>
 
 /// The body of an extent of data with two references, by descending hash. Of equal hashes the first one stands first.
 fn two_refs(first: InlineRef, other: InlineRef) -> Body
-    requires { inline_ref_size first + inline_ref_size other ≤ 58 }
-    ensures { result ≡ extent_body 1 (put_ref first (other ∷ [])) }
+    requires { inline_ref_size first + inline_ref_size other ≤ 2 * INLINE_DATA_REF_SIZE }
+    ensures { result ≡ extent_body EXTENT_FLAG_DATA (put_ref first (other ∷ [])) }
 {
-    let body = Body::begun(2, 1);
+    let body = Body::begun(2, EXTENT_FLAG_DATA);
     if hash_of(first) < hash_of(other) {
         body.with(other).with(first)
     } else {

@@ -9,11 +9,10 @@ ghost use Rattle.space_items.specs.Sums.{block_sum, sum_items, sums_item};
 
 use btr_item_list::key_of;
 use btr_tree::{Block, BlockSource, Fault, Key, Memory, SumKind, kind_sum, kind_width};
+use btrfs_format::key::EXTENT_CSUM;
+use btrfs_format::object::EXTENT_CSUM_OBJECTID;
 use std::alloc::Global;
 use unit_plan::{Piece, PieceList, sums_in_item};
-
-/// The object of all checksums of data.
-const SUMS: u64 = u64::MAX - 9;
 
 /// The items of the checksum tree, one after the other, ascending by key.
 ///
@@ -116,7 +115,7 @@ impl SumStream {
         let first = piece.place + self.done;
         let count = (piece.count - self.done).min(sums_in_item(self.sums));
         self.fill(src, first, count)?;
-        self.key = key_of(SUMS, 128, 4096 * first);
+        self.key = key_of(EXTENT_CSUM_OBJECTID, EXTENT_CSUM, 4096 * first);
         self.done += count;
         if self.done == piece.count {
             self.piece += 1;

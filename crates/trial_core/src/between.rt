@@ -8,13 +8,11 @@ ghost use Rattle.trial_core.specs.Answers.{IsReadAnswer, StopsUnless};
 
 use crate::answers::step_answer;
 use btr_reader::Btrfs;
+use btrfs_format::block::SUPER_BLOCK;
 use convert_core::Answer;
 use fs_rows::Rows;
-use reiser_bitmap::{Block, BlockNo, BlockSource};
+use reiser_bitmap::{Block, BlockSource};
 use std::alloc::Global;
-
-/// The block of the superblock.
-const SUPERBLOCK: BlockNo = 16;
 
 /// The rows of the Btrfs volume of a source.
 pub fn read_btrfs_rows<S: BlockSource>(alloc: Global, src: &mut S) -> Result<Rows, Answer>
@@ -25,7 +23,7 @@ pub fn read_btrfs_rows<S: BlockSource>(alloc: Global, src: &mut S) -> Result<Row
     ensures answers { IfErr result IsReadAnswer }
 {
     let mut block = Block::zero();
-    src.read(SUPERBLOCK, &mut block)?;
+    src.read(SUPER_BLOCK, &mut block)?;
     match Btrfs::list(alloc, src, &block) {
         Ok(rows) => Ok(rows),
         Err(answer) => Err(step_answer(Answer::from(answer))),

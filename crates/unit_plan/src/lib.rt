@@ -9,6 +9,7 @@ mod choice;
 mod chunk;
 mod counts;
 mod division;
+pub mod item_bytes;
 mod laws;
 mod need;
 mod piece;

@@ -1,6 +1,7 @@
 -- What commands do to the tree of files, from the laws on what they do to the blocks.
 use Rattle.std.proofs.Common.{◌≡◌, inl, inr, ⊎_elim, ◌<◌, ◌^◌, ℕ, false, sym, subst, arith}
 use Rattle.std.specs.Prelude.{length}
+use Rattle.btrfs_format.specs.declared.block.TheConstants.{FIRST_MIRROR, SECOND_MIRROR}
 use Rattle.reiser_volume.specs.outside.History.{Image}
 use Rattle.reiser_volume.specs.vol_block.declared.ids.Ids.{Ids}
 use Rattle.convert_core_laws.specs.going_back.Back.{ConvertedVolumesGoBack}
@@ -82,7 +83,7 @@ module _ (keeps : RollbackKeeps) (disk other : Image) where
 
 -- the blocks of copies are reserved on every volume, and none is that of the superblock
 mirror_spare : (disk : Image) (b : ℕ) → is_spare disk b ≡ false → ¬ IsMirror b
-mirror_spare disk b spare = λ is. ⊎_elim (λ (e : b ≡ 16384). absurd (subst (λ (n : ℕ). is_spare disk n ≡ false → ⊥) (sym e) (λ is. cc) spare)) (λ (e : b ≡ 67108864). absurd (subst (λ (n : ℕ). is_spare disk n ≡ false → ⊥) (sym e) (λ is. cc) spare)) is
+mirror_spare disk b spare = λ is. ⊎_elim (λ (e : b ≡ FIRST_MIRROR). absurd (subst (λ (n : ℕ). is_spare disk n ≡ false → ⊥) (sym e) (λ is. cc) spare)) (λ (e : b ≡ SECOND_MIRROR). absurd (subst (λ (n : ℕ). is_spare disk n ≡ false → ⊥) (sym e) (λ is. cc) spare)) is
 
 module _ (keeps : RecoveryKeeps) (opens : RecoveryOpens) (spare : SpareBlocksDecideNothing) (disk other : Image) where
   kept : recovery.IsLeft disk other → KeepsTree disk other

@@ -13,6 +13,7 @@ use crate::Summary;
 use crate::ending::{Ending, printed};
 use crate::format::open_format;
 use crate::reiser::ReiserSummary;
+use btrfs_format::block::SUPER_BLOCK;
 use convert_core::{Answer, Found};
 use convert_options::Options;
 use reiser_volume::{Access, Block, BlockSource, Disk, Fault, Format, Sink};
@@ -122,7 +123,7 @@ fn inspect_btrfs<S: BlockSource>(
 ) -> Result<Inspected, Answer>
     ensures kept { S.kept source.old source.new }
     ensures cause { HasCauseOf Answer.Fault (S.faults source.old) (S.faults source.new) result }
-    ensures right { OverTold S.tells (S.blocks source.old) (λ image. format_in image ≡ formats.Btrfs → block.now.bytes ≡ block_at image 16 → (o : Options) → MatchResult result (Inspects o image) (InspectRefuses image)) }
+    ensures right { OverTold S.tells (S.blocks source.old) (λ image. format_in image ≡ formats.Btrfs → block.now.bytes ≡ block_at image SUPER_BLOCK → (o : Options) → MatchResult result (Inspects o image) (InspectRefuses image)) }
     ensures known { IfErr result IsInspectAnswer }
 {
     let summary = Summary::read(alloc, source, block)?;

@@ -1,6 +1,7 @@
 -- What is told of the blocks that a volume uses, from its trees to the whole.
 use Rattle.std.proofs.Common.{◌≡◌, ◌≢◌, inr, ℕ, List, [], ◌∷◌, ◌++◌, length, Contains, Option, Some, None, refl, sym, ◌∙◌, subst, arith}
 use Rattle.std.proofs.lemmas.List.Elements.{All-cons, All-head, All-nil, All-tail}
+use Rattle.btrfs_format.specs.declared.block.TheConstants.{SUPER_BLOCK}
 use Rattle.reiser_bitmap.specs.outside.History.{Image, block_at}
 use Rattle.reiser_bitmap.specs.refusals.declared.answer.BtrAnswer.{BtrAnswer}
 use Rattle.reiser_bitmap.specs.refusals.declared.answer.BtrAnswer.TheVariants.{Refused, Fault, Memory}
@@ -38,7 +39,7 @@ module _ (image : Image) (s : Super) (ranges : List MapRange) (opened : IsOpened
   boot = boot_list (boot_chunks s)
 
   pub bounds : IsInBounds s
-  bounds = in_bounds (block_at image 16) (length image) s opened.super
+  bounds = in_bounds (block_at image SUPER_BLOCK) (length image) s opened.super
 
   -- nothing is wrong with the chunk tree and the root tree
   trees_sound : trees_refusals image s boot ≡ []

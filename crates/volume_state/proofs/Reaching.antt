@@ -2,6 +2,7 @@
 use Rattle.std.proofs.Common.{◌≡◌, inl, inr, ℕ, ◌/◌, Bool, true, false, List, [], Option, Some, None, refl, sym, ◌∙◌, ap, subst, if◌then◌else◌}
 use Rattle.std.specs.Option.{option_and_then}
 use Rattle.std.proofs.lemmas.Bool.{and_parts}
+use Rattle.btrfs_format.specs.declared.object.TheConstants.{FS_TREE}
 use Rattle.reiser_bitmap.specs.outside.History.{Image}
 use Rattle.reiser_bitmap.specs.refusals.declared.refusal.BtrRefusal.{BtrRefusal}
 use Rattle.btr_reader_contents.specs.Extents.{extents_of, extents_refusals}
@@ -36,7 +37,7 @@ there next o n is = ap (λ (x : Option ℕ). if_there next x) is
 -- ---- the way to the image
 pub record IsReached (disk : Image) (f : ImageFile) : Type 0 where
   pub p : Pointer
-  pub root : root_of disk 5 ≡ Some p
+  pub root : root_of disk FS_TREE ≡ Some p
   pub number : ℕ
   pub saved : saved_tree disk p ≡ Some number
   pub q : Pointer
@@ -78,11 +79,11 @@ module _ (disk : Image) (readable : IsReadable disk SavedImage) where
   abbrev below : ℕ → List BtrRefusal
   below number = refusals_below disk s ranges number (root_item number (roots_on disk s ranges))
 
-  below_clear : (p : Pointer) (number : ℕ) → root_of disk 5 ≡ Some p → saved_tree disk p ≡ Some number → below number ≡ []
+  below_clear : (p : Pointer) (number : ℕ) → root_of disk FS_TREE ≡ Some p → saved_tree disk p ≡ Some number → below number ≡ []
   below_clear p number root saved =
-      let next : Pointer → List BtrRefusal = λ x. or_later (entry_refusals disk ranges (tree_of s 5 x)) (if_there below (option_and_then tree_number (saved_entry (items_at disk s ranges 5 x)))) in
+      let next : Pointer → List BtrRefusal = λ x. or_later (entry_refusals disk ranges (tree_of s FS_TREE x)) (if_there below (option_and_then tree_number (saved_entry (items_at disk s ranges FS_TREE x)))) in
       sym (there below (saved_tree disk p) number saved)
-      ∙ later_none (entry_refusals disk ranges (tree_of s 5 p)) (if_there below (saved_tree disk p)) (sym (at_root next (root_item 5 (roots_on disk s ranges)) p root) ∙ way_clear)
+      ∙ later_none (entry_refusals disk ranges (tree_of s FS_TREE p)) (if_there below (saved_tree disk p)) (sym (at_root next (root_item FS_TREE (roots_on disk s ranges)) p root) ∙ way_clear)
 
   inside_clear : (number : ℕ) (q : Pointer) → root_of disk number ≡ Some q → below number ≡ [] → image_refusals_in ranges (items_at disk s ranges number q) ≡ []
   inside_clear number q at clear =
@@ -91,7 +92,7 @@ module _ (disk : Image) (readable : IsReadable disk SavedImage) where
 
   pub reached : (f : ImageFile) → saved_image disk s ranges ≡ Some f → IsReached disk f
   reached f is =
-      let first = and_then_some (λ p. option_and_then (λ number. image_below disk s ranges number (root_item number (roots_on disk s ranges))) (option_and_then tree_number (saved_entry (items_at disk s ranges 5 p)))) (root_of disk 5) f is in
+      let first = and_then_some (λ p. option_and_then (λ number. image_below disk s ranges number (root_item number (roots_on disk s ranges))) (option_and_then tree_number (saved_entry (items_at disk s ranges FS_TREE p)))) (root_of disk FS_TREE) f is in
       let second = and_then_some (λ number. image_below disk s ranges number (root_item number (roots_on disk s ranges))) (saved_tree disk first.0) f first.2 in
       let third = and_then_some (λ q. image_in (items_at disk s ranges second.0 q)) (root_of disk second.0) f second.2 in
       let items : List TreeItem = items_at disk s ranges second.0 third.0 in

@@ -3,6 +3,7 @@ use Rattle.std.proofs.Common.{◌≡◌, ⊎_elim, inr, ℕ, List, [], ◌∷◌
 use Rattle.std.specs.Option.{option_and_then}
 use Rattle.std.specs.Result.{MatchResult}
 use Rattle.std.proofs.lemmas.List.Elements.{Contains-append_right}
+use Rattle.btrfs_format.specs.declared.object.TheConstants.{FS_TREE}
 use Rattle.reiser_bitmap.specs.outside.History.{Image}
 use Rattle.reiser_bitmap.specs.refusals.declared.answer.BtrAnswer.{BtrAnswer}
 use Rattle.reiser_bitmap.specs.refusals.declared.refusal.BtrRefusal.{BtrRefusal}
@@ -51,13 +52,13 @@ module _ (image : Image) (s : Super) (ranges : List MapRange) where
   roots = roots_on image s ranges
 
   abbrev entries : Pointer → List BtrRefusal
-  entries p = entry_refusals image ranges (tree_of s 5 p)
+  entries p = entry_refusals image ranges (tree_of s FS_TREE p)
 
   abbrev below_number : ℕ → List BtrRefusal
   below_number number = refusals_below image s ranges number (root_item number roots)
 
   abbrev named_number : Pointer → Option ℕ
-  named_number p = option_and_then tree_number (saved_entry (items_at image s ranges 5 p))
+  named_number p = option_and_then tree_number (saved_entry (items_at image s ranges FS_TREE p))
 
   abbrev after_file : Pointer → List BtrRefusal
   after_file p = or_later (entries p) (if_there below_number (named_number p))
@@ -75,21 +76,21 @@ module _ (image : Image) (s : Super) (ranges : List MapRange) where
   pointer_at root i p is at = ap pointer_in is ∙ at
 
   -- no file tree
-  pub no_trees : (blocks : ℕ) → root_item 5 roots ≡ None → TellsReserved InTrees blocks None
+  pub no_trees : (blocks : ℕ) → root_item FS_TREE roots ≡ None → TellsReserved InTrees blocks None
   no_trees blocks none b reserved holds =
-      let empty : file_trees image s ranges ≡ [] = ap (λ (o : Option TreeItem). tree_if s 5 (pointer_in o) ++ named_by image s ranges (pointer_in o)) none in
+      let empty : file_trees image s ranges ≡ [] = ap (λ (o : Option TreeItem). tree_if s FS_TREE (pointer_in o) ++ named_by image s ranges (pointer_in o)) none in
       absurd (omega (arith, (subst (λ (ts : List Tree). Contains ts holds.tree) empty holds.among).1))
 
   -- ---- a file tree
-  module _ (i : TreeItem) (p : Pointer) (is : root_item 5 roots ≡ Some i) (at : pointer_of i.body ≡ Some p) where
+  module _ (i : TreeItem) (p : Pointer) (is : root_item FS_TREE roots ≡ Some i) (at : pointer_of i.body ≡ Some p) where
     abbrev file : Tree
-    file = tree_of s 5 p
+    file = tree_of s FS_TREE p
 
     way_is : image_refusals image s ranges ≡ after_file p
-    way_is = at_root after_file (root_item 5 roots) p (pointer_at (root_item 5 roots) i p is at)
+    way_is = at_root after_file (root_item FS_TREE roots) p (pointer_at (root_item FS_TREE roots) i p is at)
 
     trees_are : file_trees image s ranges ≡ file ∷ numbered image s ranges (named_number p)
-    trees_are = ap (λ (o : Option Pointer). tree_if s 5 o ++ named_by image s ranges o) (pointer_at (root_item 5 roots) i p is at)
+    trees_are = ap (λ (o : Option Pointer). tree_if s FS_TREE o ++ named_by image s ranges o) (pointer_at (root_item FS_TREE roots) i p is at)
 
     pub in_way : (e : BtrAnswer) → IsAmong (after_file p) e → IsAmong (image_refusals image s ranges) e
     in_way e among = subst (λ (rs : List BtrRefusal). IsAmong rs e) (sym way_is) among
@@ -173,15 +174,15 @@ module _ (image : Image) (s : Super) (ranges : List MapRange) where
 pub record IsFile (image : Image) (s : Super) (ranges : List MapRange) (t : Tree) : Type 0 where
   pub i : TreeItem
   pub p : Pointer
-  pub is : root_item 5 (roots_on image s ranges) ≡ Some i
+  pub is : root_item FS_TREE (roots_on image s ranges) ≡ Some i
   pub at : pointer_of i.body ≡ Some p
-  pub tree : tree_of s 5 p ≡ t
+  pub tree : tree_of s FS_TREE p ≡ t
 
-pub file_of : (image : Image) (s : Super) (ranges : List MapRange) (o : Option Tree) (t : Tree) → o ≡ Some t → FindsTree s 5 (root_item 5 (roots_on image s ranges)) (Ok o) → IsFile image s ranges t
+pub file_of : (image : Image) (s : Super) (ranges : List MapRange) (o : Option Tree) (t : Tree) → o ≡ Some t → FindsTree s FS_TREE (root_item FS_TREE (roots_on image s ranges)) (Ok o) → IsFile image s ranges t
 file_of image s ranges None t is finds = absurd (no_some t is)
 file_of image s ranges (Some x) t is finds = record { i = finds.0; p = finds.1; is = finds.2; at = finds.3; tree = sym finds.4 ∙ some_is x t is }
 
-pub no_file : (image : Image) (s : Super) (ranges : List MapRange) (o : Option Tree) → o ≡ None → FindsTree s 5 (root_item 5 (roots_on image s ranges)) (Ok o) → root_item 5 (roots_on image s ranges) ≡ None
+pub no_file : (image : Image) (s : Super) (ranges : List MapRange) (o : Option Tree) → o ≡ None → FindsTree s FS_TREE (root_item FS_TREE (roots_on image s ranges)) (Ok o) → root_item FS_TREE (roots_on image s ranges) ≡ None
 no_file image s ranges None is finds = finds
 no_file image s ranges (Some x) is finds = absurd (no_some x (sym is))
 

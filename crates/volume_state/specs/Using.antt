@@ -1,6 +1,8 @@
 -- Which blocks of a disk are in use by what is read of its Btrfs volume.
 use Rattle.std.specs.Prelude.{◌≡◌, ◌⊎◌, ◌<◌, ℕ, ◌+◌, ◌/◌, ◌==◌, if◌then◌else◌, List, [], ◌∷◌, ◌++◌, Option, Some, None, Contains}
 use Rattle.std.specs.Option.{option_and_then}
+use Rattle.btrfs_format.specs.declared.key.TheConstants.{EXTENT_DATA}
+use Rattle.btrfs_format.specs.declared.object.TheConstants.{FS_TREE}
 use Rattle.reiser_bitmap.specs.outside.History.{Image}
 use Rattle.reiser_bitmap.specs.refusals.declared.answer.BtrAnswer.{BtrAnswer}
 use Rattle.reiser_bitmap.specs.refusals.declared.answer.BtrAnswer.TheVariants.{Refused, Fault, Memory}
@@ -51,7 +53,7 @@ content_range (Prealloc r) = range_unless_hole r
 
 -- the same of an item: one that is no file extent, or is off the grammar, has none
 abbrev pub item_range : TreeItem → Option DiskRange
-item_range i = if i.key.kind == 108 then option_and_then (λ e. content_range e.content) (file_extent_of i.body) else None
+item_range i = if i.key.kind == EXTENT_DATA then option_and_then (λ e. content_range e.content) (file_extent_of i.body) else None
 
 -- A file extent of these items does.
 pub record HoldsExtent (items : List TreeItem) (ranges : List MapRange) (b : ℕ) : Type 0 where
@@ -84,14 +86,14 @@ numbered disk s ranges (Some number) = tree_if s number (pointer_in (root_item n
 -- the tree that the file tree with this root names as that of the saved image
 abbrev pub named_by : Image → Super → List MapRange → Option Pointer → List Tree
 named_by disk s ranges None = []
-named_by disk s ranges (Some p) = numbered disk s ranges (option_and_then tree_number (saved_entry (items_at disk s ranges 5 p)))
+named_by disk s ranges (Some p) = numbered disk s ranges (option_and_then tree_number (saved_entry (items_at disk s ranges FS_TREE p)))
 
 abbrev pub file_pointer : Image → Super → List MapRange → Option Pointer
-file_pointer disk s ranges = pointer_in (root_item 5 (roots_on disk s ranges))
+file_pointer disk s ranges = pointer_in (root_item FS_TREE (roots_on disk s ranges))
 
 -- The file tree, and the tree of the saved image; those of the two that are there.
 abbrev pub file_trees : Image → Super → List MapRange → List Tree
-file_trees disk s ranges = tree_if s 5 (file_pointer disk s ranges) ++ named_by disk s ranges (file_pointer disk s ranges)
+file_trees disk s ranges = tree_if s FS_TREE (file_pointer disk s ranges) ++ named_by disk s ranges (file_pointer disk s ranges)
 
 -- ---- blocks in use
 

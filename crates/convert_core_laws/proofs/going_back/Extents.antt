@@ -5,6 +5,7 @@ use Rattle.std.specs.List.{AllByRecursion}
 use Rattle.std.specs.Option.{option_and_then, option_map_or}
 use Rattle.std.proofs.lemmas.Bool.{and_from, eq-eqb, ne_eqb}
 use Rattle.std.proofs.lemmas.List.Elements.{Contains-append_cases}
+use Rattle.btrfs_format.specs.declared.key.TheConstants.{EXTENT_DATA}
 use Rattle.reiser_volume.proofs.fs_paths.Lists.{from_filter, from_map, in_filter}
 use Rattle.indexmap.specs.IndexMap.{keys}
 use Rattle.reiser_volume.specs.outside.History.{Image}
@@ -130,11 +131,11 @@ module _ (image : Image) (m : Making) (made : IsMaking image m) where
           let own : Contains m.pieces p = (from_filter (is_owned_by (number_of s key)) m.pieces p (from_ascending file_block (filter (is_owned_by (number_of s key)) m.pieces) p at.1)).0 in
           of_piece p i (number_of s key) (file_block p) r own at.2 told
 
-  pub file_range : (i : Item) (r : DiskRange) → Contains (file_tree_items image m) i → eqb i.0.kind 108 ≡ true → body_range i.1 ≡ Some r → IsOfPiece m r
+  pub file_range : (i : Item) (r : DiskRange) → Contains (file_tree_items image m) i → eqb i.0.kind EXTENT_DATA ≡ true → body_range i.1 ≡ Some r → IsOfPiece m r
   file_range i r h is told =
       let at = numbered image (keys m.volume.named) (record { accepted = of.accepted; are_keys = of.opened.are_keys; ascend = of.opened.ascends }) in
       let ino : ℕ = i.0.objectid in
-      let there : Contains (filter (is_extent ino) (tree_items s)) i = in_filter (is_extent ino) (tree_items s) i h (and_from (eqb ino ino) (eqb i.0.kind 108) (eq-eqb ino ino refl) is) in
+      let there : Contains (filter (is_extent ino) (tree_items s)) i = in_filter (is_extent ino) (tree_items s) i h (and_from (eqb ino ino) (eqb i.0.kind EXTENT_DATA) (eq-eqb ino ino refl) is) in
       ⊎_elim
       (λ of_key. object_range of_key.0 i r of_key.1 (subst (λ (l : List Item). Contains l i) of_key.3 there) told)
       (λ (none : filter (is_extent ino) (tree_items s) ≡ []). absurd (empty i (subst (λ (l : List Item). Contains l i) none there)))
@@ -143,7 +144,7 @@ module _ (image : Image) (m : Making) (made : IsMaking image m) where
   -- ---- the tree of the saved image
 
   abbrev is_file_extent : Item → Bool
-  is_file_extent i = eqb i.0.kind 108
+  is_file_extent i = eqb i.0.kind EXTENT_DATA
 
   head_kinds : (blocks nbytes now : ℕ) (datasum : Bool) → filter is_file_extent (image_head blocks nbytes datasum now) ≡ []
   unfolding image_head
@@ -153,7 +154,7 @@ module _ (image : Image) (m : Making) (made : IsMaking image m) where
   from_source None t = absurd (cc t)
   from_source (Some b) t = refl
 
-  pub saved_extent : (i : Item) → Contains (image_tree_items m) i → eqb i.0.kind 108 ≡ true → IsSavedExtent m i
+  pub saved_extent : (i : Item) → Contains (image_tree_items m) i → eqb i.0.kind EXTENT_DATA ≡ true → IsSavedExtent m i
   unfolding image_items
   saved_extent i h is =
       let head : List Item = image_head m.volume.sup.blocks (piece_bytes (pieces_of_volume m.pieces)) m.options.datasum m.now in
@@ -167,7 +168,7 @@ module _ (image : Image) (m : Making) (made : IsMaking image m) where
       record { piece = p; among = some.0; from = from_source p.from some.1; is = sym at.2 })
       (Contains-append_cases head (extents_at 257 source_block (pieces_of_volume m.pieces)) i h)
 
-  pub saved_range : (i : Item) (r : DiskRange) → Contains (image_tree_items m) i → eqb i.0.kind 108 ≡ true → body_range i.1 ≡ Some r → IsOfPiece m r
+  pub saved_range : (i : Item) (r : DiskRange) → Contains (image_tree_items m) i → eqb i.0.kind EXTENT_DATA ≡ true → body_range i.1 ≡ Some r → IsOfPiece m r
   saved_range i r h is told =
       let e : IsSavedExtent m i = saved_extent i h is in
       of_piece e.piece i 257 (source_block e.piece) r e.among (sym e.is) told

@@ -3,6 +3,7 @@ use Rattle.std.proofs.Common.{◌≡◌, ◌≤◌, ◌<◌, ℕ, ◌+◌, ◌-�
 use Rattle.std.specs.Prelude.{Contains, if◌then◌else◌}
 use Rattle.std.specs.Option.{option_and_then, option_map}
 use Rattle.std.proofs.lemmas.Bool.{and_parts, leb-true, ltb-true}
+use Rattle.btrfs_format.specs.declared.key.TheConstants.{EXTENT_DATA}
 use Rattle.reiser_volume.proofs.fs_paths.Lists.{from_filter, in_map}
 use Rattle.reiser_volume.specs.outside.History.{Image}
 use Rattle.reiser_volume.specs.vol_block.Volume.{IsReserved, is_reserved}
@@ -108,7 +109,7 @@ module _ (image : Image) (m : Making) (made : IsMaking image m) (ranges : List M
     each_extent i h =
         let at = of_inode items f found in
         let there = from_filter (is_extent_of at.0) items i (subst (λ (l : List TreeItem). Contains l i) at.1 h) in
-        let kind = (and_parts (eqb i.key.objectid at.0) (eqb i.key.kind 108) there.1).1 in
+        let kind = (and_parts (eqb i.key.objectid at.0) (eqb i.key.kind EXTENT_DATA) there.1).1 in
         saved_extent image m made (bare_item i) (subst (λ (l : List Item). Contains l (bare_item i)) are (in_map bare_item items i there.0)) kind
 
     -- a place of the image is one that a piece has

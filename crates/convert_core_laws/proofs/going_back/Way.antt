@@ -4,6 +4,8 @@ use Rattle.std.specs.Prelude.{Contains, codes, if◌then◌else◌, unwrap_or}
 use Rattle.std.specs.List.{flat_map}
 use Rattle.std.specs.Option.{option_and_then}
 use Rattle.std.proofs.lemmas.List.Elements.{Contains-append_left, Contains-append_right}
+use Rattle.btrfs_format.specs.declared.key.TheConstants.{ROOT_ITEM}
+use Rattle.btrfs_format.specs.declared.object.TheConstants.{CONV_IMAGE_SUBVOL, FS_TREE}
 use Rattle.reiser_volume.proofs.fs_paths.Lists.{from_map, in_map}
 use Rattle.reiser_volume.specs.outside.History.{Image}
 use Rattle.btr_reader.specs.btr_keys.Key.{make_key}
@@ -60,9 +62,9 @@ module _ (entries : EntriesAreThere) (names : NamesKeepRules) (image other : Ima
   ranges = own_map other
 
   abbrev files : List TreeItem
-  files = found other (own_map other) (tree_of (own_super other) 5 (root_pointer r.files))
+  files = found other (own_map other) (tree_of (own_super other) FS_TREE (root_pointer r.files))
 
-  tree5 : ReadsTree other (own_super other) (own_map other) 5 r.files (file_tree_items image m)
+  tree5 : ReadsTree other (own_super other) (own_map other) FS_TREE r.files (file_tree_items image m)
   tree5 = is.trees.files
 
   keeps : KeepsFileNames other r
@@ -72,7 +74,7 @@ module _ (entries : EntriesAreThere) (names : NamesKeepRules) (image other : Ima
   there = saved_there image m made entries files tree5.items_are
 
   leads : names_tree there.entry ≡ true
-  leads = ap (λ (k : Key). eqb k.kind 132) there.location
+  leads = ap (λ (k : Key). eqb k.kind ROOT_ITEM) there.location
 
   number_is : option_and_then tree_number (entry_of_saved files) ≡ Some 256
   number_is =
@@ -80,26 +82,26 @@ module _ (entries : EntriesAreThere) (names : NamesKeepRules) (image other : Ima
       ∙ ap tree_number there.location
 
   file_root : file_pointer other (own_super other) (own_map other) ≡ Some (root_pointer r.files)
-  file_root = pointer_by other t ranges 5 r.files (file_tree_items image m) tree5
+  file_root = pointer_by other t ranges FS_TREE r.files (file_tree_items image m) tree5
 
-  saved_root : pointer_in (root_item 256 (roots_on other (own_super other) (own_map other))) ≡ Some (root_pointer r.image)
-  saved_root = pointer_by other t ranges 256 r.image (image_tree_items m) is.trees.saved
+  saved_root : pointer_in (root_item CONV_IMAGE_SUBVOL (roots_on other (own_super other) (own_map other))) ≡ Some (root_pointer r.image)
+  saved_root = pointer_by other t ranges CONV_IMAGE_SUBVOL r.image (image_tree_items m) is.trees.saved
 
   abbrev pub file_tree : Tree
-  file_tree = tree_of (own_super other) 5 (root_pointer r.files)
+  file_tree = tree_of (own_super other) FS_TREE (root_pointer r.files)
 
   abbrev pub saved_tree : Tree
-  saved_tree = tree_of (own_super other) 256 (root_pointer r.image)
+  saved_tree = tree_of (own_super other) CONV_IMAGE_SUBVOL (root_pointer r.image)
 
   -- the file tree names tree 256 as that of the saved image
   pub trees_are : file_trees other (own_super other) (own_map other) ≡ file_tree ∷ (saved_tree ∷ [])
   trees_are =
-      ap (λ (o : Option Pointer). tree_if t 5 o ++ named_by other t ranges o) file_root
-      ∙ (ap (λ (n : Option ℕ). file_tree ∷ numbered other t ranges n) number_is ∙ ap (λ (o : Option Pointer). file_tree ∷ tree_if t 256 o) saved_root)
+      ap (λ (o : Option Pointer). tree_if t FS_TREE o ++ named_by other t ranges o) file_root
+      ∙ (ap (λ (n : Option ℕ). file_tree ∷ numbered other t ranges n) number_is ∙ ap (λ (o : Option Pointer). file_tree ∷ tree_if t CONV_IMAGE_SUBVOL o) saved_root)
 
   -- so the saved image is that of this tree
   pub image_is : saved_image other (own_super other) (own_map other) ≡ image_in (found other (own_map other) saved_tree)
   image_is =
-      ap (λ (p : Option Pointer). option_and_then (λ q. option_and_then (λ number. image_below other t ranges number (root_item number (roots_on other t ranges))) (option_and_then tree_number (entry_of_saved (items_at other t ranges 5 q)))) p) file_root
+      ap (λ (p : Option Pointer). option_and_then (λ q. option_and_then (λ number. image_below other t ranges number (root_item number (roots_on other t ranges))) (option_and_then tree_number (entry_of_saved (items_at other t ranges FS_TREE q)))) p) file_root
       ∙ (ap (λ (n : Option ℕ). option_and_then (λ number. image_below other t ranges number (root_item number (roots_on other t ranges))) n) number_is
-      ∙ ap (λ (p : Option Pointer). option_and_then (λ q. image_in (items_at other t ranges 256 q)) p) saved_root)
+      ∙ ap (λ (p : Option Pointer). option_and_then (λ q. image_in (items_at other t ranges CONV_IMAGE_SUBVOL q)) p) saved_root)

@@ -1,5 +1,6 @@
 -- The data of files stays where it is.
 use Rattle.std.proofs.Common.{ℕ, List, subst}
+use Rattle.btrfs_format.specs.declared.object.TheConstants.{FS_TREE}
 use Rattle.reiser_volume.specs.outside.History.{Image}
 use Rattle.reiser_volume.specs.vol_block.declared.ids.Ids.{Ids}
 use Rattle.btr_reader.specs.Image.{items_at}
@@ -47,9 +48,9 @@ module _ (readable : ConvertedIsReadable) (held : FilesAreHeld) (names : NamesAr
   is = readable o ids now image other m r nodes v
 
   abbrev items : List TreeItem
-  items = items_at other (own_super other) (own_map other) 5 (root_pointer r.files)
+  items = items_at other (own_super other) (own_map other) FS_TREE (root_pointer r.files)
 
-  tree : ReadsTree other (own_super other) (own_map other) 5 r.files (file_tree_items image m)
+  tree : ReadsTree other (own_super other) (own_map other) FS_TREE r.files (file_tree_items image m)
   tree = is.trees.files
 
   paths : HasSamePaths s items
@@ -68,7 +69,7 @@ module _ (readable : ConvertedIsReadable) (held : FilesAreHeld) (names : NamesAr
   in_place = record {
     used = λ b used super mirror. v.new.others b super mirror (λ taken. used_not_free image b used (taken_free m.volume image m.options m.plan m.pieces of b taken));
     at = root_pointer r.files;
-    has_root = pointer_by other (own_super other) (own_map other) 5 r.files (file_tree_items image m) tree;
+    has_root = pointer_by other (own_super other) (own_map other) FS_TREE r.files (file_tree_items image m) tree;
     files = λ key named. file_stays key;
   }
 

@@ -8,6 +8,8 @@ use Rattle.std.proofs.lemmas.Bool.{and_from, cases_Bool, eq-eqb, le-leb, le-ltb,
 use Rattle.std.proofs.lemmas.List.{append-nil, map-append}
 use Rattle.std.proofs.lemmas.List.Elements.{Contains-append_cases}
 use Rattle.std.proofs.lemmas.List.Folds.{flat_map-map}
+use Rattle.btrfs_format.specs.declared.key.TheConstants.{CHUNK_ITEM, DEV_ITEM}
+use Rattle.btrfs_format.specs.declared.object.TheConstants.{DEV_ITEMS_OBJECTID, FIRST_CHUNK_TREE_OBJECTID}
 use Rattle.reiser_volume.specs.refusals.declared.refusal.BtrRefusal.{BtrRefusal}
 use Rattle.reiser_volume.specs.refusals.declared.refusal.BtrRefusal.TheVariants.{BadBtrfs, Unsupported}
 use Rattle.reiser_volume.specs.refusals.declared.rule.BtrRule.TheVariants.{ChunkForm}
@@ -182,11 +184,11 @@ abbrev in_array : List ChunkAt → ChunkAt → Bool → Option (Option ChunkAt)
 in_array boot c b = Some (if b then None else Some c)
 
 -- what the item of a chunk is
-item_of_chunk : (ids : Ids) (boot : List ChunkAt) (c : Chunk) (key : Key) (body : List ℕ) → length ids.device ≡ 16 → c.start + c.length ≤ 2 ^ 29 → key ≡ make_key 256 228 (4096 * c.start) → body ≡ chunk_bytes (chunk_body ids c)
+item_of_chunk : (ids : Ids) (boot : List ChunkAt) (c : Chunk) (key : Key) (body : List ℕ) → length ids.device ≡ 16 → c.start + c.length ≤ 2 ^ 29 → key ≡ make_key FIRST_CHUNK_TREE_OBJECTID CHUNK_ITEM (4096 * c.start) → body ≡ chunk_bytes (chunk_body ids c)
     → chunk_in boot key body ≡ Some (new_chunk boot (chunk_at ids c))
 item_of_chunk ids boot c key body long small key_is body_is =
     ap (λ (k : Key). chunk_in boot k body) key_is
-    ∙ (ap (λ (b : List ℕ). chunk_in boot (make_key 256 228 (4096 * c.start)) b) body_is
+    ∙ (ap (λ (b : List ℕ). chunk_in boot (make_key FIRST_CHUNK_TREE_OBJECTID CHUNK_ITEM (4096 * c.start)) b) body_is
     ∙ ap (λ (o : Option ChunkBody). option_map (λ (x : ChunkBody). new_chunk boot (record { logical = 4096 * c.start; chunk = x })) o) (chunks_read_back (chunk_body ids c) (body_fits ids c long small) refl))
 
 -- the key and the body of an item
@@ -296,5 +298,5 @@ module _ (ids : Ids) (device : ℕ) (boot : List Chunk) (long : length ids.devic
   pub tree_read : (blocks : ℕ) (ds cs : List Chunk) (items : List TreeItem) → map bare_item items ≡ chunk_items ids blocks cs → Come ds cs → AreRead ds cs items
   tree_read blocks ds cs [] are come = absurd (cc are)
   tree_read blocks ds cs (i ∷ items) are come =
-      let parts = item_parts i items (make_key 1 216 1, device_bytes (device_body ids blocks cs)) (map (chunk_item ids) cs) are in
+      let parts = item_parts i items (make_key DEV_ITEMS_OBJECTID DEV_ITEM 1, device_bytes (device_body ids blocks cs)) (map (chunk_item ids) cs) are in
       step_same ds cs i items (ap (λ (k : Key). chunk_in array k i.body) parts.0) (chunks_read ds cs items parts.2 come)

@@ -7,6 +7,7 @@ use Rattle.std.proofs.lemmas.List.{get_or_default}
 use Rattle.std.proofs.lemmas.List.Elements.{All-drop, All-take}
 use Rattle.std.proofs.lemmas.List.Kept.{AllPairs-filter}
 use Rattle.std.proofs.lemmas.Simd.{map-map}
+use Rattle.btrfs_format.specs.declared.object.TheConstants.{CHUNK_TREE, ROOT_TREE}
 use Rattle.reiser_volume.proofs.fs_paths.Lists.{from_filter, in_filter}
 use Rattle.reiser_volume.specs.outside.History.{Image}
 use Rattle.reiser_volume.specs.refusals.declared.refusal.BtrRefusal.{BtrRefusal}
@@ -90,19 +91,19 @@ module _ (m : Making) (r : VolumeTrees) (nodes : List TreeNode) where
   pub tree_is : (owner : ℕ) (p : Pointer) → tree_of (super_for m r nodes) owner p ≡ tree_by (form m) owner p
   tree_is owner p = ap (λ (f : Form). tree_by f owner p) form_is
 
-  chunk_root_is : chunk_tree (super_for m r nodes) ≡ tree_of (super_for m r nodes) 3 (root_pointer r.chunk)
+  chunk_root_is : chunk_tree (super_for m r nodes) ≡ tree_of (super_for m r nodes) CHUNK_TREE (root_pointer r.chunk)
   unfolding new_super
   chunk_root_is = refl
 
-  chunk_tree_is : chunk_tree (super_for m r nodes) ≡ tree_by (form m) 3 (root_pointer r.chunk)
-  chunk_tree_is = chunk_root_is ∙ tree_is 3 (root_pointer r.chunk)
+  chunk_tree_is : chunk_tree (super_for m r nodes) ≡ tree_by (form m) CHUNK_TREE (root_pointer r.chunk)
+  chunk_tree_is = chunk_root_is ∙ tree_is CHUNK_TREE (root_pointer r.chunk)
 
-  root_is : root_tree (super_for m r nodes) ≡ tree_of (super_for m r nodes) 1 (root_pointer r.root)
+  root_is : root_tree (super_for m r nodes) ≡ tree_of (super_for m r nodes) ROOT_TREE (root_pointer r.root)
   unfolding new_super
   root_is = refl
 
-  root_tree_is : root_tree (super_for m r nodes) ≡ tree_by (form m) 1 (root_pointer r.root)
-  root_tree_is = root_is ∙ tree_is 1 (root_pointer r.root)
+  root_tree_is : root_tree (super_for m r nodes) ≡ tree_by (form m) ROOT_TREE (root_pointer r.root)
+  root_tree_is = root_is ∙ tree_is ROOT_TREE (root_pointer r.root)
 
   -- a tree that is read, by the superblock
   pub by_tree : (image : Image) (ranges : List MapRange) (t : Tree) (owner : ℕ) (p : Pointer) (items : List Item) → t ≡ tree_by (form m) owner p → IsRead image ranges (form m) p owner items
@@ -203,8 +204,8 @@ module _ (o : Options) (ids : Ids) (now : ℕ) (image other : Image) (m : Making
 
   chunk_read : (wrong other (map range_for (boot_part m.chunks)) (chunk_tree s) ≡ []) × (map bare_item (found other (map range_for (boot_part m.chunks)) (chunk_tree s)) ≡ chunk_items (new_ids m) m.volume.sup.blocks m.chunks)
   chunk_read =
-      by_tree m r nodes other (map range_for (boot_part m.chunks)) (chunk_tree s) 3 (root_pointer r.chunk) (chunk_items (new_ids m) m.volume.sup.blocks m.chunks) (chunk_tree_is m r nodes)
-      (read_by other (form m) 3 (chunk_slots m) (chunk_items (new_ids m) m.volume.sup.blocks m.chunks) r.chunk trees.chunk (map range_for (boot_part m.chunks))
+      by_tree m r nodes other (map range_for (boot_part m.chunks)) (chunk_tree s) CHUNK_TREE (root_pointer r.chunk) (chunk_items (new_ids m) m.volume.sup.blocks m.chunks) (chunk_tree_is m r nodes)
+      (read_by other (form m) CHUNK_TREE (chunk_slots m) (chunk_items (new_ids m) m.volume.sup.blocks m.chunks) r.chunk trees.chunk (map range_for (boot_part m.chunks))
       (all_from_contains (GivesItself (map range_for (boot_part m.chunks)) m.options.nodesize) (chunk_slots m) (boot_nodes image m making fit_size)))
 
   items_read : AreRead (new_ids m) (length other) (boot_part m.chunks) v.ids_.device (boot_part m.chunks) m.chunks (found other (map range_for (boot_part m.chunks)) (chunk_tree s))
@@ -223,8 +224,8 @@ module _ (o : Options) (ids : Ids) (now : ℕ) (image other : Image) (m : Making
 
   pub root_read : (wrong other (map_for m.chunks) (root_tree (super_for m r nodes)) ≡ []) × (map bare_item (found other (map_for m.chunks) (root_tree (super_for m r nodes))) ≡ root_tree_items m r)
   root_read =
-      by_tree m r nodes other (map_for m.chunks) (root_tree s) 1 (root_pointer r.root) (root_tree_items m r) (root_tree_is m r nodes)
-      (read_by other (form m) 1 (take r.root.nodes (drop (root_from r) (slots m))) (root_tree_items m r) r.root trees.root (map_for m.chunks)
+      by_tree m r nodes other (map_for m.chunks) (root_tree s) ROOT_TREE (root_pointer r.root) (root_tree_items m r) (root_tree_is m r nodes)
+      (read_by other (form m) ROOT_TREE (take r.root.nodes (drop (root_from r) (slots m))) (root_tree_items m r) r.root trees.root (map_for m.chunks)
       (All-take (GivesItself (map_for m.chunks) m.options.nodesize) r.root.nodes (drop (root_from r) (slots m)) (All-drop (GivesItself (map_for m.chunks) m.options.nodesize) (root_from r) (slots m) slots_give)))
 
   whole : (trees_refusals other s boot ≡ []) × (map_from other s boot ≡ map_for m.chunks)

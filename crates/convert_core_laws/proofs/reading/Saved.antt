@@ -7,6 +7,9 @@ use Rattle.std.specs.Option.{option_and_then}
 use Rattle.std.proofs.lemmas.Bool.{both_ways, eq-eqb, lt-ltb}
 use Rattle.std.proofs.lemmas.Int.{fits_signed_from_abs}
 use Rattle.std.proofs.lemmas.List.{append-nil}
+use Rattle.btrfs_format.specs.declared.key.TheConstants.{DIR_INDEX, DIR_ITEM, EXTENT_DATA, INODE_ITEM, INODE_REF}
+use Rattle.btrfs_format.specs.declared.object.TheConstants.{FIRST_FREE_OBJECTID}
+use Rattle.vol_block.specs.declared.mode.TheConstants.{DIRECTORY_MODE, IMAGE_MODE}
 use Rattle.reiser_volume.specs.castagnoli.Castagnoli.{name_hash}
 use Rattle.reiser_volume.specs.outside.History.{Image, block_at}
 use Rattle.reiser_volume.specs.refusals.declared.refusal.BtrRefusal.{BtrRefusal}
@@ -61,7 +64,7 @@ use Rattle.convert_core_laws.proofs.reading.Superblock.{size}
 
 -- the image's inode
 abbrev file_inode : ℕ → ℕ → Bool → ℕ → Inode
-file_inode blocks nbytes datasum now = inode_made now 0x8100 (4096 * blocks) nbytes (image_flags datasum)
+file_inode blocks nbytes datasum now = inode_made now IMAGE_MODE (4096 * blocks) nbytes (image_flags datasum)
 
 -- the entry that names it
 abbrev entry : DirEntryValue
@@ -70,12 +73,12 @@ entry = entry_to 257 File image_name
 -- the whole, one item after the other
 abbrev in_order : ℕ → List Piece → Bool → ℕ → List Item
 in_order blocks pieces datasum now =
-    new_item 256 (inode_made now 0x41ED (2 * letters image_entries) 0 0)
+    new_item FIRST_FREE_OBJECTID (inode_made now DIRECTORY_MODE (2 * letters image_entries) 0 0)
     ∷ (root_ref
-    ∷ ((make_key 256 84 (name_hash image_name), dir_entry_bytes entry ++ [])
-    ∷ ((make_key 256 96 2, dir_entry_bytes entry)
+    ∷ ((make_key FIRST_FREE_OBJECTID DIR_ITEM (name_hash image_name), dir_entry_bytes entry ++ [])
+    ∷ ((make_key FIRST_FREE_OBJECTID DIR_INDEX 2, dir_entry_bytes entry)
     ∷ (new_item 257 (file_inode blocks (piece_bytes (pieces_of_volume pieces)) datasum now)
-    ∷ (ref_item 257 256 2 image_name
+    ∷ (ref_item 257 FIRST_FREE_OBJECTID 2 image_name
     ∷ extents_at 257 source_block (pieces_of_volume pieces))))))
 
 order_is : (blocks : ℕ) (pieces : List Piece) (datasum : Bool) (now : ℕ) → image_items blocks pieces datasum now ≡ in_order blocks pieces datasum now
@@ -84,12 +87,12 @@ order_is blocks pieces datasum now = refl
 
 -- ---- what other items are
 
-no_naming : (i : TreeItem) (key : Key) → i.key ≡ key → eqb key.kind 96 ≡ false → own_naming i ≡ []
-no_naming i key is off = ap (λ (k : Key). if eqb k.kind 96 then naming_at i (index_entry i.body) else []) is ∙ ap (λ (b : Bool). if b then naming_at i (index_entry i.body) else []) off
+no_naming : (i : TreeItem) (key : Key) → i.key ≡ key → eqb key.kind DIR_INDEX ≡ false → own_naming i ≡ []
+no_naming i key is off = ap (λ (k : Key). if eqb k.kind DIR_INDEX then naming_at i (index_entry i.body) else []) is ∙ ap (λ (b : Bool). if b then naming_at i (index_entry i.body) else []) off
 
-no_index : (i : TreeItem) (key : Key) → i.key ≡ key → eqb key.kind 96 ≡ false → own_index_refusals i ≡ []
+no_index : (i : TreeItem) (key : Key) → i.key ≡ key → eqb key.kind DIR_INDEX ≡ false → own_index_refusals i ≡ []
 no_index i key is off =
-    ap (λ (k : Key). if eqb k.kind 96 && eqb k.objectid 256 then index_refusals_at i (index_entry i.body) else []) is
+    ap (λ (k : Key). if eqb k.kind DIR_INDEX && eqb k.objectid 256 then index_refusals_at i (index_entry i.body) else []) is
     ∙ ap (λ (b : Bool). if b && eqb key.objectid 256 then index_refusals_at i (index_entry i.body) else []) off
 
 -- extents name nothing, and are all of the file
@@ -98,10 +101,10 @@ extents_names [] [] are = (refl, refl)
 extents_names [] (i ∷ items) are = absurd (cc are)
 extents_names (p ∷ ps) [] are = absurd (cc are)
 extents_names (p ∷ ps) (i ∷ items) are =
-    let parts = item_parts i items (make_key 257 108 (4096 * source_block p), file_extent_bytes (regular_extent p.place p.count)) (extents_at 257 source_block ps) are in
+    let parts = item_parts i items (make_key 257 EXTENT_DATA (4096 * source_block p), file_extent_bytes (regular_extent p.place p.count)) (extents_at 257 source_block ps) are in
     let rest = extents_names ps items parts.2 in (
-      ap (λ (l : List Naming). l ++ namings items) (no_naming i (make_key 257 108 (4096 * source_block p)) parts.0 refl) ∙ rest.0,
-      ap (λ (l : List BtrRefusal). l ++ index_refusals items) (no_index i (make_key 257 108 (4096 * source_block p)) parts.0 refl) ∙ rest.1,
+      ap (λ (l : List Naming). l ++ namings items) (no_naming i (make_key 257 EXTENT_DATA (4096 * source_block p)) parts.0 refl) ∙ rest.0,
+      ap (λ (l : List BtrRefusal). l ++ index_refusals items) (no_index i (make_key 257 EXTENT_DATA (4096 * source_block p)) parts.0 refl) ∙ rest.1,
     )
 
 extents_own : (ps : List Piece) (items : List TreeItem) → map bare_item items ≡ extents_at 257 source_block ps → extents_of items 257 ≡ items
@@ -109,17 +112,17 @@ extents_own [] [] are = refl
 extents_own [] (i ∷ items) are = absurd (cc are)
 extents_own (p ∷ ps) [] are = absurd (cc are)
 extents_own (p ∷ ps) (i ∷ items) are =
-    let parts = item_parts i items (make_key 257 108 (4096 * source_block p), file_extent_bytes (regular_extent p.place p.count)) (extents_at 257 source_block ps) are in
-    ap (λ (k : Key). cond (eqb k.objectid 257 && eqb k.kind 108) (i ∷ extents_of items 257) (extents_of items 257)) parts.0 ∙ ap (λ (l : List TreeItem). i ∷ l) (extents_own ps items parts.2)
+    let parts = item_parts i items (make_key 257 EXTENT_DATA (4096 * source_block p), file_extent_bytes (regular_extent p.place p.count)) (extents_at 257 source_block ps) are in
+    ap (λ (k : Key). cond (eqb k.objectid 257 && eqb k.kind EXTENT_DATA) (i ∷ extents_of items 257) (extents_of items 257)) parts.0 ∙ ap (λ (l : List TreeItem). i ∷ l) (extents_own ps items parts.2)
 
-not_extent : (i : TreeItem) (items : List TreeItem) (key : Key) → i.key ≡ key → (eqb key.objectid 257 && eqb key.kind 108) ≡ false → extents_of (i ∷ items) 257 ≡ extents_of items 257
+not_extent : (i : TreeItem) (items : List TreeItem) (key : Key) → i.key ≡ key → (eqb key.objectid 257 && eqb key.kind EXTENT_DATA) ≡ false → extents_of (i ∷ items) 257 ≡ extents_of items 257
 not_extent i items key is off =
-    ap (λ (k : Key). cond (eqb k.objectid 257 && eqb k.kind 108) (i ∷ extents_of items 257) (extents_of items 257)) is
+    ap (λ (k : Key). cond (eqb k.objectid 257 && eqb k.kind EXTENT_DATA) (i ∷ extents_of items 257) (extents_of items 257)) is
     ∙ ap (λ (b : Bool). cond b (i ∷ extents_of items 257) (extents_of items 257)) off
 
-not_inode : (i : TreeItem) (items : List TreeItem) (key : Key) → i.key ≡ key → (eqb key.objectid 257 && (eqb key.kind 1 && eqb key.offset 0)) ≡ false → inode_item (i ∷ items) 257 ≡ inode_item items 257
+not_inode : (i : TreeItem) (items : List TreeItem) (key : Key) → i.key ≡ key → (eqb key.objectid 257 && (eqb key.kind INODE_ITEM && eqb key.offset 0)) ≡ false → inode_item (i ∷ items) 257 ≡ inode_item items 257
 not_inode i items key is off =
-    ap (λ (k : Key). if eqb k.objectid 257 && (eqb k.kind 1 && eqb k.offset 0) then Some i else inode_item items 257) is
+    ap (λ (k : Key). if eqb k.objectid 257 && (eqb k.kind INODE_ITEM && eqb k.offset 0) then Some i else inode_item items 257) is
     ∙ ap (λ (b : Bool). if b then Some i else inode_item items 257) off
 
 -- ---- the inode and the entry that are read back
@@ -155,7 +158,7 @@ record IsTold (blocks : ℕ) (pieces : List Piece) (datasum : Bool) (now : ℕ) 
   inode : TreeItem
   extents : List TreeItem
   are : map bare_item extents ≡ extents_at 257 source_block (pieces_of_volume pieces)
-  index_key : index.key ≡ make_key 256 96 2
+  index_key : index.key ≡ make_key FIRST_FREE_OBJECTID DIR_INDEX 2
   index_body : index.body ≡ dir_entry_bytes entry
   inode_body : inode.body ≡ inode_bytes (file_inode blocks (piece_bytes (pieces_of_volume pieces)) datasum now)
   namings_are : namings items ≡ own_naming index
@@ -168,8 +171,8 @@ one_left a b c d e f g is_a is_b is_c is_e is_f is_g = rw (is_a, is_b, is_c, is_
 
 -- the same of the items by themselves
 module _ (blocks : ℕ) (pieces : List Piece) (datasum : Bool) (now : ℕ) (a b c d f g : TreeItem) (extents : List TreeItem) where
-  told_by : a.key ≡ make_key 256 1 0 → b.key ≡ make_key 256 12 256 → c.key ≡ make_key 256 84 (name_hash image_name) → d.key ≡ make_key 256 96 2 → d.body ≡ dir_entry_bytes entry → f.key ≡ make_key 257 1 0
-      → f.body ≡ inode_bytes (file_inode blocks (piece_bytes (pieces_of_volume pieces)) datasum now) → g.key ≡ make_key 257 12 256 → map bare_item extents ≡ extents_at 257 source_block (pieces_of_volume pieces)
+  told_by : a.key ≡ make_key FIRST_FREE_OBJECTID INODE_ITEM 0 → b.key ≡ make_key FIRST_FREE_OBJECTID INODE_REF FIRST_FREE_OBJECTID → c.key ≡ make_key FIRST_FREE_OBJECTID DIR_ITEM (name_hash image_name) → d.key ≡ make_key FIRST_FREE_OBJECTID DIR_INDEX 2 → d.body ≡ dir_entry_bytes entry → f.key ≡ make_key 257 INODE_ITEM 0
+      → f.body ≡ inode_bytes (file_inode blocks (piece_bytes (pieces_of_volume pieces)) datasum now) → g.key ≡ make_key 257 INODE_REF FIRST_FREE_OBJECTID → map bare_item extents ≡ extents_at 257 source_block (pieces_of_volume pieces)
       → IsTold blocks pieces datasum now (a ∷ (b ∷ (c ∷ (d ∷ (f ∷ (g ∷ extents))))))
   told_by ka kb kc kd bd kf bf kg are =
       let names = extents_names (pieces_of_volume pieces) extents are in
@@ -183,25 +186,25 @@ module _ (blocks : ℕ) (pieces : List Piece) (datasum : Bool) (now : ℕ) (a b 
         inode_body = bf;
         namings_are =
             one_left (own_naming a) (own_naming b) (own_naming c) (own_naming d) (own_naming f) (own_naming g) (namings extents)
-            (no_naming a (make_key 256 1 0) ka refl) (no_naming b (make_key 256 12 256) kb refl) (no_naming c (make_key 256 84 (name_hash image_name)) kc refl)
-            (no_naming f (make_key 257 1 0) kf refl) (no_naming g (make_key 257 12 256) kg refl) names.0;
+            (no_naming a (make_key FIRST_FREE_OBJECTID INODE_ITEM 0) ka refl) (no_naming b (make_key FIRST_FREE_OBJECTID INODE_REF FIRST_FREE_OBJECTID) kb refl) (no_naming c (make_key FIRST_FREE_OBJECTID DIR_ITEM (name_hash image_name)) kc refl)
+            (no_naming f (make_key 257 INODE_ITEM 0) kf refl) (no_naming g (make_key 257 INODE_REF FIRST_FREE_OBJECTID) kg refl) names.0;
         refusals_are =
             one_left (own_index_refusals a) (own_index_refusals b) (own_index_refusals c) (own_index_refusals d) (own_index_refusals f) (own_index_refusals g) (index_refusals extents)
-            (no_index a (make_key 256 1 0) ka refl) (no_index b (make_key 256 12 256) kb refl) (no_index c (make_key 256 84 (name_hash image_name)) kc refl)
-            (no_index f (make_key 257 1 0) kf refl) (no_index g (make_key 257 12 256) kg refl) names.1;
+            (no_index a (make_key FIRST_FREE_OBJECTID INODE_ITEM 0) ka refl) (no_index b (make_key FIRST_FREE_OBJECTID INODE_REF FIRST_FREE_OBJECTID) kb refl) (no_index c (make_key FIRST_FREE_OBJECTID DIR_ITEM (name_hash image_name)) kc refl)
+            (no_index f (make_key 257 INODE_ITEM 0) kf refl) (no_index g (make_key 257 INODE_REF FIRST_FREE_OBJECTID) kg refl) names.1;
         inode_is =
-            not_inode a (b ∷ (c ∷ (d ∷ (f ∷ (g ∷ extents))))) (make_key 256 1 0) ka refl
-            ∙ (not_inode b (c ∷ (d ∷ (f ∷ (g ∷ extents)))) (make_key 256 12 256) kb refl
-            ∙ (not_inode c (d ∷ (f ∷ (g ∷ extents))) (make_key 256 84 (name_hash image_name)) kc refl
-            ∙ (not_inode d (f ∷ (g ∷ extents)) (make_key 256 96 2) kd refl
-            ∙ ap (λ (k : Key). if eqb k.objectid 257 && (eqb k.kind 1 && eqb k.offset 0) then Some f else inode_item (g ∷ extents) 257) kf)));
+            not_inode a (b ∷ (c ∷ (d ∷ (f ∷ (g ∷ extents))))) (make_key FIRST_FREE_OBJECTID INODE_ITEM 0) ka refl
+            ∙ (not_inode b (c ∷ (d ∷ (f ∷ (g ∷ extents)))) (make_key FIRST_FREE_OBJECTID INODE_REF FIRST_FREE_OBJECTID) kb refl
+            ∙ (not_inode c (d ∷ (f ∷ (g ∷ extents))) (make_key FIRST_FREE_OBJECTID DIR_ITEM (name_hash image_name)) kc refl
+            ∙ (not_inode d (f ∷ (g ∷ extents)) (make_key FIRST_FREE_OBJECTID DIR_INDEX 2) kd refl
+            ∙ ap (λ (k : Key). if eqb k.objectid 257 && (eqb k.kind INODE_ITEM && eqb k.offset 0) then Some f else inode_item (g ∷ extents) 257) kf)));
         extents_are =
-            not_extent a (b ∷ (c ∷ (d ∷ (f ∷ (g ∷ extents))))) (make_key 256 1 0) ka refl
-            ∙ (not_extent b (c ∷ (d ∷ (f ∷ (g ∷ extents)))) (make_key 256 12 256) kb refl
-            ∙ (not_extent c (d ∷ (f ∷ (g ∷ extents))) (make_key 256 84 (name_hash image_name)) kc refl
-            ∙ (not_extent d (f ∷ (g ∷ extents)) (make_key 256 96 2) kd refl
-            ∙ (not_extent f (g ∷ extents) (make_key 257 1 0) kf refl
-            ∙ (not_extent g extents (make_key 257 12 256) kg refl ∙ extents_own (pieces_of_volume pieces) extents are)))));
+            not_extent a (b ∷ (c ∷ (d ∷ (f ∷ (g ∷ extents))))) (make_key FIRST_FREE_OBJECTID INODE_ITEM 0) ka refl
+            ∙ (not_extent b (c ∷ (d ∷ (f ∷ (g ∷ extents)))) (make_key FIRST_FREE_OBJECTID INODE_REF FIRST_FREE_OBJECTID) kb refl
+            ∙ (not_extent c (d ∷ (f ∷ (g ∷ extents))) (make_key FIRST_FREE_OBJECTID DIR_ITEM (name_hash image_name)) kc refl
+            ∙ (not_extent d (f ∷ (g ∷ extents)) (make_key FIRST_FREE_OBJECTID DIR_INDEX 2) kd refl
+            ∙ (not_extent f (g ∷ extents) (make_key 257 INODE_ITEM 0) kf refl
+            ∙ (not_extent g extents (make_key 257 INODE_REF FIRST_FREE_OBJECTID) kg refl ∙ extents_own (pieces_of_volume pieces) extents are)))));
       }
 
 told : (blocks : ℕ) (pieces : List Piece) (datasum : Bool) (now : ℕ) (items : List TreeItem) → map bare_item items ≡ in_order blocks pieces datasum now → IsTold blocks pieces datasum now items
@@ -212,11 +215,11 @@ told blocks pieces datasum now (a ∷ (b ∷ (c ∷ []))) e = absurd (cc e)
 told blocks pieces datasum now (a ∷ (b ∷ (c ∷ (d ∷ [])))) e = absurd (cc e)
 told blocks pieces datasum now (a ∷ (b ∷ (c ∷ (d ∷ (f ∷ []))))) e = absurd (cc e)
 told blocks pieces datasum now (a ∷ (b ∷ (c ∷ (d ∷ (f ∷ (g ∷ extents)))))) e =
-    let root : Item = new_item 256 (inode_made now 0x41ED (2 * letters image_entries) 0 0) in
-    let hashed : Item = (make_key 256 84 (name_hash image_name), dir_entry_bytes entry ++ []) in
-    let indexed : Item = (make_key 256 96 2, dir_entry_bytes entry) in
+    let root : Item = new_item FIRST_FREE_OBJECTID (inode_made now DIRECTORY_MODE (2 * letters image_entries) 0 0) in
+    let hashed : Item = (make_key FIRST_FREE_OBJECTID DIR_ITEM (name_hash image_name), dir_entry_bytes entry ++ []) in
+    let indexed : Item = (make_key FIRST_FREE_OBJECTID DIR_INDEX 2, dir_entry_bytes entry) in
     let inode : Item = new_item 257 (file_inode blocks (piece_bytes (pieces_of_volume pieces)) datasum now) in
-    let named : Item = ref_item 257 256 2 image_name in
+    let named : Item = ref_item 257 FIRST_FREE_OBJECTID 2 image_name in
     let last : List Item = extents_at 257 source_block (pieces_of_volume pieces) in
     let pa = item_parts a (b ∷ (c ∷ (d ∷ (f ∷ (g ∷ extents))))) root (root_ref ∷ (hashed ∷ (indexed ∷ (inode ∷ (named ∷ last))))) e in
     let pb = item_parts b (c ∷ (d ∷ (f ∷ (g ∷ extents)))) root_ref (hashed ∷ (indexed ∷ (inode ∷ (named ∷ last)))) pa.2 in
@@ -232,7 +235,7 @@ no_inline [] [] small are = refl
 no_inline [] (i ∷ items) small are = absurd (cc are)
 no_inline (p ∷ ps) [] small are = absurd (cc are)
 no_inline (p ∷ ps) (i ∷ items) small are =
-    let parts = item_parts i items (make_key 257 108 (4096 * source_block p), file_extent_bytes (regular_extent p.place p.count)) (extents_at 257 source_block ps) are in
+    let parts = item_parts i items (make_key 257 EXTENT_DATA (4096 * source_block p), file_extent_bytes (regular_extent p.place p.count)) (extents_at 257 source_block ps) are in
     ap (λ (o : Option FileExtentValue). is_inline o || list_any (λ e. is_inline (file_extent_of e.body)) items) (reads_extent p i.body (small p (contains_head p ps)) parts.1)
     ∙ no_inline ps items (λ q h. small q (contains_tail q p ps h)) parts.2
 
@@ -241,13 +244,13 @@ module _ (blocks : ℕ) (pieces : List Piece) (datasum : Bool) (now : ℕ) (item
   own = file_inode blocks (piece_bytes (pieces_of_volume pieces)) datasum now
 
   abbrev naming : Naming
-  naming = record { leaf = t.index.leaf; dir = 256; index = 2; location = make_key 257 1 0; name = image_name }
+  naming = record { leaf = t.index.leaf; dir = FIRST_FREE_OBJECTID; index = 2; location = make_key 257 INODE_ITEM 0; name = image_name }
 
   naming_is : own_naming t.index ≡ naming ∷ []
   naming_is =
-      ap (λ (b : List ℕ). if eqb t.index.key.kind 96 then naming_at t.index (index_entry b) else []) t.index_body
-      ∙ (ap (λ (o : Option DirEntryValue). if eqb t.index.key.kind 96 then naming_at t.index o else []) entry_read
-      ∙ ap (λ (k : Key). if eqb k.kind 96 then (let n : Naming = record { leaf = t.index.leaf; dir = k.objectid; index = k.offset; location = make_key 257 1 0; name = image_name } in n ∷ []) else []) t.index_key)
+      ap (λ (b : List ℕ). if eqb t.index.key.kind DIR_INDEX then naming_at t.index (index_entry b) else []) t.index_body
+      ∙ (ap (λ (o : Option DirEntryValue). if eqb t.index.key.kind DIR_INDEX then naming_at t.index o else []) entry_read
+      ∙ ap (λ (k : Key). if eqb k.kind DIR_INDEX then (let n : Naming = record { leaf = t.index.leaf; dir = k.objectid; index = k.offset; location = make_key 257 INODE_ITEM 0; name = image_name } in n ∷ []) else []) t.index_key)
 
   names_sound : root_refusals items ≡ []
   names_sound =
@@ -256,8 +259,8 @@ module _ (blocks : ℕ) (pieces : List Piece) (datasum : Bool) (now : ℕ) (item
     where
       index_sound : own_index_refusals t.index ≡ []
       index_sound =
-          ap (λ (b : List ℕ). if eqb t.index.key.kind 96 && eqb t.index.key.objectid 256 then index_refusals_at t.index (index_entry b) else []) t.index_body
-          ∙ (ap (λ (o : Option DirEntryValue). if eqb t.index.key.kind 96 && eqb t.index.key.objectid 256 then index_refusals_at t.index o else []) entry_read ∙ none (eqb t.index.key.kind 96 && eqb t.index.key.objectid 256))
+          ap (λ (b : List ℕ). if eqb t.index.key.kind DIR_INDEX && eqb t.index.key.objectid 256 then index_refusals_at t.index (index_entry b) else []) t.index_body
+          ∙ (ap (λ (o : Option DirEntryValue). if eqb t.index.key.kind DIR_INDEX && eqb t.index.key.objectid 256 then index_refusals_at t.index o else []) entry_read ∙ none (eqb t.index.key.kind DIR_INDEX && eqb t.index.key.objectid 256))
         where
           none : (b : Bool) → (if b then index_refusals_at t.index (Some entry) else []) ≡ []
           none true = refl
@@ -316,8 +319,8 @@ module _ (rising : ImageKeysAscend) (o : Options) (ids : Ids) (now : ℕ) (image
   sources : AreSources (map_for m.chunks) 0 (pieces_of_volume m.pieces)
   sources =
       are_sources image m making fit
-      (six_behind (new_item 256 (inode_made m.now 0x41ED (2 * letters image_entries) 0 0)) root_ref (make_key 256 84 (name_hash image_name), dir_entry_bytes entry ++ []) (make_key 256 96 2, dir_entry_bytes entry)
-      (new_item 257 (file_inode m.volume.sup.blocks (piece_bytes (pieces_of_volume m.pieces)) m.options.datasum m.now)) (ref_item 257 256 2 image_name) (extents_at 257 source_block (pieces_of_volume m.pieces))
+      (six_behind (new_item FIRST_FREE_OBJECTID (inode_made m.now DIRECTORY_MODE (2 * letters image_entries) 0 0)) root_ref (make_key FIRST_FREE_OBJECTID DIR_ITEM (name_hash image_name), dir_entry_bytes entry ++ []) (make_key FIRST_FREE_OBJECTID DIR_INDEX 2, dir_entry_bytes entry)
+      (new_item 257 (file_inode m.volume.sup.blocks (piece_bytes (pieces_of_volume m.pieces)) m.options.datasum m.now)) (ref_item 257 FIRST_FREE_OBJECTID 2 image_name) (extents_at 257 source_block (pieces_of_volume m.pieces))
       (ap (λ (items : List Item). ascends (keys_of items)) (sym (order_is m.volume.sup.blocks m.pieces m.options.datasum m.now)) ∙ (rising m.volume image m.options m.plan m.pieces m.now making.has_pieces).saved))
 
   small : piece_bytes (pieces_of_volume m.pieces) ≤ 2 ^ 41

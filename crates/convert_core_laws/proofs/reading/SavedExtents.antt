@@ -4,6 +4,7 @@ use Rattle.std.specs.Prelude.{Contains, if◌then◌else◌}
 use Rattle.std.specs.Option.{option_map}
 use Rattle.std.proofs.lemmas.List.Sums.{sum_by-cons}
 use Rattle.std.proofs.lemmas.Bool.{and_from, and_parts, both_ways, cases_Bool, eq-eqb, le-leb, leb-true, lt-ltb, ltb-true, ne_eqb}
+use Rattle.btrfs_format.specs.declared.key.TheConstants.{EXTENT_DATA}
 use Rattle.reiser_volume.specs.refusals.declared.refusal.BtrRefusal.{BtrRefusal}
 use Rattle.reiser_volume.specs.refusals.declared.refusal.BtrRefusal.TheVariants.{BadBtrfs}
 use Rattle.reiser_volume.specs.refusals.declared.rule.BtrRule.TheVariants.{ExtentForm}
@@ -122,7 +123,7 @@ module _ (ranges : List MapRange) where
   extents_sound [] (i ∷ items) low covered are sources few = absurd (cc are)
   extents_sound (p ∷ ps) [] low covered are sources few = absurd (cc are)
   extents_sound (p ∷ ps) (i ∷ items) low covered are sources few =
-      let parts = item_parts i items (make_key 257 108 (4096 * source_block p), file_extent_bytes (regular_extent p.place p.count)) (extents_at 257 source_block ps) are in
+      let parts = item_parts i items (make_key 257 EXTENT_DATA (4096 * source_block p), file_extent_bytes (regular_extent p.place p.count)) (extents_at 257 source_block ps) are in
       let is : IsSource ranges p = sources.0 in
       let small = is.small in
       let offset : i.key.offset ≡ 4096 * source_block p = ap (λ (k : Key). k.offset) parts.0 in
@@ -183,7 +184,7 @@ module _ (ranges : List MapRange) where
   place_of [] (i ∷ items) low b are sources = absurd (cc are)
   place_of (p ∷ ps) [] low b are sources = absurd (cc are)
   place_of (p ∷ ps) (i ∷ items) low b are sources =
-      let parts = item_parts i items (make_key 257 108 (4096 * source_block p), file_extent_bytes (regular_extent p.place p.count)) (extents_at 257 source_block ps) are in
+      let parts = item_parts i items (make_key 257 EXTENT_DATA (4096 * source_block p), file_extent_bytes (regular_extent p.place p.count)) (extents_at 257 source_block ps) are in
       let is : IsSource ranges p = sources.0 in
       let small = is.small in
       let offset : i.key.offset ≡ 4096 * source_block p = ap (λ (k : Key). k.offset) parts.0 in

@@ -4,6 +4,8 @@ use Rattle.std.specs.Prelude.{Contains, codes, if◌then◌else◌, unwrap_or}
 use Rattle.std.specs.List.{flat_map}
 use Rattle.std.specs.Option.{option_and_then}
 use Rattle.std.proofs.lemmas.List.Elements.{Contains-append_left, Contains-append_right}
+use Rattle.btrfs_format.specs.declared.key.TheConstants.{ROOT_ITEM}
+use Rattle.btrfs_format.specs.declared.object.TheConstants.{CONV_IMAGE_SUBVOL, FIRST_FREE_OBJECTID, FS_TREE}
 use Rattle.reiser_volume.proofs.fs_paths.Lists.{from_map, in_map}
 use Rattle.reiser_volume.specs.outside.History.{Image}
 use Rattle.reiser_volume.specs.refusals.declared.refusal.BtrRefusal.{BtrRefusal}
@@ -58,9 +60,9 @@ use Rattle.convert_core_laws.proofs.reading.Saved.{has_image}
 pub record HasSavedEntry (items : List TreeItem) : Type 0 where
   pub entry : Naming
   pub among : Contains (namings items) entry
-  pub dir : entry.dir ≡ 256
+  pub dir : entry.dir ≡ FIRST_FREE_OBJECTID
   pub name : entry.name ≡ codes "reiserfs_saved"
-  pub location : entry.location ≡ make_key 256 132 (2 ^ 64 - 1)
+  pub location : entry.location ≡ make_key CONV_IMAGE_SUBVOL ROOT_ITEM (2 ^ 64 - 1)
 
 module _ (image : Image) (m : Making) (made : IsMaking image m) (entries : EntriesAreThere) (items : List TreeItem) (are : map bare_item items ≡ file_tree_items image m) where
   abbrev s : Source
@@ -122,22 +124,22 @@ module _ (entries : EntriesAreThere) (rising : ImageKeysAscend) (o : Options) (i
   ranges = own_map other
 
   abbrev files : List TreeItem
-  files = found other (own_map other) (tree_of (own_super other) 5 (root_pointer r.files))
+  files = found other (own_map other) (tree_of (own_super other) FS_TREE (root_pointer r.files))
 
   abbrev saved_items : List TreeItem
-  saved_items = found other (own_map other) (tree_of (own_super other) 256 (root_pointer r.image))
+  saved_items = found other (own_map other) (tree_of (own_super other) CONV_IMAGE_SUBVOL (root_pointer r.image))
 
-  tree5 : ReadsTree other (own_super other) (own_map other) 5 r.files (file_tree_items image m)
+  tree5 : ReadsTree other (own_super other) (own_map other) FS_TREE r.files (file_tree_items image m)
   tree5 = is.trees.files
 
-  tree256 : ReadsTree other (own_super other) (own_map other) 256 r.image (image_tree_items m)
+  tree256 : ReadsTree other (own_super other) (own_map other) CONV_IMAGE_SUBVOL r.image (image_tree_items m)
   tree256 = is.trees.saved
 
   there : HasSavedEntry files
   there = saved_there image m v.new.conversion.making entries files tree5.items_are
 
   leads : names_tree there.entry ≡ true
-  leads = ap (λ (k : Key). eqb k.kind 132) there.location
+  leads = ap (λ (k : Key). eqb k.kind ROOT_ITEM) there.location
 
   names : root_refusals files ≡ []
   names = root_sound (has_root (roots_on other (own_super other) (own_map other))) files r.files.address keeps there.entry there.among there.dir there.name leads
@@ -152,26 +154,26 @@ module _ (entries : EntriesAreThere) (rising : ImageKeysAscend) (o : Options) (i
       subst (λ (rs : List MapRange). HasImage image other rs m.volume.sup.blocks saved_items) (sym is.map_is)
       (has_image rising o ids now image other m r nodes saved_items v low tree256.items_are)
 
-  below_none : refusals_below other (own_super other) (own_map other) 256 (root_item 256 (roots_on other (own_super other) (own_map other))) ≡ []
+  below_none : refusals_below other (own_super other) (own_map other) CONV_IMAGE_SUBVOL (root_item CONV_IMAGE_SUBVOL (roots_on other (own_super other) (own_map other))) ≡ []
   below_none =
-      below_by other t ranges 256 (λ p. or_later (entry_refusals other ranges (tree_of t 256 p)) (image_refusals_in ranges (items_at other t ranges 256 p))) r.image (image_tree_items m) tree256
-      ∙ (ap (λ (rs : List BtrRefusal). or_later rs (image_refusals_in ranges saved_items)) (entries_none other t ranges 256 r.image (image_tree_items m) tree256 has.names) ∙ has.extents)
+      below_by other t ranges CONV_IMAGE_SUBVOL (λ p. or_later (entry_refusals other ranges (tree_of t CONV_IMAGE_SUBVOL p)) (image_refusals_in ranges (items_at other t ranges CONV_IMAGE_SUBVOL p))) r.image (image_tree_items m) tree256
+      ∙ (ap (λ (rs : List BtrRefusal). or_later rs (image_refusals_in ranges saved_items)) (entries_none other t ranges CONV_IMAGE_SUBVOL r.image (image_tree_items m) tree256 has.names) ∙ has.extents)
 
   way_none : way_refusals other ≡ []
   way_none =
-      below_by other t ranges 5
-      (λ p. or_later (entry_refusals other ranges (tree_of t 5 p)) (if_there (λ number. refusals_below other t ranges number (root_item number (roots_on other t ranges))) (option_and_then tree_number (entry_of_saved (items_at other t ranges 5 p)))))
+      below_by other t ranges FS_TREE
+      (λ p. or_later (entry_refusals other ranges (tree_of t FS_TREE p)) (if_there (λ number. refusals_below other t ranges number (root_item number (roots_on other t ranges))) (option_and_then tree_number (entry_of_saved (items_at other t ranges FS_TREE p)))))
       r.files (file_tree_items image m) tree5
-      ∙ (ap (λ (rs : List BtrRefusal). or_later rs (if_there (λ number. refusals_below other t ranges number (root_item number (roots_on other t ranges))) (option_and_then tree_number (entry_of_saved files)))) (entries_none other t ranges 5 r.files (file_tree_items image m) tree5 names)
+      ∙ (ap (λ (rs : List BtrRefusal). or_later rs (if_there (λ number. refusals_below other t ranges number (root_item number (roots_on other t ranges))) (option_and_then tree_number (entry_of_saved files)))) (entries_none other t ranges FS_TREE r.files (file_tree_items image m) tree5 names)
       ∙ (ap (λ (n : Option ℕ). if_there (λ number. refusals_below other t ranges number (root_item number (roots_on other t ranges))) n) number_is ∙ below_none))
 
-  below_is : image_below other (own_super other) (own_map other) 256 (root_item 256 (roots_on other (own_super other) (own_map other))) ≡ Some has.file
+  below_is : image_below other (own_super other) (own_map other) CONV_IMAGE_SUBVOL (root_item CONV_IMAGE_SUBVOL (roots_on other (own_super other) (own_map other))) ≡ Some has.file
   below_is =
-      ap (λ (p : Option Pointer). option_and_then (λ q. image_in (items_at other t ranges 256 q)) p) (pointer_by other t ranges 256 r.image (image_tree_items m) tree256) ∙ has.found_
+      ap (λ (p : Option Pointer). option_and_then (λ q. image_in (items_at other t ranges CONV_IMAGE_SUBVOL q)) p) (pointer_by other t ranges CONV_IMAGE_SUBVOL r.image (image_tree_items m) tree256) ∙ has.found_
 
-  saved_is : image_from other (own_super other) (own_map other) (root_item 5 (roots_on other (own_super other) (own_map other))) ≡ Some has.file
+  saved_is : image_from other (own_super other) (own_map other) (root_item FS_TREE (roots_on other (own_super other) (own_map other))) ≡ Some has.file
   saved_is =
-      ap (λ (p : Option Pointer). option_and_then (λ q. option_and_then (λ number. image_below other t ranges number (root_item number (roots_on other t ranges))) (option_and_then tree_number (entry_of_saved (items_at other t ranges 5 q)))) p) (pointer_by other t ranges 5 r.files (file_tree_items image m) tree5)
+      ap (λ (p : Option Pointer). option_and_then (λ q. option_and_then (λ number. image_below other t ranges number (root_item number (roots_on other t ranges))) (option_and_then tree_number (entry_of_saved (items_at other t ranges FS_TREE q)))) p) (pointer_by other t ranges FS_TREE r.files (file_tree_items image m) tree5)
       ∙ (ap (λ (n : Option ℕ). option_and_then (λ number. image_below other t ranges number (root_item number (roots_on other t ranges))) n) number_is ∙ below_is)
 
   pub reads_saved : ReadsSavedImage image other m.volume.sup.blocks

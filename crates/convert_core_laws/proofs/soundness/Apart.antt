@@ -4,6 +4,7 @@ use Rattle.std.specs.Prelude.{All, AllPairs, Contains}
 use Rattle.std.specs.List.{flat_map, sum_by}
 use Rattle.std.proofs.lemmas.Bool.{cases_eq, cases_lt, eq-eqb, ne_eqb}
 use Rattle.std.proofs.lemmas.List.Sums.{sum_by-cons}
+use Rattle.btrfs_format.specs.declared.object.TheConstants.{CHUNK_TREE, EXTENT_TREE}
 use Rattle.reiser_volume.specs.outside.History.{Image}
 use Rattle.reiser_volume.specs.vol_block.declared.ids.Ids.{Ids}
 use Rattle.btr_reader.specs.btr_node.NodeSize.{IsNodeSize}
@@ -151,10 +152,10 @@ module _ (o : Options) (ids : Ids) (now : ℕ) (image other : Image) (m : Making
       let first : AreNodes (row o ids now image other m r nodes v) = nodes_at_slots (row o ids now image other m r nodes v) (slots m) (extents_from r) (row_ends o ids now image other m r nodes v) all (omega (arith, few)) in
       let second : AreNodes (chunked o ids now image other m r nodes v) =
       nodes_at_slots (chunked o ids now image other m r nodes v) (chunk_slots m) (tree_nodes n (lengths_of (chunk_items (new_ids m) m.volume.sup.blocks m.chunks)))
-      (tree_at 3 n (lengths_of (chunk_items (new_ids m) m.volume.sup.blocks m.chunks)) (chunk_slots m)) chunk_slots_ascend (omega (arith, chunk_few)) in
+      (tree_at CHUNK_TREE n (lengths_of (chunk_items (new_ids m) m.volume.sup.blocks m.chunks)) (chunk_slots m)) chunk_slots_ascend (omega (arith, chunk_few)) in
       let third : AreNodes (extended o ids now image other m r nodes v) =
       nodes_at_slots (extended o ids now image other m r nodes v) rest (tree_nodes n (lengths_of (extent_items m.chunks m.pieces nodes n)))
-      (tree_at 2 n (lengths_of (extent_items m.chunks m.pieces nodes n)) rest) (left_pairs (extents_from r) (slots m) all) (shorter few) in
+      (tree_at EXTENT_TREE n (lengths_of (extent_items m.chunks m.pieces nodes n)) rest) (left_pairs (extents_from r) (slots m) all) (shorter few) in
       subst (AllPairs (λ (t u : TreeNode). t.address < u.address)) (sym stand.nodes_are.is)
       (merged_ascend (other_nodes image other m r) (extended o ids now image other m r nodes v)
       (merged_ascend (row o ids now image other m r nodes v) (chunked o ids now image other m r nodes v) first.ascending second.ascending) third.ascending)

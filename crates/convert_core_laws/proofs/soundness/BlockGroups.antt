@@ -4,6 +4,7 @@ use Rattle.std.specs.Prelude.{All, AllPairs, Contains}
 use Rattle.std.specs.List.{flat_map, sum_by}
 use Rattle.std.proofs.lemmas.List.Elements.{All-map}
 use Rattle.std.proofs.lemmas.List.Sums.{sum_by-cons}
+use Rattle.btrfs_format.specs.declared.object.TheConstants.{FIRST_CHUNK_TREE_OBJECTID}
 use Rattle.reiser_volume.proofs.fs_paths.Lists.{from_map, in_map}
 use Rattle.reiser_volume.specs.outside.History.{Image}
 use Rattle.reiser_volume.specs.vol_block.declared.ids.Ids.{Ids}
@@ -114,7 +115,7 @@ module _ (o : Options) (ids : Ids) (now : ℕ) (image other : Image) (m : Making
       record {
         key = refl;
         body = group_reads (used_of_chunk m.pieces nodes m.options.nodesize c) c (omega (arith, part, whole))
-            ∙ ap (λ (n : ℕ). let g : BlockGroup = record { used = n; chunk_objectid = 256; flags = chunk_kind c.role } in Some g) (sym (used_is c));
+            ∙ ap (λ (n : ℕ). let g : BlockGroup = record { used = n; chunk_objectid = FIRST_CHUNK_TREE_OBJECTID; flags = chunk_kind c.role } in Some g) (sym (used_is c));
       }
 
   pub block_groups : AreGroups k

@@ -1,6 +1,8 @@
 -- What the entries of the file tree lead to is there, and so is what the root tree tells of the saved image's tree.
 use Rattle.std.proofs.Common.{◌≡◌, ◌<◌, ℕ, ◌^◌, Bool, true, false, List, [], ◌∷◌, map, flat_map, Contains, Some, refl, sym, ap, subst, ◌∙◌, ⊎_elim, if◌then◌else◌, true≢false, arith}
 use Rattle.std.proofs.lemmas.List.Elements.{Contains-append_cases}
+use Rattle.btrfs_format.specs.declared.key.TheConstants.{ROOT_BACKREF, ROOT_ITEM, ROOT_REF}
+use Rattle.btrfs_format.specs.declared.object.TheConstants.{CONV_IMAGE_SUBVOL, FIRST_FREE_OBJECTID, FS_TREE}
 use Rattle.indexmap.specs.IndexMap.{keys}
 use Rattle.reiser_volume.specs.outside.History.{Image}
 use Rattle.btr_reader.specs.btr_keys.Inode.{inode_bytes}
@@ -41,12 +43,12 @@ use Rattle.convert_core_laws.proofs.soundness.Telling.{index_by}
 
 -- ---- the root tree
 
-saved_fits : (index : ℕ) → index < 2 ^ 63 → root_ref_head.fits (record { dirid = 256; sequence = index; name = saved_name })
+saved_fits : (index : ℕ) → index < 2 ^ 63 → root_ref_head.fits (record { dirid = FIRST_FREE_OBJECTID; sequence = index; name = saved_name })
 unfolding root_ref_head
 saved_fits index low = (((tt, omega arith), omega (arith, low)), omega arith)
 
 -- an item of the others is one of the root tree's
-in_roots : (m : Making) (r : VolumeTrees) (t : Item) → (t.0.kind ≡ 132 → ⊥) → Contains (other_root_items (saved_index m) m.now) t → Contains (root_tree_items m r) t
+in_roots : (m : Making) (r : VolumeTrees) (t : Item) → (t.0.kind ≡ ROOT_ITEM → ⊥) → Contains (other_root_items (saved_index m) m.now) t → Contains (root_tree_items m r) t
 in_roots m r t apart h =
     in_second item_cmp t (map (root_item (new_ids m) m.options.nodesize) (trees_listed r)) (other_root_items (saved_index m) m.now)
     (λ x l e. let at = from_map (root_item (new_ids m) m.options.nodesize) (trees_listed r) x l in kinds_apart x.0 t.0 (λ same. apart (sym same ∙ sym (ap (λ (i : Item). i.0.kind) at.2))) e) h
@@ -113,30 +115,30 @@ module _ (image : Image) (m : Making) (made : IsMaking image m) where
             absurd (true≢false (sym t ∙ (sym (ap names_inode o.is) ∙ sym (ap (λ (y : Indexed). names_inode (index_by (number_of src o.key) y)) is))))
 
     -- the saved image's tree
-    saved_told : (e : IndexEntry) → e ≡ index_by 256 (next_index src.links root, saved_entry) → IsTreeEntry (root_tree_items m r) 5 e
+    saved_told : (e : IndexEntry) → e ≡ index_by FIRST_FREE_OBJECTID (next_index src.links root, saved_entry) → IsTreeEntry (root_tree_items m r) FS_TREE e
     saved_told e is =
         let index : ℕ = saved_index m in
-        let ref : RootRefValue = record { dirid = 256; sequence = index; name = saved_name } in
+        let ref : RootRefValue = record { dirid = FIRST_FREE_OBJECTID; sequence = index; name = saved_name } in
         let low = index_small m.volume image root of.accepted of.opened in
         let reads : root_ref_of (saved_ref index) ≡ Some ref = root_refs_read_back ref (saved_fits index low) in
-        subst (IsTreeEntry (root_tree_items m r) 5) (sym is) (record {
+        subst (IsTreeEntry (root_tree_items m r) FS_TREE) (sym is) (record {
           location = refl;
           ref = ref;
           ref_is = refl;
-          forth = (saved_ref index, in_roots m r (make_key 5 156 256, saved_ref index) (λ k. omega (arith, k)) (0, omega arith, refl), reads);
-          back = (saved_ref index, in_roots m r (make_key 256 144 5, saved_ref index) (λ k. omega (arith, k)) (4, omega arith, refl), reads);
+          forth = (saved_ref index, in_roots m r (make_key FS_TREE ROOT_REF CONV_IMAGE_SUBVOL, saved_ref index) (λ k. omega (arith, k)) (0, omega arith, refl), reads);
+          back = (saved_ref index, in_roots m r (make_key CONV_IMAGE_SUBVOL ROOT_BACKREF FS_TREE, saved_ref index) (λ k. omega (arith, k)) (4, omega arith, refl), reads);
         })
 
-    trees_told : (e : IndexEntry) (o : IsOfDirectory e) → names_inode e ≡ false → IsTreeEntry (root_tree_items m r) 5 e
+    trees_told : (e : IndexEntry) (o : IsOfDirectory e) → names_inode e ≡ false → IsTreeEntry (root_tree_items m r) FS_TREE e
     trees_told e o t = by o.entry
       where
-        by : IsEntry o.key o.x → IsTreeEntry (root_tree_items m r) 5 e
+        by : IsEntry o.key o.x → IsTreeEntry (root_tree_items m r) FS_TREE e
         by (by_link f h is) =
             absurd (true≢false (ap (λ (y : Indexed). names_inode (index_by (number_of src o.key) y)) is ∙ (ap names_inode o.is ∙ t)))
         by (by_image at is) =
             let number : number_of src o.key ≡ 256 = ap (number_of src) at ∙ root_number m.volume image m.options m.plan m.pieces of in
             let same : (next_index src.links root, saved_entry) ≡ o.x = ap (λ (k : ObjectKey). let y : Indexed = (next_index src.links k, saved_entry) in y) (sym at) ∙ is in
-            saved_told e (sym o.is ∙ (ap (λ (n : ℕ). index_by n o.x) number ∙ ap (index_by 256) (sym same)))
+            saved_told e (sym o.is ∙ (ap (λ (n : ℕ). index_by n o.x) number ∙ ap (index_by FIRST_FREE_OBJECTID) (sym same)))
 
     pub file_names : FilesAreHeld → InodesAreThere → HasBytes image → AreNames (root_tree_items m r) (tree image m made nodes)
     file_names held there bytes =

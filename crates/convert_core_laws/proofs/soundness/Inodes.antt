@@ -4,6 +4,9 @@ use Rattle.std.specs.List.{AllByRecursion}
 use Rattle.std.proofs.lemmas.Bool.{and_parts, eq-eqb, eqb-true, ne_eqb}
 use Rattle.std.proofs.lemmas.List.Sorted.{sum_by-IsPermutation}
 use Rattle.std.proofs.lemmas.List.Sums.{sum_by-cons}
+use Rattle.btrfs_format.specs.declared.flag.TheConstants.{INODE_NODATASUM}
+use Rattle.btrfs_format.specs.declared.key.TheConstants.{EXTENT_DATA, INODE_ITEM, INODE_REF}
+use Rattle.btrfs_format.specs.declared.object.TheConstants.{FS_TREE}
 use Rattle.indexmap.specs.IndexMap.{keys}
 use Rattle.reiser_volume.specs.outside.History.{Image}
 use Rattle.btr_reader.specs.btr_keys.FileExtent.{file_extent_of}
@@ -86,7 +89,7 @@ abbrev own_bytes : Item → ℕ
 own_bytes i = nbytes_of (file_extent_of i.1)
 
 pub bytes_are : (t : TreeOn) (ino : ℕ) → inode_nbytes t ino ≡ sum_by own_bytes (filter (is_extent ino) t.items)
-bytes_are t ino = ap (sum_by own_bytes) (kept_twice (is_of_inode ino) (λ (i : Item). i.0.kind == 108) t.items)
+bytes_are t ino = ap (sum_by own_bytes) (kept_twice (is_of_inode ino) (λ (i : Item). i.0.kind == EXTENT_DATA) t.items)
 
 -- a piece's extent adds its blocks
 pub piece_adds : (place count ino block : ℕ) → 1 ≤ place → 4096 * place < 2 ^ 64 → 4096 * count < 2 ^ 64 → own_bytes (extent_item ino block (regular_extent place count)) ≡ 4096 * count
@@ -127,7 +130,7 @@ module _ (image : Image) (m : Making) (made : IsMaking image m) where
 
   module _ (nodes : List Pointer) where
     abbrev pub tree : TreeOn
-    tree = record { number = 5; nodes = nodes; items = tree_items src }
+    tree = record { number = FS_TREE; nodes = nodes; items = tree_items src }
 
     abbrev order : List ObjectKey
     order = objects image m made
@@ -278,7 +281,7 @@ module _ (image : Image) (m : Making) (made : IsMaking image m) where
           by k in_k has are (i ∷ l) is =
               let here : Contains (extent_items src k) i = subst (λ (xs : List Item). Contains xs i) (sym is) (at_head i l) in
               let kept = from_filter (is_extent (number_of src key)) (tree_items src) i (subst (λ (xs : List Item). Contains xs i) (sym are) here) in
-              let object : i.0.objectid ≡ number_of src key = eqb-true i.0.objectid (number_of src key) (and_parts (i.0.objectid == number_of src key) (i.0.kind == 108) kept.1).0 in
+              let object : i.0.objectid ≡ number_of src key = eqb-true i.0.objectid (number_of src key) (and_parts (i.0.objectid == number_of src key) (i.0.kind == EXTENT_DATA) kept.1).0 in
               let same : k ≡ key = one k key in_k among (sym (own_object k i here) ∙ object) in
               absurd (true≢false (sym has ∙ (ap (λ (x : ObjectKey). has_bytes (kind_in src x)) same ∙ none)))
 
@@ -327,7 +330,7 @@ module _ (image : Image) (m : Making) (made : IsMaking image m) where
       only_files : has_no_sums (inode_in src key) ≡ true → kind_of_mode (inode_in src key).mode ≡ Some File
       only_files none = kind_told key among ∙ ap (λ (k : Kind). let r : Option Kind = Some k in r) (by (kind_in src key) refl)
         where
-          off : (b : Bool) → (if_set b 1 == 1) ≡ b
+          off : (b : Bool) → (if_set b INODE_NODATASUM == 1) ≡ b
           off true = refl
           off false = refl
 
@@ -365,26 +368,26 @@ module _ (image : Image) (m : Making) (made : IsMaking image m) where
       pub number : number_of src key ≡ ino
       pub body_is : inode_bytes (inode_in src key) ≡ body
 
-    of_items : (key : ObjectKey) (ino : ℕ) (body : List ℕ) → Contains all key → Contains (object_items src key) (make_key ino 1 0, body) → (number_of src key ≡ ino) × (inode_bytes (inode_in src key) ≡ body)
+    of_items : (key : ObjectKey) (ino : ℕ) (body : List ℕ) → Contains all key → Contains (object_items src key) (make_key ino INODE_ITEM 0, body) → (number_of src key ≡ ino) × (inode_bytes (inode_in src key) ≡ body)
     unfolding object_items
     of_items key ino body among h =
         let rest : List Item = name_items src key ++ content_items src key (kind_in src key) in
         ⊎_elim
-        (λ (is : inode_item (number_of src key) (inode_in src key) ≡ (make_key ino 1 0, body)). (ap (λ (i : Item). i.0.objectid) is, ap (λ (i : Item). i.1) is))
-        (λ (later : Contains rest (make_key ino 1 0, body)).
-        let low : 12 ≤ 1 = all_in (λ (i : Item). 12 ≤ i.0.kind) rest (make_key ino 1 0, body) (rest_behind image m made key among) later in
+        (λ (is : inode_item (number_of src key) (inode_in src key) ≡ (make_key ino INODE_ITEM 0, body)). (ap (λ (i : Item). i.0.objectid) is, ap (λ (i : Item). i.1) is))
+        (λ (later : Contains rest (make_key ino INODE_ITEM 0, body)).
+        let low : INODE_REF ≤ 1 = all_in (λ (i : Item). 12 ≤ i.0.kind) rest (make_key ino INODE_ITEM 0, body) (rest_behind image m made key among) later in
         absurd (omega (arith, low)))
-        (head_or_tail (inode_item (number_of src key) (inode_in src key)) rest (make_key ino 1 0, body) h)
+        (head_or_tail (inode_item (number_of src key) (inode_in src key)) rest (make_key ino INODE_ITEM 0, body) h)
 
-    of_object : (ino : ℕ) (body : List ℕ) → Contains (tree_items src) (make_key ino 1 0, body) → IsOfObject ino body
+    of_object : (ino : ℕ) (body : List ℕ) → Contains (tree_items src) (make_key ino INODE_ITEM 0, body) → IsOfObject ino body
     unfolding tree_items
     of_object ino body h =
-        let at = from_flat_map (object_items src) order (make_key ino 1 0, body) h in
+        let at = from_flat_map (object_items src) order (make_key ino INODE_ITEM 0, body) h in
         let among = from_order image m made at.0 at.1 in
         let is = of_items at.0 ino body among at.2 in
         record { key = at.0; among = among; number = is.0; body_is = is.1 }
 
-    pub inodes_told : FilesAreHeld → InodesAreThere → HasBytes image → (ino : ℕ) (body : List ℕ) (inode : Inode) → Contains (tree_items src) (record { objectid = ino; kind = 1; offset = 0 }, body) → inode_of body ≡ Some inode → IsInode tree ino inode
+    pub inodes_told : FilesAreHeld → InodesAreThere → HasBytes image → (ino : ℕ) (body : List ℕ) (inode : Inode) → Contains (tree_items src) (record { objectid = ino; kind = INODE_ITEM; offset = 0 }, body) → inode_of body ≡ Some inode → IsInode tree ino inode
     inodes_told held there bytes ino body inode h read =
         let o : IsOfObject ino body = of_object ino body h in
         let own : inode_of body ≡ Some (inode_in src o.key) = ap inode_of (sym o.body_is) ∙ inode_reads there m.volume image m.options m.plan m.pieces of bytes o.key o.among in

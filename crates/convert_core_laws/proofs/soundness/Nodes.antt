@@ -4,6 +4,7 @@ use Rattle.std.specs.Prelude.{All, Contains}
 use Rattle.std.specs.List.Sorted.{IsPermutation}
 use Rattle.std.proofs.lemmas.List.Elements.{All-append, All-contains, All-contains_itself, All-cons, All-drop, All-map, All-nil, All-take}
 use Rattle.std.proofs.lemmas.List.Sorted.{All-permutation, IsPermutation-sym}
+use Rattle.btrfs_format.specs.declared.object.TheConstants.{CHUNK_TREE, CONV_IMAGE_SUBVOL, CSUM_TREE, DATA_RELOC_TREE, DEV_TREE, EXTENT_TREE, FS_TREE, ROOT_TREE}
 use Rattle.reiser_volume.specs.outside.History.{Image}
 use Rattle.reiser_volume.specs.vol_block.declared.ids.Ids.{Ids}
 use Rattle.btr_reader.specs.btr_node.Leaf.{Item}
@@ -96,28 +97,28 @@ module _ (o : Options) (ids : Ids) (now : ℕ) (image other : Image) (m : Making
   later_give n = All-drop (GivesItself own m.options.nodesize) n (slots m) slots_give
 
   pub chunk_at : AreAt (chunk_slots m) k.chunk_tree
-  chunk_at = at_list (chunk_slots m) 3 (chunk_items (new_ids m) m.volume.sup.blocks m.chunks) r.chunk stand.chunk chunk_give
+  chunk_at = at_list (chunk_slots m) CHUNK_TREE (chunk_items (new_ids m) m.volume.sup.blocks m.chunks) r.chunk stand.chunk chunk_give
 
   pub root_at : AreAt (take r.root.nodes (drop (root_from r) (slots m))) k.root_tree
-  root_at = at_list (take r.root.nodes (drop (root_from r) (slots m))) 1 (root_tree_items m r) r.root stand.root (All-take (GivesItself own m.options.nodesize) r.root.nodes (drop (root_from r) (slots m)) (later_give (root_from r)))
+  root_at = at_list (take r.root.nodes (drop (root_from r) (slots m))) ROOT_TREE (root_tree_items m r) r.root stand.root (All-take (GivesItself own m.options.nodesize) r.root.nodes (drop (root_from r) (slots m)) (later_give (root_from r)))
 
-  pub extents_at : AreAt (drop (extents_from r) (slots m)) (tree_for other (super_for m r nodes) 2 r.extents (extent_items m.chunks m.pieces nodes m.options.nodesize))
-  extents_at = at_list (drop (extents_from r) (slots m)) 2 (extent_items m.chunks m.pieces nodes m.options.nodesize) r.extents stand.extents (later_give (extents_from r))
+  pub extents_at : AreAt (drop (extents_from r) (slots m)) (tree_for other (super_for m r nodes) EXTENT_TREE r.extents (extent_items m.chunks m.pieces nodes m.options.nodesize))
+  extents_at = at_list (drop (extents_from r) (slots m)) EXTENT_TREE (extent_items m.chunks m.pieces nodes m.options.nodesize) r.extents stand.extents (later_give (extents_from r))
 
-  pub device_at : AreAt (drop (device_from r) (slots m)) (tree_for other (super_for m r nodes) 4 r.device (device_items (new_ids m) m.chunks))
-  device_at = at_list (drop (device_from r) (slots m)) 4 (device_items (new_ids m) m.chunks) r.device stand.device (later_give (device_from r))
+  pub device_at : AreAt (drop (device_from r) (slots m)) (tree_for other (super_for m r nodes) DEV_TREE r.device (device_items (new_ids m) m.chunks))
+  device_at = at_list (drop (device_from r) (slots m)) DEV_TREE (device_items (new_ids m) m.chunks) r.device stand.device (later_give (device_from r))
 
-  pub files_at : AreAt (slots m) (tree_for other (super_for m r nodes) 5 r.files (file_tree_items image m))
-  files_at = at_list (slots m) 5 (file_tree_items image m) r.files stand.files slots_give
+  pub files_at : AreAt (slots m) (tree_for other (super_for m r nodes) FS_TREE r.files (file_tree_items image m))
+  files_at = at_list (slots m) FS_TREE (file_tree_items image m) r.files stand.files slots_give
 
-  pub sums_at : AreAt (drop (sums_from r) (slots m)) (tree_for other (super_for m r nodes) 7 r.sums (sum_tree_items other m))
-  sums_at = at_list (drop (sums_from r) (slots m)) 7 (sum_tree_items other m) r.sums stand.sums (later_give (sums_from r))
+  pub sums_at : AreAt (drop (sums_from r) (slots m)) (tree_for other (super_for m r nodes) CSUM_TREE r.sums (sum_tree_items other m))
+  sums_at = at_list (drop (sums_from r) (slots m)) CSUM_TREE (sum_tree_items other m) r.sums stand.sums (later_give (sums_from r))
 
-  pub saved_at : AreAt (drop (image_from r) (slots m)) (tree_for other (super_for m r nodes) 256 r.image (image_tree_items m))
-  saved_at = at_list (drop (image_from r) (slots m)) 256 (image_tree_items m) r.image stand.image_ (later_give (image_from r))
+  pub saved_at : AreAt (drop (image_from r) (slots m)) (tree_for other (super_for m r nodes) CONV_IMAGE_SUBVOL r.image (image_tree_items m))
+  saved_at = at_list (drop (image_from r) (slots m)) CONV_IMAGE_SUBVOL (image_tree_items m) r.image stand.image_ (later_give (image_from r))
 
-  pub relocation_at : AreAt (drop (relocation_from r) (slots m)) (tree_for other (super_for m r nodes) (2 ^ 64 - 9) r.relocation (relocation_items m.now))
-  relocation_at = at_list (drop (relocation_from r) (slots m)) (2 ^ 64 - 9) (relocation_items m.now) r.relocation stand.relocation (later_give (relocation_from r))
+  pub relocation_at : AreAt (drop (relocation_from r) (slots m)) (tree_for other (super_for m r nodes) DATA_RELOC_TREE r.relocation (relocation_items m.now))
+  relocation_at = at_list (drop (relocation_from r) (slots m)) DATA_RELOC_TREE (relocation_items m.now) r.relocation stand.relocation (later_give (relocation_from r))
 
   -- ---- where a node lies
 
@@ -136,7 +137,7 @@ module _ (o : Options) (ids : Ids) (now : ℕ) (image other : Image) (m : Making
       level_all Q 1 0 0 list (tree_levels m.options.nodesize (length (leaves m.options.nodesize (lengths_of t.items)))) (all_from_contains Q list each) in
       All-contains (λ (q : Pointer). Q q.address) t.nodes p (All-permutation (λ (q : Pointer). Q q.address) (packed_at m.options.nodesize list t.items) t.nodes (IsPermutation-sym t.nodes (packed_at m.options.nodesize list t.items) are) there) h
 
-  other_at : (t : TreeOn) (n : ℕ) → t.number ≢ 3 → AreAt (drop n (slots m)) t → AllLie t
+  other_at : (t : TreeOn) (n : ℕ) → t.number ≢ CHUNK_TREE → AreAt (drop n (slots m)) t → AllLie t
   other_at t n apart are = lie_at t (drop n (slots m)) are (λ a h. of_others apart (in_drop n a h))
     where
       in_drop : (n a : ℕ) → Contains (drop n (slots m)) a → Contains (slots m) a
@@ -144,12 +145,12 @@ module _ (o : Options) (ids : Ids) (now : ℕ) (image other : Image) (m : Making
 
   all_lie : All AllLie (all_trees k)
   all_lie =
-      let extents : TreeOn = tree_for other s 2 r.extents (extent_items m.chunks m.pieces nodes m.options.nodesize) in
-      let device : TreeOn = tree_for other s 4 r.device (device_items (new_ids m) m.chunks) in
-      let files : TreeOn = tree_for other s 5 r.files (file_tree_items image m) in
-      let sums : TreeOn = tree_for other s 7 r.sums (sum_tree_items other m) in
-      let saved : TreeOn = tree_for other s 256 r.image (image_tree_items m) in
-      let relocation : TreeOn = tree_for other s (2 ^ 64 - 9) r.relocation (relocation_items m.now) in
+      let extents : TreeOn = tree_for other s EXTENT_TREE r.extents (extent_items m.chunks m.pieces nodes m.options.nodesize) in
+      let device : TreeOn = tree_for other s DEV_TREE r.device (device_items (new_ids m) m.chunks) in
+      let files : TreeOn = tree_for other s FS_TREE r.files (file_tree_items image m) in
+      let sums : TreeOn = tree_for other s CSUM_TREE r.sums (sum_tree_items other m) in
+      let saved : TreeOn = tree_for other s CONV_IMAGE_SUBVOL r.image (image_tree_items m) in
+      let relocation : TreeOn = tree_for other s DATA_RELOC_TREE r.relocation (relocation_items m.now) in
       All-cons AllLie k.chunk_tree (k.root_tree ∷ k.others) (lie_at k.chunk_tree (chunk_slots m) chunk_at (λ a h. of_chunks refl h))
       (All-cons AllLie k.root_tree k.others (lie_at k.root_tree (take r.root.nodes (drop (root_from r) (slots m))) root_at (λ a h. of_others (λ e. omega (arith, e)) (in_take a h)))
       (six_all AllLie extents device files sums saved relocation (other_at extents (extents_from r) (λ e. omega (arith, e)) extents_at) (other_at device (device_from r) (λ e. omega (arith, e)) device_at)

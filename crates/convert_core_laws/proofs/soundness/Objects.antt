@@ -5,6 +5,8 @@ use Rattle.std.specs.List.Sorted.{IsPermutation}
 use Rattle.std.proofs.lemmas.List.{append-nil, map-append}
 use Rattle.std.proofs.lemmas.List.Sorted.{Contains-permutation, IsPermutation-append, IsPermutation-filter_both, IsPermutation-map, IsPermutation-refl, IsPermutation-sym, IsPermutation-trans}
 use Rattle.std.proofs.lemmas.List.Sums.{count_by-le-length}
+use Rattle.btrfs_format.specs.declared.key.TheConstants.{DIR_INDEX, DIR_ITEM, INODE_EXTREF, INODE_REF}
+use Rattle.btrfs_format.specs.declared.object.TheConstants.{FIRST_FREE_OBJECTID}
 use Rattle.reiser_volume.specs.castagnoli.Castagnoli.{extref_hash, name_hash}
 use Rattle.indexmap.specs.IndexMap.{keys}
 use Rattle.reiser_volume.specs.outside.History.{Image}
@@ -221,7 +223,7 @@ module _ (image : Image) (m : Making) (made : IsMaking image m) where
     names_at true is = record {
       refs = own_name ∷ [];
       fars = [];
-      told = subst (λ (l : List Item). Told l [] [] (own_name ∷ []) []) (sym (name_items_root s key is)) (told_ref 256 256 own_ref own_fits);
+      told = subst (λ (l : List Item). Told l [] [] (own_name ∷ []) []) (sym (name_items_root s key is)) (told_ref FIRST_FREE_OBJECTID FIRST_FREE_OBJECTID own_ref own_fits);
       same = IsPermutation-refl (own_name ∷ []);
     }
     names_at false is =
@@ -268,9 +270,9 @@ module _ (image : Image) (m : Making) (made : IsMaking image m) where
     content_behind Directory =
         let list : List Indexed = indexed_in (kind_in s) s.keys s.links key in
         let groups : List (ℕ × List Indexed) = grouped (λ (e : Indexed). name_hash e.1.name) list in
-        all_append IsBehind (map (λ (g : ℕ × List Indexed). (make_key n 84 g.0, flat_map (λ (e : Indexed). dir_entry_bytes e.1) g.1)) groups) (map (λ (e : Indexed). (make_key n 96 e.0, dir_entry_bytes e.1)) list)
-        (all_mapped IsBehind (λ (g : ℕ × List Indexed). (make_key n 84 g.0, flat_map (λ (e : Indexed). dir_entry_bytes e.1) g.1)) groups (all_true _ groups (λ g. omega arith)))
-        (all_mapped IsBehind (λ (e : Indexed). (make_key n 96 e.0, dir_entry_bytes e.1)) list (all_true _ list (λ e. omega arith)))
+        all_append IsBehind (map (λ (g : ℕ × List Indexed). (make_key n DIR_ITEM g.0, flat_map (λ (e : Indexed). dir_entry_bytes e.1) g.1)) groups) (map (λ (e : Indexed). (make_key n DIR_INDEX e.0, dir_entry_bytes e.1)) list)
+        (all_mapped IsBehind (λ (g : ℕ × List Indexed). (make_key n DIR_ITEM g.0, flat_map (λ (e : Indexed). dir_entry_bytes e.1) g.1)) groups (all_true _ groups (λ g. omega arith)))
+        (all_mapped IsBehind (λ (e : Indexed). (make_key n DIR_INDEX e.0, dir_entry_bytes e.1)) list (all_true _ list (λ e. omega arith)))
     content_behind File = data_behind
     content_behind Symlink = data_behind
     content_behind Character = tt
@@ -290,8 +292,8 @@ module _ (image : Image) (m : Making) (made : IsMaking image m) where
             let far : List Link = ascending (parent_of s.keys) (filter (λ e. e.extended) (names_of s.links key)) in
             let hash : Link → ℕ = λ e. extref_hash (parent_of s.keys e) e.link.name in
             all_append IsBehind (inode_refs s.keys s.links key) (extrefs s.keys s.links key)
-            (all_mapped IsBehind (λ (g : ℕ × List Link). (make_key (number_of s key) 12 g.0, flat_map (λ e. inode_ref_bytes (inode_ref e)) g.1)) (grouped (parent_of s.keys) plain) (all_true _ (grouped (parent_of s.keys) plain) (λ g. omega arith)))
-            (all_mapped IsBehind (λ (g : ℕ × List Link). (make_key (number_of s key) 13 g.0, flat_map (λ e. extref_bytes (extref s.keys e)) g.1)) (grouped hash far) (all_true _ (grouped hash far) (λ g. omega arith)))
+            (all_mapped IsBehind (λ (g : ℕ × List Link). (make_key (number_of s key) INODE_REF g.0, flat_map (λ e. inode_ref_bytes (inode_ref e)) g.1)) (grouped (parent_of s.keys) plain) (all_true _ (grouped (parent_of s.keys) plain) (λ g. omega arith)))
+            (all_mapped IsBehind (λ (g : ℕ × List Link). (make_key (number_of s key) INODE_EXTREF g.0, flat_map (λ e. extref_bytes (extref s.keys e)) g.1)) (grouped hash far) (all_true _ (grouped hash far) (λ g. omega arith)))
 
     pub rest_behind : AllByRecursion IsBehind (name_items s key ++ content_items s key (kind_in s key))
     rest_behind = all_append IsBehind (name_items s key) (content_items s key (kind_in s key)) names_behind (content_behind (kind_in s key))

@@ -5,6 +5,7 @@ use Rattle.std.proofs.lemmas.Bool.{cases_Bool, not_from_false}
 use Rattle.std.proofs.lemmas.List.{append-nil}
 use Rattle.std.proofs.lemmas.List.Elements.{All-map, Contains-append_cases, Contains-append_left, Contains-append_right}
 use Rattle.std.proofs.lemmas.List.Kept.{AllPairs-filter}
+use Rattle.btrfs_format.specs.declared.key.TheConstants.{DEV_EXTENT}
 use Rattle.reiser_volume.specs.outside.History.{Image}
 use Rattle.reiser_volume.specs.vol_block.declared.ids.Ids.{Ids}
 use Rattle.btr_reader.specs.btr_node.Leaf.{Item}
@@ -101,8 +102,8 @@ module _ (o : Options) (ids : Ids) (now : ℕ) (image other : Image) (m : Making
 
   pub extents_are : dev_extents k ≡ map (dev_extent_item (new_ids m)) m.chunks
   extents_are =
-      ap (filter (λ (i : Item). eqb i.0.kind 204)) (append-nil (device_items (new_ids m) m.chunks))
-      ∙ filter_all (λ (i : Item). eqb i.0.kind 204) (device_items (new_ids m) m.chunks) (All-map (λ (i : Item). eqb i.0.kind 204 ≡ true) (dev_extent_item (new_ids m)) m.chunks (λ n d h. refl))
+      ap (filter (λ (i : Item). eqb i.0.kind DEV_EXTENT)) (append-nil (device_items (new_ids m) m.chunks))
+      ∙ filter_all (λ (i : Item). eqb i.0.kind DEV_EXTENT) (device_items (new_ids m) m.chunks) (All-map (λ (i : Item). eqb i.0.kind DEV_EXTENT ≡ true) (dev_extent_item (new_ids m)) m.chunks (λ n d h. refl))
 
   pub small : (c : Chunk) → Contains m.chunks c → c.start + c.length ≤ 2 ^ 29
   small c h =

@@ -7,6 +7,7 @@ use Rattle.std.proofs.lemmas.List.{drop-take, take-take}
 use Rattle.std.proofs.lemmas.List.Elements.{All-append, All-contains, All-map}
 use Rattle.std.proofs.lemmas.List.Sorted.{Contains-permutation, IsPermutation-sym}
 use Rattle.std.proofs.lemmas.List.Sums.{sum_by-cons}
+use Rattle.btrfs_format.specs.declared.object.TheConstants.{CONV_IMAGE_SUBVOL, CSUM_TREE, DATA_RELOC_TREE, DEV_TREE, EXTENT_TREE, FS_TREE, ROOT_TREE}
 use Rattle.reiser_volume.specs.outside.History.{Image}
 use Rattle.reiser_volume.specs.vol_block.declared.ids.Ids.{Ids}
 use Rattle.btr_check_rules.specs.Recount.{Recount, TreeOn, all_trees}
@@ -95,33 +96,33 @@ module _ (o : Options) (ids : Ids) (now : ℕ) (image other : Image) (m : Making
       (λ p h. record { tree = t; there = there; pointer = p; met = Contains-permutation (packed_at n list t.items) t.nodes p (IsPermutation-sym t.nodes (packed_at n list t.items) are) h; is = refl }))
 
   -- the root tree's nodes lie at the first of the slots behind the others
-  root_told : All IsMet (nodes_from m 1 (root_from r) (root_tree_items m r))
+  root_told : All IsMet (nodes_from m ROOT_TREE (root_from r) (root_tree_items m r))
   root_told =
       let list : List ℕ = drop (root_from r) (slots m) in
       let few : 0 + sum (tree_levels n (length (leaves n (lengths_of (root_tree_items m r))))) ≤ r.root.nodes = (let count = stand.root.count in omega (arith, count)) in
       let same : packed_at n (take r.root.nodes list) (root_tree_items m r) ≡ packed_at n list (root_tree_items m r) =
       taken_pointers 1 0 0 r.root.nodes list (tree_levels n (length (leaves n (lengths_of (root_tree_items m r))))) few in
-      subst (All IsMet) (ap (map (λ (p : Pointer). record { address = p.address; level = p.level; owner = 1 })) same)
+      subst (All IsMet) (ap (map (λ (p : Pointer). record { address = p.address; level = p.level; owner = ROOT_TREE })) same)
       (tree_told (take r.root.nodes list) k.root_tree (1, omega arith, refl) (root_at o ids now image other m r nodes v))
 
   row_told : All IsMet (row o ids now image other m r nodes v)
   row_told =
-      let a : List TreeNode = nodes_from m 5 0 (file_tree_items image m) in
-      let b : List TreeNode = nodes_from m 256 (image_from r) (image_tree_items m) in
-      let c : List TreeNode = nodes_from m (2 ^ 64 - 9) (relocation_from r) (relocation_items m.now) in
-      let d : List TreeNode = nodes_from m 7 (sums_from r) (sum_tree_items other m) in
-      let e : List TreeNode = nodes_from m 4 (device_from r) (device_items (new_ids m) m.chunks) in
-      let f : List TreeNode = nodes_from m 1 (root_from r) (root_tree_items m r) in
-      All-append IsMet a (b ++ (c ++ (d ++ (e ++ f)))) (tree_told (slots m) (tree_for other s 5 r.files (file_tree_items image m)) (4, omega arith, refl) (files_at o ids now image other m r nodes v))
-      (All-append IsMet b (c ++ (d ++ (e ++ f))) (tree_told (drop (image_from r) (slots m)) (tree_for other s 256 r.image (image_tree_items m)) (6, omega arith, refl) (saved_at o ids now image other m r nodes v))
-      (All-append IsMet c (d ++ (e ++ f)) (tree_told (drop (relocation_from r) (slots m)) (tree_for other s (2 ^ 64 - 9) r.relocation (relocation_items m.now)) (7, omega arith, refl) (relocation_at o ids now image other m r nodes v))
-      (All-append IsMet d (e ++ f) (tree_told (drop (sums_from r) (slots m)) (tree_for other s 7 r.sums (sum_tree_items other m)) (5, omega arith, refl) (sums_at o ids now image other m r nodes v))
-      (All-append IsMet e f (tree_told (drop (device_from r) (slots m)) (tree_for other s 4 r.device (device_items (new_ids m) m.chunks)) (3, omega arith, refl) (device_at o ids now image other m r nodes v)) root_told))))
+      let a : List TreeNode = nodes_from m FS_TREE 0 (file_tree_items image m) in
+      let b : List TreeNode = nodes_from m CONV_IMAGE_SUBVOL (image_from r) (image_tree_items m) in
+      let c : List TreeNode = nodes_from m DATA_RELOC_TREE (relocation_from r) (relocation_items m.now) in
+      let d : List TreeNode = nodes_from m CSUM_TREE (sums_from r) (sum_tree_items other m) in
+      let e : List TreeNode = nodes_from m DEV_TREE (device_from r) (device_items (new_ids m) m.chunks) in
+      let f : List TreeNode = nodes_from m ROOT_TREE (root_from r) (root_tree_items m r) in
+      All-append IsMet a (b ++ (c ++ (d ++ (e ++ f)))) (tree_told (slots m) (tree_for other s FS_TREE r.files (file_tree_items image m)) (4, omega arith, refl) (files_at o ids now image other m r nodes v))
+      (All-append IsMet b (c ++ (d ++ (e ++ f))) (tree_told (drop (image_from r) (slots m)) (tree_for other s CONV_IMAGE_SUBVOL r.image (image_tree_items m)) (6, omega arith, refl) (saved_at o ids now image other m r nodes v))
+      (All-append IsMet c (d ++ (e ++ f)) (tree_told (drop (relocation_from r) (slots m)) (tree_for other s DATA_RELOC_TREE r.relocation (relocation_items m.now)) (7, omega arith, refl) (relocation_at o ids now image other m r nodes v))
+      (All-append IsMet d (e ++ f) (tree_told (drop (sums_from r) (slots m)) (tree_for other s CSUM_TREE r.sums (sum_tree_items other m)) (5, omega arith, refl) (sums_at o ids now image other m r nodes v))
+      (All-append IsMet e f (tree_told (drop (device_from r) (slots m)) (tree_for other s DEV_TREE r.device (device_items (new_ids m) m.chunks)) (3, omega arith, refl) (device_at o ids now image other m r nodes v)) root_told))))
 
   -- each node that is told is met
   pub all_told : All IsMet nodes
   all_told =
-      let extents : TreeOn = tree_for other s 2 r.extents (extent_items m.chunks m.pieces nodes n) in
+      let extents : TreeOn = tree_for other s EXTENT_TREE r.extents (extent_items m.chunks m.pieces nodes n) in
       subst (All IsMet) (sym stand.nodes_are.is)
       (all-merge node_cmp IsMet (other_nodes image other m r) (extended o ids now image other m r nodes v)
       (all-merge node_cmp IsMet (row o ids now image other m r nodes v) (chunked o ids now image other m r nodes v) row_told (tree_told (chunk_slots m) k.chunk_tree (0, omega arith, refl) (chunk_at o ids now image other m r nodes v)))

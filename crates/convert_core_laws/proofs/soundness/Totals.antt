@@ -5,6 +5,8 @@ use Rattle.std.specs.Option.{option_map_or}
 use Rattle.std.proofs.lemmas.List.{append-nil}
 use Rattle.std.proofs.lemmas.List.Elements.{All-map}
 use Rattle.std.proofs.lemmas.List.Sums.{sum_by-cons}
+use Rattle.btrfs_format.specs.declared.key.TheConstants.{BLOCK_GROUP_ITEM, DEV_ITEM}
+use Rattle.btrfs_format.specs.declared.object.TheConstants.{DEV_ITEMS_OBJECTID, FIRST_CHUNK_TREE_OBJECTID}
 use Rattle.reiser_volume.specs.outside.History.{Image}
 use Rattle.reiser_volume.specs.vol_block.declared.ids.Ids.{Ids}
 use Rattle.btr_reader.specs.btr_node.Leaf.{Item}
@@ -51,15 +53,15 @@ group_of m nodes c = group_item (used_in m.pieces nodes m.options.nodesize c) c
 pub groups_are : (image other : Image) (m : Making) (r : VolumeTrees) (nodes : List TreeNode) → groups (recount_for image other m r nodes) ≡ map (group_of m nodes) m.chunks
 groups_are image other m r nodes =
     let rest : List Item = merged (map node_item nodes) (map piece_item m.pieces) in
-    ap (filter (λ (i : Item). eqb i.0.kind 192)) (append-nil (extent_items m.chunks m.pieces nodes m.options.nodesize))
-    ∙ filter_first (λ (i : Item). eqb i.0.kind 192) item_cmp (map (group_of m nodes) m.chunks) rest (All-map (λ (i : Item). eqb i.0.kind 192 ≡ true) (group_of m nodes) m.chunks (λ k d h. refl))
-    (all-merge item_cmp (λ (i : Item). eqb i.0.kind 192 ≡ false) (map node_item nodes) (map piece_item m.pieces)
-    (All-map (λ (i : Item). eqb i.0.kind 192 ≡ false) node_item nodes (λ k d h. refl)) (All-map (λ (i : Item). eqb i.0.kind 192 ≡ false) piece_item m.pieces (λ k d h. refl)))
+    ap (filter (λ (i : Item). eqb i.0.kind BLOCK_GROUP_ITEM)) (append-nil (extent_items m.chunks m.pieces nodes m.options.nodesize))
+    ∙ filter_first (λ (i : Item). eqb i.0.kind BLOCK_GROUP_ITEM) item_cmp (map (group_of m nodes) m.chunks) rest (All-map (λ (i : Item). eqb i.0.kind BLOCK_GROUP_ITEM ≡ true) (group_of m nodes) m.chunks (λ k d h. refl))
+    (all-merge item_cmp (λ (i : Item). eqb i.0.kind BLOCK_GROUP_ITEM ≡ false) (map node_item nodes) (map piece_item m.pieces)
+    (All-map (λ (i : Item). eqb i.0.kind BLOCK_GROUP_ITEM ≡ false) node_item nodes (λ k d h. refl)) (All-map (λ (i : Item). eqb i.0.kind BLOCK_GROUP_ITEM ≡ false) piece_item m.pieces (λ k d h. refl)))
 
 -- what a block group's item tells
-pub group_reads : (used : ℕ) (c : Chunk) → used < 2 ^ 64 → block_group_of (group_item used c).1 ≡ Some (record { used = used; chunk_objectid = 256; flags = chunk_kind c.role })
+pub group_reads : (used : ℕ) (c : Chunk) → used < 2 ^ 64 → block_group_of (group_item used c).1 ≡ Some (record { used = used; chunk_objectid = FIRST_CHUNK_TREE_OBJECTID; flags = chunk_kind c.role })
 unfolding block_group_layout
-group_reads used c small = block_groups_read_back (record { used = used; chunk_objectid = 256; flags = chunk_kind c.role }) (((tt, omega (arith, small)), omega arith), kind_low c.role)
+group_reads used c small = block_groups_read_back (record { used = used; chunk_objectid = FIRST_CHUNK_TREE_OBJECTID; flags = chunk_kind c.role }) (((tt, omega (arith, small)), omega arith), kind_low c.role)
   where
     kind_low : (role : Role) → chunk_kind role < 256 ^ 8
     kind_low System = omega arith
@@ -117,10 +119,10 @@ module _ (o : Options) (ids : Ids) (now : ℕ) (image other : Image) (m : Making
         (λ c small. group_tells (used_in m.pieces nodes m.options.nodesize c) c small)));
     device = subst (λ (d : Device). TellsDevice k d) (sym (device_is m r nodes)) tells;
     one = (
-      (make_key 1 216 1, device_bytes (device_body (new_ids m) m.volume.sup.blocks m.chunks)),
-      filter_on (λ (i : Item). eqb i.0.kind 216) _ (map (chunk_item (new_ids m)) m.chunks) refl
-          ∙ ap (λ (l : List Item). (make_key 1 216 1, device_bytes (device_body (new_ids m) m.volume.sup.blocks m.chunks)) ∷ l)
-          (filter_none (λ (i : Item). eqb i.0.kind 216) (map (chunk_item (new_ids m)) m.chunks) (All-map (λ (i : Item). eqb i.0.kind 216 ≡ false) (chunk_item (new_ids m)) m.chunks (λ n d h. refl))),
+      (make_key DEV_ITEMS_OBJECTID DEV_ITEM 1, device_bytes (device_body (new_ids m) m.volume.sup.blocks m.chunks)),
+      filter_on (λ (i : Item). eqb i.0.kind DEV_ITEM) _ (map (chunk_item (new_ids m)) m.chunks) refl
+          ∙ ap (λ (l : List Item). (make_key DEV_ITEMS_OBJECTID DEV_ITEM 1, device_bytes (device_body (new_ids m) m.volume.sup.blocks m.chunks)) ∷ l)
+          (filter_none (λ (i : Item). eqb i.0.kind DEV_ITEM) (map (chunk_item (new_ids m)) m.chunks) (All-map (λ (i : Item). eqb i.0.kind DEV_ITEM ≡ false) (chunk_item (new_ids m)) m.chunks (λ n d h. refl))),
       (
         device_body (new_ids m) m.volume.sup.blocks m.chunks,
         device_reads (new_ids m) m.volume.sup.blocks m.chunks v.ids_ (blocks_few m.volume image m.options m.plan m.pieces making.has_pieces) (chunk_blocks_fit m.plan m.volume.sup.blocks m.chunks making.chunks_are),

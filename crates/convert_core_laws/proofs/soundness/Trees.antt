@@ -4,6 +4,8 @@ use Rattle.std.specs.Prelude.{All, AllPairs, Contains}
 use Rattle.std.specs.List.{list_any}
 use Rattle.std.proofs.lemmas.List.{map-append}
 use Rattle.std.proofs.lemmas.List.Elements.{All-cons, All-nil, Contains-append_cases}
+use Rattle.btrfs_format.specs.declared.key.TheConstants.{ROOT_ITEM}
+use Rattle.btrfs_format.specs.declared.object.TheConstants.{CHUNK_TREE, CONV_IMAGE_SUBVOL, CSUM_TREE, DATA_RELOC_TREE, DEV_TREE, EXTENT_TREE, FS_TREE, ROOT_TREE}
 use Rattle.reiser_volume.proofs.fs_paths.Lists.{from_filter, from_map, in_filter, in_map}
 use Rattle.reiser_volume.specs.outside.History.{Image}
 use Rattle.reiser_volume.specs.vol_block.declared.ids.Ids.{Ids}
@@ -79,7 +81,7 @@ six_all P a b c d e f p q x y z w =
 
 -- which trees have a root item is told by the items without their leaves
 abbrev is_root : ℕ → Item → Bool
-is_root number i = eqb i.0.objectid number && eqb i.0.kind 132
+is_root number i = eqb i.0.objectid number && eqb i.0.kind ROOT_ITEM
 
 bare_roots : (number : ℕ) (items : List TreeItem) → has_root items number ≡ list_any (is_root number) (map bare_item items)
 bare_roots number [] = refl
@@ -150,17 +152,17 @@ module _ (o : Options) (ids : Ids) (now : ℕ) (image other : Image) (m : Making
   chunk_tree_on =
       let gives : All (GivesItself own m.options.nodesize) (chunk_slots m) =
       all_from_contains (GivesItself own m.options.nodesize) (chunk_slots m) (λ a h. subst (λ (rs : List MapRange). GivesItself rs m.options.nodesize a) (sym map_is) (maps.own.chunk_nodes a h)) in
-      let read : IsRead other own (form m) (root_pointer r.chunk) 3 (chunk_items (new_ids m) m.volume.sup.blocks m.chunks) =
-      read_by other (form m) 3 (chunk_slots m) (chunk_items (new_ids m) m.volume.sup.blocks m.chunks) r.chunk stand.chunk own gives in
-      let is : IsTree other own (form m) (root_pointer r.chunk) 3 (chunk_items (new_ids m) m.volume.sup.blocks m.chunks) = record { sound = read.sound; items_are = read.items_are } in
-      let here : IsTree other own (form_of s) (root_pointer r.chunk) 3 (chunk_items (new_ids m) m.volume.sup.blocks m.chunks) =
-      subst (λ (f : Form). IsTree other own f (root_pointer r.chunk) 3 (chunk_items (new_ids m) m.volume.sup.blocks m.chunks)) (sym (form_is m r nodes)) is in
+      let read : IsRead other own (form m) (root_pointer r.chunk) CHUNK_TREE (chunk_items (new_ids m) m.volume.sup.blocks m.chunks) =
+      read_by other (form m) CHUNK_TREE (chunk_slots m) (chunk_items (new_ids m) m.volume.sup.blocks m.chunks) r.chunk stand.chunk own gives in
+      let is : IsTree other own (form m) (root_pointer r.chunk) CHUNK_TREE (chunk_items (new_ids m) m.volume.sup.blocks m.chunks) = record { sound = read.sound; items_are = read.items_are } in
+      let here : IsTree other own (form_of s) (root_pointer r.chunk) CHUNK_TREE (chunk_items (new_ids m) m.volume.sup.blocks m.chunks) =
+      subst (λ (f : Form). IsTree other own f (root_pointer r.chunk) CHUNK_TREE (chunk_items (new_ids m) m.volume.sup.blocks m.chunks)) (sym (form_is m r nodes)) is in
       subst (λ (p : Pointer). IsTreeOn other s p k.chunk_tree) (sym (chunk_root_is m r nodes)) (record { items_are = here; nodes_are = refl })
 
   root_tree_on : IsTreeOn other (super_for m r nodes) (root_tree (super_for m r nodes)).root k.root_tree
   root_tree_on = record {
     items_are = record { sound = reads.roots_sound; items_are = reads.roots_are };
-    nodes_are = ap (λ (p : Pointer). nodes_in (tree_events other own (form_of s) p 1)) (root_root_is m r nodes);
+    nodes_are = ap (λ (p : Pointer). nodes_in (tree_events other own (form_of s) p ROOT_TREE)) (root_root_is m r nodes);
   }
 
   abbrev others : List TreeOn
@@ -168,21 +170,21 @@ module _ (o : Options) (ids : Ids) (now : ℕ) (image other : Image) (m : Making
 
   all_rooted : All (IsRooted other (super_for m r nodes)) others
   all_rooted =
-      six_all (IsRooted other s) (tree_for other s 2 r.extents (extent_items m.chunks m.pieces nodes m.options.nodesize)) (tree_for other s 4 r.device (device_items (new_ids m) m.chunks))
-      (tree_for other s 5 r.files (file_tree_items image m)) (tree_for other s 7 r.sums (sum_tree_items other m)) (tree_for other s 256 r.image (image_tree_items m)) (tree_for other s (2 ^ 64 - 9) r.relocation (relocation_items m.now))
-      (rooted_at 2 r.extents (extent_items m.chunks m.pieces nodes m.options.nodesize) reads.extents) (rooted_at 4 r.device (device_items (new_ids m) m.chunks) reads.device)
-      (rooted_at 5 r.files (file_tree_items image m) reads.files) (rooted_at 7 r.sums (sum_tree_items other m) reads.sums) (rooted_at 256 r.image (image_tree_items m) reads.saved)
-      (rooted_at (2 ^ 64 - 9) r.relocation (relocation_items m.now) reads.relocation)
+      six_all (IsRooted other s) (tree_for other s EXTENT_TREE r.extents (extent_items m.chunks m.pieces nodes m.options.nodesize)) (tree_for other s DEV_TREE r.device (device_items (new_ids m) m.chunks))
+      (tree_for other s FS_TREE r.files (file_tree_items image m)) (tree_for other s CSUM_TREE r.sums (sum_tree_items other m)) (tree_for other s CONV_IMAGE_SUBVOL r.image (image_tree_items m)) (tree_for other s DATA_RELOC_TREE r.relocation (relocation_items m.now))
+      (rooted_at EXTENT_TREE r.extents (extent_items m.chunks m.pieces nodes m.options.nodesize) reads.extents) (rooted_at DEV_TREE r.device (device_items (new_ids m) m.chunks) reads.device)
+      (rooted_at FS_TREE r.files (file_tree_items image m) reads.files) (rooted_at CSUM_TREE r.sums (sum_tree_items other m) reads.sums) (rooted_at CONV_IMAGE_SUBVOL r.image (image_tree_items m) reads.saved)
+      (rooted_at DATA_RELOC_TREE r.relocation (relocation_items m.now) reads.relocation)
 
   all_once : AllPairs (λ t u. t.number < u.number) others
   all_once =
-      six_once (tree_for other s 2 r.extents (extent_items m.chunks m.pieces nodes m.options.nodesize)) (tree_for other s 4 r.device (device_items (new_ids m) m.chunks))
-      (tree_for other s 5 r.files (file_tree_items image m)) (tree_for other s 7 r.sums (sum_tree_items other m)) (tree_for other s 256 r.image (image_tree_items m)) (tree_for other s (2 ^ 64 - 9) r.relocation (relocation_items m.now))
+      six_once (tree_for other s EXTENT_TREE r.extents (extent_items m.chunks m.pieces nodes m.options.nodesize)) (tree_for other s DEV_TREE r.device (device_items (new_ids m) m.chunks))
+      (tree_for other s FS_TREE r.files (file_tree_items image m)) (tree_for other s CSUM_TREE r.sums (sum_tree_items other m)) (tree_for other s CONV_IMAGE_SUBVOL r.image (image_tree_items m)) (tree_for other s DATA_RELOC_TREE r.relocation (relocation_items m.now))
       (omega arith) (omega arith) (omega arith) (omega arith) (omega arith)
 
   all_named : (number : ℕ) → list_any (λ (t : TreeOn). eqb t.number number) others ≡ has_root (roots_on other (super_for m r nodes)) number
   all_named number =
-      numbers_are (eqb 2 number) (eqb 4 number) (eqb 5 number) (eqb 7 number) (eqb 256 number) (eqb (2 ^ 64 - 9) number) (eqb 6 number)
+      numbers_are (eqb 2 number) (eqb 4 number) (eqb 5 number) (eqb 7 number) (eqb 256 number) (eqb DATA_RELOC_TREE number) (eqb 6 number)
       ∙ sym (bare_roots number (roots_on other s) ∙ ap (list_any (is_root number)) reads.roots_are)
 
   -- ---- the chunks

@@ -1,5 +1,6 @@
 -- The data of files stays where it is.
 use Rattle.std.specs.Prelude.{◌≡◌, ◌≢◌, ◌<◌, ℕ, ◌+◌, ◌-◌, ◌*◌, true, if◌then◌else◌, List, [], ◌∷◌, Option, Some, None}
+use Rattle.btrfs_format.specs.declared.object.TheConstants.{FS_TREE}
 use Rattle.reiser_volume.specs.outside.History.{Image, block_at}
 use Rattle.reiser_volume.specs.vol_block.Volume.{IsReserved}
 use Rattle.convert_core_laws.specs.going_back.Lying.{OfConverted}
@@ -64,7 +65,7 @@ pub record IsInPlace (image other : Image) : Type 0 where
   pub used : (b : ℕ) → has (used_of image) b ≡ true → b ≢ 16 → ¬ IsMirror b → block_at other b ≡ block_at image b
   pub at : Pointer
   pub has_root : file_pointer other (own_super other) (own_map other) ≡ Some at
-  pub files : (key : ObjectKey) → IsNamed (volume_items image) key → StaysInPlace image (own_map other) (items_at other (own_super other) (own_map other) 5 at) key
+  pub files : (key : ObjectKey) → IsNamed (volume_items image) key → StaysInPlace image (own_map other) (items_at other (own_super other) (own_map other) FS_TREE at) key
 
 -- So it is on every volume that was converted.
 abbrev pub ConvertedDataStays : Type 0

@@ -1,5 +1,6 @@
 -- What holds of every converted volume as it is opened.
 use Rattle.std.specs.Prelude.{◌≡◌, ◌⊎◌, ℕ, List, map, Some, None, Ok}
+use Rattle.btrfs_format.specs.declared.object.TheConstants.{FS_TREE}
 use Rattle.reiser_volume.specs.outside.History.{Image}
 use Rattle.reiser_volume.specs.refusals.declared.refusal.BtrRefusal.{BtrRefusal}
 use Rattle.reiser_volume.specs.vol_block.declared.ids.Ids.{Ids}
@@ -51,8 +52,8 @@ TreesRead = OfEach OpensWithTrees
 -- what breaks the rules of names in the file tree, or an extent of a named file or symlink that breaks a rule
 abbrev pub BreaksTree : Image → Making → VolumeTrees → BtrRefusal → Type 0
 BreaksTree other m r refusal =
-    BreaksNames (has_root (roots_on other (own_super other) (own_map other))) (found other (own_map other) (tree_of (own_super other) 5 (root_pointer r.files))) r.files.address refusal
-    ⊎ BreaksExtents (own_map other) (found other (own_map other) (tree_of (own_super other) 5 (root_pointer r.files))) refusal
+    BreaksNames (has_root (roots_on other (own_super other) (own_map other))) (found other (own_map other) (tree_of (own_super other) FS_TREE (root_pointer r.files))) r.files.address refusal
+    ⊎ BreaksExtents (own_map other) (found other (own_map other) (tree_of (own_super other) FS_TREE (root_pointer r.files))) refusal
 
 -- Its superblock, chunks and root tree are readable, and its trees are read with their items by its own superblock and map. So
 -- the file tree is refused for its names or for its extents alone.

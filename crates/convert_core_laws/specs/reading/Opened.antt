@@ -1,5 +1,6 @@
 -- What a converted volume is to whoever opens it.
 use Rattle.std.specs.Prelude.{◌≡◌, ◌≤◌, ◌<◌, ℕ, ◌+◌, ◌-◌, ◌*◌, ◌^◌, true, not, List, [], ◌++◌, map, filter, Contains, Some}
+use Rattle.btrfs_format.specs.declared.object.TheConstants.{CONV_IMAGE_SUBVOL, CSUM_TREE, DATA_RELOC_TREE, DEV_TREE, EXTENT_TREE, FS_TREE}
 use Rattle.reiser_volume.specs.outside.History.{Image}
 use Rattle.reiser_volume.specs.vol_block.declared.ids.Ids.{Ids}
 use Rattle.btr_reader.specs.btr_node.Leaf.{Item}
@@ -86,10 +87,10 @@ pub record ReadsTree (image : Image) (s : Super) (ranges : List MapRange) (numbe
 pub record ReadsTrees (image other : Image) (s : Super) (ranges : List MapRange) (m : Making) (r : VolumeTrees) (nodes : List TreeNode) : Type 0 where
   pub roots_sound : wrong other ranges (root_tree s) ≡ []
   pub roots_are : map bare_item (roots_on other s ranges) ≡ root_tree_items m r
-  pub extents : ReadsTree other s ranges 2 r.extents (extent_items m.chunks m.pieces nodes m.options.nodesize)
-  pub device : ReadsTree other s ranges 4 r.device (device_items (new_ids m) m.chunks)
-  pub files : ReadsTree other s ranges 5 r.files (file_tree_items image m)
-  pub sums : ReadsTree other s ranges 7 r.sums (sum_tree_items other m)
-  pub saved : ReadsTree other s ranges 256 r.image (image_tree_items m)
-  pub relocation : ReadsTree other s ranges (2 ^ 64 - 9) r.relocation (relocation_items m.now)
+  pub extents : ReadsTree other s ranges EXTENT_TREE r.extents (extent_items m.chunks m.pieces nodes m.options.nodesize)
+  pub device : ReadsTree other s ranges DEV_TREE r.device (device_items (new_ids m) m.chunks)
+  pub files : ReadsTree other s ranges FS_TREE r.files (file_tree_items image m)
+  pub sums : ReadsTree other s ranges CSUM_TREE r.sums (sum_tree_items other m)
+  pub saved : ReadsTree other s ranges CONV_IMAGE_SUBVOL r.image (image_tree_items m)
+  pub relocation : ReadsTree other s ranges DATA_RELOC_TREE r.relocation (relocation_items m.now)
   pub names_saved : has_root (roots_on other s ranges) 256 ≡ true

@@ -1,5 +1,6 @@
 -- The saved image of a converted volume.
 use Rattle.std.specs.Prelude.{◌≡◌, ◌<◌, ℕ, ◌^◌, true, false, List, [], map, Some, None}
+use Rattle.btrfs_format.specs.declared.object.TheConstants.{FS_TREE}
 use Rattle.reiser_volume.specs.outside.History.{Image, block_at}
 use Rattle.reiser_volume.specs.vol_block.declared.ids.Ids.{Ids}
 use Rattle.btr_reader.specs.btr_reader_names.Roots.{has_root}
@@ -47,7 +48,7 @@ SavedImageReads =
 -- the rules of names are kept in the file tree
 abbrev pub KeepsFileNames : Image → VolumeTrees → Type 0
 KeepsFileNames other r =
-    KeepsNames (has_root (roots_on other (own_super other) (own_map other))) (found other (own_map other) (tree_of (own_super other) 5 (root_pointer r.files))) r.files.address
+    KeepsNames (has_root (roots_on other (own_super other) (own_map other))) (found other (own_map other) (tree_of (own_super other) FS_TREE (root_pointer r.files))) r.files.address
 
 -- The saved image is readable, and it is that of the old volume.
 pub record ReadsSavedImage (image other : Image) (blocks : ℕ) : Type 0 where

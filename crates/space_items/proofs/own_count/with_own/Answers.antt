@@ -1,4 +1,5 @@
 use Rattle.std.proofs.Common.{◌≡◌, ℕ, List, ◌++◌, ◌≤◌, Result, Ok, Err, IfOk, length, arith, subst, sym, ◌∙◌, ap}
+use Rattle.btrfs_format.specs.declared.object.TheConstants.{EXTENT_TREE}
 use Rattle.btr_tree.specs.btr_node.NodeSize.{IsNodeSize}
 use Rattle.btr_tree.specs.Counting.{Counted, Tally, tree_nodes}
 use Rattle.btr_tree.specs.Roots.{lengths_of}
@@ -47,6 +48,6 @@ returns-clause-fit g c =
     let chunks = the_chunks c.args.plan.now c.args.blocks in
     let are = are_the_chunks c.args.plan.now c.args.blocks in
     let lengths = lengths_of (extent_items chunks pieces c.in_ok-leaves.leaves c.args.nodesize) in
-    let own : c.add_nodes.new.nodes ≡ nodes_of_tree 2 c.in_ok-counter.counter.nodesize lengths rest = c.in_ok-add_nodes.ensures lengths (c.in_ok-counter.ensures.lengths chunks are) ∙ ap (λ (ns : List TreeNode). ns ++ nodes_of_tree 2 c.in_ok-counter.counter.nodesize lengths rest) c.new-own.ensures in
+    let own : c.add_nodes.new.nodes ≡ nodes_of_tree EXTENT_TREE c.in_ok-counter.counter.nodesize lengths rest = c.in_ok-add_nodes.ensures lengths (c.in_ok-counter.ensures.lengths chunks are) ∙ ap (λ (ns : List TreeNode). ns ++ nodes_of_tree EXTENT_TREE c.in_ok-counter.counter.nodesize lengths rest) c.new-own.ensures in
     told c.merged.result (merged_nodes others c.add_nodes.new.nodes) c.merged.ensures
-    (with_others others rest c.requires.nodes c.requires.slots c.requires.few (tree_nodes c.in_ok-counter.counter.nodesize lengths) c.add_nodes.new.nodes (ap addresses own ∙ tree_at 2 c.in_ok-counter.counter.nodesize lengths rest))
+    (with_others others rest c.requires.nodes c.requires.slots c.requires.few (tree_nodes c.in_ok-counter.counter.nodesize lengths) c.add_nodes.new.nodes (ap addresses own ∙ tree_at EXTENT_TREE c.in_ok-counter.counter.nodesize lengths rest))
