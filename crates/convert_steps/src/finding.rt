@@ -4,11 +4,9 @@ ghost use Rattle.command_answers.specs.outside.Fault.{HasCause};
 ghost use Rattle.command_answers.specs.outside.History.{OverTold};
 ghost use Rattle.convert_steps.specs.Found.{IsFoundOn};
 
-use command_answers::{Block, BlockNo, BlockSource, Fault};
+use btrfs_format::block::SUPER_BLOCK;
+use command_answers::{Block, BlockSource, Fault};
 use reiser_volume::{Format, format_of};
-
-/// The block of the superblock, of both formats.
-pub const SUPERBLOCK: BlockNo = 16;
 
 /// Block 16 of a disk, zeros where there is none, and the format of the volume by it.
 #[derive(Clone, Copy, Debug)]
@@ -24,13 +22,13 @@ pub fn find_format<S: BlockSource>(src: &mut S) -> Result<Found, Fault>
     ensures cause { HasCause (S.faults src.old) (S.faults src.new) result }
 {
     let mut block = Block::zero();
-    if src.len() <= SUPERBLOCK {
+    if src.len() <= SUPER_BLOCK {
         return Ok(Found {
             format: Format::Neither,
             block,
         });
     }
-    src.read(SUPERBLOCK, &mut block)?;
+    src.read(SUPER_BLOCK, &mut block)?;
     Ok(Found {
         format: format_of(&block),
         block,

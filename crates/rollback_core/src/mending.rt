@@ -11,8 +11,8 @@ ghost use Rattle.rollback_core.specs.Mending.{Gives, copied, wiped};
 ghost use Rattle.rollback_core.specs.Planned.{HasRoom, IsPlanned};
 
 use btr_super::{Super, mirror};
-use btrfs_format::block::{FIRST_MIRROR, SECOND_MIRROR, SUPER_BLOCK};
-use convert_steps::{Answer, Found, SUPERBLOCK, find_format};
+use btrfs_format::block::{FIRST_MIRROR, SECOND_MIRROR, SUPER_BLOCK, SUPER_BLOCK};
+use convert_steps::{Answer, Found, find_format};
 use reiser_bitmap::{Block, BlockNo, BlockSource, Fault, Format, VolumeRefusal, has_magic};
 use reiser_volume::Front;
 use std::alloc::Global;
@@ -75,7 +75,7 @@ fn plan_btrfs<S: BlockSource>(src: &mut S, superblock: &Block) -> Result<Mending
     ensures cause { HasCauseOf Answer.Fault (S.faults src.old) (S.faults src.new) result }
     ensures answers { IfErr result IsRecoverAnswer }
 {
-    let sup = Super::read(superblock, SUPERBLOCK, src.len())?;
+    let sup = Super::read(superblock, SUPER_BLOCK, src.len())?;
     Ok(copy_both(src, superblock, sup.total_bytes / 4096)?)
 }
 

@@ -18,7 +18,8 @@ use crate::wiping::wipe_both;
 use crate::{RollbackSummary, WayBack};
 use btr_reader::{Btrfs, ImageMap};
 use btr_super::Super;
-use convert_steps::{Answer, SUPERBLOCK, find_format};
+use btrfs_format::block::SUPER_BLOCK;
+use convert_steps::{Answer, find_format};
 use reiser_bitmap::{Bitmap, Block, BlockSource, BtrRefusal, Format, VolumeRefusal};
 use reiser_volume::Volume;
 use std::alloc::Global;
@@ -89,7 +90,7 @@ fn open_volume<S: BlockSource>(alloc: Global, src: &mut S, block: &Block) -> Res
     ensures cause { HasCauseOf Answer.Fault (S.faults src.old) (S.faults src.new) result }
     ensures answers { IfErr result IsRollbackAnswer }
 {
-    let sup = Super::read(block, SUPERBLOCK, src.len())?;
+    let sup = Super::read(block, SUPER_BLOCK, src.len())?;
     if sup.log_root != 0 {
         return Err(Answer::Btr(BtrRefusal::LogPending {
             address: sup.log_root,
@@ -138,7 +139,7 @@ fn open_old<S: BlockSource>(alloc: Global, src: &mut S, map: &ImageMap) -> Resul
         Err(answer) => return Err(image_answer(answer)),
     };
     let blocks = old.bitmap().len();
-    if blocks <= SUPERBLOCK || blocks > image.len() {
+    if blocks <= SUPER_BLOCK || blocks > image.len() {
         return Err(changed());
     }
     Ok(old)
@@ -193,7 +194,7 @@ fn plan<S: BlockSource>(
 {
     let (first, second) = wipe_both(src, used)?;
     let mut image = ImageSource::new(src, map);
-    let superblock = read_block(&mut image, SUPERBLOCK)?;
+    let superblock = read_block(&mut image, SUPER_BLOCK)?;
     let reserved = match read_reserved(alloc, &mut image, used) {
         Ok(saved) => saved,
         Err(answer) => return Err(image_answer(answer)),

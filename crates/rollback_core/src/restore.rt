@@ -7,8 +7,7 @@ ghost use Rattle.reiser_bitmap.specs.vol_block.Volume.{zeros};
 ghost use Rattle.rollback_core.specs.Writing.{AreApart, AreWiped, AreWrittenBack, GoApart, HasRoom, IsPart, IsPlace, IsTurned, IsUnturned, IsWiping};
 
 use crate::way::{Saved, WayBack};
-use btrfs_format::block::{FIRST_MIRROR, SECOND_MIRROR};
-use convert_steps::SUPERBLOCK;
+use btrfs_format::block::{FIRST_MIRROR, SECOND_MIRROR, SUPER_BLOCK};
 use reiser_bitmap::{Access, Block, BlockNo, Disk, Fault};
 
 /// Writes the old volume back, in three steps, each of which is on the disk before the next begins: its reserved blocks, then block 16,
@@ -57,7 +56,7 @@ fn write_superblock<D: Disk>(disk: &mut D, superblock: &Block) -> Result<(), Fau
     ensures settled { IsTrue D.tells → OnOk result (IsSettled (D.history disk.new)) }
     ensures cause { HasCause (D.faults disk.old) (D.faults disk.new) result }
 {
-    disk.write(SUPERBLOCK, superblock)?;
+    disk.write(SUPER_BLOCK, superblock)?;
     disk.sync()
 }
 
