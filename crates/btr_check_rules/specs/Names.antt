@@ -21,7 +21,7 @@ use Rattle.btr_reader.specs.btr_reader_names.Inodes.{kind_of_mode}
 use Rattle.btr_check_rules.specs.Recount.{Recount, TreeOn, file_trees}
 
 -- A name in a directory, and what it names.
-pub record Entry : Type 0 where
+pub record NamedEntry : Type 0 where
   pub dir : ℕ
   pub name : List ℕ
   pub location : Key
@@ -29,7 +29,7 @@ pub record Entry : Type 0 where
 
 -- the same with its index
 pub record IndexEntry : Type 0 where
-  pub entry : Entry
+  pub entry : NamedEntry
   pub index : ℕ
 
 -- a name as the inode that it names tells it
@@ -47,11 +47,11 @@ abbrev pub or_none : {A : Type 0} → Option (List A) → List A
 or_none None = []
 or_none (Some xs) = xs
 
-abbrev pub entry_of : Item → DirEntryValue → Entry
+abbrev pub entry_of : Item → DirEntryValue → NamedEntry
 entry_of i e = record { dir = i.0.objectid; name = e.name; location = e.location; kind = e.kind }
 
 -- the entries of the dir items, and those of the directory indexes
-abbrev pub hashed_entries : TreeOn → List Entry
+abbrev pub hashed_entries : TreeOn → List NamedEntry
 hashed_entries t = flat_map (λ i. map (entry_of i) (or_none (dir_items_of i.1))) (of_kind DIR_ITEM t.items)
 
 abbrev pub index_entries : TreeOn → List IndexEntry
@@ -70,8 +70,8 @@ own_name = record { inode = FIRST_FREE_OBJECTID; dir = FIRST_FREE_OBJECTID; inde
 abbrev pub back_name : IndexEntry → BackName
 back_name e = record { inode = e.entry.location.objectid; dir = e.entry.dir; index = e.index; name = e.entry.name }
 
-abbrev pub names_inode : IndexEntry → Bool
-names_inode e = (e.entry.location.kind == INODE_ITEM) && (e.entry.location.offset == 0)
+abbrev pub names_inode_item : IndexEntry → Bool
+names_inode_item e = (e.entry.location.kind == INODE_ITEM) && (e.entry.location.offset == 0)
 
 -- bodies are on their grammars, hashes are those of the names, and no entry has data
 pub record AreOnForm (items : List Item) : Type 0 where
@@ -111,8 +111,8 @@ abbrev pub directory_size : TreeOn → ℕ → ℕ
 directory_size t ino = 2 * sum_by (λ e. length e.entry.name) (filter (λ e. e.entry.dir == ino) (index_entries t))
 
 -- how many names an inode has
-abbrev pub name_count : TreeOn → ℕ → ℕ
-name_count t ino = count_by (λ n. n.inode == ino) (ref_names t)
+abbrev pub ref_name_count : TreeOn → ℕ → ℕ
+ref_name_count t ino = count_by (λ n. n.inode == ino) (ref_names t)
 
 -- data of the inode has no checksums
 abbrev pub has_no_sums : Inode → Bool
@@ -121,7 +121,7 @@ has_no_sums inode = inode.flags % 2 == 1
 -- What an inode's item tells is so.
 pub record IsInode (t : TreeOn) (ino : ℕ) (inode : Inode) : Type 0 where
   pub directory : kind_of_mode inode.mode ≡ Some Directory → (inode.nlink ≡ 1) × (inode.size ≡ directory_size t ino)
-  pub other : ¬ (kind_of_mode inode.mode ≡ Some Directory) → inode.nlink ≡ name_count t ino
+  pub other : ¬ (kind_of_mode inode.mode ≡ Some Directory) → inode.nlink ≡ ref_name_count t ino
   pub bytes : inode.nbytes ≡ inode_nbytes t ino
   pub files : has_no_sums inode ≡ true → kind_of_mode inode.mode ≡ Some File
 
@@ -129,13 +129,13 @@ pub record IsInode (t : TreeOn) (ino : ℕ) (inode : Inode) : Type 0 where
 abbrev pub IsThere : TreeOn → ℕ → Type 0
 IsThere t ino = (body : List ℕ) × Contains t.items (record { objectid = ino; kind = INODE_ITEM; offset = 0 }, body)
 
-pub record AreNames (roots : List Item) (t : TreeOn) : Type 0 where
+pub record AreTreeNames (roots : List Item) (t : TreeOn) : Type 0 where
   pub forms : AreOnForm t.items
   pub entries : IsPermutation (map (λ e. e.entry) (index_entries t)) (hashed_entries t)
-  pub names : IsPermutation (own_name ∷ map back_name (filter names_inode (index_entries t))) (ref_names t)
-  pub trees : All (λ e. names_inode e ≡ false → IsTreeEntry roots t.number e) (index_entries t)
-  pub there : All (λ e. IsThere t e.entry.dir × (names_inode e ≡ true → IsThere t e.entry.location.objectid)) (index_entries t)
+  pub names : IsPermutation (own_name ∷ map back_name (filter names_inode_item (index_entries t))) (ref_names t)
+  pub trees : All (λ e. names_inode_item e ≡ false → IsTreeEntry roots t.number e) (index_entries t)
+  pub there : All (λ e. IsThere t e.entry.dir × (names_inode_item e ≡ true → IsThere t e.entry.location.objectid)) (index_entries t)
   pub inodes : (ino : ℕ) (body : List ℕ) (inode : Inode) → Contains t.items (record { objectid = ino; kind = INODE_ITEM; offset = 0 }, body) → inode_of body ≡ Some inode → IsInode t ino inode
 
 abbrev pub HaveNames : Recount → Type 0
-HaveNames r = All (AreNames r.root_tree.items) (file_trees r)
+HaveNames r = All (AreTreeNames r.root_tree.items) (file_trees r)

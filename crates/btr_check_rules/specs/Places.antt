@@ -26,7 +26,7 @@ pub record LiesIn (c : ChunkAt) (span : Span) : Type 0 where
   pub high : span.start + span.length ≤ c.logical + c.chunk.length
 
 -- Two extents are one, or apart; no two nodes are one.
-pub record AreApart (r : Recount) : Type 0 where
+pub record ArePlacesApart (r : Recount) : Type 0 where
   pub apart : (a b : Span) (k l : ℕ) → IsExtent r a k → IsExtent r b l → ((a ≡ b) × (k ≡ l)) ⊎ (EndsBefore a b ⊎ EndsBefore b a)
   pub nodes : AllPairs (λ p q. p.address ≢ q.address) (flat_map (λ t. t.nodes) (all_trees r))
   pub within : (span : Span) (kind : ℕ) → IsExtent r span kind → (c : ChunkAt) × Contains r.chunks c × LiesIn c span × (c.chunk.kind ≡ kind)

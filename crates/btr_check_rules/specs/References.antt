@@ -11,8 +11,8 @@ use Rattle.btr_reader.specs.btr_space_items.InlineRef.{inline_refs_of}
 use Rattle.btr_reader.specs.btr_space_items.declared.extent_head.ExtentHead.{ExtentHead}
 use Rattle.btr_reader.specs.btr_space_items.declared.inline_ref.InlineRef.{InlineRef}
 use Rattle.btr_reader.specs.btr_space_items.declared.inline_ref.InlineRef.TheVariants.{TreeBlock, DataRef}
-use Rattle.btr_reader.specs.btr_reader_walk.declared.tree.Pointer.{Pointer}
-use Rattle.btr_check_rules.specs.Recount.{Recount, TreeOn, DataUse, all_trees, data_uses, items_of_tree}
+use Rattle.btr_reader.specs.btr_reader_walk.declared.tree.NodePointer.{NodePointer}
+use Rattle.btr_check_rules.specs.Recount.{Recount, TreeOn, DataUse, all_trees, data_uses, recounted_items}
 
 -- a use is one by this reference to this disk range
 abbrev pub is_use : ℕ → ℕ → ℕ → ℕ → ℕ → DataUse → Bool
@@ -30,7 +30,7 @@ pub record HasRefs (body : List ℕ) (kind count : ℕ) (refs : List InlineRef) 
 -- the extent of a node has one reference, of its tree
 abbrev pub IsNodeItem : Recount → Item → Type 0
 IsNodeItem r i =
-    (t : TreeOn) × (p : Pointer) × Contains (all_trees r) t × Contains t.nodes p
+    (t : TreeOn) × (p : NodePointer) × Contains (all_trees r) t × Contains t.nodes p
     × (i.0 ≡ record { objectid = p.address; kind = METADATA_ITEM; offset = p.level }) × HasRefs i.1 EXTENT_FLAG_TREE_BLOCK 1 (TreeBlock t.number ∷ [])
 
 -- of the uses of a disk range so many are by this reference
@@ -67,6 +67,6 @@ abbrev pub HasKey : List Item → Key → Type 0
 HasKey items key = (body : List ℕ) × Contains items (key, body)
 
 pub record AreReferences (r : Recount) : Type 0 where
-  pub each : (i : Item) → Contains (items_of_tree r EXTENT_TREE) i → is_group i ≡ false → IsNodeItem r i ⊎ IsDataItem r i
-  pub nodes : (t : TreeOn) (p : Pointer) → Contains (all_trees r) t → Contains t.nodes p → HasKey (items_of_tree r EXTENT_TREE) (record { objectid = p.address; kind = METADATA_ITEM; offset = p.level })
-  pub data_ : (u : DataUse) → Contains (data_uses r) u → HasKey (items_of_tree r EXTENT_TREE) (record { objectid = u.start; kind = EXTENT_ITEM; offset = u.length })
+  pub each : (i : Item) → Contains (recounted_items r EXTENT_TREE) i → is_group i ≡ false → IsNodeItem r i ⊎ IsDataItem r i
+  pub nodes : (t : TreeOn) (p : NodePointer) → Contains (all_trees r) t → Contains t.nodes p → HasKey (recounted_items r EXTENT_TREE) (record { objectid = p.address; kind = METADATA_ITEM; offset = p.level })
+  pub data_ : (u : DataUse) → Contains (data_uses r) u → HasKey (recounted_items r EXTENT_TREE) (record { objectid = u.start; kind = EXTENT_ITEM; offset = u.length })

@@ -18,8 +18,8 @@ key_layout =
     ▸ u64 (λ k. k.offset)
 
 -- the key in the 17 bytes from a place on
-abbrev pub key_at : List ℕ → ℕ → Key
-key_at bytes at = key_layout.read (drop at bytes)
+abbrev pub key_in_bytes : List ℕ → ℕ → Key
+key_in_bytes bytes at = key_layout.read (drop at bytes)
 
 -- the key that is the whole body
 abbrev pub key_of : List ℕ → Option Key

@@ -1,7 +1,7 @@
 -- Times, as the Btrfs on-disk format documentation has them (struct btrfs_timespec).
 use Rattle.std.specs.Prelude.{ℕ, ℤ, List, drop, Option}
 use Rattle.btrfs_format.specs.declared.size.TheConstants.{TIMESPEC_SIZE}
-use Rattle.btr_keys.specs.Layout.{Layout, Row, made_by, ◌▸◌, i64, u32, part, whole, spelling}
+use Rattle.btr_keys.specs.Layout.{Layout, LayoutField, made_by, ◌▸◌, i64, u32, part, whole, spelling}
 use Rattle.btr_keys.specs.declared.stamp.Stamp.{Stamp}
 
 abbrev pub make_stamp : ℤ → ℕ → Stamp
@@ -26,5 +26,5 @@ abbrev pub stamp_bytes : Stamp → List ℕ
 stamp_bytes stamp = spelling stamp_layout stamp
 
 -- a field that is a time
-abbrev pub stamp : {R : Type 0} → (R → Stamp) → Row R Stamp
+abbrev pub stamp : {R : Type 0} → (R → Stamp) → LayoutField R Stamp
 stamp get = part stamp_layout get

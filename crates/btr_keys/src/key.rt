@@ -1,5 +1,5 @@
 ghost use Rattle.std.specs.Prelude.{◌≡◌, ◌+◌, ◌≤◌, ◌↔◌, length, IsTrue};
-ghost use Rattle.btr_keys.specs.Key.{key_at, key_of, key_bytes, IsBefore};
+ghost use Rattle.btr_keys.specs.Key.{key_in_bytes, key_of, key_bytes, IsBefore};
 
 use crate::body::exactly;
 use btrfs_format::size::KEY_SIZE;
@@ -26,7 +26,7 @@ impl Key {
     #[tactic(auto, unfolding(crate::specs::Key::key_layout))]
     pub fn at(bytes: &[u8], at: usize) -> Key
         requires { at + 17 ≤ length bytes.now }
-        ensures { result ≡ key_at bytes.now at }
+        ensures { result ≡ key_in_bytes bytes.now at }
     {
         Key {
             objectid: u64_at(bytes, at),

@@ -14,7 +14,7 @@ use Rattle.btr_node.specs.Leaf.{Item, item_layout, item_of, keys_of}
 use Rattle.btr_node.specs.NodeSize.{IsNodeSize}
 use Rattle.btr_node.specs.Order.{ascends, Ascends}
 use Rattle.btr_node.specs.Records.{records_in}
-use Rattle.btr_node.specs.Writer.{stored_items, stored_children, held, Holds}
+use Rattle.btr_node.specs.Writer.{stored_items, stored_children, held, HoldsDraft}
 use Rattle.btr_node.specs.declared.child.Child.{Child}
 use Rattle.btr_node.specs.declared.expect.Expect.{Expect}
 use Rattle.btr_node.proofs.NodeBack.{size_within, node_behind_head, length-node_bytes}
@@ -39,7 +39,7 @@ pub record Room (bytes : List ℕ) (low items children : ℕ) (draft : Draft) : 
   pub room_is : low - ITEM_SIZE * items - KEY_PTR_SIZE * children ≡ room draft
 
 pub room_of : (bytes : List ℕ) (low : ℕ) (started : Bool) (want : Expect) (chunk_tree : List ℕ) (items children : ℕ)
-    → Holds bytes low (held bytes started want chunk_tree items children) → Room bytes low items children (held bytes started want chunk_tree items children)
+    → HoldsDraft bytes low (held bytes started want chunk_tree items children) → Room bytes low items children (held bytes started want chunk_tree items children)
 room_of bytes low started want chunk_tree items children holds =
     let draft : Draft = held bytes started want chunk_tree items children in
     let size = size_within (length bytes) holds.right.nodesize in
@@ -105,7 +105,7 @@ child_is_right draft child right inner fits spelled order =
     }
 
 -- what a writer holds by what stands in its buffer
-holds_as : (bytes : List ℕ) (low : ℕ) (a b : Draft) → a ≡ b → Holds bytes low b → Holds bytes low a
+holds_as : (bytes : List ℕ) (low : ℕ) (a b : Draft) → a ≡ b → HoldsDraft bytes low b → HoldsDraft bytes low a
 holds_as bytes low a b is holds = rw is holds
 
 leaf_or_inner : (level : ℕ) → (level ≡ 0) ⊎ (1 ≤ level)
@@ -121,12 +121,12 @@ unfolding stored_items
 no_items bytes = refl
 
 -- the items and the children in a buffer that holds a draft
-items_are : (bytes : List ℕ) (low : ℕ) (draft : Draft) → Holds bytes low draft → length bytes ≡ draft.nodesize → stored_items bytes (length draft.items) ≡ draft.items
+items_are : (bytes : List ℕ) (low : ℕ) (draft : Draft) → HoldsDraft bytes low draft → length bytes ≡ draft.nodesize → stored_items bytes (length draft.items) ≡ draft.items
 items_are bytes low draft holds size =
     let within = size_within draft.nodesize holds.right.nodesize in
     items_back bytes (length bytes - HEADER_SIZE) draft.items draft.children holds.filled (omega (arith, within.1)) (omega (arith, holds.right.fits)) holds.right.keys
 
-children_are : (bytes : List ℕ) (low : ℕ) (draft : Draft) → Holds bytes low draft → (draft.want.level ≡ 0) ⊎ (1 ≤ draft.want.level)
+children_are : (bytes : List ℕ) (low : ℕ) (draft : Draft) → HoldsDraft bytes low draft → (draft.want.level ≡ 0) ⊎ (1 ≤ draft.want.level)
     → stored_children bytes (length draft.children) ≡ draft.children
 children_are bytes low draft holds (inl leaf) =
     let none : draft.children ≡ [] = holds.right.leaf leaf in
@@ -136,7 +136,7 @@ children_are bytes low draft holds (inr inner) =
     (holds.filled ∙ ap (λ items. contents (length bytes - HEADER_SIZE) items draft.children) (holds.right.inner inner)) holds.right.links
 
 -- a buffer that holds a draft reads as it
-pub held_is : (bytes : List ℕ) (low items children : ℕ) (draft : Draft) → Holds bytes low draft → length bytes ≡ draft.nodesize
+pub held_is : (bytes : List ℕ) (low items children : ℕ) (draft : Draft) → HoldsDraft bytes low draft → length bytes ≡ draft.nodesize
     → length draft.items ≡ items → length draft.children ≡ children → held bytes draft.started draft.want draft.chunk_tree items children ≡ draft
 held_is bytes low items children draft holds size n-items n-children =
     let is-items : stored_items bytes items ≡ draft.items = ap (stored_items bytes) (sym n-items) ∙ items_are bytes low draft holds size in
@@ -153,10 +153,10 @@ held_is bytes low items children draft holds size n-items n-children =
 
 -- a buffer that was written so that it holds a draft
 pub record Steps (bytes : List ℕ) (low : ℕ) (kept wanted : Draft) : Type 0 where
-  pub holds : Holds bytes low kept
+  pub holds : HoldsDraft bytes low kept
   pub is : kept ≡ wanted
 
-steps : (bytes : List ℕ) (low items children : ℕ) (draft : Draft) → Holds bytes low draft → length bytes ≡ draft.nodesize
+steps : (bytes : List ℕ) (low items children : ℕ) (draft : Draft) → HoldsDraft bytes low draft → length bytes ≡ draft.nodesize
     → length draft.items ≡ items → length draft.children ≡ children
     → Steps bytes low (held bytes draft.started draft.want draft.chunk_tree items children) draft
 steps bytes low items children draft holds size n-items n-children =
@@ -165,7 +165,7 @@ steps bytes low items children draft holds size n-items n-children =
 
 -- an item more
 pub push_steps : (bytes new : List ℕ) (low : ℕ) (started : Bool) (want : Expect) (chunk_tree : List ℕ) (items children : ℕ) (key : Key) (body : List ℕ)
-    → Holds bytes low (held bytes started want chunk_tree items children) → want.level ≡ 0
+    → HoldsDraft bytes low (held bytes started want chunk_tree items children) → want.level ≡ 0
     → ITEM_SIZE + length body ≤ room (held bytes started want chunk_tree items children)
     → key_layout.fits key → Ascends (keys_of (stored_items bytes items) ++ key ∷ []) → length new ≡ length bytes
     → behind_head new ≡ contents (length bytes - HEADER_SIZE) (stored_items bytes items ++ (key, body) ∷ []) []
@@ -185,7 +185,7 @@ push_steps bytes new low started want chunk_tree items children key body holds l
 
 -- a child more
 pub push_child_steps : (bytes new : List ℕ) (low : ℕ) (started : Bool) (want : Expect) (chunk_tree : List ℕ) (items children : ℕ) (child : Child)
-    → Holds bytes low (held bytes started want chunk_tree items children) → 1 ≤ want.level
+    → HoldsDraft bytes low (held bytes started want chunk_tree items children) → 1 ≤ want.level
     → KEY_PTR_SIZE ≤ room (held bytes started want chunk_tree items children)
     → child_layout.fits child → Ascends (first_keys (stored_children bytes children) ++ child.key ∷ []) → length new ≡ length bytes
     → behind_head new ≡ contents (length bytes - HEADER_SIZE) [] (stored_children bytes children ++ child ∷ [])
@@ -204,7 +204,7 @@ push_child_steps bytes new low started want chunk_tree items children child hold
 
 -- a head and a checksum, which change nothing behind them
 pub finish_steps : (bytes new : List ℕ) (low : ℕ) (started : Bool) (want : Expect) (chunk_tree : List ℕ) (items children : ℕ)
-    → Holds bytes low (held bytes started want chunk_tree items children)
+    → HoldsDraft bytes low (held bytes started want chunk_tree items children)
     → new ≡ node_bytes (held bytes started want chunk_tree items children)
     → Steps new low (held new started want chunk_tree items children) (held bytes started want chunk_tree items children)
 finish_steps bytes new low started want chunk_tree items children holds is =
@@ -259,7 +259,7 @@ head_spelled nodesize started want chunk_tree fsid address tree generation owner
 
 -- what stands in a buffer that was sealed
 pub sealed_is : (bytes new : List ℕ) (low : ℕ) (started : Bool) (want : Expect) (chunk_tree : List ℕ) (items children : ℕ)
-    → Holds bytes low (held bytes started want chunk_tree items children)
+    → HoldsDraft bytes low (held bytes started want chunk_tree items children)
     → new ≡ sealed want.sums (spelling head_layout (record (head_of (held bytes started want chunk_tree items children)) { count = items + children }) ++ drop HEADER_SIZE bytes)
     → new ≡ node_bytes (held bytes started want chunk_tree items children)
 unfolding node_bytes

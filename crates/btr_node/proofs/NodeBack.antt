@@ -5,17 +5,17 @@ use Rattle.btrfs_format.specs.declared.size.TheConstants.{CSUM_SIZE, HEADER_REST
 use Rattle.btr_keys.specs.Layout.{spelling}
 use Rattle.csum_kinds.specs.Kind.{kind_sum}
 use Rattle.btr_node.specs.Areas.{HasAreas}
-use Rattle.btr_node.specs.Draft.{Draft, IsDraft, bytes_of, contents, heads_of, head_of, sealed, node_bytes}
-use Rattle.btr_node.specs.Head.{head_layout, head_in, count, behind_head, expected, HasHead}
-use Rattle.btr_node.specs.Inner.{IsInner, children_in, first_keys}
-use Rattle.btr_node.specs.Leaf.{IsLeaf, HasLeafLayout, item_layout, heads_in, items_in, keys_of}
+use Rattle.btr_node.specs.Draft.{Draft, IsDraft, draft_bytes, contents, heads_of, head_of, sealed, node_bytes}
+use Rattle.btr_node.specs.Head.{head_layout, head_in, nritems, behind_head, expected, HasHead}
+use Rattle.btr_node.specs.Inner.{IsBtrfsInner, children_in, first_keys}
+use Rattle.btr_node.specs.Leaf.{IsBtrfsLeaf, HasLeafLayout, item_layout, heads_in, items_in, keys_of}
 use Rattle.btr_node.specs.NodeSize.{IsNodeSize}
 use Rattle.btr_node.specs.Order.{ascends}
 use Rattle.btr_node.specs.Records.{records_in}
 use Rattle.btr_node.specs.Sum.{HasSum}
 use Rattle.btr_node.specs.Writer.{stored_items, stored_children}
 use Rattle.btr_node.specs.declared.head.Head.{Head}
-use Rattle.btr_node.specs.declared.item.ItemHead.{ItemHead}
+use Rattle.btr_node.specs.declared.item.BtrItemHead.{BtrItemHead}
 use Rattle.btr_node.proofs.Putting.{bytes_of-parts}
 use Rattle.btr_node.proofs.ReadBack.{length-contents, heads_back, items_back, children_back, heads_have_areas}
 use Rattle.btr_node.proofs.Spelled.{head_reads, length-kind_sum}
@@ -69,7 +69,7 @@ length-node_bytes draft right =
 node_has_head : (draft : Draft) → IsDraft draft → HasHead draft.want (node_bytes draft)
 node_has_head draft right = ap (expected draft.want.sums) (node_head draft right)
 
-leaf_count : (draft : Draft) → IsDraft draft → draft.want.level ≡ 0 → count (node_bytes draft) ≡ length draft.items
+leaf_count : (draft : Draft) → IsDraft draft → draft.want.level ≡ 0 → nritems (node_bytes draft) ≡ length draft.items
 leaf_count draft right leaf =
     ap (λ (h : Head). h.count) (node_head draft right) ∙ omega (arith, ap length (right.leaf leaf))
 
@@ -80,7 +80,7 @@ leaf_items draft right leaf =
     ap (stored_items (node_bytes draft)) (leaf_count draft right leaf)
     ∙ items_back (node_bytes draft) (draft.nodesize - HEADER_SIZE) draft.items draft.children (node_behind_head draft right) (omega (arith, small.1)) (omega (arith, right.fits)) right.keys
 
-areas_along : (low low' high high' : ℕ) (heads heads' : List ItemHead) → low ≡ low' → high ≡ high' → heads ≡ heads' → HasAreas low' high' heads' → HasAreas low high heads
+areas_along : (low low' high high' : ℕ) (heads heads' : List BtrItemHead) → low ≡ low' → high ≡ high' → heads ≡ heads' → HasAreas low' high' heads' → HasAreas low high heads
 areas_along low low' high high' heads heads' is-low is-high is-heads areas = rw (is-low, is-high, is-heads) areas
 
 leaf_layout : (draft : Draft) → IsDraft draft → draft.want.level ≡ 0 → HasLeafLayout (node_bytes draft)
@@ -88,9 +88,9 @@ unfolding heads_in
 leaf_layout draft right leaf =
     let n : ℕ = draft.nodesize - HEADER_SIZE in
     let small = size_within draft.nodesize right.nodesize in
-    let counted : count (node_bytes draft) ≡ length draft.items = leaf_count draft right leaf in
+    let counted : nritems (node_bytes draft) ≡ length draft.items = leaf_count draft right leaf in
     let rest : behind_head (node_bytes draft) ≡ contents n draft.items draft.children = node_behind_head draft right in
-    let fits : bytes_of draft.items + KEY_PTR_SIZE * length draft.children ≤ n = omega (arith, right.fits) in
+    let fits : draft_bytes draft.items + KEY_PTR_SIZE * length draft.children ≤ n = omega (arith, right.fits) in
     let long : length (behind_head (node_bytes draft)) ≡ n = ap length rest ∙ length-contents n draft.items draft.children fits in
     let heads : heads_in (node_bytes draft) ≡ heads_of n draft.items =
     ap (λ k. records_in ITEM_SIZE item_layout k (behind_head (node_bytes draft))) counted
@@ -102,7 +102,7 @@ leaf_layout draft right leaf =
           (heads_have_areas (ITEM_SIZE * length draft.items) n draft.items (omega (arith, fits, bytes_of-parts draft.items)));
     }
 
-pub leaf_back : (draft : Draft) → IsDraft draft → draft.want.level ≡ 0 → IsLeaf draft.want (node_bytes draft)
+pub leaf_back : (draft : Draft) → IsDraft draft → draft.want.level ≡ 0 → IsBtrfsLeaf draft.want (node_bytes draft)
 leaf_back draft right leaf =
     record {
       sum = node_has_sum draft;
@@ -112,7 +112,7 @@ leaf_back draft right leaf =
       order = ap (λ items. ascends (keys_of items)) (leaf_items draft right leaf) ∙ right.item_order;
     }
 
-inner_count : (draft : Draft) → IsDraft draft → 1 ≤ draft.want.level → count (node_bytes draft) ≡ length draft.children
+inner_count : (draft : Draft) → IsDraft draft → 1 ≤ draft.want.level → nritems (node_bytes draft) ≡ length draft.children
 inner_count draft right inner =
     ap (λ (h : Head). h.count) (node_head draft right) ∙ omega (arith, ap length (right.inner inner))
 
@@ -123,7 +123,7 @@ inner_children draft right inner =
     ∙ children_back (node_bytes draft) (draft.nodesize - HEADER_SIZE) draft.children
     (node_behind_head draft right ∙ ap (λ items. contents (draft.nodesize - HEADER_SIZE) items draft.children) (right.inner inner)) right.links
 
-pub inner_back : (draft : Draft) → IsDraft draft → 1 ≤ draft.want.level → 1 ≤ length draft.children → IsInner draft.want (node_bytes draft)
+pub inner_back : (draft : Draft) → IsDraft draft → 1 ≤ draft.want.level → 1 ≤ length draft.children → IsBtrfsInner draft.want (node_bytes draft)
 inner_back draft right inner some =
     record {
       sum = node_has_sum draft;

@@ -10,11 +10,11 @@ use Rattle.btr_keys.specs.declared.key.Key.{Key}
 use Rattle.btr_keys.specs.Layout.{spelling}
 use Rattle.csum_kinds.specs.declared.kind.SumKind.{SumKind}
 use Rattle.csum_kinds.specs.Kind.{kind_sum}
-use Rattle.btr_node.specs.Draft.{bytes_of, room_in, heads_of, data_of, contents, sealed}
+use Rattle.btr_node.specs.Draft.{draft_bytes, room_in, heads_of, data_of, contents, sealed}
 use Rattle.btr_node.specs.Inner.{child_layout}
 use Rattle.btr_node.specs.Leaf.{Item, item_layout}
 use Rattle.btr_node.specs.declared.child.Child.{Child}
-use Rattle.btr_node.specs.declared.item.ItemHead.{ItemHead}
+use Rattle.btr_node.specs.declared.item.BtrItemHead.{BtrItemHead}
 use Rattle.btr_node.proofs.Spelled.{item_size, child_size, length-records}
 
 -- a part of a list, and other elements in its place
@@ -73,7 +73,7 @@ put_child_is n count s new child children fits counted is spelled =
     ∙ ap (λ k. flat_map (spelling child_layout) (children ++ child ∷ []) ++ (zeros k ++ [])) rest
 
 -- an item's head, where the data above it begins at `end`
-abbrev pub head_below : ℕ → Item → ItemHead
+abbrev pub head_below : ℕ → Item → BtrItemHead
 head_below end item = record { key = item.0; offset = end - length item.1; size = length item.1 }
 
 heads_of-append : (end : ℕ) (items : List Item) (item : Item) → heads_of end (items ++ item ∷ []) ≡ heads_of end items ++ head_below (end - length (data_of items)) item ∷ []
@@ -95,13 +95,13 @@ length-heads_of end [] = refl
 length-heads_of end (item ∷ items) = ap suc (length-heads_of (end - length item.1) items)
 
 -- the bytes of items are those of their heads and of their data
-pub bytes_of-parts : (items : List Item) → bytes_of items ≡ ITEM_SIZE * length items + length (data_of items)
+pub bytes_of-parts : (items : List Item) → draft_bytes items ≡ ITEM_SIZE * length items + length (data_of items)
 bytes_of-parts [] = refl
 bytes_of-parts (item ∷ items) =
     omega (arith, sum_by-cons (λ (i : Item). ITEM_SIZE + length i.1) item items, bytes_of-parts items, length-append (data_of items) item.1)
 
 -- An item behind items: first its data, in the place of the last zeros, and then its head, in the place of the first.
-pub put_item_is : (n count low begin : ℕ) (s body new : List ℕ) (key : Key) (head : ItemHead) (items : List Item)
+pub put_item_is : (n count low begin : ℕ) (s body new : List ℕ) (key : Key) (head : BtrItemHead) (items : List Item)
     → ITEM_SIZE * count + ITEM_SIZE + length body ≤ low → length items ≡ count → low + length (data_of items) ≡ n
     → begin ≡ low - length body → s ≡ contents n items [] → head ≡ head_below low (key, body) → new ≡ spelling item_layout head
     → put_mid (ITEM_SIZE * count) (ITEM_SIZE * count + ITEM_SIZE - ITEM_SIZE * count) (put_mid begin (low - begin) s body) new ≡ contents n (items ++ (key, body) ∷ []) []

@@ -8,7 +8,7 @@ use Rattle.btr_keys.specs.Key.{key_layout}
 use Rattle.btr_keys.specs.Layout.{Layout, spelling}
 use Rattle.btr_keys.proofs.Layouts.{Reads}
 use Rattle.btr_node.specs.Areas.{descends, HasAreas}
-use Rattle.btr_node.specs.Draft.{bytes_of, room_in, heads_of, data_of, contents}
+use Rattle.btr_node.specs.Draft.{draft_bytes, room_in, heads_of, data_of, contents}
 use Rattle.btr_node.specs.Head.{behind_head}
 use Rattle.btr_node.specs.Inner.{child_layout}
 use Rattle.btr_node.specs.Leaf.{Item, item_layout, item_of}
@@ -68,7 +68,7 @@ heads_descend low end (item ∷ items) fits =
     joined _ _ (within_test low end (head_below end item) (omega (arith, long)) (omega (arith, long))) (heads_descend low (end - length item.1) items (omega (arith, long)))
 
 -- a node's contents have their size
-pub length-contents : (n : ℕ) (items : List Item) (children : List Child) → bytes_of items + KEY_PTR_SIZE * length children ≤ n → length (contents n items children) ≡ n
+pub length-contents : (n : ℕ) (items : List Item) (children : List Child) → draft_bytes items + KEY_PTR_SIZE * length children ≤ n → length (contents n items children) ≡ n
 unfolding contents
 length-contents n items children fits =
     let heads : List ℕ = flat_map (spelling item_layout) (heads_of n items) in
@@ -76,7 +76,7 @@ length-contents n items children fits =
     let room : ℕ = room_in n items children in
     omega (arith, length-append heads (links ++ (zeros room ++ data_of items)), length-append links (zeros room ++ data_of items), length-append (zeros room) (data_of items), length-zeros room, length-records (spelling item_layout) ITEM_SIZE item_size (heads_of n items), length-heads_of n items, length-records (spelling child_layout) KEY_PTR_SIZE child_size children, bytes_of-parts items)
 
-pub heads_back : (n : ℕ) (items : List Item) (children : List Child) → n < 2 ^ 32 → bytes_of items + KEY_PTR_SIZE * length children ≤ n → All (λ item. key_layout.fits item.0) items
+pub heads_back : (n : ℕ) (items : List Item) (children : List Child) → n < 2 ^ 32 → draft_bytes items + KEY_PTR_SIZE * length children ≤ n → All (λ item. key_layout.fits item.0) items
     → records_in ITEM_SIZE item_layout (length items) (contents n items children) ≡ heads_of n items
 unfolding contents
 heads_back n items children small fits keys =
@@ -86,7 +86,7 @@ heads_back n items children small fits keys =
     ∙ records_back item_layout ITEM_SIZE item_reads item_size (heads_of n items) rest (heads_fit n items small (omega (arith, bytes_of-parts items)) keys)
 
 pub items_back : (bytes : List ℕ) (n : ℕ) (items : List Item) (children : List Child) → behind_head bytes ≡ contents n items children → n < 2 ^ 32
-    → bytes_of items + KEY_PTR_SIZE * length children ≤ n → All (λ item. key_layout.fits item.0) items → stored_items bytes (length items) ≡ items
+    → draft_bytes items + KEY_PTR_SIZE * length children ≤ n → All (λ item. key_layout.fits item.0) items → stored_items bytes (length items) ≡ items
 unfolding stored_items contents
 items_back bytes n items children is small fits keys =
     let heads : List ℕ = flat_map (spelling item_layout) (heads_of n items) in

@@ -15,13 +15,13 @@ use Rattle.btr_node.specs.Head.{make_head, head_layout}
 use Rattle.btr_node.specs.Inner.{make_child, child_layout}
 use Rattle.btr_node.specs.Leaf.{make_item_head, item_layout}
 use Rattle.btr_node.specs.declared.child.Child.{Child}
-use Rattle.btr_node.specs.declared.item.ItemHead.{ItemHead}
+use Rattle.btr_node.specs.declared.item.BtrItemHead.{BtrItemHead}
 
 pub length-kind_sum : (sums : SumKind) (bytes : List ℕ) → length (kind_sum sums bytes) ≡ CSUM_SIZE
 unfolding kind_sum
 length-kind_sum Crc32c bytes = refl
 
-pub item_size : (head : ItemHead) → length (spelling item_layout head) ≡ ITEM_SIZE
+pub item_size : (head : BtrItemHead) → length (spelling item_layout head) ≡ ITEM_SIZE
 unfolding item_layout key_layout
 item_size head = refl
 

@@ -16,7 +16,7 @@ use Rattle.btr_node.specs.Order.{Ascends}
 use Rattle.btr_node.specs.declared.child.Child.{Child}
 use Rattle.btr_node.specs.declared.expect.Expect.{Expect}
 use Rattle.btr_node.specs.declared.head.Head.{Head}
-use Rattle.btr_node.specs.declared.item.ItemHead.{ItemHead}
+use Rattle.btr_node.specs.declared.item.BtrItemHead.{BtrItemHead}
 
 pub record Draft : Type 0 where
   pub nodesize : ℕ
@@ -29,18 +29,18 @@ pub record Draft : Type 0 where
   pub children : List Child
 
 -- the bytes that items take, with their heads
-abbrev pub bytes_of : List Item → ℕ
-bytes_of items = sum_by (λ item. ITEM_SIZE + length item.1) items
+abbrev pub draft_bytes : List Item → ℕ
+draft_bytes items = sum_by (λ item. ITEM_SIZE + length item.1) items
 
 -- the bytes that are left behind the head of n bytes with these entries
 abbrev pub room_in : ℕ → List Item → List Child → ℕ
-room_in n items children = n - (bytes_of items + KEY_PTR_SIZE * length children)
+room_in n items children = n - (draft_bytes items + KEY_PTR_SIZE * length children)
 
 abbrev pub room : Draft → ℕ
 room draft = room_in (draft.nodesize - HEADER_SIZE) draft.items draft.children
 
 -- The heads of items: the data of the first ends at `end`, and that of each other one where the one before begins.
-abbrev pub heads_of : ℕ → List Item → List ItemHead
+abbrev pub heads_of : ℕ → List Item → List BtrItemHead
 heads_of end [] = []
 heads_of end (item ∷ items) =
     record { key = item.0; offset = end - length item.1; size = length item.1 } ∷ heads_of (end - length item.1) items
@@ -94,7 +94,7 @@ started_for nodesize want chunk_tree =
 -- A node that can be written: what it holds fits and ascends, and its numbers have a spelling.
 pub record IsDraft (draft : Draft) : Type 0 where
   pub nodesize : IsNodeSize draft.nodesize
-  pub fits : HEADER_SIZE + bytes_of draft.items + KEY_PTR_SIZE * length draft.children ≤ draft.nodesize
+  pub fits : HEADER_SIZE + draft_bytes draft.items + KEY_PTR_SIZE * length draft.children ≤ draft.nodesize
   pub head : head_layout.fits (head_of draft)
   pub keys : All (λ item. key_layout.fits item.0) draft.items
   pub links : All (λ child. child_layout.fits child) draft.children

@@ -8,7 +8,7 @@ use Rattle.btr_node.specs.declared.expect.Expect.{Expect}
 use Rattle.btr_node.specs.declared.head.Head.{Head}
 
 abbrev pub make_head : List ℕ → ℕ → List ℕ → ℕ → List ℕ → ℕ → ℕ → ℕ → ℕ → Head
-make_head fsid address flags revision chunk_tree generation owner count level =
+make_head fsid address flags revision chunk_tree generation owner nritems level =
     record {
       fsid = fsid;
       address = address;
@@ -17,7 +17,7 @@ make_head fsid address flags revision chunk_tree generation owner count level =
       chunk_tree = chunk_tree;
       generation = generation;
       owner = owner;
-      count = count;
+      nritems = nritems;
       level = level;
     }
 
@@ -39,8 +39,8 @@ abbrev pub head_in : List ℕ → Head
 head_in bytes = head_layout.read (drop CSUM_SIZE bytes)
 
 -- how many items or children a node has
-abbrev pub count : List ℕ → ℕ
-count bytes = (head_in bytes).count
+abbrev pub nritems : List ℕ → ℕ
+nritems bytes = (head_in bytes).count
 
 -- What stands behind the head. The places of a leaf's data count from here.
 abbrev pub behind_head : List ℕ → List ℕ

@@ -30,7 +30,7 @@ held bytes started want chunk_tree items children =
     }
 
 -- the buffer holds the draft, and the data of its items begins at `low` behind the head
-pub record Holds (bytes : List ℕ) (low : ℕ) (draft : Draft) : Type 0 where
+pub record HoldsDraft (bytes : List ℕ) (low : ℕ) (draft : Draft) : Type 0 where
   pub right : IsDraft draft
   pub filled : behind_head bytes ≡ contents (length bytes - HEADER_SIZE) draft.items draft.children
   pub placed : HEADER_SIZE + low + length (data_of draft.items) ≡ length bytes

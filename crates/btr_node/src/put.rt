@@ -7,7 +7,7 @@ ghost use Rattle.btr_node.specs.declared.child.Child.{Child as ChildOf};
 
 use crate::child::Child;
 use crate::head::Head;
-use crate::item::ItemHead;
+use crate::item::BtrItemHead;
 use btr_keys::Key;
 use btrfs_format::size::{CSUM_SIZE, HEADER_SIZE, ITEM_SIZE, KEY_PTR_SIZE};
 use csum_kinds::{SumKind, kind_sum};
@@ -25,9 +25,9 @@ pub fn put_item(behind: &mut [u8], count: usize, low: usize, key: Key, body: &[u
 {
     let begin = low - body.len();
     behind[begin..low].copy_from_slice(body);
-    let at = ItemHead::SIZE * count;
+    let at = BtrItemHead::SIZE * count;
     put_fields(
-        &mut behind[at..at + ItemHead::SIZE],
+        &mut behind[at..at + BtrItemHead::SIZE],
         &[
             Field::Bytes(&key.to_bytes()),
             Field::U32(begin as u32),

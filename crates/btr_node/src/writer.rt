@@ -2,8 +2,8 @@ ghost use Rattle.std.specs.Prelude.{◌≡◌, ◌≤◌, ◌<◌, ◌+◌, ◌�
 ghost use Rattle.std.specs.Borrow.{sem};
 ghost use Rattle.std.specs.Io.BufRead.{Rests};
 ghost use Rattle.btr_node.specs.Draft.{room, node_bytes, IsBlank, started_for};
-ghost use Rattle.btr_node.specs.Inner.{IsInner, first_keys, children_in};
-ghost use Rattle.btr_node.specs.Leaf.{IsLeaf, keys_of, items_in};
+ghost use Rattle.btr_node.specs.Inner.{IsBtrfsInner, first_keys, children_in};
+ghost use Rattle.btr_node.specs.Leaf.{IsBtrfsLeaf, keys_of, items_in};
 ghost use Rattle.btr_node.specs.NodeSize.{IsNodeSize};
 ghost use Rattle.btr_node.specs.Order.{Ascends};
 ghost use Rattle.btr_node.specs.contracts.writer.NodeWriter.{the_row};
@@ -12,7 +12,7 @@ use crate::buffer::{add_child, add_item, clear, seal, zeroed};
 use crate::child::Child;
 use crate::expect::Expect;
 use crate::head::Head;
-use crate::item::ItemHead;
+use crate::item::BtrItemHead;
 use btr_keys::Key;
 use btrfs_format::flag::MIXED_BACKREF_REV;
 use btrfs_format::size::{HEADER_SIZE, ITEM_SIZE, KEY_PTR_SIZE};
@@ -41,13 +41,13 @@ pub struct NodeWriter {
 
 impl Model for NodeWriter {
     ghost use Rattle.btr_node.specs.Draft.{Draft};
-    ghost use Rattle.btr_node.specs.Writer.{held, Holds};
+    ghost use Rattle.btr_node.specs.Writer.{held, HoldsDraft};
 
     ghost Value = { Draft };
 
     ghost view = { λ a. held a.buffer.items a.started a.want a.chunk_tree a.items a.children };
 
-    ghost invariant = { λ a. Holds a.buffer.items a.low (held a.buffer.items a.started a.want a.chunk_tree a.items a.children) };
+    ghost invariant = { λ a. HoldsDraft a.buffer.items a.low (held a.buffer.items a.started a.want a.chunk_tree a.items a.children) };
 }
 
 impl NodeWriter {
@@ -97,7 +97,7 @@ impl NodeWriter {
     pub fn room(&self) -> usize
         ensures { result ≡ room self.now }
     {
-        self.low - ItemHead::SIZE * self.items - Child::SIZE * self.children
+        self.low - BtrItemHead::SIZE * self.items - Child::SIZE * self.children
     }
 
     /// Adds an item to a leaf, behind those that it has. Full comes exactly where the room is below 25 bytes and the
@@ -110,7 +110,7 @@ impl NodeWriter {
         ensures ok { OnOk result (self.new ≡ record self.old { items = self.old.items ++ (key, body.now) ∷ [] }) }
         ensures err { OnErr result (self.new ≡ self.old) }
     {
-        if self.room() < ItemHead::SIZE + body.len() {
+        if self.room() < BtrItemHead::SIZE + body.len() {
             return Err(Full);
         }
         add_item(&mut self.buffer, self.items, self.low, key, body);
@@ -143,9 +143,9 @@ impl NodeWriter {
         requires children { 1 ≤ self.old.want.level → 1 ≤ length self.old.children }
         ensures bytes { result.now ≡ node_bytes self.old }
         ensures size { length result.now ≡ self.old.nodesize }
-        ensures leaf { self.old.want.level ≡ 0 → IsLeaf self.old.want result.now }
+        ensures leaf { self.old.want.level ≡ 0 → IsBtrfsLeaf self.old.want result.now }
         ensures items { self.old.want.level ≡ 0 → items_in result.now ≡ self.old.items }
-        ensures inner { 1 ≤ self.old.want.level → IsInner self.old.want result.now }
+        ensures inner { 1 ≤ self.old.want.level → IsBtrfsInner self.old.want result.now }
         ensures links { 1 ≤ self.old.want.level → children_in result.now ≡ self.old.children }
         ensures* after { sem 𝓛 (Rests the_row self.entry (λ new. new ≡ self.old)) }
     {

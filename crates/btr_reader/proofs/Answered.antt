@@ -9,7 +9,7 @@ use Rattle.btr_reader_walk.specs.refusals.declared.answer.BtrAnswer.TheVariants.
 use Rattle.btr_reader_walk.specs.refusals.declared.refusal.BtrRefusal.{BtrRefusal}
 use Rattle.btr_super.specs.declared.superblock.Super.{Super}
 use Rattle.btr_reader_walk.specs.declared.map.MapRange.{MapRange}
-use Rattle.btr_reader_walk.specs.declared.tree.Pointer.{Pointer}
+use Rattle.btr_reader_walk.specs.declared.tree.NodePointer.{NodePointer}
 use Rattle.btr_reader_walk.specs.declared.tree.Tree.{Tree}
 use Rattle.btr_reader_walk.specs.Events.{TreeItem}
 use Rattle.btr_reader_walk.specs.Walks.{found, wrong}
@@ -19,7 +19,7 @@ use Rattle.fs_paths.specs.declared.node.NodeId.{NodeId}
 use Rattle.btr_reader_names.specs.Read.{BlamesTree}
 use Rattle.btr_reader_names.specs.Roots.{has_root}
 use Rattle.btr_reader_names.specs.Rules.{BreaksNames, KeepsNames}
-use Rattle.btr_reader_names.specs.declared.table.Names.{Names}
+use Rattle.btr_reader_names.specs.declared.table.NameTable.{NameTable}
 use Rattle.btr_reader_names.specs.Refuses.{RefusesNames}
 use Rattle.btr_reader_names.specs.Steps.{AreNamed, links_of}
 use Rattle.btr_reader_names.specs.TreeLinks.{AreTreeLinks}
@@ -29,7 +29,7 @@ use Rattle.btr_reader.specs.Made.{IsChecked, IsMemory, RefusesChecked, RefusesRo
 use Rattle.btr_reader.specs.Opening.{tree_of}
 use Rattle.btr_reader.specs.Reading.{FindsTree}
 use Rattle.btr_reader.specs.Roots.{root_item, pointer_of}
-use Rattle.btr_reader.specs.Rows.{AreRows, AreBtrfsRows, BreaksExtents, CanBeRead, roots_on, IsTreeRefusal, no_root_item, bad_root_item, bad_tree, bad_names, bad_extents}
+use Rattle.btr_reader.specs.Rows.{AreRows, AreBtrfsRows, BreaksExtents, CanBeRead, roots_on, IsFileTreeRefusal, no_root_item, bad_root_item, bad_tree, bad_names, bad_extents}
 use Rattle.btr_reader.proofs.Bridging.{breaks_named, extents_right, none_among}
 
 some_none : {X : Type 0} (x : X) (o : Option X) → o ≡ Some x → o ≡ None → ⊥
@@ -44,7 +44,7 @@ refused_checked items root roots Fault h = tt
 refused_checked items root roots Memory h = tt
 
 -- what a check of names answers, by numbers that are those of the trees of the root tree
-pub checked_by : {X : Type 0} (has : X → NodeId → Bool) (names : Names) (result : Result X BtrAnswer) (items : List TreeItem) (root : ℕ) (told roots : ℕ → Bool) → told ≡ roots
+pub checked_by : {X : Type 0} (has : X → NodeId → Bool) (names : NameTable) (result : Result X BtrAnswer) (items : List TreeItem) (root : ℕ) (told roots : ℕ → Bool) → told ≡ roots
     → IfOk result (λ x. AreNamed items (has x)) → OnOk result (KeepsNames told items root) → IfOk result (λ x. AreTreeLinks items (links_of names (has x))) → IfErr result (RefusesNames told items root)
     → MatchResult result (λ x. IsChecked names (has x) items root roots) (RefusesChecked roots items root)
 checked_by has names (Ok x) items root told roots same named keeps links refused =
@@ -80,7 +80,7 @@ pub checked_without_log : {X : Type 0} (image : Image) (s : Super) (ranges : Lis
 checked_without_log image s ranges (Ok x) none h = (none, h)
 checked_without_log image s ranges (Err e) none h = tree_or_log image s ranges e none h
 
-module _ (image : Image) (s : Super) (ranges : List MapRange) (i : TreeItem) (p : Pointer) (there : root_item FS_TREE (roots_on image s ranges) ≡ Some i) (at : pointer_of i.body ≡ Some p) where
+module _ (image : Image) (s : Super) (ranges : List MapRange) (i : TreeItem) (p : NodePointer) (there : root_item FS_TREE (roots_on image s ranges) ≡ Some i) (at : pointer_of i.body ≡ Some p) where
   abbrev items : List TreeItem
   items = found image ranges (tree_of s FS_TREE p)
 
@@ -115,17 +115,17 @@ module _ (image : Image) (s : Super) (ranges : List MapRange) (i : TreeItem) (p 
     contents_refused has e named h = contents_blamed has e named (here (λ r x. RefusesContents (wanted_at has (found image r x)) image r x e) h)
 
   module _ (sound : wrong image ranges (tree_of s FS_TREE p) ≡ []) (keeps : KeepsNames roots items p.address) (right : (r : BtrRefusal) → BreaksExtents ranges items r → ⊥) where
-    same_at : (j : TreeItem) (q : Pointer) → root_item FS_TREE (roots_on image s ranges) ≡ Some j → pointer_of j.body ≡ Some q → q ≡ p
+    same_at : (j : TreeItem) (q : NodePointer) → root_item FS_TREE (roots_on image s ranges) ≡ Some j → pointer_of j.body ≡ Some q → q ≡ p
     same_at j q other off = same_some q p (pointer_of i.body) (ap (λ (x : TreeItem). pointer_of x.body) (same_some i j (root_item FS_TREE (roots_on image s ranges)) there other) ∙ off) at
 
-    readable : (r : BtrRefusal) → IsTreeRefusal image s ranges r → ⊥
+    readable : (r : BtrRefusal) → IsFileTreeRefusal image s ranges r → ⊥
     readable r (no_root_item none is) = some_none i (root_item FS_TREE (roots_on image s ranges)) there none
     readable r (bad_root_item j other off is) =
         some_none p (pointer_of i.body) at (ap (λ (x : TreeItem). pointer_of x.body) (same_some i j (root_item FS_TREE (roots_on image s ranges)) there other) ∙ off)
     readable r (bad_tree j q other off among) =
-        none_among (wrong image ranges (tree_of s FS_TREE p)) r sound (subst (λ (x : Pointer). Contains (wrong image ranges (tree_of s FS_TREE x)) r) (same_at j q other off) among)
-    readable r (bad_names j q other off broken) = keeps r (subst (λ (x : Pointer). BreaksNames roots (found image ranges (tree_of s FS_TREE x)) x.address r) (same_at j q other off) broken)
-    readable r (bad_extents j q other off broken) = right r (subst (λ (x : Pointer). BreaksExtents ranges (found image ranges (tree_of s FS_TREE x)) r) (same_at j q other off) broken)
+        none_among (wrong image ranges (tree_of s FS_TREE p)) r sound (subst (λ (x : NodePointer). Contains (wrong image ranges (tree_of s FS_TREE x)) r) (same_at j q other off) among)
+    readable r (bad_names j q other off broken) = keeps r (subst (λ (x : NodePointer). BreaksNames roots (found image ranges (tree_of s FS_TREE x)) x.address r) (same_at j q other off) broken)
+    readable r (bad_extents j q other off broken) = right r (subst (λ (x : NodePointer). BreaksExtents ranges (found image ranges (tree_of s FS_TREE x)) r) (same_at j q other off) broken)
 
     pub rows_answered : (result : Result (List Row) BtrAnswer) → MatchResult result (λ rows. (whole : List WholeRow) × AreRows image ranges items whole × (rows ≡ map row_of whole)) IsMemory
         → MatchResult result (λ rows. (whole : List WholeRow) × AreBtrfsRows image s ranges whole × (rows ≡ map row_of whole)) (RefusesTree image s ranges)

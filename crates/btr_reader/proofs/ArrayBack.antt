@@ -8,7 +8,7 @@ use Rattle.std.proofs.lemmas.List.{take_at, drop_at}
 use Rattle.btrfs_format.specs.declared.key.TheConstants.{CHUNK_ITEM}
 use Rattle.btrfs_format.specs.declared.object.TheConstants.{FIRST_CHUNK_TREE_OBJECTID}
 use Rattle.btr_reader_walk.specs.vol_block.Volume.{field}
-use Rattle.btr_reader_walk.specs.btr_keys.Key.{key_layout, key_bytes, make_key, key_at}
+use Rattle.btr_reader_walk.specs.btr_keys.Key.{key_layout, key_bytes, make_key, key_in_bytes}
 use Rattle.btr_reader_walk.specs.btr_keys.declared.key.Key.{Key}
 use Rattle.btr_reader_walk.proofs.btr_keys.Records.{key_reads}
 use Rattle.btr_space_items.specs.Chunk.{chunk_of, chunk_bytes}
@@ -49,7 +49,7 @@ module _ (c : ChunkAt) (fits : FitsArray c) (rest : List ℕ) where
       ∙ (ap (drop (length (key_bytes (make_key FIRST_CHUNK_TREE_OBJECTID CHUNK_ITEM c.logical)) + n)) apart
       ∙ drop-append-add (key_bytes (make_key FIRST_CHUNK_TREE_OBJECTID CHUNK_ITEM c.logical)) (chunk_bytes c.chunk ++ rest) n)
 
-  keyed : key_at (array_entry c ++ rest) 0 ≡ make_key FIRST_CHUNK_TREE_OBJECTID CHUNK_ITEM c.logical
+  keyed : key_in_bytes (array_entry c ++ rest) 0 ≡ make_key FIRST_CHUNK_TREE_OBJECTID CHUNK_ITEM c.logical
   keyed =
       ap key_layout.read (apart ∙ sym (key_reads.apart (make_key FIRST_CHUNK_TREE_OBJECTID CHUNK_ITEM c.logical) (chunk_bytes c.chunk ++ rest)))
       ∙ key_reads.back (make_key FIRST_CHUNK_TREE_OBJECTID CHUNK_ITEM c.logical) (chunk_bytes c.chunk ++ rest) (fits_key c.logical fits.logical)
@@ -80,8 +80,8 @@ module _ (c : ChunkAt) (fits : FitsArray c) (rest : List ℕ) where
       let bytes : List ℕ = array_entry c ++ rest in
       let read : chunk_of (take (entry_size bytes - 17) (drop 17 bytes)) ≡ Some c.chunk = ap chunk_of body ∙ chunks_read_back c.chunk fits.fields fits.single in
       let whole : ltb (length bytes) 97 ≡ false = le-ltb _ _ (omega (arith, long)) in
-      ap (λ (b : Bool). cond b None (cond (is_chunk_key (key_at bytes 0)) (placed (key_at bytes 0) (chunk_of (take (entry_size bytes - 17) (drop 17 bytes)))) None)) whole
-      ∙ (ap (λ (b : Bool). cond b (placed (key_at bytes 0) (chunk_of (take (entry_size bytes - 17) (drop 17 bytes)))) None) (ap is_chunk_key keyed)
+      ap (λ (b : Bool). cond b None (cond (is_chunk_key (key_in_bytes bytes 0)) (placed (key_in_bytes bytes 0) (chunk_of (take (entry_size bytes - 17) (drop 17 bytes)))) None)) whole
+      ∙ (ap (λ (b : Bool). cond b (placed (key_in_bytes bytes 0) (chunk_of (take (entry_size bytes - 17) (drop 17 bytes)))) None) (ap is_chunk_key keyed)
       ∙ (ap (λ (k : Key). placed k (chunk_of (take (entry_size bytes - 17) (drop 17 bytes)))) keyed ∙ ap (placed (make_key FIRST_CHUNK_TREE_OBJECTID CHUNK_ITEM c.logical)) read))
 
   pub behind : drop (entry_size (array_entry c ++ rest)) (array_entry c ++ rest) ≡ rest

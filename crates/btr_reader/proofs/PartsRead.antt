@@ -15,9 +15,9 @@ use Rattle.btr_super.specs.Super.{super_in}
 use Rattle.btr_reader_walk.specs.declared.map.MapRange.{MapRange}
 use Rattle.btr_reader.specs.declared.volume.Btrfs.{Btrfs}
 use Rattle.btr_reader.specs.Made.{RefusesRows}
-use Rattle.btr_reader.specs.Opening.{super_on, chunk_map, opening_refusals, IsOpened, IsAmong, IsSuperAnswer}
+use Rattle.btr_reader.specs.Opening.{super_on, chunk_map, opening_refusals, IsBtrfsOpened, IsAmong, IsSuperAnswer}
 use Rattle.btr_reader.specs.Parts.{own_super, own_map, log_of, log_tree, Tree, IsBtrfsRefusal, HasBtrfsRows, IsRowsRefusal, has_log, unreadable, ListsBtrfs, RefusesBtrfsRows}
-use Rattle.btr_reader.specs.Rows.{AreBtrfsRows, CanBeRead, IsTreeRefusal}
+use Rattle.btr_reader.specs.Rows.{AreBtrfsRows, CanBeRead, IsFileTreeRefusal}
 use Rattle.btr_reader.specs.Volume.{IsVolumeOn}
 use Rattle.btr_reader.proofs.Opens.{super_refused}
 
@@ -36,18 +36,18 @@ fields_are : (block : List ℕ) (place device : ℕ) (s : Super) → super_of bl
 unfolding super_of
 fields_are block place device s read = value_is (super_refusals block place device) (super_in block) s read
 
-pub opened_super : (image : Image) (s : Super) (ranges : List MapRange) → IsOpened image s ranges → s ≡ own_super image
+pub opened_super : (image : Image) (s : Super) (ranges : List MapRange) → IsBtrfsOpened image s ranges → s ≡ own_super image
 opened_super image s ranges opened = fields_are (block_at image SUPER_BLOCK) 16 _ s opened.super
 
-pub opened_map : (image : Image) (s : Super) (ranges : List MapRange) → IsOpened image s ranges → ranges ≡ own_map image
+pub opened_map : (image : Image) (s : Super) (ranges : List MapRange) → IsBtrfsOpened image s ranges → ranges ≡ own_map image
 opened_map image s ranges opened = opened.map_is ∙ ap (chunk_map image) (opened_super image s ranges opened)
 
 -- what is said of an opened volume's superblock and map is said of those of the disk
-pub of_disk : (image : Image) (s : Super) (ranges : List MapRange) (P : Super → List MapRange → Type 0) → IsOpened image s ranges → P s ranges → P (own_super image) (own_map image)
+pub of_disk : (image : Image) (s : Super) (ranges : List MapRange) (P : Super → List MapRange → Type 0) → IsBtrfsOpened image s ranges → P s ranges → P (own_super image) (own_map image)
 of_disk image s ranges P opened h =
     subst (λ (t : Super). P t (own_map image)) (opened_super image s ranges opened) (subst (P s) (opened_map image s ranges opened) h)
 
-pub of_volume : (image : Image) (s : Super) (ranges : List MapRange) (P : Super → List MapRange → Type 0) → IsOpened image s ranges → P (own_super image) (own_map image) → P s ranges
+pub of_volume : (image : Image) (s : Super) (ranges : List MapRange) (P : Super → List MapRange → Type 0) → IsBtrfsOpened image s ranges → P (own_super image) (own_map image) → P s ranges
 of_volume image s ranges P opened h =
     subst (P s) (sym (opened_map image s ranges opened)) (subst (λ (t : Super). P t (own_map image)) (sym (opened_super image s ranges opened)) h)
 
@@ -89,17 +89,17 @@ opening_refuses image (Refused r) none among = unreadable none (inl among)
 opening_refuses image Fault none among = tt
 opening_refuses image Memory none among = tt
 
-tree_refuses : (image : Image) (s : Super) (ranges : List MapRange) (e : BtrAnswer) → s.log_root ≡ 0 → IsOpened image s ranges → RefusesRows image s ranges e → RefusesBtrfsRows image e
+tree_refuses : (image : Image) (s : Super) (ranges : List MapRange) (e : BtrAnswer) → s.log_root ≡ 0 → IsBtrfsOpened image s ranges → RefusesRows image s ranges e → RefusesBtrfsRows image e
 tree_refuses image s ranges (Refused r) none opened (inl log) = absurd (log.0 none)
 tree_refuses image s ranges (Refused r) none opened (inr bad) =
-    unreadable (no_log image s opened.super none) (inr (opened.sound, of_disk image s ranges (λ t m. IsTreeRefusal image t m r) opened bad.1))
+    unreadable (no_log image s opened.super none) (inr (opened.sound, of_disk image s ranges (λ t m. IsFileTreeRefusal image t m r) opened bad.1))
 tree_refuses image s ranges Fault none opened refuses = tt
 tree_refuses image s ranges Memory none opened refuses = tt
 
 -- a volume whose file tree has no refusal is readable
-tree_readable : (image : Image) (s : Super) (ranges : List MapRange) → IsOpened image s ranges → ((r : BtrRefusal) → IsTreeRefusal image s ranges r → ⊥) → (r : BtrRefusal) → IsBtrfsRefusal image Tree r → ⊥
+tree_readable : (image : Image) (s : Super) (ranges : List MapRange) → IsBtrfsOpened image s ranges → ((r : BtrRefusal) → IsFileTreeRefusal image s ranges r → ⊥) → (r : BtrRefusal) → IsBtrfsRefusal image Tree r → ⊥
 tree_readable image s ranges opened none r (inl among) = none_of (opening_refusals image) r opened.sound among
-tree_readable image s ranges opened none r (inr bad) = none r (of_volume image s ranges (λ t m. IsTreeRefusal image t m r) opened bad.1)
+tree_readable image s ranges opened none r (inr bad) = none r (of_volume image s ranges (λ t m. IsFileTreeRefusal image t m r) opened bad.1)
 
 -- the rows of an opened volume without a log tree
 pub rows_listed : (image : Image) (volume : Btrfs) (result : Result (List Row) BtrAnswer) → IsVolumeOn image volume → volume.sup.log_root ≡ 0

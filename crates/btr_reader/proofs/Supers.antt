@@ -15,7 +15,7 @@ use Rattle.btr_super.specs.Super.{super_in, super_layout}
 use Rattle.btr_super.specs.Rules.{bad_field, is_super, has_fields, unread_bits, is_node_size, field_rules, feature_rules, failing, unless_refused, super_refusals, super_of}
 use Rattle.btr_reader_walk.proofs.btr_node.Rows.{both}
 use Rattle.btr_reader_walk.proofs.Stacks.{sized}
-use Rattle.btr_reader.specs.Opening.{IsInBounds}
+use Rattle.btr_reader.specs.Opening.{IsSuperInBounds}
 
 -- a device that has no block 16 has no superblock
 pub no_super : (block : List ℕ) (device : ℕ) → device ≤ 16 → super_of block SUPER_BLOCK device ≡ Err (BadBtrfs SUPER_INFO_OFFSET SuperField)
@@ -55,7 +55,7 @@ size_rules s = (is_node_size s.nodesize, Unsupported NodeSize s.nodesize) ∷ de
 abbrev sector_rules : Super → List (Bool × BtrRefusal)
 sector_rules s = (eqb s.sectorsize 4096, Unsupported SectorSize s.sectorsize) ∷ size_rules s
 
-bounds : (s : Super) (device : ℕ) → IsSome (known_kind s.csum_type) → failing (field_rules s SUPER_BLOCK device) ≡ [] → IsInBounds s
+bounds : (s : Super) (device : ℕ) → IsSome (known_kind s.csum_type) → failing (field_rules s SUPER_BLOCK device) ≡ [] → IsSuperInBounds s
 bounds s device kind h =
     let first = rule_holds (has_fields s SUPER_BLOCK device) bad_field (feature_rules s) h in
     let bits = rule_holds (eqb (unread_bits s.incompat) 0) (Unsupported Incompat (unread_bits s.incompat)) (sector_rules s) first.1 in
@@ -85,15 +85,15 @@ type_in : (block : List ℕ) → csum_type_of block ≡ (super_in block).csum_ty
 unfolding super_layout
 type_in block = ap (λ (bytes : List ℕ). field 2 bytes 0) (sym (drop-drop 164 32 block))
 
-pub in_bounds : (block : List ℕ) (device : ℕ) (s : Super) → super_of block SUPER_BLOCK device ≡ Ok s → IsInBounds s
+pub in_bounds : (block : List ℕ) (device : ℕ) (s : Super) → super_of block SUPER_BLOCK device ≡ Ok s → IsSuperInBounds s
 unfolding super_of
 in_bounds block device s h =
     let read = none_refused (super_refusals block SUPER_BLOCK device) (super_in block) s h in
     let magic = rule_holds (is_super block SUPER_BLOCK device) bad_field (kind_rules block device) read.0 in
     let kind = rule_holds (is_some (known_kind (csum_type_of block))) (Unsupported ChecksumType (csum_type_of block)) (sum_rules block device) magic.1 in
     let sum = rule_holds (has_sum (known_kind (csum_type_of block)) block) (BadBtrfs SUPER_INFO_OFFSET SuperCsum) (field_rules (super_in block) SUPER_BLOCK device) kind.1 in
-    subst IsInBounds read.1 (bounds (super_in block) device (subst (λ (n : ℕ). IsSome (known_kind n)) (type_in block) kind.0) sum.1)
+    subst IsSuperInBounds read.1 (bounds (super_in block) device (subst (λ (n : ℕ). IsSome (known_kind n)) (type_in block) kind.0) sum.1)
 
-pub read_bounds : (block : List ℕ) (device : ℕ) (result : Result Super BtrRefusal) → result ≡ super_of block SUPER_BLOCK device → IfOk result IsInBounds
+pub read_bounds : (block : List ℕ) (device : ℕ) (result : Result Super BtrRefusal) → result ≡ super_of block SUPER_BLOCK device → IfOk result IsSuperInBounds
 read_bounds block device (Ok s) is = in_bounds block device s (sym is)
 read_bounds block device (Err r) is = tt

@@ -9,18 +9,18 @@ use Rattle.btr_reader_walk.specs.refusals.declared.refusal.BtrRefusal.{BtrRefusa
 use Rattle.btr_reader_names.specs.Roots.{has_root}
 use Rattle.btr_reader_names.specs.Rules.{BreaksNames}
 use Rattle.btr_reader.specs.Chunks.{items_refusals, with_items}
-use Rattle.btr_reader.specs.Image.{entry_refusals, image_below, image_from, image_in, image_place, image_refusals, image_refusals_in, items_at, pointer_in, refusals_below, refusals_from, root_refusals, saved_entry, saved_image, tree_number, if_there}
+use Rattle.btr_reader.specs.Image.{entry_refusals, image_below, image_from, image_in, image_place, image_refusals, image_refusals_in, items_at, pointer_in, refusals_below, refusals_from, root_refusals, saved_location, saved_image, tree_number, if_there}
 use Rattle.btr_reader.specs.Opening.{boot_chunks, boot_list, boot_refusals, chunk_map, chunk_tree, map_from, opening_refusals, or_later, refusals_after, root_tree, super_on, tree_of, trees_refusals}
 use Rattle.btr_reader.specs.Parts.{own_map, own_super, way_refusals}
 use Rattle.btr_reader.specs.Roots.{root_item}
-use Rattle.btr_reader.specs.Rows.{BreaksExtents, IsTreeRefusal, bad_extents, bad_names, bad_root_item, bad_tree, no_root_item, roots_on}
+use Rattle.btr_reader.specs.Rows.{BreaksExtents, IsFileTreeRefusal, bad_extents, bad_names, bad_root_item, bad_tree, no_root_item, roots_on}
 use Rattle.btr_super.specs.Rules.{super_of, super_refusals, unless_refused}
 use Rattle.btr_super.specs.Super.{super_in}
 use Rattle.btr_super.specs.declared.superblock.Super.{Super}
 use Rattle.btr_reader_walk.specs.Events.{TreeItem}
 use Rattle.btr_reader_walk.specs.Walks.{found, wrong}
 use Rattle.btr_reader_walk.specs.declared.map.MapRange.{MapRange}
-use Rattle.btr_reader_walk.specs.declared.tree.Pointer.{Pointer}
+use Rattle.btr_reader_walk.specs.declared.tree.NodePointer.{NodePointer}
 use Rattle.btr_reader.specs.Apart.{AreExtentsApart, AreNodesApart, IsSameOutside, IsVolumeApart, boot_map, root_of, saved_tree}
 use Rattle.btr_reader.proofs.Chosen.{after_root_same, and_then_same, if_there_same}
 use Rattle.btr_reader.proofs.Nodes.{apart_same, found_same, wrong_same}
@@ -78,7 +78,7 @@ module _ (test : ℕ → Bool) (image other : Image) (apart : IsVolumeApart test
   root_same number =
       both (λ t m. pointer_in (root_item number (roots_on other t m))) ∙ ap (λ (items : List TreeItem). pointer_in (root_item number items)) roots_same
 
-  module _ (number : ℕ) (p : Pointer) (nodes : AreNodesApart test image ranges (tree_of s number p)) where
+  module _ (number : ℕ) (p : NodePointer) (nodes : AreNodesApart test image ranges (tree_of s number p)) where
     pub items_same : items_at other s ranges number p ≡ items_at image s ranges number p
     items_same = found_same test image other same ranges (tree_of s number p) nodes
 
@@ -94,16 +94,16 @@ module _ (test : ℕ → Bool) (image other : Image) (apart : IsVolumeApart test
     nodes_apart = over (λ t m. AreNodesApart test other m (tree_of t number p)) (apart_same test image other same ranges (tree_of s number p) nodes)
 
   -- ---- the way to the saved image
-  abbrev saved_number : Image → Pointer → Option ℕ
-  saved_number x p = option_and_then tree_number (saved_entry (items_at x s ranges FS_TREE p))
+  abbrev saved_number : Image → NodePointer → Option ℕ
+  saved_number x p = option_and_then tree_number (saved_location (items_at x s ranges FS_TREE p))
 
-  number_same : (p : Pointer) → root_of image FS_TREE ≡ Some p → saved_number other p ≡ saved_tree image p
-  number_same p is = ap (λ (items : List TreeItem). option_and_then tree_number (saved_entry items)) (items_same FS_TREE p (apart.files p is))
+  number_same : (p : NodePointer) → root_of image FS_TREE ≡ Some p → saved_number other p ≡ saved_tree image p
+  number_same p is = ap (λ (items : List TreeItem). option_and_then tree_number (saved_location items)) (items_same FS_TREE p (apart.files p is))
 
-  pub saved_tree_same : (p : Pointer) → root_of image FS_TREE ≡ Some p → saved_tree other p ≡ saved_tree image p
-  saved_tree_same p is = both (λ t m. option_and_then tree_number (saved_entry (items_at other t m FS_TREE p))) ∙ number_same p is
+  pub saved_tree_same : (p : NodePointer) → root_of image FS_TREE ≡ Some p → saved_tree other p ≡ saved_tree image p
+  saved_tree_same p is = both (λ t m. option_and_then tree_number (saved_location (items_at other t m FS_TREE p))) ∙ number_same p is
 
-  image_below_same : (p : Pointer) → root_of image FS_TREE ≡ Some p → (number : ℕ) → saved_tree image p ≡ Some number
+  image_below_same : (p : NodePointer) → root_of image FS_TREE ≡ Some p → (number : ℕ) → saved_tree image p ≡ Some number
       → image_below other s ranges number (root_item number (roots_on other s ranges)) ≡ image_below image s ranges number (root_item number (roots_on image s ranges))
   image_below_same p is number saved =
       ap (λ (items : List TreeItem). image_below other s ranges number (root_item number items)) roots_same
@@ -125,7 +125,7 @@ module _ (test : ℕ → Bool) (image other : Image) (apart : IsVolumeApart test
       (λ number. image_below image s ranges number (root_item number (roots_on image s ranges)))
       (saved_tree image p) (image_below_same p is)))
 
-  refusals_below_same : (p : Pointer) → root_of image FS_TREE ≡ Some p → (number : ℕ) → saved_tree image p ≡ Some number
+  refusals_below_same : (p : NodePointer) → root_of image FS_TREE ≡ Some p → (number : ℕ) → saved_tree image p ≡ Some number
       → refusals_below other s ranges number (root_item number (roots_on other s ranges)) ≡ refusals_below image s ranges number (root_item number (roots_on image s ranges))
   refusals_below_same p is number saved =
       ap (λ (items : List TreeItem). refusals_below other s ranges number (root_item number items)) roots_same
@@ -186,7 +186,7 @@ module _ (test : ℕ → Bool) (image other : Image) (apart : IsVolumeApart test
   pub root_item_same : root_item FS_TREE (roots_on other s ranges) ≡ root_item FS_TREE (roots_on image s ranges)
   root_item_same = ap (λ (items : List TreeItem). root_item FS_TREE items) roots_same
 
-  refused_same : (r : BtrRefusal) → IsTreeRefusal image s ranges r → IsTreeRefusal other s ranges r
+  refused_same : (r : BtrRefusal) → IsFileTreeRefusal image s ranges r → IsFileTreeRefusal other s ranges r
   refused_same r (no_root_item none is) = no_root_item (root_item_same ∙ none) is
   refused_same r (bad_root_item i at none is) = bad_root_item i (root_item_same ∙ at) none is
   refused_same r (bad_tree i p at pointer among) =
@@ -200,8 +200,8 @@ module _ (test : ℕ → Bool) (image other : Image) (apart : IsVolumeApart test
       bad_extents i p (root_item_same ∙ at) pointer
       (subst (λ (items : List TreeItem). BreaksExtents ranges items r) (sym (items_same FS_TREE p (apart.files p (ap pointer_in at ∙ pointer)))) breaks)
 
-  pub tree_refused : (r : BtrRefusal) → IsTreeRefusal image s ranges r → IsTreeRefusal other (own_super other) (own_map other) r
-  tree_refused r is = over (λ t m. IsTreeRefusal other t m r) (refused_same r is)
+  pub tree_refused : (r : BtrRefusal) → IsFileTreeRefusal image s ranges r → IsFileTreeRefusal other (own_super other) (own_map other) r
+  tree_refused r is = over (λ t m. IsFileTreeRefusal other t m r) (refused_same r is)
 
   -- the parts of the other disk's volume lie apart, too
   pub apart_again : IsVolumeApart test other

@@ -11,7 +11,7 @@ use Rattle.btr_reader_walk.specs.refusals.declared.refusal.BtrRefusal.TheVariant
 use Rattle.btr_reader_walk.specs.refusals.declared.rule.BtrRule.TheVariants.{ChunkForm}
 use Rattle.btr_reader_walk.specs.refusals.declared.rule.Feature.TheVariants.{ChunkType}
 use Rattle.btr_reader_walk.specs.vol_block.Volume.{field}
-use Rattle.btr_reader_walk.specs.btr_keys.Key.{key_at}
+use Rattle.btr_reader_walk.specs.btr_keys.Key.{key_in_bytes}
 use Rattle.btr_reader_walk.specs.btr_keys.declared.key.Key.{Key}
 use Rattle.btr_space_items.specs.Chunk.{chunk_of}
 use Rattle.btr_space_items.specs.declared.chunk.Chunk.{Chunk}
@@ -19,7 +19,7 @@ use Rattle.btr_space_items.specs.declared.stripe.Stripe.{Stripe}
 use Rattle.std.specs.Cmp.Lexicographic.{pointwise}
 use Rattle.btr_reader_walk.specs.declared.map.MapRange.{MapRange}
 use Rattle.btr_reader_walk.specs.Events.{TreeItem}
-use Rattle.btr_reader_contents.specs.Extents.{unless}
+use Rattle.btr_reader_contents.specs.Extents.{refused_unless}
 use Rattle.btr_reader.specs.declared.chunk.ChunkAt.{ChunkAt}
 
 -- the key of a chunk, whose offset is the logical address
@@ -38,8 +38,8 @@ entry_size bytes = KEY_SIZE + (CHUNK_HEAD_SIZE + STRIPE_SIZE * field 2 bytes 61)
 abbrev pub front_chunk : List ℕ → Option ChunkAt
 front_chunk bytes =
     if nat_lt (length bytes) SYSTEM_CHUNK_SIZE then None
-    else (if is_chunk_key (key_at bytes 0)
-    then option_map (λ chunk. record { logical = (key_at bytes 0).offset; chunk = chunk }) (chunk_of (slice_range bytes KEY_SIZE (entry_size bytes)))
+    else (if is_chunk_key (key_in_bytes bytes 0)
+    then option_map (λ chunk. record { logical = (key_in_bytes bytes 0).offset; chunk = chunk }) (chunk_of (slice_range bytes KEY_SIZE (entry_size bytes)))
     else None)
 
 -- the chunks that bytes are, at most n
@@ -75,8 +75,8 @@ is_read_kind kind = (kind == data_kind) || ((kind == system_kind) || (kind == me
 -- What is wrong with a chunk by itself.
 abbrev pub chunk_refusals : ℕ → ChunkAt → List BtrRefusal
 chunk_refusals device c =
-    unless (is_read_kind c.chunk.kind) (Unsupported ChunkType c.chunk.kind)
-    ++ (unless (c.chunk.num_stripes == 1) (Unsupported ChunkType c.chunk.num_stripes) ++ unless (lies_on device c) (BadBtrfs c.logical ChunkForm))
+    refused_unless (is_read_kind c.chunk.kind) (Unsupported ChunkType c.chunk.kind)
+    ++ (refused_unless (c.chunk.num_stripes == 1) (Unsupported ChunkType c.chunk.num_stripes) ++ refused_unless (lies_on device c) (BadBtrfs c.logical ChunkForm))
 
 -- there is an address in both
 abbrev pub overlap : MapRange → MapRange → Bool

@@ -15,7 +15,7 @@ use Rattle.btr_super.specs.Rules.{super_of, NamesNoLog}
 use Rattle.btr_super.specs.Sums.{known_kind}
 use Rattle.btr_reader_walk.specs.declared.map.MapRange.{MapRange}
 use Rattle.btr_reader_walk.specs.declared.tree.Form.{Form}
-use Rattle.btr_reader_walk.specs.declared.tree.Pointer.{Pointer}
+use Rattle.btr_reader_walk.specs.declared.tree.NodePointer.{NodePointer}
 use Rattle.btr_reader_walk.specs.declared.tree.Tree.{Tree}
 use Rattle.btr_reader_walk.specs.Walks.{wrong, found}
 pub use Rattle.btr_reader_walk.specs.Walks.{IsAmong}
@@ -30,7 +30,7 @@ super_on image = super_of (block_at image SUPER_BLOCK) SUPER_BLOCK (length image
 abbrev pub form_of : Super → Form
 form_of s = record { fsid = s.fsid; nodesize = s.nodesize; sums = unwrap_or (known_kind s.csum_type) Crc32c }
 
-abbrev pub tree_of : Super → ℕ → Pointer → Tree
+abbrev pub tree_of : Super → ℕ → NodePointer → Tree
 tree_of s owner root = record { form = form_of s; root = root; owner = owner }
 
 -- the chunk tree has the number 3, and the root tree the number 1
@@ -84,7 +84,7 @@ abbrev pub chunk_map : Image → Super → List MapRange
 chunk_map image s = map_from image s (boot_list (boot_chunks s))
 
 -- a volume was opened: this is its superblock, and this its map
-pub record IsOpened (image : Image) (s : Super) (ranges : List MapRange) : Type 0 where
+pub record IsBtrfsOpened (image : Image) (s : Super) (ranges : List MapRange) : Type 0 where
   pub sound : opening_refusals image ≡ []
   pub super : super_on image ≡ Ok s
   pub map_is : ranges ≡ chunk_map image s
@@ -102,7 +102,7 @@ IsBadArray chunks Fault = ⊥
 IsBadArray chunks Memory = Unit {0}
 
 -- bounds of a superblock that is read; its kind of checksum is known
-pub record IsInBounds (s : Super) : Type 0 where
+pub record IsSuperInBounds (s : Super) : Type 0 where
   pub kind : IsSome (known_kind s.csum_type)
   pub nodesize : IsNodeSize s.nodesize
   pub root : s.root_level ≤ 7

@@ -6,11 +6,11 @@ ghost use Rattle.btr_reader_walk.specs.refusals.declared.refusal.BtrRefusal.TheV
 ghost use Rattle.btr_reader_walk.specs.refusals.declared.rule.BtrRule.TheVariants.{SuperField};
 ghost use Rattle.btr_reader_walk.specs.Events.{TreeItem};
 ghost use Rattle.btr_reader_walk.specs.Walks.{LieOn, found, wrong};
-ghost use Rattle.btr_reader.specs.Image.{is_file, inode_number, file_if_image, image_at, image_in, saved_image, file_refusals, saved_refusals, image_refusals};
-ghost use Rattle.btr_reader_names.specs.Inodes.{inode_item, TellsInode};
+ghost use Rattle.btr_reader.specs.Image.{is_file_mode, inode_number, file_if_image, image_at, image_in, saved_image, file_refusals, saved_refusals, image_refusals};
+ghost use Rattle.btr_reader_names.specs.Inodes.{find_inode_item, TellsInode};
 ghost use Rattle.btr_reader_names.specs.Refuses.{IsNoFault};
 ghost use Rattle.btr_reader.specs.Opening.{NamesNoLogTree};
-ghost use Rattle.btr_reader.specs.Pieces.{Gathers, IsInOrder, MapsImage};
+ghost use Rattle.btr_reader.specs.Pieces.{GathersExtents, AreGatheredInOrder, MapsImage};
 ghost use Rattle.btr_reader.specs.Reading.{IsWalkable, FindsFile, ReadsImage};
 ghost use Rattle.btr_reader.specs.Roots.{HasRoots};
 ghost use Rattle.btr_reader.specs.Volume.{IsVolumeOn};
@@ -76,8 +76,8 @@ fn map_of(
     device: u64,
 ) -> Result<Option<ImageMap>, Memory>
     requires inside { LieOn device ranges.now }
-    requires order { IsInOrder gathered }
-    ensures map { (extents : List TreeItem) → is_file own.now.mode ≡ true → Gathers ranges.now extents gathered
+    requires order { AreGatheredInOrder gathered }
+    ensures map { (extents : List TreeItem) → is_file_mode own.now.mode ≡ true → GathersExtents ranges.now extents gathered
         → IfOk result (λ o. MapsImage ranges.now o (file_if_image extents (Some own.now))) }
     ensures device { IfOk result (λ o. IfSome o (λ m. m.device ≡ device)) }
 {
@@ -108,7 +108,7 @@ impl Btrfs {
         ensures known { IfErr result NamesNoLogTree }
         ensures device { IfOk result (λ o. IfSome o (λ m. m.device ≡ self.now.device)) }
         ensures reads { OverTold S.tells (S.blocks src.old) (λ image. (items : List TreeItem) → found image self.now.ranges.items tree ≡ items → wrong image self.now.ranges.items tree ≡ [] →
-            ReadsImage self.now.ranges.items (image_at items inode (inode_item items inode)) (file_refusals self.now.ranges.items items inode (inode_item items inode)) result) }
+            ReadsImage self.now.ranges.items (image_at items inode (find_inode_item items inode)) (file_refusals self.now.ranges.items items inode (find_inode_item items inode)) result) }
     {
         let ranges = self.ranges.as_slice();
         let item = find_inode(alloc, src, tree, ranges, inode)?;

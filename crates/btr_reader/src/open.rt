@@ -5,7 +5,7 @@ ghost use Rattle.btr_super.specs.Rules.{super_of, NamesNoLog};
 ghost use Rattle.btr_reader_walk.specs.Walks.{LieOn};
 ghost use Rattle.btr_reader.specs.Chunks.{range_of};
 ghost use Rattle.btr_reader_names.specs.Refuses.{IsNoFault};
-ghost use Rattle.btr_reader.specs.Opening.{super_on, boot_chunks, opening_refusals, boot_refusals, IsAmong, IsInBounds, IsSuperAnswer, NamesNoLogTree};
+ghost use Rattle.btr_reader.specs.Opening.{super_on, boot_chunks, opening_refusals, boot_refusals, IsAmong, IsSuperInBounds, IsSuperAnswer, NamesNoLogTree};
 ghost use Rattle.btr_reader.specs.Volume.{IsVolumeOn};
 
 use crate::bootstrap::array_chunks;
@@ -30,7 +30,7 @@ struct Boot {
 /// The superblock that a block is, read at its place.
 fn super_in(block: &Block, device: u64) -> Result<Super, BtrRefusal>
     ensures value { result ≡ super_of block.now.bytes SUPER_BLOCK device }
-    ensures bounds { IfOk result IsInBounds }
+    ensures bounds { IfOk result IsSuperInBounds }
     ensures known { IfErr result NamesNoLog }
 {
     Super::read(block, SUPER_BLOCK, device)
@@ -41,7 +41,7 @@ fn read_super<S: BlockSource>(src: &mut S, device: u64) -> Result<Super, BtrAnsw
     requires { device ≡ S.size src.old }
     ensures kept { S.kept src.old src.new }
     ensures cause { HasCauseOf BtrAnswer.Fault (S.faults src.old) (S.faults src.new) result }
-    ensures bounds { IfOk result IsInBounds }
+    ensures bounds { IfOk result IsSuperInBounds }
     ensures known { IfErr result NamesNoLogTree }
     ensures ok { OverTold S.tells (S.blocks src.old) (λ image. IfOk result (λ s. super_on image ≡ Ok s)) }
     ensures err { OverTold S.tells (S.blocks src.old) (λ image. IfErr result (IsSuperAnswer (super_on image))) }
@@ -56,7 +56,7 @@ fn read_super<S: BlockSource>(src: &mut S, device: u64) -> Result<Super, BtrAnsw
 
 /// The superblock of a device of `device` blocks whose block 16 was read.
 pub fn super_by(block: &Block, device: u64) -> Result<Super, BtrAnswer>
-    ensures bounds { IfOk result IsInBounds }
+    ensures bounds { IfOk result IsSuperInBounds }
     ensures ok { IfOk result (λ s. super_of block.now.bytes SUPER_BLOCK device ≡ Ok s) }
     ensures err { IfErr result (IsSuperAnswer (super_of block.now.bytes SUPER_BLOCK device)) }
     ensures known { IfErr result NamesNoLogTree }
@@ -67,7 +67,7 @@ pub fn super_by(block: &Block, device: u64) -> Result<Super, BtrAnswer>
 
 /// The chunks of the bootstrap array, on a device of `device` blocks.
 fn read_boot(alloc: Global, sup: &Super, device: u64) -> Result<Boot, BtrAnswer>
-    requires { IsInBounds sup.now }
+    requires { IsSuperInBounds sup.now }
     ensures inside { IfOk result (λ b. LieOn device b.ranges.items) }
     ensures ok { OnOk result (boot_refusals device (boot_chunks sup.now) ≡ []) }
     ensures chunks { IfOk result (λ b. boot_chunks sup.now ≡ Some b.chunks.items) }
@@ -126,7 +126,7 @@ impl Btrfs {
         src: &mut S,
         sup: Super,
     ) -> Result<Btrfs, BtrAnswer>
-        requires bounds { IsInBounds sup }
+        requires bounds { IsSuperInBounds sup }
         ensures kept { S.kept src.old src.new }
         ensures cause { HasCauseOf BtrAnswer.Fault (S.faults src.old) (S.faults src.new) result }
         ensures known { IfErr result NamesNoLogTree }

@@ -5,7 +5,7 @@ ghost use Rattle.fs_rows.specs.Rows.{row_of};
 ghost use Rattle.fs_rows.specs.declared.row.Kind.{Kind as KindOf};
 ghost use Rattle.fs_rows.specs.declared.row.Kind.TheVariants.{Symlink};
 ghost use Rattle.fs_rows.specs.declared.row.Row.{Row as RowOf};
-ghost use Rattle.fs_paths.specs.declared.link.PathTo.{PathTo as PathOf};
+ghost use Rattle.fs_paths.specs.declared.node_link.PathTo.{PathTo as PathOf};
 ghost use Rattle.fs_paths.specs.declared.node.NodeId.{NodeId as NodeOf};
 ghost use Rattle.fs_paths.specs.Paths.{ArePaths};
 ghost use Rattle.btr_reader_walk.specs.Events.{TreeItem};
@@ -21,17 +21,17 @@ ghost use Rattle.btr_reader_names.specs.Refuses.{IsNoFault};
 use crate::refusal::refused;
 use crate::row::{inode_row, tree_row};
 use btr_reader_contents::{Contents, wanted_inode};
-use btr_reader_names::{Names, kind_of_mode};
+use btr_reader_names::{NameTable, kind_of_mode};
 use btr_reader_walk::{BtrAnswer, BtrRule, Inode, Memory};
 use btrfs_format::object::FIRST_FREE_OBJECTID;
 use fs_paths::PathTo;
-use fs_rows::{Content, Row, Rows, Spot, no_content};
+use fs_rows::{Content, Row, RowPlace, Rows, no_content};
 use std::alloc::Global;
 
 /// The row at a path, behind those of the paths before it.
 pub fn row_at(
     alloc: Global,
-    names: &Names,
+    names: &NameTable,
     contents: &Contents,
     path: &PathTo,
     rows: &Rows,
@@ -69,7 +69,7 @@ fn content(alloc: Global, contents: &Contents, ino: u64, own: &Inode) -> Result<
 }
 
 /// Where a row stands, behind those of the paths before it.
-fn spot(path: &PathTo, rows: &Rows) -> Result<Spot, Memory>
+fn spot(path: &PathTo, rows: &Rows) -> Result<RowPlace, Memory>
     ensures path { IfOk result (λ spot. spot.path ≡ path.now.path) }
     ensures names { IfOk result (λ spot. spot.names ≡ path.now.names) }
     ensures earlier { path.now.least < length rows.now → IfOk result (λ spot. (row : RowOf) → slice_get rows.now path.now.least ≡ Some row → spot.least ≡ row.path) }
@@ -80,7 +80,7 @@ fn spot(path: &PathTo, rows: &Rows) -> Result<Spot, Memory>
     } else {
         path.path.clone()?
     };
-    Ok(Spot {
+    Ok(RowPlace {
         path: path.path.clone()?,
         least,
         names: path.names,

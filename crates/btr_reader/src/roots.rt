@@ -9,7 +9,7 @@ ghost use Rattle.btr_reader.specs.Opening.{IsAmong, NamesNoLogTree};
 ghost use Rattle.btr_reader.specs.Roots.{pointer_of, root_pointer, HasRoots, found_root};
 
 use btr_reader_walk::{
-    BlockSource, BtrAnswer, Key, MapRange, Memory, Notes, Pointer, Tree, note_items,
+    BlockSource, BtrAnswer, Key, MapRange, Memory, NodePointer, Notes, Tree, note_items,
 };
 use btr_space_items::RootItem;
 use btrfs_format::key::ROOT_ITEM;
@@ -21,17 +21,17 @@ use std::alloc::Global;
 #[derive(Clone, Copy, Debug)]
 pub struct RootFound {
     pub leaf: u64,
-    pub pointer: Option<Pointer>,
+    pub pointer: Option<NodePointer>,
 }
 
 /// The pointer to a tree's root; None where its level is above 7.
-fn root_pointer(root: &RootItem) -> Option<Pointer>
+fn root_pointer(root: &RootItem) -> Option<NodePointer>
     ensures { result ≡ root_pointer root.now }
 {
     if root.level > 7 {
         return None;
     }
-    Some(Pointer {
+    Some(NodePointer {
         address: root.bytenr,
         level: root.level,
         generation: root.generation,
@@ -39,7 +39,7 @@ fn root_pointer(root: &RootItem) -> Option<Pointer>
 }
 
 /// The pointer that the body of a root item gives.
-fn pointer_of(body: &[u8]) -> Option<Pointer>
+fn pointer_of(body: &[u8]) -> Option<NodePointer>
     ensures { result ≡ pointer_of body.now }
 {
     match RootItem::read(body) {

@@ -16,7 +16,7 @@ use crate::entries::find_entry;
 use crate::refusal::refused;
 use crate::roots::RootFound;
 use crate::volume::Btrfs;
-use btr_reader_walk::{BlockSource, BtrAnswer, BtrRule, Form, Key, Pointer, Tree};
+use btr_reader_walk::{BlockSource, BtrAnswer, BtrRule, Form, Key, NodePointer, Tree};
 use btr_super::{Super, sum_kind};
 use btrfs_format::key::ROOT_ITEM;
 use btrfs_format::object::{CHUNK_TREE, ROOT_TREE};
@@ -41,7 +41,7 @@ pub fn chunk_tree(sup: &Super) -> Tree
 {
     Tree {
         form: form_of(sup),
-        root: Pointer {
+        root: NodePointer {
             address: sup.chunk_root,
             level: sup.chunk_root_level,
             generation: sup.chunk_root_generation,
@@ -57,7 +57,7 @@ pub fn root_tree(sup: &Super) -> Tree
 {
     Tree {
         form: form_of(sup),
-        root: Pointer {
+        root: NodePointer {
             address: sup.root,
             level: sup.root_level,
             generation: sup.generation,

@@ -16,7 +16,7 @@ use Rattle.btr_reader_walk.specs.declared.map.MapRange.{MapRange}
 use Rattle.btr_reader_walk.specs.declared.tree.Tree.{Tree}
 use Rattle.btr_reader_walk.specs.Events.{TreeItem}
 use Rattle.btr_reader_walk.specs.Walks.{Blames, found, wrong}
-use Rattle.btr_reader_contents.specs.Extents.{is_extent_of, extents_of, extents_refusals, file_byte, file_bytes}
+use Rattle.btr_reader_contents.specs.Extents.{is_extent_of, extents_of, extents_refusals, file_byte, bytes_of_inode}
 use Rattle.btr_reader_contents.specs.States.{MarksExtents}
 use Rattle.btr_reader_contents.proofs.ExtentLists.{extents_of-one, extents_of-other, extents_refusals-append}
 use Rattle.fs_rows.specs.declared.content.Content.{Content}
@@ -34,7 +34,7 @@ pub content_made : (link : Bool) (bytes : List ℕ) (n : ℕ) (mark target : Lis
 content_made link bytes n mark target is_length is_mark is_target =
     ap (λ (z : ℕ). made z mark target) is_length ∙ (ap (λ (z : List ℕ). made (length bytes) z target) is_mark ∙ ap (λ (z : List ℕ). made (length bytes) (if link then replicate 32 0 else mark_of_bytes bytes) z) is_target)
 
-pub bytes_length : (image : Image) (ranges : List MapRange) (items : List TreeItem) (ino size : ℕ) → size ≡ length (file_bytes image ranges items ino size)
+pub bytes_length : (image : Image) (ranges : List MapRange) (items : List TreeItem) (ino size : ℕ) → size ≡ length (bytes_of_inode image ranges items ino size)
 bytes_length image ranges items ino size = sym (length-map-range_with_len (file_byte image ranges (extents_of items ino)) 0 size)
 
 -- what is wrong with the extent in hand

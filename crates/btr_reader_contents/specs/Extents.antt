@@ -60,12 +60,12 @@ file_byte image ranges [] k = 0
 file_byte image ranges (i ∷ extents) k = byte_from image ranges i (file_extent_of i.body) k (file_byte image ranges extents k)
 
 -- the bytes of a file or a symlink of this size
-abbrev pub file_bytes : Image → List MapRange → List TreeItem → ℕ → ℕ → List ℕ
-file_bytes image ranges items ino size = map (file_byte image ranges (extents_of items ino)) (range_with_len 0 size)
+abbrev pub bytes_of_inode : Image → List MapRange → List TreeItem → ℕ → ℕ → List ℕ
+bytes_of_inode image ranges items ino size = map (file_byte image ranges (extents_of items ino)) (range_with_len 0 size)
 
 -- what is answered where a test fails
-abbrev pub unless : Bool → BtrRefusal → List BtrRefusal
-unless test refusal = if test then [] else refusal ∷ []
+abbrev pub refused_unless : Bool → BtrRefusal → List BtrRefusal
+refused_unless test refusal = if test then [] else refusal ∷ []
 
 -- from byte `offset` of the file on: whole blocks in the file and on the device, and within the disk extent
 abbrev pub range_is_aligned : ℕ → DiskRange → Bool
@@ -121,9 +121,9 @@ has_form end covered offset content = nat_le end offset && (is_aligned offset co
 
 abbrev pub extent_refusals : List MapRange → ℕ → ℕ → ℕ → ℕ → FileExtentValue → List BtrRefusal
 extent_refusals ranges end covered offset leaf e =
-    unless (e.compression == 0) (Unsupported Compression e.compression)
-    ++ (unless (e.encryption == 0) (Unsupported Encryption e.encryption)
-    ++ (unless (has_form end covered offset e.content) (BadBtrfs leaf ExtentForm)
+    refused_unless (e.compression == 0) (Unsupported Compression e.compression)
+    ++ (refused_unless (e.encryption == 0) (Unsupported Encryption e.encryption)
+    ++ (refused_unless (has_form end covered offset e.content) (BadBtrfs leaf ExtentForm)
     ++ place_refusals ranges e.content))
 
 abbrev pub refusals_at : List MapRange → ℕ → ℕ → TreeItem → Option FileExtentValue → List BtrRefusal

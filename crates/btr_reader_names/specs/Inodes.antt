@@ -14,9 +14,9 @@ use Rattle.btr_reader_names.specs.declared.inodes.InodeFound.{InodeFound}
 abbrev pub is_inode_of : ℕ → TreeItem → Bool
 is_inode_of ino i = (i.key.objectid == ino) && ((i.key.kind == INODE_ITEM) && (i.key.offset == 0))
 
-abbrev pub inode_item : List TreeItem → ℕ → Option TreeItem
-inode_item [] ino = None
-inode_item (i ∷ items) ino = if is_inode_of ino i then Some i else inode_item items ino
+abbrev pub find_inode_item : List TreeItem → ℕ → Option TreeItem
+find_inode_item [] ino = None
+find_inode_item (i ∷ items) ino = if is_inode_of ino i then Some i else find_inode_item items ino
 
 -- what the highest four of the low sixteen bits of a mode say, as stat(2) has them
 abbrev pub kind_of_mode : ℕ → Option Kind
@@ -32,14 +32,14 @@ kind_of_mode mode =
 
 -- the inode with this number, where its item is there and on its grammar
 abbrev pub inode_on : List TreeItem → ℕ → Option Inode
-inode_on items ino = option_and_then (λ i. inode_of i.body) (inode_item items ino)
+inode_on items ino = option_and_then (λ i. inode_of i.body) (find_inode_item items ino)
 
 -- it is there, and of this kind
 abbrev pub HasKind : List TreeItem → ℕ → Kind → Type 0
 HasKind items ino kind = (inode : Inode) × (inode_on items ino ≡ Some inode) × (kind_of_mode inode.mode ≡ Some kind)
 
-abbrev pub IsDirectory : List TreeItem → ℕ → Type 0
-IsDirectory items ino = HasKind items ino Directory
+abbrev pub IsDirectoryInode : List TreeItem → ℕ → Type 0
+IsDirectoryInode items ino = HasKind items ino Directory
 
 -- the first one of two
 abbrev pub first_item : Option TreeItem → Option TreeItem → Option TreeItem

@@ -12,8 +12,8 @@ use Rattle.refusals.specs.vol_block.Volume.{field}
 abbrev pub known_kind : ℕ → Option SumKind
 known_kind csum_type = if csum_type == CSUM_TYPE_CRC32 then Some Crc32c else None
 
-abbrev pub kind_number : SumKind → ℕ
-kind_number Crc32c = CSUM_TYPE_CRC32
+abbrev pub csum_number : SumKind → ℕ
+csum_number Crc32c = CSUM_TYPE_CRC32
 
 -- the type of checksum that a block names
 abbrev pub csum_type_of : List ℕ → ℕ

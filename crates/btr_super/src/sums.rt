@@ -1,5 +1,5 @@
 ghost use Rattle.std.specs.Prelude.{◌≡◌, ◌≤◌, drop, length, Some};
-ghost use Rattle.btr_super.specs.Sums.{known_kind, kind_number, has_sum, behind_sum, sealed};
+ghost use Rattle.btr_super.specs.Sums.{known_kind, csum_number, has_sum, behind_sum, sealed};
 
 use btrfs_format::feature::CSUM_TYPE_CRC32;
 use btrfs_format::size::CSUM_SIZE;
@@ -18,7 +18,7 @@ pub fn sum_kind(csum_type: u16) -> Option<SumKind>
 
 /// What the superblock's field `csum_type` is for a kind of checksum.
 pub fn csum_type(kind: SumKind) -> u16
-    ensures { result ≡ kind_number kind }
+    ensures { result ≡ csum_number kind }
 {
     match kind {
         SumKind::Crc32c => CSUM_TYPE_CRC32,

@@ -10,7 +10,7 @@ use Rattle.btr_node.specs.Leaf.{Item, keys_of}
 use Rattle.btr_node.specs.Order.{ascends, is_before, Ascends}
 use Rattle.btr_node.proofs.Rows.{joined}
 use Rattle.btr_tree.specs.Building.{AreSlots}
-use Rattle.btr_tree.specs.Builder.{Building, Holds, IsSameTree, all_made}
+use Rattle.btr_tree.specs.Builder.{Building, Holds, IsSameBuilding, all_made}
 use Rattle.btr_tree.proofs.Standing.{hand_order}
 
 -- what holds of each value of a function holds of each in a list of these
@@ -65,7 +65,7 @@ pub not_true : (b : Bool) → (IsTrue b → false ≡ true) → b ≡ false
 not_true true no_way = sym (no_way refl)
 not_true false no_way = refl
 
-pub same_twice : (a b c : Building) → IsSameTree a b → IsSameTree b c → IsSameTree a c
+pub same_twice : (a b c : Building) → IsSameBuilding a b → IsSameBuilding b c → IsSameBuilding a c
 same_twice a b c first second = record {
   form = second.form ∙ first.form;
   owner = second.owner ∙ first.owner;

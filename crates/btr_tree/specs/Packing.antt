@@ -35,9 +35,9 @@ level_sizes zero fan n = []
 level_sizes (suc levels) fan n = n ∷ (if nat_le n 1 then [] else level_sizes levels fan (div_ceil n fan))
 
 -- the leaves of a tree of items with these lengths
-abbrev pub leaves : ℕ → List ℕ → List (List ℕ)
-leaves nodesize lengths = packed weight (capacity nodesize) lengths
+abbrev pub packed_leaves : ℕ → List ℕ → List (List ℕ)
+packed_leaves nodesize lengths = packed weight (capacity nodesize) lengths
 
 -- How many nodes each level of the tree has, leaves first. A level's number is a byte.
 abbrev pub tree_levels : ℕ → ℕ → List ℕ
-tree_levels nodesize leaves = level_sizes 256 (fan_out nodesize) leaves
+tree_levels nodesize packed_leaves = level_sizes 256 (fan_out nodesize) packed_leaves

@@ -7,7 +7,7 @@ ghost use Rattle.btr_node.specs.Inner.{first_keys};
 ghost use Rattle.btr_node.specs.Leaf.{keys_of};
 ghost use Rattle.btr_node.specs.NodeSize.{IsNodeSize};
 ghost use Rattle.btr_node.specs.Order.{Ascends};
-ghost use Rattle.btr_tree.specs.Building.{IsFresh, begun_at, with_node, with_item, with_child, flushed, taken, Goes, IsLater, ReadsBack, AreSlots, StandAt};
+ghost use Rattle.btr_tree.specs.Building.{IsFresh, begun_at, with_node, with_item, with_child, flushed, taken, Goes, IsLater, NodeReadsBack, AreSlots, StandAt};
 ghost use Rattle.btr_tree.specs.Packing.{fan_out};
 
 use crate::Slots;
@@ -171,7 +171,7 @@ impl Nodes {
         requires slot { taken self.old < length self.old.slots }
         requires batch { length self.old.nodes < 16 }
         ensures made { self.new ≡ with_node self.old (node_bytes self.old.draft) }
-        ensures read { ReadsBack self.old.draft (node_bytes self.old.draft) }
+        ensures read { NodeReadsBack self.old.draft (node_bytes self.old.draft) }
     {
         append_node(&mut self.bytes, &mut self.writer);
         self.held += 1;
@@ -266,7 +266,7 @@ fn append_node(bytes: &mut Vec<u8>, writer: &mut NodeWriter)
     requires room { length bytes.old.items + writer.old.nodesize ≤ vec_capacity bytes.old }
     ensures appended { bytes.new.items ≡ bytes.old.items ++ node_bytes writer.old }
     ensures room { vec_capacity bytes.old ≤ vec_capacity bytes.new }
-    ensures read { ReadsBack writer.old (node_bytes writer.old) }
+    ensures read { NodeReadsBack writer.old (node_bytes writer.old) }
     ensures same { writer.new ≡ writer.old }
 {
     let _ = bytes.extend_from_slice(writer.finish());

@@ -2,7 +2,7 @@ ghost use Rattle.std.specs.Prelude.{◌≡◌, ◌≤◌, ◌+◌, ◌*◌, [], 
 ghost use Rattle.std.specs.List.{range_with_len};
 ghost use Rattle.outside.specs.History.{reads};
 ghost use Rattle.btr_reader_walk.specs.btr_node.NodeSize.{IsNodeSize};
-ghost use Rattle.btr_tree.specs.Builder.{Holds, IsSameTree, Stands};
+ghost use Rattle.btr_tree.specs.Builder.{Holds, IsSameBuilding, Stands};
 ghost use Rattle.btr_tree.specs.Building.{AreSlots};
 
 use btr_keys::Key;
@@ -142,7 +142,7 @@ fn push_numbered<D: Disk>(
     ensures going { tree.new.done ≡ false }
     ensures stands { IsTrue D.tells → OnOk result (Stands tree.new (reads (D.history disk.new))) }
     ensures holds { OnOk result (Holds tree.new (map (λ k. (record { objectid = k; kind = INODE_ITEM; offset = 0 }, body.now)) (range_with_len 0 count))) }
-    ensures same { OnOk result (IsSameTree tree.old tree.new) }
+    ensures same { OnOk result (IsSameBuilding tree.old tree.new) }
     ensures open { D.opened disk.new ≡ D.opened disk.old }
     ensures size { D.size disk.new ≡ D.size disk.old }
 {

@@ -4,7 +4,7 @@ ghost use Rattle.btr_tree.specs.Building.{AreSlots};
 
 use btr_item_list::ItemList;
 use btr_keys::Key;
-use btr_reader_walk::{Form, MapRange, Pointer, Tree, TreeWalker};
+use btr_reader_walk::{Form, MapRange, NodePointer, Tree, TreeWalker};
 use btr_tree::{Root, Slots};
 use btr_tree_writer::{ListItems, NodeForm, Trees, WriteAnswer, WrittenTree, write_tree};
 use btrfs_format::block::SUPER_INFO_OFFSET;
@@ -79,7 +79,7 @@ fn has_items<S: BlockSource>(
             nodesize: FORM.nodesize,
             sums: FORM.sums,
         },
-        root: Pointer {
+        root: NodePointer {
             address: root.address,
             level: root.level,
             generation: 1,

@@ -21,7 +21,7 @@ use Rattle.btr_tree_writer.specs.Trees.{TreeStands}
 use Rattle.btr_tree_writer.proofs.Others.{by_nodes}
 use Rattle.btr_tree_writer.proofs.Pushing.{in_all}
 use Rattle.unit_plan.specs.declared.piece.Piece.{Piece}
-use Rattle.convert_core.specs.Converted.{StandsOn}
+use Rattle.convert_core.specs.Converted.{StandsConverted}
 use Rattle.convert_core.proofs.Sums.{sums_same}
 
 -- a block of later slots is one of all
@@ -114,7 +114,7 @@ other_sums image mid third new m r nodes same has = record {
 -- a converted volume stands on each disk that has the same blocks of pieces and nodes
 pub stands_stay : (image old new : Image) (m : Making) (r : VolumeTrees) (nodes : List TreeNode) → ((p : Piece) → Contains m.pieces p → 1 ≤ p.count) → length new ≡ length old
     → ((b : ℕ) → InPieces m b → block_at new b ≡ block_at old b) → ((b : ℕ) → InNodes m b → block_at new b ≡ block_at old b)
-    → StandsOn image old m r nodes → StandsOn image new m r nodes
+    → StandsConverted image old m r nodes → StandsConverted image new m r nodes
 stands_stay image old new m r nodes some size pieces trees stands = record {
   size = size ∙ stands.size;
   pieces = pieces_stay image old new m some pieces stands.pieces;

@@ -8,7 +8,7 @@ use Rattle.btrfs_format.specs.declared.size.TheConstants.{SYSTEM_CHUNK_ARRAY_SIZ
 use Rattle.btr_tree_writer.specs.btr_space_items.declared.device.Device.{Device}
 use Rattle.btr_super.specs.declared.superblock.Super.{Super}
 use Rattle.space_items.specs.Chunks.{device_body}
-use Rattle.unit_plan.specs.declared.chunk.Chunk.{Chunk}
+use Rattle.unit_plan.specs.declared.chunk.PlannedChunk.{PlannedChunk}
 use Rattle.command_answers.specs.vol_block.declared.ids.Ids.{Ids}
 use Rattle.convert_steps.specs.Superblock.{boot_bytes, features, new_super}
 use Rattle.convert_steps.specs.declared.fields.NewRoots.{NewRoots}
@@ -50,7 +50,7 @@ module _ (ids : Ids) (blocks nodesize : ℕ) (label : List ℕ) (roots : NewRoot
     backup_roots = replicate 672 0;
   }
 
-  pub fields_are : (chunks list : List Chunk) (array : List ℕ) (size incompat : ℕ) (device : Device) → chunks ≡ list
+  pub fields_are : (chunks list : List PlannedChunk) (array : List ℕ) (size incompat : ℕ) (device : Device) → chunks ≡ list
       → array ≡ boot_bytes ids chunks ++ replicate (SYSTEM_CHUNK_ARRAY_SIZE - length (boot_bytes ids chunks)) 0 → size ≡ length (boot_bytes ids chunks)
       → incompat ≡ features nodesize → device ≡ device_body ids blocks chunks
       → by_parts array size incompat device ≡ new_super ids blocks nodesize label list roots
@@ -60,4 +60,4 @@ module _ (ids : Ids) (blocks nodesize : ℕ) (label : List ℕ) (roots : NewRoot
       ∙ (ap (λ (n : ℕ). by_parts (boot_bytes ids chunks ++ replicate (SYSTEM_CHUNK_ARRAY_SIZE - length (boot_bytes ids chunks)) 0) n incompat device) size_is
       ∙ (ap (λ (n : ℕ). by_parts (boot_bytes ids chunks ++ replicate (SYSTEM_CHUNK_ARRAY_SIZE - length (boot_bytes ids chunks)) 0) (length (boot_bytes ids chunks)) n device) incompat_is
       ∙ (ap (λ (d : Device). by_parts (boot_bytes ids chunks ++ replicate (SYSTEM_CHUNK_ARRAY_SIZE - length (boot_bytes ids chunks)) 0) (length (boot_bytes ids chunks)) (features nodesize) d) device_is
-      ∙ ap (λ (cs : List Chunk). new_super ids blocks nodesize label cs roots) same)))
+      ∙ ap (λ (cs : List PlannedChunk). new_super ids blocks nodesize label cs roots) same)))

@@ -6,7 +6,7 @@ use Rattle.command_answers.specs.outside.History.{Image, History, block_at, read
 use Rattle.command_answers.proofs.outside.Crash.{left_each, reads_only, write_only, writes_length, writes_then, writes_weaker}
 use Rattle.command_answers.proofs.outside.Phases.{only_not, set_stands, write_reads}
 use Rattle.btr_super.specs.Super.{mirror_bytes}
-use Rattle.convert_steps.specs.Switch.{IsMirror, IsCopy, IsCopyAt, IsPart, IsSwitched, HasCopies}
+use Rattle.convert_steps.specs.Switch.{IsMirror, IsCopy, IsCopyAt, IsSwitchPart, IsSwitched, HasCopies}
 
 not_mirror : ¬ IsMirror 16
 not_mirror mirror = ⊎_elim (λ eq. omega (arith, eq)) (λ eq. omega (arith, eq)) mirror
@@ -66,13 +66,13 @@ module _ (superblock : List ℕ) (blocks : ℕ) (old : Image) where
 
 -- what each phase writes is part of what the switch writes
 module _ (superblock : List ℕ) (blocks : ℕ) where
-  pub superblock_part : (h₀ h₁ : History) → WritesOnly (IsBlock 16 superblock) h₀ h₁ → WritesOnly (IsPart superblock blocks) h₀ h₁
-  superblock_part h₀ h₁ = writes_weaker (IsBlock 16 superblock) (IsPart superblock blocks) (λ b bytes is. inl is) h₀ h₁
+  pub superblock_part : (h₀ h₁ : History) → WritesOnly (IsBlock 16 superblock) h₀ h₁ → WritesOnly (IsSwitchPart superblock blocks) h₀ h₁
+  superblock_part h₀ h₁ = writes_weaker (IsBlock 16 superblock) (IsSwitchPart superblock blocks) (λ b bytes is. inl is) h₀ h₁
 
-  pub copies_part : (h₀ h₁ h₂ : History) → WritesOnly (IsBlock 16 superblock) h₀ h₁ → WritesOnly (IsCopy superblock blocks) h₁ h₂ → WritesOnly (IsPart superblock blocks) h₀ h₂
+  pub copies_part : (h₀ h₁ h₂ : History) → WritesOnly (IsBlock 16 superblock) h₀ h₁ → WritesOnly (IsCopy superblock blocks) h₁ h₂ → WritesOnly (IsSwitchPart superblock blocks) h₀ h₂
   copies_part h₀ h₁ h₂ first then =
-      writes_then (IsPart superblock blocks) h₀ h₁ h₂ (superblock_part h₀ h₁ first)
-      (writes_weaker (IsCopy superblock blocks) (IsPart superblock blocks) (λ b bytes is. inr is) h₁ h₂ then)
+      writes_then (IsSwitchPart superblock blocks) h₀ h₁ h₂ (superblock_part h₀ h₁ first)
+      (writes_weaker (IsCopy superblock blocks) (IsSwitchPart superblock blocks) (λ b bytes is. inr is) h₁ h₂ then)
 
   pub copy_part : (place : ℕ) (h₀ h₁ : History) → WritesOnly (IsCopyAt place superblock blocks) h₀ h₁ → WritesOnly (IsCopy superblock blocks) h₀ h₁
   copy_part place h₀ h₁ = writes_weaker (IsCopyAt place superblock blocks) (IsCopy superblock blocks) (λ b bytes is. is.1) h₀ h₁

@@ -11,7 +11,7 @@ use Rattle.btr_tree.specs.btr_keys.Key.{key_bytes}
 use Rattle.btr_tree.specs.btr_node.Leaf.{Item}
 use Rattle.btr_super.specs.declared.superblock.Super.{Super}
 use Rattle.space_items.specs.Chunks.{chunk_item, device_body}
-use Rattle.unit_plan.specs.declared.chunk.Chunk.{Chunk}
+use Rattle.unit_plan.specs.declared.chunk.PlannedChunk.{PlannedChunk}
 use Rattle.unit_plan.specs.declared.chunk.Role.{Role}
 use Rattle.unit_plan.specs.declared.chunk.Role.TheVariants.{System, Metadata, Data}
 use Rattle.convert_steps.specs.declared.fields.NewRoots.{NewRoots}
@@ -25,7 +25,7 @@ is_system_role Data = false
 abbrev pub record_bytes : Item → List ℕ
 record_bytes item = key_bytes item.0 ++ item.1
 
-abbrev pub boot_bytes : Ids → List Chunk → List ℕ
+abbrev pub boot_bytes : Ids → List PlannedChunk → List ℕ
 boot_bytes ids chunks = flat_map (λ c. record_bytes (chunk_item ids c)) (filter (λ c. is_system_role c.role) chunks)
 
 -- The features that the volume has: mixed back references, extended inode refs, no holes and skinny metadata, and big nodes
@@ -36,7 +36,7 @@ features nodesize =
     else MIXED_BACKREF + EXTENDED_IREF + SKINNY_METADATA + NO_HOLES + BIG_METADATA
 
 -- The superblock of a volume of so many blocks, with these identifiers, this field of a label, and these chunks.
-unfoldable pub new_super : Ids → ℕ → ℕ → List ℕ → List Chunk → NewRoots → Super
+unfoldable pub new_super : Ids → ℕ → ℕ → List ℕ → List PlannedChunk → NewRoots → Super
 new_super ids blocks nodesize label chunks roots = record {
   fsid = ids.fsid;
   bytenr = SUPER_INFO_OFFSET;

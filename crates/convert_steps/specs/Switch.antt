@@ -27,8 +27,8 @@ abbrev pub IsCopyAt : ℕ → List ℕ → ℕ → ℕ → List ℕ → Type 0
 IsCopyAt place superblock blocks b bytes = (b ≡ place) × IsCopy superblock blocks b bytes
 
 -- what a switch writes
-abbrev pub IsPart : List ℕ → ℕ → ℕ → List ℕ → Type 0
-IsPart superblock blocks b bytes = IsBlock 16 superblock b bytes ⊎ IsCopy superblock blocks b bytes
+abbrev pub IsSwitchPart : List ℕ → ℕ → ℕ → List ℕ → Type 0
+IsSwitchPart superblock blocks b bytes = IsBlock 16 superblock b bytes ⊎ IsCopy superblock blocks b bytes
 
 -- the new superblock, and all else as it was but for the copies' blocks
 pub record IsSwitched (superblock : List ℕ) (old image : Image) : Type 0 where

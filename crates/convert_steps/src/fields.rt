@@ -5,7 +5,7 @@ ghost use Rattle.btr_super.specs.Super.{super_bytes};
 ghost use Rattle.convert_steps.specs.Superblock.{boot_bytes, features, is_system_role, new_super, record_bytes};
 ghost use Rattle.space_items.specs.Chunks.{chunk_item};
 ghost use Rattle.unit_plan.specs.Chunks.{AreChunks, FitsVolume};
-ghost use Rattle.unit_plan.specs.declared.chunk.Chunk.{Chunk as ChunkOf};
+ghost use Rattle.unit_plan.specs.declared.chunk.PlannedChunk.{PlannedChunk as PlannedChunkOf};
 
 use btr_super::Super;
 use btr_tree::{Key, Root};
@@ -20,7 +20,7 @@ use btrfs_format::size::{KEY_SIZE, LABEL_SIZE, SYSTEM_CHUNK_ARRAY_SIZE, SYSTEM_C
 use command_answers::{Block, Ids, Memory};
 use space_items::{chunk_body, device_body};
 use std::alloc::Global;
-use unit_plan::{Chunk, Chunks, Plan, Role, chunks_of};
+use unit_plan::{Chunks, Plan, PlannedChunk, Role, chunks_of};
 
 /// The features that each new volume has.
 const FEATURES: u64 = MIXED_BACKREF | EXTENDED_IREF | SKINNY_METADATA | NO_HOLES;
@@ -51,8 +51,8 @@ pub fn superblock(
 ) -> Result<Block, Memory>
     requires small { blocks ≤ 2 ^ 29 }
     requires units { FitsVolume plan.now blocks }
-    requires boot { (chunks : List ChunkOf) → AreChunks plan.now blocks chunks → length (boot_bytes ids.now chunks) ≤ SYSTEM_CHUNK_ARRAY_SIZE }
-    ensures { (chunks : List ChunkOf) → AreChunks plan.now blocks chunks → IfOk result (λ block. block.bytes ≡ super_bytes (new_super ids.now blocks nodesize label chunks roots.now)) }
+    requires boot { (chunks : List PlannedChunkOf) → AreChunks plan.now blocks chunks → length (boot_bytes ids.now chunks) ≤ SYSTEM_CHUNK_ARRAY_SIZE }
+    ensures { (chunks : List PlannedChunkOf) → AreChunks plan.now blocks chunks → IfOk result (λ block. block.bytes ≡ super_bytes (new_super ids.now blocks nodesize label chunks roots.now)) }
 {
     let chunks = chunks_of(alloc, plan, blocks)?;
     let (array, size) = boot_array(ids, &chunks);
@@ -133,7 +133,7 @@ fn is_system(role: Role) -> bool
 }
 
 /// Writes a chunk's key and body.
-fn write_record(ids: &Ids, chunk: Chunk, into: &mut [u8])
+fn write_record(ids: &Ids, chunk: PlannedChunk, into: &mut [u8])
     requires small { chunk.start + chunk.length ≤ 2 ^ 29 }
     requires room { length into.old ≡ SYSTEM_CHUNK_SIZE }
     ensures { into.new ≡ record_bytes (chunk_item ids.now chunk) }

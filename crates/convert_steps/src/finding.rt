@@ -10,26 +10,26 @@ use reiser_volume::{Format, format_of};
 
 /// Block 16 of a disk, zeros where there is none, and the format of the volume by it.
 #[derive(Clone, Copy, Debug)]
-pub struct Found {
+pub struct FormatFound {
     pub format: Format,
     pub block: Block,
 }
 
 /// The format of block 16; without that block it is neither.
-pub fn find_format<S: BlockSource>(src: &mut S) -> Result<Found, Fault>
+pub fn find_format<S: BlockSource>(src: &mut S) -> Result<FormatFound, Fault>
     ensures kept { S.kept src.old src.new }
     ensures found { OverTold S.tells (S.blocks src.old) (λ image. IfOk result (IsFoundOn image)) }
     ensures cause { HasCause (S.faults src.old) (S.faults src.new) result }
 {
     let mut block = Block::zero();
     if src.len() <= SUPER_BLOCK {
-        return Ok(Found {
+        return Ok(FormatFound {
             format: Format::Neither,
             block,
         });
     }
     src.read(SUPER_BLOCK, &mut block)?;
-    Ok(Found {
+    Ok(FormatFound {
         format: format_of(&block),
         block,
     })

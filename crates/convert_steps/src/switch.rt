@@ -3,7 +3,7 @@ ghost use Rattle.std.specs.Prelude.{◌≡◌, ◌≤◌, ◌<◌, ◌⊎◌, sl
 ghost use Rattle.command_answers.specs.outside.Fault.{HasCause};
 ghost use Rattle.command_answers.specs.outside.History.{block_at, reads, IsSettled, IsBlock, EachCrash, WritesOnly};
 ghost use Rattle.btr_super.specs.Super.{mirror_bytes};
-ghost use Rattle.convert_steps.specs.Switch.{IsMirror, IsPart, IsCopy, IsCopyAt, IsSwitched, HasCopies, mirror_places, on_volume};
+ghost use Rattle.convert_steps.specs.Switch.{IsMirror, IsSwitchPart, IsCopy, IsCopyAt, IsSwitched, HasCopies, mirror_places, on_volume};
 
 use btr_super::mirror;
 use btrfs_format::block::{FIRST_MIRROR, SECOND_MIRROR, SUPER_BLOCK};
@@ -39,7 +39,7 @@ pub fn switch_to<D: Disk>(disk: &mut D, superblock: &Block, blocks: u64) -> Resu
     ensures open { D.opened disk.new ≡ D.opened disk.old }
     ensures size { D.size disk.new ≡ D.size disk.old }
     ensures borrow { D.borrow disk.new ≡ D.borrow disk.old }
-    ensures only { IsTrue D.tells → WritesOnly (IsPart superblock.now.bytes blocks) (D.history disk.old) (D.history disk.new) }
+    ensures only { IsTrue D.tells → WritesOnly (IsSwitchPart superblock.now.bytes blocks) (D.history disk.old) (D.history disk.new) }
     ensures written { IsTrue D.tells → OnOk result (IsSwitched superblock.now.bytes (reads (D.history disk.old)) (reads (D.history disk.new))) }
     ensures copies { IsTrue D.tells → OnOk result (HasCopies superblock.now.bytes blocks (reads (D.history disk.new))) }
     ensures settled { IsTrue D.tells → OnOk result (IsSettled (D.history disk.new)) }

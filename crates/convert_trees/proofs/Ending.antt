@@ -22,9 +22,9 @@ use Rattle.btr_tree_writer.specs.Trees.{TreeStands}
 use Rattle.btr_tree_writer.specs.declared.form.NodeForm.{NodeForm}
 use Rattle.btr_tree_writer.specs.declared.trees.Trees.{Trees}
 use Rattle.btr_tree_writer.proofs.Rows.{slots_left}
-use Rattle.unit_plan.specs.Laws.{AreApart}
+use Rattle.unit_plan.specs.Laws.{AreUnitsApart}
 use Rattle.unit_plan.specs.Places.{node_places}
-use Rattle.unit_plan.specs.declared.chunk.Chunk.{Chunk}
+use Rattle.unit_plan.specs.declared.chunk.PlannedChunk.{PlannedChunk}
 use Rattle.convert_options.specs.declared.options.Options.{Options}
 use Rattle.unit_plan.specs.declared.piece.Piece.{Piece}
 use Rattle.unit_plan.specs.declared.plan.Plan.{Plan}
@@ -84,9 +84,9 @@ last_fits row size places taken index now pieces chunks others given a b c d few
     (subst (λ (n : ℕ). slots_needed size.nodesize taken (root_count size index now) pieces chunks n ≤ length places) (sym d) few)))
 
 -- What is known in the end, told of the arguments: the rows before and behind the trees, and the trees that were added.
-pub record Ends (volume : Volume) (o : Options) (ids : Ids) (now : ℕ) (plan : Plan) (pieces : List Piece) (chunks : List Chunk) (image other : Image) (chunk_row chunk_end row end : Trees) (chunk : Root) (first : FirstRoots) (h₁ h₂ h₃ : History) (t : VolumeTrees) : Type 0 where
+pub record Ends (volume : Volume) (o : Options) (ids : Ids) (now : ℕ) (plan : Plan) (pieces : List Piece) (chunks : List PlannedChunk) (image other : Image) (chunk_row chunk_end row end : Trees) (chunk : Root) (first : FirstRoots) (h₁ h₂ h₃ : History) (t : VolumeTrees) : Type 0 where
   pub size : IsNodeSize o.nodesize
-  pub apart : AreApart plan.system plan.metadata
+  pub apart : AreUnitsApart plan.system plan.metadata
   pub serve : AreSlots o.nodesize (node_places o.nodesize plan.metadata)
   pub chunk_fresh : chunk_row ≡ row_with (node_form o ids) (node_places o.nodesize plan.system) 0 []
   pub row_fresh : row ≡ row_with (node_form o ids) (node_places o.nodesize plan.metadata) 0 []

@@ -17,7 +17,7 @@ use Rattle.convert_steps.proofs.btr_item_list.Sorting.{ascending_sum}
 use Rattle.convert_steps.proofs.extent_pieces.Bounding.{filter_few}
 use Rattle.convert_steps.specs.file_items.Extents.{extents_at, piece_bytes, pieces_of_volume, source_block}
 use Rattle.convert_steps.specs.file_items.Names.{Indexed, entry_items, letters}
-use Rattle.convert_steps.specs.file_items.Small.{image_entries, image_flags, image_head, image_items, image_name, relocation_items, root_items}
+use Rattle.convert_steps.specs.file_items.Small.{image_entries, image_flags, image_head, image_items, image_name, relocation_items, root_directory_items}
 use Rattle.convert_steps.specs.unit_plan.Needed.{image_tree_bytes}
 use Rattle.convert_steps.specs.unit_plan.declared.counts.Counts.{Counts}
 use Rattle.convert_steps.specs.unit_plan.declared.piece.Piece.{Piece}
@@ -58,7 +58,7 @@ entries_bytes = omega arith
 none_bytes : bytes_in (entry_items FIRST_FREE_OBJECTID []) ≤ 0
 none_bytes = omega arith
 
-root_bytes : (now n : ℕ) (list : List Indexed) → bytes_in (entry_items FIRST_FREE_OBJECTID list) ≤ n → bytes_in (root_items now list) ≤ 222 + n
+root_bytes : (now n : ℕ) (list : List Indexed) → bytes_in (entry_items FIRST_FREE_OBJECTID list) ≤ n → bytes_in (root_directory_items now list) ≤ 222 + n
 root_bytes now n list few =
     let made = made_bytes FIRST_FREE_OBJECTID (inode_made now DIRECTORY_MODE (2 * letters list) 0 0) (ref_item FIRST_FREE_OBJECTID FIRST_FREE_OBJECTID 0 (46 ∷ 46 ∷ []) ∷ entry_items FIRST_FREE_OBJECTID list) in
     let named = reference_bytes FIRST_FREE_OBJECTID FIRST_FREE_OBJECTID 0 (46 ∷ 46 ∷ []) (entry_items FIRST_FREE_OBJECTID list) in
@@ -73,7 +73,7 @@ unfolding image_head
 head_bytes blocks nbytes datasum now =
     let name : List Item = ref_item 257 FIRST_FREE_OBJECTID 2 image_name ∷ [] in
     let made : Inode = inode_made now IMAGE_MODE (4096 * blocks) nbytes (image_flags datasum) in
-    let both = bytes-append (root_items now image_entries) (inode_item 257 made ∷ name) in
+    let both = bytes-append (root_directory_items now image_entries) (inode_item 257 made ∷ name) in
     let first = root_bytes now 200 image_entries entries_bytes in
     let second = made_bytes 257 made name in
     let third : bytes_in name ≡ 40 = reference_bytes 257 FIRST_FREE_OBJECTID 2 image_name [] in

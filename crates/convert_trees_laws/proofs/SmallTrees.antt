@@ -20,7 +20,7 @@ use Rattle.convert_steps.proofs.btr_item_list.Sorting.{ascending_filter, ascendi
 use Rattle.convert_steps.specs.unit_plan.declared.piece.Piece.{Piece}
 use Rattle.convert_steps.specs.file_items.Extents.{extents_at, piece_bytes, pieces_of_volume, source_block}
 use Rattle.convert_steps.specs.file_items.Names.{Indexed, entry_items, letters, root_ref}
-use Rattle.convert_steps.specs.file_items.Small.{image_entries, image_flags, image_head, image_items, image_name, relocation_items, root_items}
+use Rattle.convert_steps.specs.file_items.Small.{image_entries, image_flags, image_head, image_items, image_name, relocation_items, root_directory_items}
 use Rattle.convert_trees_laws.specs.Keys.{ImageKeysAscend}
 use Rattle.convert_trees_laws.proofs.Apart.{at_most_one, same_from, shares, shares_none}
 use Rattle.convert_trees_laws.proofs.Rising.{Climb, IsPart, Rise, climb_groups, climb_once, climb_times, part_append, part_of_kind, part_one, rise_ascends, rise_two}
@@ -37,7 +37,7 @@ entries_part ino list up =
 pub extents_part : (ino : ℕ) (at : Piece → ℕ) (pieces : List Piece) → Climb at pieces → IsPart ino EXTENT_DATA EXTENT_DATA (extents_at ino at pieces)
 extents_part ino at pieces up = part_of_kind ino EXTENT_DATA (λ (p : Piece). 4096 * at p) (λ (p : Piece). file_extent_bytes (regular_extent p.place p.count)) pieces (climb_times at pieces up)
 
-root_part : (now : ℕ) (list : List Indexed) → Climb (λ (e : Indexed). e.0) list → IsPart FIRST_FREE_OBJECTID INODE_ITEM DIR_INDEX (root_items now list)
+root_part : (now : ℕ) (list : List Indexed) → Climb (λ (e : Indexed). e.0) list → IsPart FIRST_FREE_OBJECTID INODE_ITEM DIR_INDEX (root_directory_items now list)
 root_part now list up =
     part_append FIRST_FREE_OBJECTID INODE_ITEM INODE_ITEM INODE_REF DIR_INDEX (inode_item FIRST_FREE_OBJECTID (inode_made now DIRECTORY_MODE (2 * letters list) 0 0) ∷ []) (root_ref ∷ entry_items FIRST_FREE_OBJECTID list) (omega arith) (omega arith) (omega arith)
     (part_one FIRST_FREE_OBJECTID INODE_ITEM 0 (inode_bytes (inode_made now DIRECTORY_MODE (2 * letters list) 0 0)))
@@ -62,7 +62,7 @@ sources_once pieces distinct =
 image_rises : (blocks : ℕ) (pieces : List Piece) (datasum : Bool) (now : ℕ) → IsDistinct shares pieces → Rise (image_items blocks pieces datasum now)
 unfolding image_items image_head
 image_rises blocks pieces datasum now distinct =
-    let root : List Item = root_items now image_entries in
+    let root : List Item = root_directory_items now image_entries in
     let nbytes : ℕ = piece_bytes (pieces_of_volume pieces) in
     let inode : Item = inode_item 257 (inode_made now IMAGE_MODE (4096 * blocks) nbytes (image_flags datasum)) in
     let name : Item = ref_item 257 FIRST_FREE_OBJECTID 2 image_name in

@@ -15,11 +15,11 @@ use Rattle.btr_item_list.specs.Groups.{grouped, ascending}
 use Rattle.btr_item_list.specs.Lists.{offset_of, joined, joined_item}
 use Rattle.btr_item_list.proofs.Joining.{take_push}
 use Rattle.btr_item_list.proofs.Runs.{grouped_map, ascending_map, flat_of_map}
-use Rattle.reiser_volume.specs.reiser_volume_names.Names.{inode_of}
+use Rattle.reiser_volume.specs.reiser_volume_names.Names.{ino_of_key}
 use Rattle.reiser_volume_objects.specs.declared.key.ObjectKey.{ObjectKey}
 use Rattle.reiser_volume_objects.specs.declared.naming.Naming.{Naming}
 use Rattle.file_items.specs.Gathered.{AreExtrefs}
-use Rattle.file_items.specs.Names.{Entry, Indexed, names_of, parent_of, inode_ref, extref, inode_refs, extrefs, entry_items, ref_record, far_record, hash_record, index_record}
+use Rattle.file_items.specs.Names.{IndexedLink, Indexed, names_of, parent_of, inode_ref, extref, inode_refs, extrefs, entry_items, ref_record, far_record, hash_record, index_record}
 
 module _ {A : Type 0} (ino kind : ℕ) (key : A → ℕ) (kind_of : A → ℕ) (number : A → ℕ) (bytes : A → List ℕ) where
   abbrev record_of : A → Item
@@ -40,25 +40,25 @@ map_twice f g [] = refl
 map_twice {A} {B} {C} f g (x ∷ xs) = ap (λ (l : List C). f (g x) ∷ l) (map_twice f g xs)
 
 -- the references of an object
-pub refs_added : (keys : List ObjectKey) (links : List Naming) (key : ObjectKey) (ino : ℕ) (refs far extra items₀ items₁ items₂ : List Item) → ino ≡ inode_of keys key
+pub refs_added : (keys : List ObjectKey) (links : List Naming) (key : ObjectKey) (ino : ℕ) (refs far extra items₀ items₁ items₂ : List Item) → ino ≡ ino_of_key keys key
     → refs ≡ map (ref_record keys ino) (filter (λ e. not e.extended) (names_of links key)) → far ≡ map (far_record keys) (filter (λ e. e.extended) (names_of links key)) → AreExtrefs ino far extra
     → items₁ ≡ items₀ ++ joined ino INODE_REF refs → items₂ ≡ items₁ ++ joined ino INODE_EXTREF extra → items₂ ≡ items₀ ++ (inode_refs keys links key ++ extrefs keys links key)
 refs_added keys links key ino refs far extra items₀ items₁ items₂ ino_is refs_are far_is extra_is first second =
-    let plain : List Entry = filter (λ e. not e.extended) (names_of links key) in
-    let more : List Entry = filter (λ e. e.extended) (names_of links key) in
+    let plain : List IndexedLink = filter (λ e. not e.extended) (names_of links key) in
+    let more : List IndexedLink = filter (λ e. e.extended) (names_of links key) in
     let one : joined ino INODE_REF refs ≡ inode_refs keys links key =
-    ap (joined ino INODE_REF) refs_are ∙ (joined_of ino INODE_REF (λ (e : Entry). ino) (λ (e : Entry). 12) (parent_of keys) (λ (e : Entry). inode_ref_bytes (inode_ref e)) plain
-    ∙ ap (λ (n : ℕ). map (λ (g : ℕ × List Entry). (make_key n INODE_REF g.0, flat_map (λ (e : Entry). inode_ref_bytes (inode_ref e)) g.1)) (grouped (parent_of keys) plain)) ino_is) in
+    ap (joined ino INODE_REF) refs_are ∙ (joined_of ino INODE_REF (λ (e : IndexedLink). ino) (λ (e : IndexedLink). 12) (parent_of keys) (λ (e : IndexedLink). inode_ref_bytes (inode_ref e)) plain
+    ∙ ap (λ (n : ℕ). map (λ (g : ℕ × List IndexedLink). (make_key n INODE_REF g.0, flat_map (λ (e : IndexedLink). inode_ref_bytes (inode_ref e)) g.1)) (grouped (parent_of keys) plain)) ino_is) in
     let other : joined ino INODE_EXTREF extra ≡ extrefs keys links key =
     ap (joined ino INODE_EXTREF) (extra_is ∙ (ap (map (λ (i : Item). (make_key ino INODE_EXTREF i.0.objectid, i.1))) (ap (ascending offset_of) far_is ∙ ascending_map offset_of (far_record keys) more)
     ∙ map_twice (λ (i : Item). (make_key ino INODE_EXTREF i.0.objectid, i.1)) (far_record keys) (ascending (parent_of keys) more)))
-    ∙ (joined_of ino INODE_EXTREF (λ (e : Entry). ino) (λ (e : Entry). 13) (λ (e : Entry). extref_hash (parent_of keys e) e.link.name) (λ (e : Entry). extref_bytes (extref keys e)) (ascending (parent_of keys) more)
-    ∙ ap (λ (n : ℕ). map (λ (g : ℕ × List Entry). (make_key n INODE_EXTREF g.0, flat_map (λ (e : Entry). extref_bytes (extref keys e)) g.1)) (grouped (λ (e : Entry). extref_hash (parent_of keys e) e.link.name) (ascending (parent_of keys) more))) ino_is) in
+    ∙ (joined_of ino INODE_EXTREF (λ (e : IndexedLink). ino) (λ (e : IndexedLink). 13) (λ (e : IndexedLink). extref_hash (parent_of keys e) e.link.name) (λ (e : IndexedLink). extref_bytes (extref keys e)) (ascending (parent_of keys) more)
+    ∙ ap (λ (n : ℕ). map (λ (g : ℕ × List IndexedLink). (make_key n INODE_EXTREF g.0, flat_map (λ (e : IndexedLink). extref_bytes (extref keys e)) g.1)) (grouped (λ (e : IndexedLink). extref_hash (parent_of keys e) e.link.name) (ascending (parent_of keys) more))) ino_is) in
     second ∙ (ap (λ (l : List Item). l ++ joined ino INODE_EXTREF extra) first ∙ (append_assoc items₀ (joined ino INODE_REF refs) (joined ino INODE_EXTREF extra)
     ∙ ap (λ (l : List Item). items₀ ++ l) (ap (λ (l : List Item). l ++ joined ino INODE_EXTREF extra) one ∙ ap (λ (l : List Item). inode_refs keys links key ++ l) other)))
 
 -- the record of an extended name, and that of another one
-pub far_added : (keys : List ObjectKey) (e : Entry) (old new : List Item) (parent index hash : ℕ) (name body : List ℕ) → parent ≡ parent_of keys e → index ≡ e.index → name ≡ e.link.name
+pub far_added : (keys : List ObjectKey) (e : IndexedLink) (old new : List Item) (parent index hash : ℕ) (name body : List ℕ) → parent ≡ parent_of keys e → index ≡ e.index → name ≡ e.link.name
     → body ≡ extref_bytes (record { parent = parent; index = index; name = name }) → hash ≡ extref_hash parent name → new ≡ old ++ (make_key hash INODE_EXTREF parent, body) ∷ [] → new ≡ old ++ far_record keys e ∷ []
 far_added keys e old new parent index hash name body parent_is index_is name_is body_is hash_is new_is =
     new_is
@@ -71,7 +71,7 @@ far_added keys e old new parent index hash name body parent_is index_is name_is 
     made : ℕ → ℕ → List ℕ → ExtrefValue
     made p i n = record { parent = p; index = i; name = n }
 
-pub ref_added : (keys : List ObjectKey) (e : Entry) (old new : List Item) (ino parent index : ℕ) (name body : List ℕ) → parent ≡ parent_of keys e → index ≡ e.index → name ≡ e.link.name
+pub ref_added : (keys : List ObjectKey) (e : IndexedLink) (old new : List Item) (ino parent index : ℕ) (name body : List ℕ) → parent ≡ parent_of keys e → index ≡ e.index → name ≡ e.link.name
     → body ≡ inode_ref_bytes (record { index = index; name = name }) → new ≡ old ++ (make_key ino INODE_REF parent, body) ∷ [] → new ≡ old ++ ref_record keys ino e ∷ []
 ref_added keys e old new ino parent index name body parent_is index_is name_is body_is new_is =
     new_is

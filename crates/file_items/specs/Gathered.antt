@@ -7,17 +7,17 @@ use Rattle.btr_item_list.specs.Groups.{ascending}
 use Rattle.btr_item_list.specs.Lists.{offset_of}
 use Rattle.reiser_volume.specs.reiser_volume_names.Tally.{capped}
 use Rattle.reiser_volume_objects.specs.declared.key.ObjectKey.{ObjectKey}
-use Rattle.file_items.specs.Names.{Entry, Indexed, letters, ref_record, far_record, hash_record, index_record}
-use Rattle.file_items.specs.declared.names.Names.{Names}
+use Rattle.file_items.specs.Names.{IndexedLink, Indexed, letters, ref_record, far_record, hash_record, index_record}
+use Rattle.file_items.specs.declared.object_names.ObjectNames.{ObjectNames}
 use Rattle.file_items.specs.declared.directory.Directory.{Directory}
 
 -- one more name
-pub record HasName (keys : List ObjectKey) (ino : ℕ) (e : Entry) (old new : Names) : Type 0 where
+pub record HasName (keys : List ObjectKey) (ino : ℕ) (e : IndexedLink) (old new : ObjectNames) : Type 0 where
   pub refs : new.refs ≡ old.refs ++ (if e.extended then [] else ref_record keys ino e ∷ [])
   pub far : new.far ≡ old.far ++ (if e.extended then far_record keys e ∷ [] else [])
 
 -- these names
-pub record HasNames (keys : List ObjectKey) (ino : ℕ) (es : List Entry) (names : Names) : Type 0 where
+pub record HasNames (keys : List ObjectKey) (ino : ℕ) (es : List IndexedLink) (names : ObjectNames) : Type 0 where
   pub refs : names.refs ≡ map (ref_record keys ino) (filter (λ e. not e.extended) es)
   pub far : names.far ≡ map (far_record keys) (filter (λ e. e.extended) es)
 

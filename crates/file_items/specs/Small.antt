@@ -19,12 +19,12 @@ abbrev pub image_entries : List Indexed
 image_entries = (2, entry_to 257 File image_name) ∷ []
 
 -- a root directory made at a time, of mode 040755, with these entries
-abbrev pub root_items : ℕ → List Indexed → List Item
-root_items now list = inode_item FIRST_FREE_OBJECTID (inode_made now DIRECTORY_MODE (2 * letters list) 0 0) ∷ root_ref ∷ entry_items FIRST_FREE_OBJECTID list
+abbrev pub root_directory_items : ℕ → List Indexed → List Item
+root_directory_items now list = inode_item FIRST_FREE_OBJECTID (inode_made now DIRECTORY_MODE (2 * letters list) 0 0) ∷ root_ref ∷ entry_items FIRST_FREE_OBJECTID list
 
 -- The relocation tree: an empty root directory.
 unfoldable pub relocation_items : ℕ → List Item
-relocation_items now = root_items now []
+relocation_items now = root_directory_items now []
 
 -- The image is read-only; where data has no checksums, it says so too.
 abbrev pub image_flags : Bool → ℕ
@@ -34,7 +34,7 @@ image_flags datasum = if datasum then INODE_READONLY else INODE_READONLY + INODE
 -- inode 257, of so many bytes of extents.
 unfoldable pub image_head : ℕ → ℕ → Bool → ℕ → List Item
 image_head blocks nbytes datasum now =
-    root_items now image_entries
+    root_directory_items now image_entries
     ++ (inode_item 257 (inode_made now IMAGE_MODE (4096 * blocks) nbytes (image_flags datasum))
     ∷ (ref_item 257 FIRST_FREE_OBJECTID 2 image_name ∷ []))
 

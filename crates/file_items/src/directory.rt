@@ -2,7 +2,7 @@ ghost use Rattle.std.specs.Prelude.{◌≡◌, ◌<◌, ◌*◌, ◌^◌, ◌++�
 ghost use Rattle.indexmap.specs.IndexMap.{keys};
 ghost use Rattle.reiser_volume.specs.outside.History.{Image};
 ghost use Rattle.unit_plan.specs.btr_keys.DirEntry.{dir_entry_value};
-ghost use Rattle.reiser_volume.specs.reiser_volume_names.Names.{inode_of};
+ghost use Rattle.reiser_volume.specs.reiser_volume_names.Names.{ino_of_key};
 ghost use Rattle.reiser_volume_objects.specs.declared.key.ObjectKey.{ObjectKey as KeyOf};
 ghost use Rattle.reiser_volume_objects.specs.declared.naming.Naming.{Naming as NamingOf};
 ghost use Rattle.reiser_volume.specs.Made.{stat_at, kind_by};
@@ -10,7 +10,7 @@ ghost use Rattle.reiser_volume.specs.Numbers.{AreNumbered};
 ghost use Rattle.reiser_volume.specs.Opened.{IsOpened, links_in};
 ghost use Rattle.reiser_volume.specs.Volume.{IsAccepted, volume_items};
 ghost use Rattle.file_items.specs.Known.{FitsIndex, IsKnown};
-ghost use Rattle.file_items.specs.Spots.{IsAt};
+ghost use Rattle.file_items.specs.Spots.{IsObjectAt};
 ghost use Rattle.file_items.specs.Names.{entry_kind, entry_to, entry_items, Indexed, indexed, indexed_in, names_in, saved_entry};
 
 use crate::link_index::{LinkIndex, index_at};
@@ -19,7 +19,7 @@ use btrfs_format::flag::{FT_BLKDEV, FT_CHRDEV, FT_DIR, FT_FIFO, FT_REG_FILE, FT_
 use btrfs_format::key::{DIR_INDEX, DIR_ITEM, INODE_ITEM, ROOT_ITEM};
 use btrfs_format::object::CONV_IMAGE_SUBVOL;
 use fs_rows::Kind;
-use reiser_volume::{Memory, Numbers, Volume, name_hash};
+use reiser_volume::{InodeNumbers, Memory, Volume, name_hash};
 use reiser_volume_objects::kind_of_mode;
 use std::alloc::Global;
 use unit_plan::{DirEntry, Key};
@@ -57,12 +57,12 @@ impl Directory {
         &mut self,
         volume: &Volume,
         links: &LinkIndex,
-        numbers: Numbers,
+        numbers: InodeNumbers,
         place: usize,
         ino: u64,
     ) -> Result<(), Memory>
         requires { FitsIndex links.now volume.now }
-        ensures { (image : Image) → IsKnown volume.now links.now numbers image → (key : KeyOf) → IsAt volume.now place key
+        ensures { (image : Image) → IsKnown volume.now links.now numbers image → (key : KeyOf) → IsObjectAt volume.now place key
             → OnOk result (HasEntries ino (indexed_in (λ k. kind_by (stat_at (volume_items image) k)) (keys volume.now.named) (links_in volume.now) key) self.new) }
     {
         self.gather_links(volume, links, numbers, place, ino)?;
@@ -78,12 +78,12 @@ impl Directory {
         &mut self,
         volume: &Volume,
         links: &LinkIndex,
-        numbers: Numbers,
+        numbers: InodeNumbers,
         place: usize,
         ino: u64,
     ) -> Result<(), Memory>
         requires { FitsIndex links.now volume.now }
-        ensures { (image : Image) → IsKnown volume.now links.now numbers image → (key : KeyOf) → IsAt volume.now place key
+        ensures { (image : Image) → IsKnown volume.now links.now numbers image → (key : KeyOf) → IsObjectAt volume.now place key
             → OnOk result (HasEntries ino (map (indexed (λ k. kind_by (stat_at (volume_items image) k)) (keys volume.now.named)) (names_in (links_in volume.now) key)) self.new) }
     {
         self.hashed.clear();
@@ -129,10 +129,10 @@ impl Directory {
 }
 
 /// The entry of a link.
-fn entry_of(volume: &Volume, numbers: Numbers, number: usize) -> DirEntry<'_>
+fn entry_of(volume: &Volume, numbers: InodeNumbers, number: usize) -> DirEntry<'_>
     requires { number < length (links_in volume.now) }
     ensures entry { (image : Image) → IsAccepted image → IsOpened volume.now image → AreNumbered numbers.root (keys volume.now.named) → (n : NamingOf) → slice_get (links_in volume.now) number ≡ Some n
-        → dir_entry_value result ≡ entry_to (inode_of (keys volume.now.named) n.target) (kind_by (stat_at (volume_items image) n.target)) n.name }
+        → dir_entry_value result ≡ entry_to (ino_of_key (keys volume.now.named) n.target) (kind_by (stat_at (volume_items image) n.target)) n.name }
     ensures short { length result.name.now < 65536 }
 {
     let link = volume.link(number);
@@ -183,7 +183,7 @@ fn entry_kind(kind: Kind) -> u8
 
 /// The kind of the object at a place, which each named object has.
 pub fn kind_at(volume: &Volume, place: usize) -> Kind
-    ensures { (image : Image) → IsAccepted image → IsOpened volume.now image → (key : KeyOf) → IsAt volume.now place key → result ≡ kind_by (stat_at (volume_items image) key) }
+    ensures { (image : Image) → IsAccepted image → IsOpened volume.now image → (key : KeyOf) → IsObjectAt volume.now place key → result ≡ kind_by (stat_at (volume_items image) key) }
 {
     if place >= volume.count() {
         return Kind::File;

@@ -5,9 +5,9 @@ ghost use Rattle.host_edge.specs.FileDisk.{Kept, opened_for, length_of, kept_ref
 
 use crate::opened::{FailedWrite, Opened};
 use crate::status_line::StatusLine;
-use crate::trouble::{Call, Cause, Trouble};
+use crate::trouble::{Cause, DiskCall, Trouble};
 use crate::watch::{Task, Watch};
-use crate::{Place, Signature, Use};
+use crate::{FileIdentity, Signature, Use};
 use btrfs_format::block::SUPER_BLOCK;
 use outside::{Access, Block, BlockNo, BlockSource, Disk, Fault, Format, format_of};
 use std::fs::{File, Files, OpenOptions};
@@ -107,7 +107,7 @@ impl<'a, R: Files<File = File> + AllocGlobal + Clock + Clone + Drop> FileDisk<'a
 
     /// Checks that nobody uses what stands at a path, and that it is not read-only.
     fn check_free(&self, path: &str) -> Result<(), Cause> {
-        let place = Place::new(&self.files, path)?;
+        let place = FileIdentity::new(&self.files, path)?;
         if let Some(found) = Use::of(&self.files, &place)? {
             return Err(Cause::InUse(found));
         }
@@ -118,7 +118,7 @@ impl<'a, R: Files<File = File> + AllocGlobal + Clock + Clone + Drop> FileDisk<'a
     }
 
     /// Counts a failure, and keeps why it came.
-    fn fail(&mut self, call: Call, cause: Cause) -> Fault
+    fn fail(&mut self, call: DiskCall, cause: Cause) -> Fault
         ensures rose { Rose self.old.faults self.new.faults }
         ensures later { self.old.faults ≤ self.new.faults }
         ensures opened { self.new.opened ≡ self.old.opened }
@@ -192,7 +192,7 @@ impl<R: Files<File = File> + AllocGlobal + Clock + Clone + Drop> BlockSource for
                 self.watch.look(&self.files);
                 Ok(())
             }
-            Err(cause) => Err(self.fail(Call::Read(n), cause)),
+            Err(cause) => Err(self.fail(DiskCall::Read(n), cause)),
         }
     }
 }
@@ -225,7 +225,7 @@ impl<R: Files<File = File> + AllocGlobal + Clock + Clone + Drop> Disk for FileDi
                 self.watch.begin(&self.files);
                 Ok(())
             }
-            Err(cause) => Err(self.fail(Call::Open, cause)),
+            Err(cause) => Err(self.fail(DiskCall::Open, cause)),
         }
     }
 
@@ -245,7 +245,7 @@ impl<R: Files<File = File> + AllocGlobal + Clock + Clone + Drop> Disk for FileDi
             }
             Err(failed) => {
                 self.watch.fails(failed.is_begun);
-                Err(self.fail(Call::Write(n), failed.cause))
+                Err(self.fail(DiskCall::Write(n), failed.cause))
             }
         }
     }
@@ -257,7 +257,7 @@ impl<R: Files<File = File> + AllocGlobal + Clock + Clone + Drop> Disk for FileDi
         };
         match done {
             Ok(()) => Ok(()),
-            Err(cause) => Err(self.fail(Call::Sync, cause)),
+            Err(cause) => Err(self.fail(DiskCall::Sync, cause)),
         }
     }
 }

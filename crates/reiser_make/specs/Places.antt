@@ -13,8 +13,8 @@ unfoldable pub place : ℕ → ℕ
 place j = 8211 + j + (8210 + j) / 32767
 
 -- how many blocks a volume has at least whose last block is block j of these
-abbrev pub end_of : ℕ → ℕ
-end_of total = place (total - 1) + 1
+abbrev pub least_size : ℕ → ℕ
+least_size total = place (total - 1) + 1
 
 -- how many bitmap blocks a volume has
 abbrev pub bitmap_blocks : ℕ → ℕ

@@ -9,8 +9,8 @@ use Rattle.reiser_make.specs.Layout.{Placed, laid_over, volume_blocks, system_pa
 use Rattle.reiser_make.specs.Places.{place, bitmap_blocks}
 use Rattle.reiser_make.specs.Shape.{Shape}
 use Rattle.reiser_make.specs.Inner.{needed}
-use Rattle.reiser_make.specs.declared.content.Content.{Content}
-use Rattle.reiser_make.specs.declared.content.Content.TheVariants.{Name, Symlink, File}
+use Rattle.reiser_make.specs.declared.sample_entry.SampleEntry.{SampleEntry}
+use Rattle.reiser_make.specs.declared.sample_entry.SampleEntry.TheVariants.{Name, Symlink, File}
 use Rattle.reiser_make.proofs.Laying.{laid_over-append}
 
 -- no block of the list goes to b
@@ -72,7 +72,7 @@ away_place : (b j : ℕ) → b < 8211 → b ≢ place j
 unfolding place
 away_place b j low = λ same. omega (arith, low, same)
 
-away_data : (s : Shape) (i b : ℕ) (content : Content) → b < 8211 → Away b (data_of_content s i content)
+away_data : (s : Shape) (i b : ℕ) (content : SampleEntry) → b < 8211 → Away b (data_of_content s i content)
 away_data s i b Name low = tt
 away_data s i b Symlink low = tt
 away_data s i b (File whole rest sparse) low = away_row b (data_placed s i sparse) 0 _ (λ j above below. away_place b _ low)

@@ -10,7 +10,7 @@ use Rattle.reiser_volume.specs.reiser_bitmap.Bits.{bit_of, has}
 use Rattle.reiser_volume.specs.reiser_bitmap.Layout.{bitmap_of, bitmap_block, is_marked}
 use Rattle.reiser_volume.specs.reiser_bitmap.System.{system_blocks, is_system, is_bitmap_block}
 use Rattle.reiser_volume.proofs.reiser_bitmap.MoreLaws.{system_pass}
-use Rattle.reiser_volume.specs.reiser_super.Superblock.{super_of}
+use Rattle.reiser_volume.specs.reiser_super.Superblock.{superblock_fields}
 use Rattle.reiser_make.specs.Bitmap.{bit, byte_of, marks, bitmap_bytes}
 use Rattle.reiser_make.specs.Bitmap as maps
 use Rattle.reiser_make.specs.Inner.{needed, total}
@@ -170,7 +170,7 @@ marks_system number old blocks image fits b own =
     let s : Shape = shape number old in
     let block : List ℕ = block_at (made s blocks image) SUPER_BLOCK in
     let has_all : HasFields s blocks block = super_made number old blocks image fits in
-    let here : Contains (system_blocks blocks (super_of block).journal_first (super_of block).journal_size) b =
-    subst (λ (n : ℕ). Contains (system_blocks n (super_of block).journal_first (super_of block).journal_size) b) has_all.blocks_is own in
+    let here : Contains (system_blocks blocks (superblock_fields block).journal_first (superblock_fields block).journal_size) b =
+    subst (λ (n : ℕ). Contains (system_blocks n (superblock_fields block).journal_first (superblock_fields block).journal_size) b) has_all.blocks_is own in
     ap (λ (n : ℕ). has (bitmap_of n (made s blocks image)) b) has_all.blocks_is
-    ∙ marks_own s blocks (super_of block).journal_first (super_of block).journal_size image fits.needed_low fits.inside has_all.fixed_ones.first has_all.fixed_ones.size b here
+    ∙ marks_own s blocks (superblock_fields block).journal_first (superblock_fields block).journal_size image fits.needed_low fits.inside has_all.fixed_ones.first has_all.fixed_ones.size b here

@@ -6,7 +6,7 @@ use Rattle.refusals.specs.outside.History.{Image, block_at}
 use Rattle.refusals.specs.vol_block.Format.{has_bytes_at}
 use Rattle.refusals.specs.vol_block.Volume.{field}
 use Rattle.reiser_super.specs.declared.superblock.Super.{Super}
-use Rattle.reiser_super.specs.Superblock.{super_of}
+use Rattle.reiser_super.specs.Superblock.{superblock_fields}
 use Rattle.reiser_super.specs.Rules.{IsCleanSuper}
 
 -- a block that begins a transaction in the log has this magic at byte 4084
@@ -71,4 +71,4 @@ pending_transactions s image =
 -- A clean volume: its superblock is in order, and no transaction waits.
 pub record IsClean (image : Image) : Type 0 where
   pub superblock : IsCleanSuper (block_at image SUPER_BLOCK) (length image)
-  pub journal : pending_transactions (super_of (block_at image SUPER_BLOCK)) image ≡ []
+  pub journal : pending_transactions (superblock_fields (block_at image SUPER_BLOCK)) image ≡ []

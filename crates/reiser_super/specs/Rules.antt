@@ -8,7 +8,7 @@ use Rattle.refusals.specs.declared.rule.Feature.TheVariants.{OldMagic, BlockSize
 use Rattle.refusals.specs.declared.rule.Rule.TheVariants.{SuperField}
 use Rattle.refusals.specs.vol_block.Format.{has_bytes_at, has_reiser_magic}
 use Rattle.reiser_super.specs.declared.superblock.Super.{Super}
-use Rattle.reiser_super.specs.Superblock.{super_of, journal_device, block_size, mount_state, checker_state}
+use Rattle.reiser_super.specs.Superblock.{superblock_fields, journal_device, block_size, mount_state, checker_state}
 
 -- the magic of format 3.5, which is one of the three
 abbrev pub has_old_magic : List ℕ → Bool
@@ -32,10 +32,10 @@ pub record IsCleanSuper (bytes : List ℕ) (device : ℕ) : Type 0 where
   pub blocks_fit : block_size bytes ≡ 4096
   pub journal_here : journal_device bytes ≡ 0
   pub undamaged : checker_state bytes ≡ 0
-  pub count : (super_of bytes).blocks ≤ 2 ^ 29
+  pub count : (superblock_fields bytes).blocks ≤ 2 ^ 29
   pub unmounted : mount_state bytes ≡ VALID_FS
-  pub bounds : IsInBounds (super_of bytes)
-  pub fits : (super_of bytes).blocks ≤ device
+  pub bounds : IsInBounds (superblock_fields bytes)
+  pub fits : (superblock_fields bytes).blocks ≤ device
 
 -- the same as a test
 abbrev pub is_in_bounds : Super → Bool
@@ -51,10 +51,10 @@ superblock_rules bytes device =
     ∷ (block_size bytes == 4096, Unsupported BlockSize (block_size bytes))
     ∷ (journal_device bytes == 0, Unsupported JournalDevice (journal_device bytes))
     ∷ (checker_state bytes == 0, Unsupported FsState (checker_state bytes))
-    ∷ (nat_le (super_of bytes).blocks (2 ^ 29), Unsupported BlockCount (super_of bytes).blocks)
+    ∷ (nat_le (superblock_fields bytes).blocks (2 ^ 29), Unsupported BlockCount (superblock_fields bytes).blocks)
     ∷ (mount_state bytes == VALID_FS, Unclean (mount_state bytes))
-    ∷ (is_in_bounds (super_of bytes), Damaged SUPER_BLOCK SuperField)
-    ∷ (nat_le (super_of bytes).blocks device, Short (super_of bytes).blocks device)
+    ∷ (is_in_bounds (superblock_fields bytes), Damaged SUPER_BLOCK SuperField)
+    ∷ (nat_le (superblock_fields bytes).blocks device, Short (superblock_fields bytes).blocks device)
     ∷ []
 
 -- the refusal of the first rule that fails

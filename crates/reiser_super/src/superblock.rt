@@ -38,7 +38,7 @@ pub struct Super {
 }
 
 impl Super {
-    ghost use Rattle.reiser_super.specs.Superblock.{super_of};
+    ghost use Rattle.reiser_super.specs.Superblock.{superblock_fields};
     ghost use Rattle.reiser_super.specs.Rules.{IsCleanSuper, IsInBounds, is_in_bounds, superblock_refusal};
 
     /// Reads the superblock, which is block 16 of a device of `device` blocks. Of a shorter device it may be any block.
@@ -51,7 +51,7 @@ impl Super {
     /// The numbers of free blocks and bitmaps, the version, the object-id map and the hash code are compared with nothing.
     #[tactic(auto, using(crate::proofs::Clean::none_from_clean))]
     pub fn read(block: &Block, device: u64) -> Result<Super, VolumeRefusal>
-        ensures fields { IfOk result (λ s. s ≡ super_of block.now.bytes) }
+        ensures fields { IfOk result (λ s. s ≡ superblock_fields block.now.bytes) }
         ensures refusal { result_err result ≡ superblock_refusal block.now.bytes device }
         ensures clean { IsOk result ↔ IsCleanSuper block.now.bytes device }
         ensures bounds { IfOk result IsInBounds }
@@ -65,7 +65,7 @@ impl Super {
 
     /// The refusal of the first rule that fails.
     fn check_rules(&self, block: &Block, device: u64) -> Result<(), VolumeRefusal>
-        requires { self.now ≡ super_of block.now.bytes }
+        requires { self.now ≡ superblock_fields block.now.bytes }
         ensures { result_err result ≡ superblock_refusal block.now.bytes device }
     {
         let blocks = self.blocks;
@@ -96,7 +96,7 @@ impl Super {
 
     /// The fields, whatever they say.
     fn fields_of(block: &Block) -> Super
-        ensures { result ≡ super_of block.now.bytes }
+        ensures { result ≡ superblock_fields block.now.bytes }
     {
         Super {
             blocks: u32_at(&block.bytes, 0) as u64,

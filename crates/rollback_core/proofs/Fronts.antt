@@ -10,7 +10,7 @@ use Rattle.reiser_bitmap.specs.System.{system_blocks}
 use Rattle.reiser_bitmap.proofs.MoreLaws.{bitmap_decided}
 use Rattle.reiser_bitmap.proofs.SystemBlocks.{bitmap_in, journal_in, superblock_in}
 use Rattle.reiser_volume.specs.reiser_super.declared.superblock.Super.{Super}
-use Rattle.reiser_volume.specs.reiser_super.Superblock.{super_of}
+use Rattle.reiser_volume.specs.reiser_super.Superblock.{superblock_fields}
 use Rattle.reiser_volume.specs.reiser_super.Rules.{IsCleanSuper}
 use Rattle.reiser_volume.specs.reiser_super.Journal.{IsClean, pending_transactions}
 use Rattle.reiser_volume.proofs.reiser_super.Footprint.{same_pending}
@@ -28,7 +28,7 @@ module _ (image other : Image) (a : IsFrontAccepted image) (same : SameUsed (use
   super_same = let s = superblock image in system_same 16 (superblock_in s.blocks s.journal_first s.journal_size)
 
   fields_same : superblock other ≡ superblock image
-  fields_same = ap super_of super_same
+  fields_same = ap superblock_fields super_same
 
   pub used_same : used_of other ≡ used_of image
   used_same =

@@ -6,7 +6,7 @@ use Rattle.btrfs_format.specs.declared.block.TheConstants.{FIRST_MIRROR, SECOND_
 use Rattle.reiser_bitmap.specs.outside.History.{Image, block_at}
 use Rattle.btr_super.specs.Super.{mirror_bytes}
 use Rattle.reiser_bitmap.specs.Bits.{has}
-use Rattle.reiser_volume.specs.reiser_super.Superblock.{super_of}
+use Rattle.reiser_volume.specs.reiser_super.Superblock.{superblock_fields}
 use Rattle.reiser_volume.specs.Volume.{superblock, used_of}
 use Rattle.reiser_bitmap.specs.vol_block.Format.{has_bytes_at}
 use Rattle.reiser_bitmap.specs.vol_block.Volume.{zeros}
@@ -53,7 +53,7 @@ mend_again Neither image b bytes = refl
 -- a disk with the same superblock, and of ReiserFS with the same used blocks, is mended alike
 pub mend_same : (f : Format) (image other : Image) → block_at other SUPER_BLOCK ≡ block_at image SUPER_BLOCK → (f ≡ Reiser → used_of other ≡ used_of image) → (b : ℕ) (bytes : List ℕ) → mended_by f other b bytes ≡ mended_by f image b bytes
 mend_same Reiser image other same used b bytes =
-    ap (λ (sb : List ℕ). wiped (super_of sb).blocks (used_of other) b bytes) same ∙ ap (λ (set : List Bool). wiped (superblock image).blocks set b bytes) (used refl)
+    ap (λ (sb : List ℕ). wiped (superblock_fields sb).blocks (used_of other) b bytes) same ∙ ap (λ (set : List Bool). wiped (superblock image).blocks set b bytes) (used refl)
 mend_same Btrfs image other same used b bytes = ap (λ (sb : List ℕ). copied (blocks_of sb) sb b bytes) same
 mend_same Neither image other same used b bytes = refl
 

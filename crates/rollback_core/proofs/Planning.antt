@@ -10,8 +10,8 @@ use Rattle.volume_state.specs.Saved.{image_blocks}
 use Rattle.volume_state.specs.Untouched.{IsUntouched, old_used}
 use Rattle.rollback_core.specs.declared.way.WayBack.{WayBack}
 use Rattle.rollback_core.specs.Opened.{IsMapOn}
-use Rattle.rollback_core.specs.Prepared.{AreSaved, IsPrepared}
-use Rattle.rollback_core.specs.RolledBack.{summary}
+use Rattle.rollback_core.specs.Prepared.{AreSaved, IsWayBack}
+use Rattle.rollback_core.specs.RolledBack.{rollback_summary}
 
 -- whether a block is to become zeros, by the set of used blocks
 abbrev pub wiped_in : Image → List Bool → ℕ → Bool
@@ -24,7 +24,7 @@ reserved_used used = filter (λ b. is_reserved b (length used)) (used_blocks use
 pub prepared : (disk : Image) (m : ImageMap) (used : List Bool) (way : WayBack) → IsMapOn disk m → IsUntouched disk → used ≡ old_used disk
     → AreSaved (image_blocks disk) (filter (λ b. not (b == 16)) (reserved_used used)) way.reserved.items → way.superblock.bytes ≡ block_at (image_blocks disk) SUPER_BLOCK
     → way.first ≡ wiped_in disk used FIRST_MIRROR → way.second ≡ wiped_in disk used SECOND_MIRROR
-    → way.summary.blocks ≡ length (used_blocks used) → way.summary.restored ≡ length (reserved_used used) → IsPrepared disk way
+    → way.summary.blocks ≡ length (used_blocks used) → way.summary.restored ≡ length (reserved_used used) → IsWayBack disk way
 prepared disk m used way on u is saved superblock first second blocks restored = record {
   format = on.image.readable.format;
   untouched = u;
@@ -35,5 +35,5 @@ prepared disk m used way on u is saved superblock first second blocks restored =
   summary_is = same (blocks ∙ ap (λ (set : List Bool). length (used_blocks set)) is) (restored ∙ ap (λ (set : List Bool). length (reserved_used set)) is);
 }
   where
-    same : way.summary.blocks ≡ length (used_blocks (old_used disk)) → way.summary.restored ≡ length (reserved_used (old_used disk)) → way.summary ≡ summary disk
+    same : way.summary.blocks ≡ length (used_blocks (old_used disk)) → way.summary.restored ≡ length (reserved_used (old_used disk)) → way.summary ≡ rollback_summary disk
     same one two = ap (λ (n : ℕ). record { blocks = n; restored = way.summary.restored }) one ∙ ap (λ (n : ℕ). record { blocks = length (used_blocks (old_used disk)); restored = n }) two

@@ -28,7 +28,7 @@ use Rattle.reiser_bitmap.specs.vol_block.declared.format.Format.TheVariants.{Rei
 use Rattle.rollback_core.specs.RecoveryAnswers.{IsRefusedAs}
 use Rattle.rollback_core.specs.RecoveryLaws.{IsSameBut, RecoversWhatIsInOrder, RecoveryCounts, RecoveryKeeps, RecoveryMends, RecoveryStays}
 use Rattle.rollback_core.specs.Mending.{blocks_of, is_torn, mended, mended_by}
-use Rattle.rollback_core.specs.Recovered.{IsInOrder, IsLeft, IsPartly, IsRecoverable, IsRecovered, copy_blocks}
+use Rattle.rollback_core.specs.Recovered.{IsInOrder, IsLeftByRecover, IsPartly, IsRecoverable, IsRecovered, copy_blocks}
 use Rattle.rollback_core.proofs.Fronts.{front_same, used_same}
 use Rattle.rollback_core.proofs.Mended.{copy_beyond, copy_wanted, mend_again, mend_same, same_bytes, two_of, used_stays, wiped_clean}
 
@@ -124,7 +124,7 @@ not_reserved blocks b free mirror =
 left_outside : (image other : Image) → IsSameBut image other → IsSameOutside (is_spare_in image) image other
 left_outside image other is = record { size = is.size; others = λ b free. is.others b (not_reserved ((own_super image).total_bytes / 4096) b free) }
 
-left_same : (image other : Image) → IsLeft image other → IsSameBut image other
+left_same : (image other : Image) → IsLeftByRecover image other → IsSameBut image other
 left_same image other is = ⊎_elim (λ same. subst (IsSameBut image) (sym same) (same_as_itself image)) (λ both. same_but image other both.0 both.1) is
 
 pub keeps : RecoveryKeeps

@@ -17,7 +17,7 @@ use Rattle.reiser_volume.proofs.Unchanged.{same_volume}
 use Rattle.reiser_bitmap.specs.vol_block.Format.{has_bytes_at}
 use Rattle.reiser_bitmap.specs.vol_block.Volume.{is_reserved}
 use Rattle.rollback_core.specs.RollbackLaws.{RollbackGoesOn, RollbackKeeps}
-use Rattle.rollback_core.specs.RolledBack.{IsBack, IsRolledBack, IsStanding, is_wiped}
+use Rattle.rollback_core.specs.RolledBack.{IsBack, IsRolledBack, StillStands, is_wiped}
 use Rattle.rollback_core.proofs.Back.{equal_or}
 
 -- a reserved block other than 16 is a spare one
@@ -25,7 +25,7 @@ spare_so : (t : Bool) (b : ℕ) → t ≡ true → b ≢ 16 → (t && not (eqb b
 spare_so true b is other = grind (arith, nat_tests, other)
 spare_so false b is other = absurd (true≢false (sym is))
 
-outside_spare : (disk other : Image) → IsStanding disk other → IsSameOutside (is_spare disk) disk other
+outside_spare : (disk other : Image) → StillStands disk other → IsSameOutside (is_spare disk) disk other
 outside_spare disk other is = record { size = is.size; others = λ b free. ⊎_elim (λ first. at_superblock b first) (λ rest. elsewhere b free rest) (equal_or b) }
   where
     at_superblock : (b : ℕ) → b ≡ 16 → block_at other b ≡ block_at disk b
@@ -48,7 +48,7 @@ rollback_keeps = record {
     room disk other u is = omega (arith, u.accepted.clean.superblock.fits, is.size, image_short disk)
 
 -- ---- another rollback
-module _ (disk left other : Image) (u : IsUntouched disk) (is : IsStanding disk left) (done : IsRolledBack left other) where
+module _ (disk left other : Image) (u : IsUntouched disk) (is : StillStands disk left) (done : IsRolledBack left other) where
   image_same : image_blocks left ≡ image_blocks disk
   image_same = (spare_blocks_decide_nothing disk left u (outside_spare disk left is)).image
 

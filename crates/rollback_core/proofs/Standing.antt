@@ -10,8 +10,8 @@ use Rattle.convert_steps.specs.Switch.{IsMirror}
 use Rattle.reiser_bitmap.specs.vol_block.declared.block.Block.{Block}
 use Rattle.reiser_bitmap.specs.vol_block.declared.format.Format.{Format}
 use Rattle.rollback_core.specs.Mending.{given, is_torn, mended}
-use Rattle.rollback_core.specs.Planned.{IsGiven, IsGivenAt, IsPlanned, Stands, number_of}
-use Rattle.rollback_core.specs.Recovered.{IsMend, IsPartly, IsRecovered, copy_blocks, summary}
+use Rattle.rollback_core.specs.Planned.{IsGiven, IsGivenAt, IsPlanned, MendingStands, writes_of}
+use Rattle.rollback_core.specs.Recovered.{IsMend, IsPartly, IsRecovered, copy_blocks, recover_summary}
 use Rattle.rollback_core.specs.declared.mending.Mending.{Mending}
 use Rattle.rollback_core.specs.declared.recovery.RecoverSummary.{RecoverSummary}
 use Rattle.rollback_core.proofs.Mended.{two_of}
@@ -58,7 +58,7 @@ module _ (image : Image) (m : Mending) (planned : IsPlanned image m) where
           each = λ b. ⊎_elim (λ same. inl (same ∙ ap (λ (i : Image). block_at i b) start)) (λ is. inr (given_mended b (block_at other b) is)) (each.1 b);
         }
 
-    pub recovers : Stands m (reads h₀) (reads h₁) → IsRecovered image (reads h₁)
+    pub recovers : MendingStands m (reads h₀) (reads h₁) → IsRecovered image (reads h₁)
     recovers stands = record {
       can = planned.can;
       size = writes_length (IsGiven m) h₀ h₁ only ∙ ap (λ (i : Image). length i) start;
@@ -73,10 +73,10 @@ module _ (image : Image) (m : Mending) (planned : IsPlanned image m) where
     }
 
   -- the blocks that are written are those that are to change
-  pub counts : number_of m.first + number_of m.second ≡ length (filter (is_torn image) copy_blocks)
+  pub counts : writes_of m.first + writes_of m.second ≡ length (filter (is_torn image) copy_blocks)
   counts = sym (two_of (is_torn image) (is_some m.first) (is_some m.second) (sym planned.first.needed) (sym planned.second.needed))
 
-  pub summary_is : (n : ℕ) → n ≡ number_of m.first + number_of m.second → told_of m.format n ≡ summary image
+  pub summary_is : (n : ℕ) → n ≡ writes_of m.first + writes_of m.second → told_of m.format n ≡ recover_summary image
   summary_is n is = ap (λ (f : Format). told_of f n) planned.format ∙ ap (λ (k : ℕ). told_of (format_in image) k) (is ∙ counts)
 
 -- ---- one block, if there is one to be written
@@ -100,7 +100,7 @@ module _ (m : Mending) where
 
   -- each stands, since the other is written elsewhere
   pub both_stand : (h₀ h₁ h₂ : History) → WritesOnly (IsGivenAt FIRST_MIRROR m.first) h₀ h₁ → WritesOnly (IsGivenAt SECOND_MIRROR m.second) h₁ h₂
-      → block_at (reads h₁) FIRST_MIRROR ≡ given m.first (block_at (reads h₀) FIRST_MIRROR) → block_at (reads h₂) SECOND_MIRROR ≡ given m.second (block_at (reads h₁) SECOND_MIRROR) → Stands m (reads h₀) (reads h₂)
+      → block_at (reads h₁) FIRST_MIRROR ≡ given m.first (block_at (reads h₀) FIRST_MIRROR) → block_at (reads h₂) SECOND_MIRROR ≡ given m.second (block_at (reads h₁) SECOND_MIRROR) → MendingStands m (reads h₀) (reads h₂)
   both_stand h₀ h₁ h₂ one two first second = record {
     first = elsewhere SECOND_MIRROR m.second h₁ h₂ two FIRST_MIRROR (λ eq. omega (arith, eq)) ∙ first;
     second = second ∙ ap (given m.second) (elsewhere FIRST_MIRROR m.first h₀ h₁ one SECOND_MIRROR (λ eq. omega (arith, eq)));

@@ -16,7 +16,7 @@ use Rattle.reiser_volume.specs.declared.volume.Volume.{Volume}
 use Rattle.rollback_core.specs.RollbackAnswers.{HasImage, HasVolume}
 
 -- the block is block 16 of a disk with a Btrfs volume
-pub record IsFoundOn (disk : Image) (block : Block) : Type 0 where
+pub record IsBtrfsOn (disk : Image) (block : Block) : Type 0 where
   pub format : format_in disk ≡ Btrfs
   pub block_is : block.bytes ≡ block_at disk SUPER_BLOCK
 

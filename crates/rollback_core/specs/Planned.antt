@@ -16,7 +16,7 @@ pub record IsPlanned (image : Image) (m : Mending) : Type 0 where
   pub second : Gives (block_at image SECOND_MIRROR) (mended image SECOND_MIRROR) m.second
 
 -- a disk of so many blocks has each block that is to be written
-pub record HasRoom (size : ℕ) (m : Mending) : Type 0 where
+pub record HasMendingRoom (size : ℕ) (m : Mending) : Type 0 where
   pub first : is_some m.first ≡ true → FIRST_MIRROR < size
   pub second : is_some m.second ≡ true → SECOND_MIRROR < size
 
@@ -28,10 +28,10 @@ abbrev pub IsGiven : Mending → ℕ → List ℕ → Type 0
 IsGiven m b bytes = IsGivenAt FIRST_MIRROR m.first b bytes ⊎ IsGivenAt SECOND_MIRROR m.second b bytes
 
 -- it stands
-pub record Stands (m : Mending) (old new : Image) : Type 0 where
+pub record MendingStands (m : Mending) (old new : Image) : Type 0 where
   pub first : block_at new FIRST_MIRROR ≡ given m.first (block_at old FIRST_MIRROR)
   pub second : block_at new SECOND_MIRROR ≡ given m.second (block_at old SECOND_MIRROR)
 
 -- how many blocks are written
-abbrev pub number_of : Option Block → ℕ
-number_of found = if is_some found then 1 else 0
+abbrev pub writes_of : Option Block → ℕ
+writes_of found = if is_some found then 1 else 0

@@ -34,8 +34,8 @@ pub record IsPartly (image other : Image) : Type 0 where
   pub each : (b : ℕ) → (block_at other b ≡ block_at image b) ⊎ (IsMirror b × (block_at other b ≡ mended image b))
 
 -- what a crash at any moment may leave
-abbrev pub IsLeft : Image → Image → Type 0
-IsLeft image other = (other ≡ image) ⊎ (IsRecoverable image × IsPartly image other)
+abbrev pub IsLeftByRecover : Image → Image → Type 0
+IsLeftByRecover image other = (other ≡ image) ⊎ (IsRecoverable image × IsPartly image other)
 
 -- a write that mends the block of a copy, which holds something else
 pub record IsMend (image : Image) (b : ℕ) (bytes : List ℕ) : Type 0 where
@@ -52,5 +52,5 @@ abbrev pub torn_blocks : Image → List ℕ
 torn_blocks image = filter (is_torn image) copy_blocks
 
 -- the format, and how many blocks are to change
-abbrev pub summary : Image → RecoverSummary
-summary image = record { format = format_in image; mirrors = length (torn_blocks image) }
+abbrev pub recover_summary : Image → RecoverSummary
+recover_summary image = record { format = format_in image; mirrors = length (torn_blocks image) }

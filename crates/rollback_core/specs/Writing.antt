@@ -9,8 +9,8 @@ use Rattle.rollback_core.specs.declared.way.WayBack.{WayBack}
 -- ---- what is written
 
 -- one of the saved blocks goes to block b
-abbrev pub IsPlace : List Saved → ℕ → Type 0
-IsPlace saved b = Any (λ s. b ≡ s.at) saved
+abbrev pub IsSavedPlace : List Saved → ℕ → Type 0
+IsSavedPlace saved b = Any (λ s. b ≡ s.at) saved
 
 -- block b is to become zeros
 abbrev pub IsWiped : WayBack → ℕ → Type 0
@@ -21,8 +21,8 @@ abbrev pub IsWiping : WayBack → ℕ → List ℕ → Type 0
 IsWiping way b bytes = IsWiped way b × (bytes ≡ zeros)
 
 -- all that is written
-abbrev pub IsPart : WayBack → ℕ → List ℕ → Type 0
-IsPart way b bytes = IsPlace way.reserved.items b ⊎ (IsBlock 16 way.superblock.bytes b bytes ⊎ IsWiping way b bytes)
+abbrev pub IsWayBackPart : WayBack → ℕ → List ℕ → Type 0
+IsWayBackPart way b bytes = IsSavedPlace way.reserved.items b ⊎ (IsBlock 16 way.superblock.bytes b bytes ⊎ IsWiping way b bytes)
 
 -- ---- what holds of it
 
@@ -38,17 +38,17 @@ abbrev pub GoApart : List Saved → Type 0
 GoApart saved = AllPairs (λ p q. p.at ≢ q.at) saved
 
 -- No block is written twice.
-pub record AreApart (way : WayBack) : Type 0 where
+pub record AreWritesApart (way : WayBack) : Type 0 where
   pub reserved : GoApart way.reserved.items
-  pub superblock : ¬ IsPlace way.reserved.items 16
-  pub wiped : (b : ℕ) → IsWiped way b → ¬ IsPlace way.reserved.items b
+  pub superblock : ¬ IsSavedPlace way.reserved.items 16
+  pub wiped : (b : ℕ) → IsWiped way b → ¬ IsSavedPlace way.reserved.items b
 
 -- ---- what stands
 
 -- Before block 16 is written: nothing differs but the places of the saved blocks.
 pub record IsUnturned (way : WayBack) (old other : Image) : Type 0 where
   pub size : length other ≡ length old
-  pub others : (b : ℕ) → ¬ IsPlace way.reserved.items b → block_at other b ≡ block_at old b
+  pub others : (b : ℕ) → ¬ IsSavedPlace way.reserved.items b → block_at other b ≡ block_at old b
 
 -- each of the saved blocks stands in its place
 abbrev pub AreWrittenBack : List Saved → Image → Type 0
@@ -59,7 +59,7 @@ pub record IsTurned (way : WayBack) (old other : Image) : Type 0 where
   pub size : length other ≡ length old
   pub superblock : block_at other SUPER_BLOCK ≡ way.superblock.bytes
   pub written : AreWrittenBack way.reserved.items other
-  pub others : (b : ℕ) → b ≢ 16 → ¬ IsPlace way.reserved.items b → (block_at other b ≡ block_at old b) ⊎ IsWiping way b (block_at other b)
+  pub others : (b : ℕ) → b ≢ 16 → ¬ IsSavedPlace way.reserved.items b → (block_at other b ≡ block_at old b) ⊎ IsWiping way b (block_at other b)
 
 -- they are zeros
 abbrev pub AreWiped : WayBack → Image → Type 0

@@ -8,11 +8,11 @@ ghost use Rattle.reiser_bitmap.specs.vol_block.declared.format.Format.TheVariant
 ghost use Rattle.rollback_core.specs.RecoveryAnswers.{IsRecoverAnswer, RefusesRecover};
 ghost use Rattle.convert_steps.specs.Found.{IsFoundOn};
 ghost use Rattle.rollback_core.specs.Mending.{Gives, copied, wiped};
-ghost use Rattle.rollback_core.specs.Planned.{HasRoom, IsPlanned};
+ghost use Rattle.rollback_core.specs.Planned.{HasMendingRoom, IsPlanned};
 
 use btr_super::{Super, mirror};
 use btrfs_format::block::{FIRST_MIRROR, SECOND_MIRROR, SUPER_BLOCK, SUPER_BLOCK};
-use convert_steps::{Answer, Found, find_format};
+use convert_steps::{Answer, FormatFound, find_format};
 use reiser_bitmap::{Block, BlockNo, BlockSource, Fault, Format, VolumeRefusal, has_magic};
 use reiser_volume::Front;
 use std::alloc::Global;
@@ -32,7 +32,7 @@ pub struct Mending {
 pub fn plan<S: BlockSource>(alloc: Global, src: &mut S) -> Result<Mending, Answer>
     ensures kept { S.kept src.old src.new }
     ensures planned { OverTold S.tells (S.blocks src.old) (λ image. MatchResult result (IsPlanned image) (RefusesRecover image)) }
-    ensures room { IfOk result (HasRoom (S.size src.old)) }
+    ensures room { IfOk result (HasMendingRoom (S.size src.old)) }
     ensures cause { HasCauseOf Answer.Fault (S.faults src.old) (S.faults src.new) result }
     ensures answers { IfErr result IsRecoverAnswer }
 {
@@ -41,10 +41,14 @@ pub fn plan<S: BlockSource>(alloc: Global, src: &mut S) -> Result<Mending, Answe
 }
 
 /// What is to be written, by the format that was found.
-fn plan_as<S: BlockSource>(found: &Found, alloc: Global, src: &mut S) -> Result<Mending, Answer>
+fn plan_as<S: BlockSource>(
+    found: &FormatFound,
+    alloc: Global,
+    src: &mut S,
+) -> Result<Mending, Answer>
     ensures kept { S.kept src.old src.new }
     ensures planned { OverTold S.tells (S.blocks src.old) (λ image. IsFoundOn image found.now → MatchResult result (IsPlanned image) (RefusesRecover image)) }
-    ensures room { IfOk result (HasRoom (S.size src.old)) }
+    ensures room { IfOk result (HasMendingRoom (S.size src.old)) }
     ensures cause { HasCauseOf Answer.Fault (S.faults src.old) (S.faults src.new) result }
     ensures answers { IfErr result IsRecoverAnswer }
 {
@@ -59,7 +63,7 @@ fn plan_as<S: BlockSource>(found: &Found, alloc: Global, src: &mut S) -> Result<
 fn plan_reiser<S: BlockSource>(alloc: Global, src: &mut S) -> Result<Mending, Answer>
     ensures kept { S.kept src.old src.new }
     ensures planned { OverTold S.tells (S.blocks src.old) (λ image. formats.Reiser ≡ format_in image → MatchResult result (IsPlanned image) (RefusesRecover image)) }
-    ensures room { IfOk result (HasRoom (S.size src.old)) }
+    ensures room { IfOk result (HasMendingRoom (S.size src.old)) }
     ensures cause { HasCauseOf Answer.Fault (S.faults src.old) (S.faults src.new) result }
     ensures answers { IfErr result IsRecoverAnswer }
 {
@@ -71,7 +75,7 @@ fn plan_reiser<S: BlockSource>(alloc: Global, src: &mut S) -> Result<Mending, An
 fn plan_btrfs<S: BlockSource>(src: &mut S, superblock: &Block) -> Result<Mending, Answer>
     ensures kept { S.kept src.old src.new }
     ensures planned { OverTold S.tells (S.blocks src.old) (λ image. formats.Btrfs ≡ format_in image → superblock.now.bytes ≡ block_at image SUPER_BLOCK → MatchResult result (IsPlanned image) (RefusesRecover image)) }
-    ensures room { IfOk result (HasRoom (S.size src.old)) }
+    ensures room { IfOk result (HasMendingRoom (S.size src.old)) }
     ensures cause { HasCauseOf Answer.Fault (S.faults src.old) (S.faults src.new) result }
     ensures answers { IfErr result IsRecoverAnswer }
 {
@@ -88,7 +92,7 @@ fn wipe_both<S: BlockSource>(src: &mut S, front: &Front) -> Result<Mending, Faul
         Gives (block_at image FIRST_MIRROR) (wiped front.now.sup.blocks front.now.bitmap FIRST_MIRROR (block_at image FIRST_MIRROR)) m.first)) }
     ensures second { OverTold S.tells (S.blocks src.old) (λ image. IfOk result (λ m.
         Gives (block_at image SECOND_MIRROR) (wiped front.now.sup.blocks front.now.bitmap SECOND_MIRROR (block_at image SECOND_MIRROR)) m.second)) }
-    ensures room { IfOk result (HasRoom (S.size src.old)) }
+    ensures room { IfOk result (HasMendingRoom (S.size src.old)) }
     ensures cause { HasCause (S.faults src.old) (S.faults src.new) result }
 {
     let first = wipe(src, front, FIRST_MIRROR)?;
@@ -109,7 +113,7 @@ fn copy_both<S: BlockSource>(src: &mut S, superblock: &Block, blocks: u64) -> Re
         Gives (block_at image FIRST_MIRROR) (copied blocks superblock.now.bytes FIRST_MIRROR (block_at image FIRST_MIRROR)) m.first)) }
     ensures second { OverTold S.tells (S.blocks src.old) (λ image. IfOk result (λ m.
         Gives (block_at image SECOND_MIRROR) (copied blocks superblock.now.bytes SECOND_MIRROR (block_at image SECOND_MIRROR)) m.second)) }
-    ensures room { IfOk result (HasRoom (S.size src.old)) }
+    ensures room { IfOk result (HasMendingRoom (S.size src.old)) }
     ensures cause { HasCause (S.faults src.old) (S.faults src.new) result }
 {
     let first = copy(src, superblock, FIRST_MIRROR, blocks)?;

@@ -4,7 +4,7 @@ ghost use Rattle.reiser_bitmap.specs.outside.Fault.{HasCause};
 ghost use Rattle.reiser_bitmap.specs.outside.History.{EachCrash, IsBlock, IsSettled, block_at, reads};
 ghost use Rattle.reiser_bitmap.specs.outside.Writes.{Writes};
 ghost use Rattle.reiser_bitmap.specs.vol_block.Volume.{zeros};
-ghost use Rattle.rollback_core.specs.Writing.{AreApart, AreWiped, AreWrittenBack, GoApart, HasRoom, IsPart, IsPlace, IsTurned, IsUnturned, IsWiping};
+ghost use Rattle.rollback_core.specs.Writing.{AreWritesApart, AreWiped, AreWrittenBack, GoApart, HasRoom, IsWayBackPart, IsSavedPlace, IsTurned, IsUnturned, IsWiping};
 
 use crate::way::{Saved, WayBack};
 use btrfs_format::block::{FIRST_MIRROR, SECOND_MIRROR, SUPER_BLOCK};
@@ -17,10 +17,10 @@ use reiser_bitmap::{Access, Block, BlockNo, Disk, Fault};
 pub fn write_back<D: Disk>(disk: &mut D, way: &WayBack) -> Result<(), Fault>
     requires open { D.opened disk.old ≡ Some Access.Write }
     requires room { HasRoom (D.size disk.old) way.now }
-    requires apart { AreApart way.now }
+    requires apart { AreWritesApart way.now }
     ensures crash { EachCrash D.tells (D.history disk.old) (D.history disk.new) (λ image.
         IsUnturned way.now (reads (D.history disk.old)) image ⊎ IsTurned way.now (reads (D.history disk.old)) image) }
-    ensures writes { Writes D.Disk (IsPart way.now) disk.old disk.new }
+    ensures writes { Writes D.Disk (IsWayBackPart way.now) disk.old disk.new }
     ensures written { IsTrue D.tells → OnOk result (IsTurned way.now (reads (D.history disk.old)) (reads (D.history disk.new))) }
     ensures wiped { IsTrue D.tells → OnOk result (AreWiped way.now (reads (D.history disk.new))) }
     ensures settled { IsTrue D.tells → OnOk result (IsSettled (D.history disk.new)) }
@@ -36,7 +36,7 @@ fn write_reserved<D: Disk>(disk: &mut D, saved: &[Saved]) -> Result<(), Fault>
     requires open { D.opened disk.old ≡ Some Access.Write }
     requires in_range { All (λ s. s.at < D.size disk.old) saved.now }
     requires apart { GoApart saved.now }
-    ensures writes { Writes D.Disk (λ b _. IsPlace saved.now b) disk.old disk.new }
+    ensures writes { Writes D.Disk (λ b _. IsSavedPlace saved.now b) disk.old disk.new }
     ensures written { IsTrue D.tells → OnOk result (AreWrittenBack saved.now (reads (D.history disk.new))) }
     ensures settled { IsTrue D.tells → OnOk result (IsSettled (D.history disk.new)) }
     ensures cause { HasCause (D.faults disk.old) (D.faults disk.new) result }

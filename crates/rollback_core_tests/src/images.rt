@@ -1,5 +1,5 @@
 // The saved image of a small disk.
-use btr_reader::{Btrfs, ImageMap, Piece};
+use btr_reader::{Btrfs, ImageMap, MappedExtent};
 use btr_reader_walk::MapRange;
 use btrfs_format::block::SUPER_INFO_OFFSET;
 use outside::{Access, BlockSource, Disk};
@@ -28,13 +28,13 @@ fn image(alloc: Global) -> Result<ImageMap, Fail> {
         physical: 4096 * 8,
     })?;
     let mut pieces = Vec::new(alloc);
-    pieces.push(Piece {
+    pieces.push(MappedExtent {
         first: 1,
         count: 2,
         disk: 0x10_0000,
         offset: 3 * 4096,
     })?;
-    pieces.push(Piece {
+    pieces.push(MappedExtent {
         first: 4,
         count: 1,
         disk: 0x10_0000 + 2 * 4096,
@@ -114,13 +114,13 @@ fn kept(alloc: Global) -> Result<ImageMap, Fail> {
         physical: 0x10_0000,
     })?;
     let mut pieces = Vec::new(alloc);
-    pieces.push(Piece {
+    pieces.push(MappedExtent {
         first: 0,
         count: 256,
         disk: 4096 * 1000,
         offset: 0,
     })?;
-    pieces.push(Piece {
+    pieces.push(MappedExtent {
         first: 256,
         count: 200,
         disk: 4096 * 256,

@@ -10,7 +10,7 @@ use Rattle.btr_space_items.specs.declared.block_group.BlockGroup.{BlockGroup}
 use Rattle.btr_space_items.specs.declared.extent_head.ExtentHead.{ExtentHead}
 use Rattle.btr_space_items.specs.declared.inline_ref.InlineRef.{InlineRef}
 use Rattle.btr_space_items.specs.declared.inline_ref.InlineRef.TheVariants.{TreeBlock, DataRef}
-use Rattle.unit_plan.specs.declared.chunk.Chunk.{Chunk}
+use Rattle.unit_plan.specs.declared.chunk.PlannedChunk.{PlannedChunk}
 use Rattle.unit_plan.specs.declared.piece.Piece.{Piece}
 use Rattle.space_items.specs.Extents.{group_item, node_item, piece_item, piece_refs, put_ref, image_refs, hash_of_ref, data_ref}
 use Rattle.space_items.specs.declared.node.TreeNode.{TreeNode}
@@ -28,7 +28,7 @@ unfolding tree_block_layout data_ref_layout
 ref_bytes-le (TreeBlock root) = omega arith
 ref_bytes-le (DataRef root objectid offset count) = omega arith
 
-pub length-group : (used : ℕ) (c : Chunk) → length (group_item used c).1 ≡ 24
+pub length-group : (used : ℕ) (c : PlannedChunk) → length (group_item used c).1 ≡ 24
 length-group used c = length-group_bytes _
 
 pub length-node : (n : TreeNode) → length (node_item n).1 ≡ METADATA_ITEM_SIZE

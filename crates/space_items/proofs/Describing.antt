@@ -9,7 +9,7 @@ use Rattle.unit_plan.specs.declared.item_bytes.TheConstants.{NODE_BYTES}
 use Rattle.btr_tree.specs.btr_node.NodeSize.{IsNodeSize}
 use Rattle.btr_tree.specs.Counting.{Counted, Tally, bytes_of, node_bound, tree_nodes}
 use Rattle.btr_tree.specs.Roots.{lengths_of}
-use Rattle.unit_plan.specs.declared.chunk.Chunk.{Chunk}
+use Rattle.unit_plan.specs.declared.chunk.PlannedChunk.{PlannedChunk}
 use Rattle.unit_plan.specs.declared.piece.Piece.{Piece}
 use Rattle.space_items.specs.Extents.{extent_items}
 use Rattle.space_items.specs.Nodes.{merged_nodes, nodes_at}
@@ -24,12 +24,12 @@ pub node_total : IsTotalOrder node_cmp
 node_total = on_total (λ (n : TreeNode). n.address) nat_cmp_total
 
 -- A count that was taken so far. No number below it describes itself.
-pub record IsCounting (chunks : List Chunk) (pieces : List Piece) (others : List TreeNode) (slots : List ℕ) (nodesize count : ℕ) : Type 0 where
+pub record IsCounting (chunks : List PlannedChunk) (pieces : List Piece) (others : List TreeNode) (slots : List ℕ) (nodesize count : ℕ) : Type 0 where
   pub rising : count ≤ nodes_with chunks pieces others slots nodesize count
   pub least : (y : ℕ) → nodes_with chunks pieces others slots nodesize y ≡ y → count ≤ y
   pub bounded : count ≤ own_bound chunks pieces others nodesize
 
-module _ (chunks : List Chunk) (pieces : List Piece) (others : List TreeNode) (slots : List ℕ) (nodesize : ℕ) (size : IsNodeSize nodesize) where
+module _ (chunks : List PlannedChunk) (pieces : List Piece) (others : List TreeNode) (slots : List ℕ) (nodesize : ℕ) (size : IsNodeSize nodesize) where
   abbrev count_with : ℕ → ℕ
   count_with x = nodes_with chunks pieces others slots nodesize x
 
@@ -92,11 +92,11 @@ module _ (chunks : List Chunk) (pieces : List Piece) (others : List TreeNode) (s
     counting_ends same = record { same = sym is ∙ same; least = λ y low e. absurd (omega (arith, low, so_far.least y e)) }
 
 -- what the counter tells of the next count
-pub record IsNextCount (chunks : List Chunk) (pieces : List Piece) (others : List TreeNode) (slots : List ℕ) (nodesize count next : ℕ) : Type 0 where
+pub record IsNextCount (chunks : List PlannedChunk) (pieces : List Piece) (others : List TreeNode) (slots : List ℕ) (nodesize count next : ℕ) : Type 0 where
   pub is : next ≡ nodes_with chunks pieces others slots nodesize count
   pub low : next ≤ node_bound (bytes_of (own_lengths chunks pieces others slots nodesize count)) nodesize
 
-pub counted_next : (chunks : List Chunk) (pieces : List Piece) (others nodes : List TreeNode) (slots : List ℕ) (nodesize count next : ℕ) (tally : Tally) → nodes ≡ merged_nodes others (own_at slots count) → tally.nodesize ≡ nodesize
+pub counted_next : (chunks : List PlannedChunk) (pieces : List Piece) (others nodes : List TreeNode) (slots : List ℕ) (nodesize count next : ℕ) (tally : Tally) → nodes ≡ merged_nodes others (own_at slots count) → tally.nodesize ≡ nodesize
     → Counted tally (lengths_of (extent_items chunks pieces nodes nodesize)) → ((lengths : List ℕ) → Counted tally lengths → next ≡ tree_nodes tally.nodesize lengths) → next ≤ node_bound tally.bytes tally.nodesize
     → IsNextCount chunks pieces others slots nodesize count next
 counted_next chunks pieces others nodes slots nodesize count next tally same size counted exact low =

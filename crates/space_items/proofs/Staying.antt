@@ -7,9 +7,9 @@ use Rattle.btrfs_format.specs.declared.object.TheConstants.{EXTENT_TREE}
 use Rattle.btrfs_format.specs.declared.size.TheConstants.{METADATA_ITEM_SIZE}
 use Rattle.btr_tree.specs.btr_keys.Key.{make_key}
 use Rattle.btr_tree.specs.Counting.{tree_nodes}
-use Rattle.btr_tree.specs.Packing.{leaves, tree_levels}
+use Rattle.btr_tree.specs.Packing.{packed_leaves, tree_levels}
 use Rattle.btr_tree.specs.Roots.{lengths_of}
-use Rattle.unit_plan.specs.declared.chunk.Chunk.{Chunk}
+use Rattle.unit_plan.specs.declared.chunk.PlannedChunk.{PlannedChunk}
 use Rattle.unit_plan.specs.declared.piece.Piece.{Piece}
 use Rattle.space_items.specs.Extents.{extent_items}
 use Rattle.space_items.specs.Nodes.{merged_nodes, nodes_of_tree}
@@ -25,7 +25,7 @@ use Rattle.space_items.proofs.Shapes.{Shape, all_map, group_shape, lengths_are, 
 abbrev bare : Shape → Shape
 bare s = (make_key s.0.objectid s.0.kind 0, s.1)
 
-module _ (chunks : List Chunk) (pieces : List Piece) where
+module _ (chunks : List PlannedChunk) (pieces : List Piece) where
   abbrev gs : List Shape
   gs = map group_shape chunks
 
@@ -71,7 +71,7 @@ own_nodes_stay_so = λ chunks pieces others slots nodesize x own.
     let lengths : List ℕ = own_lengths chunks pieces others slots nodesize x in
     let all : List TreeNode = nodes_with_own chunks pieces others slots nodesize x in
     let leaves_at : addresses (own_at slots x) ≡ take x slots = map-map (λ (m : TreeNode). m.address) (λ a. record { address = a; level = 0; owner = EXTENT_TREE }) (take x slots) ∙ map-id (take x slots) in
-    let tree_at : addresses (nodes_of_tree EXTENT_TREE nodesize lengths slots) ≡ take x slots = upper_at 2 0 0 slots (tree_levels nodesize (length (leaves nodesize lengths))) ∙ ap (λ (n : ℕ). take n slots) own.same in
+    let tree_at : addresses (nodes_of_tree EXTENT_TREE nodesize lengths slots) ≡ take x slots = upper_at 2 0 0 slots (tree_levels nodesize (length (packed_leaves nodesize lengths))) ∙ ap (λ (n : ℕ). take n slots) own.same in
     let places : addresses all ≡ addresses (merged_nodes others (own_at slots x)) =
     merged_places others (nodes_of_tree EXTENT_TREE nodesize lengths slots) ∙ (ap (merge nat_cmp (addresses others)) (tree_at ∙ sym leaves_at) ∙ sym (merged_places others (own_at slots x))) in
     let same : lengths_of (extent_items chunks pieces all nodesize) ≡ lengths = same_lengths chunks pieces nodesize all (merged_nodes others (own_at slots x)) places in

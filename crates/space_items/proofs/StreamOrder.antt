@@ -21,7 +21,7 @@ use Rattle.btr_tree.specs.csum_kinds.declared.kind.SumKind.{SumKind}
 use Rattle.btr_tree.specs.csum_kinds.declared.kind.SumKind.TheVariants.{Crc32c}
 use Rattle.unit_plan.specs.Chunks.{AreChunks, IsChunk, role_of, usable_end}
 use Rattle.unit_plan.specs.Sums.{sums_in_item}
-use Rattle.unit_plan.specs.declared.chunk.Chunk.{Chunk}
+use Rattle.unit_plan.specs.declared.chunk.PlannedChunk.{PlannedChunk}
 use Rattle.unit_plan.specs.declared.piece.Piece.{Piece}
 use Rattle.unit_plan.specs.declared.plan.Plan.{Plan}
 use Rattle.space_items.specs.Extents.{group_item, node_item, piece_item, used_in, extent_items}
@@ -52,7 +52,7 @@ less_first a b o h = ap (λ (k : Ordering). ordering_then k o) (nat_less a b h)
 
 -- The extent tree.
 
-groups_rise : (plan : Plan) (blocks : ℕ) (chunks : List Chunk) (used : Chunk → ℕ) → AreChunks plan blocks chunks → Rise (map (λ c. group_item (used c) c) chunks)
+groups_rise : (plan : Plan) (blocks : ℕ) (chunks : List PlannedChunk) (used : PlannedChunk → ℕ) → AreChunks plan blocks chunks → Rise (map (λ c. group_item (used c) c) chunks)
 groups_rise plan blocks chunks used are =
     rise_of (λ c. group_item (used c) c) chunks
     (λ i j d l h.

@@ -11,7 +11,7 @@ use Rattle.btr_tree.specs.Counting.{Tally, Counted, bytes_of}
 use Rattle.btr_tree.specs.Packing.{weight}
 use Rattle.btr_tree.specs.Roots.{lengths_of}
 use Rattle.unit_plan.specs.Chunks.{AreChunks, usable_end}
-use Rattle.unit_plan.specs.declared.chunk.Chunk.{Chunk}
+use Rattle.unit_plan.specs.declared.chunk.PlannedChunk.{PlannedChunk}
 use Rattle.unit_plan.specs.declared.piece.Piece.{Piece}
 use Rattle.unit_plan.specs.declared.plan.Plan.{Plan}
 use Rattle.space_items.specs.Extents.{extent_items}
@@ -91,10 +91,10 @@ sum-ge : {A : Type 0} (f : A → ℕ) (xs : List A) → All (λ x. 1 ≤ f x) xs
 sum-ge f [] all = omega arith
 sum-ge f (x ∷ xs) all = omega (arith, sum_by-cons f x xs, sum-ge f xs (All-tail (λ y. 1 ≤ f y) x xs all), All-head (λ y. 1 ≤ f y) x xs all)
 
-pub few_chunks : (plan : Plan) (blocks : ℕ) (chunks : List Chunk) → AreChunks plan blocks chunks → length chunks ≤ blocks
+pub few_chunks : (plan : Plan) (blocks : ℕ) (chunks : List PlannedChunk) → AreChunks plan blocks chunks → length chunks ≤ blocks
 few_chunks plan blocks chunks are =
-    let start : Chunk → ℕ = λ (c : Chunk). c.start in
-    let count : Chunk → ℕ = λ (c : Chunk). c.length in
+    let start : PlannedChunk → ℕ = λ (c : PlannedChunk). c.start in
+    let count : PlannedChunk → ℕ = λ (c : PlannedChunk). c.length in
     omega (
       arith,
       sum-ge count chunks (λ k d h. (are.each k d h).not_empty),
@@ -112,7 +112,7 @@ few_pieces pieces are =
       apart_fit start count (2 ^ 29) 0 pieces (omega arith) (λ k d h. omega arith) are.ascending (λ k d h. (are.small k d h).place),
     )
 
-pub are_short : (plan : Plan) (blocks nodesize : ℕ) (chunks : List Chunk) (pieces : List Piece) (nodes : List TreeNode) → blocks ≤ 2 ^ 29 → AreChunks plan blocks chunks → ArePieces pieces → AreNodes nodes
+pub are_short : (plan : Plan) (blocks nodesize : ℕ) (chunks : List PlannedChunk) (pieces : List Piece) (nodes : List TreeNode) → blocks ≤ 2 ^ 29 → AreChunks plan blocks chunks → ArePieces pieces → AreNodes nodes
     → AreShort (extent_items chunks pieces nodes nodesize)
 are_short plan blocks nodesize chunks pieces nodes small are are_pieces are_nodes = record {
   short = bodies_short chunks pieces nodes nodesize;

@@ -10,10 +10,10 @@ use Rattle.btr_tree.specs.btr_node.Leaf.{Item}
 use Rattle.btr_space_items.specs.Chunk.{chunk_bytes}
 use Rattle.btr_space_items.specs.DevExtent.{dev_extent_bytes}
 use Rattle.btr_space_items.specs.Device.{device_bytes}
-use Rattle.btr_space_items.specs.declared.chunk.Chunk.{Chunk as ChunkBody}
+use Rattle.btr_space_items.specs.declared.chunk.Chunk.{Chunk}
 use Rattle.btr_space_items.specs.declared.dev_extent.DevExtent.{DevExtent}
 use Rattle.btr_space_items.specs.declared.device.Device.{Device}
-use Rattle.unit_plan.specs.declared.chunk.Chunk.{Chunk}
+use Rattle.unit_plan.specs.declared.chunk.PlannedChunk.{PlannedChunk}
 use Rattle.unit_plan.specs.declared.chunk.Role.{Role}
 use Rattle.unit_plan.specs.declared.chunk.Role.TheVariants.{System, Metadata, Data}
 
@@ -24,7 +24,7 @@ chunk_kind System = BLOCK_GROUP_SYSTEM
 chunk_kind Metadata = BLOCK_GROUP_METADATA
 
 -- A chunk of one stripe on device 1. An address in it is its place on the device.
-abbrev pub chunk_body : Ids → Chunk → ChunkBody
+abbrev pub chunk_body : Ids → PlannedChunk → Chunk
 chunk_body ids c = record {
   length = 4096 * c.length;
   owner = EXTENT_TREE;
@@ -38,11 +38,11 @@ chunk_body ids c = record {
   stripe = record { devid = 1; offset = 4096 * c.start; device_uuid = ids.device };
 }
 
-abbrev pub chunk_item : Ids → Chunk → Item
+abbrev pub chunk_item : Ids → PlannedChunk → Item
 chunk_item ids c = (make_key FIRST_CHUNK_TREE_OBJECTID CHUNK_ITEM (4096 * c.start), chunk_bytes (chunk_body ids c))
 
 -- the device of a volume of so many blocks
-abbrev pub device_body : Ids → ℕ → List Chunk → Device
+abbrev pub device_body : Ids → ℕ → List PlannedChunk → Device
 device_body ids blocks chunks = record {
   devid = 1;
   total_bytes = 4096 * blocks;
@@ -61,10 +61,10 @@ device_body ids blocks chunks = record {
 }
 
 -- The chunk tree: the device, and the chunks.
-abbrev pub chunk_items : Ids → ℕ → List Chunk → List Item
+abbrev pub chunk_items : Ids → ℕ → List PlannedChunk → List Item
 chunk_items ids blocks chunks = (make_key DEV_ITEMS_OBJECTID DEV_ITEM 1, device_bytes (device_body ids blocks chunks)) ∷ map (chunk_item ids) chunks
 
-abbrev pub dev_extent_body : Ids → Chunk → DevExtent
+abbrev pub dev_extent_body : Ids → PlannedChunk → DevExtent
 dev_extent_body ids c = record {
   chunk_tree = CHUNK_TREE;
   chunk_objectid = FIRST_CHUNK_TREE_OBJECTID;
@@ -73,9 +73,9 @@ dev_extent_body ids c = record {
   chunk_tree_uuid = ids.chunk_tree;
 }
 
-abbrev pub dev_extent_item : Ids → Chunk → Item
+abbrev pub dev_extent_item : Ids → PlannedChunk → Item
 dev_extent_item ids c = (make_key 1 DEV_EXTENT (4096 * c.start), dev_extent_bytes (dev_extent_body ids c))
 
 -- The device tree: what each chunk takes of the device.
-abbrev pub device_items : Ids → List Chunk → List Item
+abbrev pub device_items : Ids → List PlannedChunk → List Item
 device_items ids chunks = map (dev_extent_item ids) chunks

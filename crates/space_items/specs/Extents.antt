@@ -13,7 +13,7 @@ use Rattle.btr_space_items.specs.InlineRef.{inline_ref_bytes, ref_root, ref_obje
 use Rattle.btr_space_items.specs.declared.inline_ref.InlineRef.{InlineRef}
 use Rattle.btr_space_items.specs.declared.inline_ref.InlineRef.TheVariants.{TreeBlock, DataRef}
 use Rattle.space_items.specs.Merging.{merged}
-use Rattle.unit_plan.specs.declared.chunk.Chunk.{Chunk}
+use Rattle.unit_plan.specs.declared.chunk.PlannedChunk.{PlannedChunk}
 use Rattle.unit_plan.specs.declared.piece.Piece.{Piece}
 use Rattle.space_items.specs.declared.node.TreeNode.{TreeNode}
 use Rattle.space_items.specs.Chunks.{chunk_kind}
@@ -60,26 +60,26 @@ abbrev pub node_item : TreeNode → Item
 node_item n = (make_key n.address METADATA_ITEM n.level, extent_body EXTENT_FLAG_TREE_BLOCK (TreeBlock n.owner ∷ []))
 
 -- an address lies in the chunk
-abbrev pub is_in_chunk : Chunk → ℕ → Bool
+abbrev pub is_in_chunk : PlannedChunk → ℕ → Bool
 is_in_chunk c address = nat_le (4096 * c.start) address && nat_lt address (4096 * (c.start + c.length))
 
 -- the bytes of the extents of pieces in a chunk, and of those of nodes
-abbrev pub bytes_of_pieces : List Piece → Chunk → ℕ
+abbrev pub bytes_of_pieces : List Piece → PlannedChunk → ℕ
 bytes_of_pieces pieces c = sum_by (λ p. 4096 * p.count) (filter (λ p. is_in_chunk c (4096 * p.place)) pieces)
 
-abbrev pub bytes_of_nodes : List TreeNode → ℕ → Chunk → ℕ
+abbrev pub bytes_of_nodes : List TreeNode → ℕ → PlannedChunk → ℕ
 bytes_of_nodes nodes nodesize c = sum_by (λ n. nodesize) (filter (λ n. is_in_chunk c n.address) nodes)
 
 -- the bytes of the extents of a chunk
-abbrev pub used_in : List Piece → List TreeNode → ℕ → Chunk → ℕ
+abbrev pub used_in : List Piece → List TreeNode → ℕ → PlannedChunk → ℕ
 used_in pieces nodes nodesize c = bytes_of_pieces pieces c + bytes_of_nodes nodes nodesize c
 
 -- the block group of a chunk
-abbrev pub group_item : ℕ → Chunk → Item
+abbrev pub group_item : ℕ → PlannedChunk → Item
 group_item used c =
     (make_key (4096 * c.start) BLOCK_GROUP_ITEM (4096 * c.length), block_group_bytes (record { used = used; chunk_objectid = FIRST_CHUNK_TREE_OBJECTID; flags = chunk_kind c.role }))
 
 -- The whole of it, ascending: an extent for each piece and for each node, and a block group for each chunk.
-abbrev pub extent_items : List Chunk → List Piece → List TreeNode → ℕ → List Item
+abbrev pub extent_items : List PlannedChunk → List Piece → List TreeNode → ℕ → List Item
 extent_items chunks pieces nodes nodesize =
     merged (map (λ c. group_item (used_in pieces nodes nodesize c) c) chunks) (merged (map node_item nodes) (map piece_item pieces))

@@ -65,8 +65,8 @@ root_body ids nodesize r = record {
   rtime = stamp_of 0;
 }
 
-abbrev pub root_item : Ids → ℕ → TreeRoot → Item
-root_item ids nodesize r = (make_key r.tree ROOT_ITEM 0, root_item_bytes (root_body ids nodesize r))
+abbrev pub tree_root_item : Ids → ℕ → TreeRoot → Item
+tree_root_item ids nodesize r = (make_key r.tree ROOT_ITEM 0, root_item_bytes (root_body ids nodesize r))
 
 -- the entry of tree 5's root that names the subvolume with the image
 abbrev pub saved_name : List ℕ
@@ -96,7 +96,7 @@ other_root_items index now =
 
 -- the whole of it
 abbrev pub root_items : List TreeRoot → ℕ → Ids → ℕ → ℕ → List Item
-root_items list index ids now nodesize = merged (map (root_item ids nodesize) list) (other_root_items index now)
+root_items list index ids now nodesize = merged (map (tree_root_item ids nodesize) list) (other_root_items index now)
 
 -- from `first` on, the items up to `next` are before the key, and the one at `next` is not
 pub record AreBefore (items : List Item) (first : ℕ) (key : Key) (next : ℕ) : Type 0 where

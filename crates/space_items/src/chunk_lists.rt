@@ -1,7 +1,7 @@
 ghost use Rattle.std.specs.Prelude.{◌≡◌, ◌≤◌, ◌<◌, ◌+◌, ◌*◌, ◌^◌, ◌++◌, ◌∷◌, [], List, IfOk, OnOk};
 ghost use Rattle.std.specs.List.{sum_by};
 ghost use Rattle.unit_plan.specs.Chunks.{AreChunks, FitsVolume};
-ghost use Rattle.unit_plan.specs.declared.chunk.Chunk.{Chunk as ChunkOf};
+ghost use Rattle.unit_plan.specs.declared.chunk.PlannedChunk.{PlannedChunk as PlannedChunkOf};
 ghost use Rattle.space_items.specs.Chunks.{chunk_kind, chunk_body, chunk_item, chunk_items, device_body, dev_extent_item, device_items};
 
 use btr_item_list::{ItemList, key_of};
@@ -13,7 +13,7 @@ use btrfs_format::object::{
     CHUNK_TREE, DEV_ITEMS_OBJECTID, EXTENT_TREE, FIRST_CHUNK_TREE_OBJECTID,
 };
 use std::alloc::Global;
-use unit_plan::{Chunk, Chunks, Plan, Role, chunks_of};
+use unit_plan::{Chunks, Plan, PlannedChunk, Role, chunks_of};
 
 /// The number of a chunk's use.
 pub fn chunk_kind(role: Role) -> u64
@@ -27,11 +27,11 @@ pub fn chunk_kind(role: Role) -> u64
 }
 
 /// The body of a chunk's item: one stripe, on device 1, at the place that is its address.
-pub fn chunk_body(ids: &Ids, chunk: Chunk) -> ChunkBody
+pub fn chunk_body(ids: &Ids, chunk: PlannedChunk) -> ChunkBody
     requires { chunk.start + chunk.length ≤ 2 ^ 29 }
     ensures { result ≡ chunk_body ids.now chunk }
 {
-    let Chunk {
+    let PlannedChunk {
         start,
         length,
         role,
@@ -94,7 +94,7 @@ fn chunk_blocks(chunks: &Chunks) -> u64
 pub fn chunks(alloc: Global, plan: &Plan, blocks: u64, ids: &Ids) -> Result<ItemList, Memory>
     requires small { blocks ≤ 2 ^ 29 }
     requires units { FitsVolume plan.now blocks }
-    ensures { (list : List ChunkOf) → AreChunks plan.now blocks list → IfOk result (λ items. items ≡ chunk_items ids.now blocks list) }
+    ensures { (list : List PlannedChunkOf) → AreChunks plan.now blocks list → IfOk result (λ items. items ≡ chunk_items ids.now blocks list) }
 {
     let chunks = chunks_of(alloc, plan, blocks)?;
     let mut items = ItemList::new(alloc);
@@ -108,7 +108,7 @@ pub fn chunks(alloc: Global, plan: &Plan, blocks: u64, ids: &Ids) -> Result<Item
 }
 
 /// Appends a chunk's item.
-fn add_chunk(items: &mut ItemList, ids: &Ids, chunk: Chunk) -> Result<(), Memory>
+fn add_chunk(items: &mut ItemList, ids: &Ids, chunk: PlannedChunk) -> Result<(), Memory>
     requires { chunk.start + chunk.length ≤ 2 ^ 29 }
     ensures { OnOk result (items.new ≡ items.old ++ chunk_item ids.now chunk ∷ []) }
 {
@@ -124,7 +124,7 @@ fn add_chunk(items: &mut ItemList, ids: &Ids, chunk: Chunk) -> Result<(), Memory
 pub fn devices(alloc: Global, plan: &Plan, blocks: u64, ids: &Ids) -> Result<ItemList, Memory>
     requires small { blocks ≤ 2 ^ 29 }
     requires units { FitsVolume plan.now blocks }
-    ensures { (list : List ChunkOf) → AreChunks plan.now blocks list → IfOk result (λ items. items ≡ device_items ids.now list) }
+    ensures { (list : List PlannedChunkOf) → AreChunks plan.now blocks list → IfOk result (λ items. items ≡ device_items ids.now list) }
 {
     let chunks = chunks_of(alloc, plan, blocks)?;
     let mut items = ItemList::new(alloc);
@@ -135,7 +135,7 @@ pub fn devices(alloc: Global, plan: &Plan, blocks: u64, ids: &Ids) -> Result<Ite
 }
 
 /// Appends what a chunk takes of the device.
-fn add_dev_extent(items: &mut ItemList, ids: &Ids, chunk: Chunk) -> Result<(), Memory>
+fn add_dev_extent(items: &mut ItemList, ids: &Ids, chunk: PlannedChunk) -> Result<(), Memory>
     requires { chunk.start + chunk.length ≤ 2 ^ 29 }
     ensures { OnOk result (items.new ≡ items.old ++ dev_extent_item ids.now chunk ∷ []) }
 {

@@ -9,12 +9,12 @@ use btr_space_items::BlockGroup;
 use btr_tree::{CopyList, Memory};
 use btrfs_format::object::FIRST_CHUNK_TREE_OBJECTID;
 use std::alloc::Global;
-use unit_plan::{Chunk, Chunks, PieceList};
+use unit_plan::{Chunks, PieceList, PlannedChunk};
 
 /// A chunk, and how many bytes of it extents take.
 #[derive(Clone, Copy)]
 pub struct Group {
-    pub chunk: Chunk,
+    pub chunk: PlannedChunk,
     pub used: u64,
 }
 

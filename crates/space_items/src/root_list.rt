@@ -1,6 +1,6 @@
 ghost use Rattle.std.specs.Prelude.{◌≡◌, ◌≤◌, ◌<◌, ◌*◌, ◌^◌, ◌++◌, ◌∷◌, [], drop, slice_range, length, All, AllPairs, IfOk, OnOk};
 ghost use Rattle.btr_item_list.specs.Inodes.{inode_item, ref_item};
-ghost use Rattle.space_items.specs.Roots.{AreBefore, root_items, root_item, root_body, root_inode, root_dirid, tree_uuid, other_root_items, saved_ref, default_item};
+ghost use Rattle.space_items.specs.Roots.{AreBefore, root_items, tree_root_item, root_body, root_inode, root_dirid, tree_uuid, other_root_items, saved_ref, default_item};
 
 use crate::node::{RootList, TreeRoot};
 use btr_item_list::{
@@ -82,7 +82,7 @@ fn add_rest(items: &mut ItemList, others: &ItemList, first: usize) -> Result<(),
 /// Appends a root item.
 fn add_root(items: &mut ItemList, ids: &Ids, nodesize: u32, root: TreeRoot) -> Result<(), Memory>
     requires { nodesize * root.root.nodes < 2 ^ 64 }
-    ensures { OnOk result (items.new ≡ items.old ++ root_item ids.now nodesize root ∷ []) }
+    ensures { OnOk result (items.new ≡ items.old ++ tree_root_item ids.now nodesize root ∷ []) }
 {
     let mut body = [0; RootItem::SIZE];
     root_body(ids, nodesize, root).write(&mut body);

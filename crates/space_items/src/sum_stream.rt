@@ -72,7 +72,7 @@ fn put_sum(body: &mut Vec<u8>, at: usize, sums: SumKind, block: &Block)
 }
 
 impl SumStream {
-    ghost use Rattle.space_items.specs.Stream.{ComesTo, IsAsBefore, IsTaken, sum_standing, taken};
+    ghost use Rattle.space_items.specs.Stream.{ComesTo, IsAsBefore, IsPieceTaken, sum_standing, blocks_taken};
 
     /// Goes to the next item, which stands then; false after the last one. After an error it is spent.
     pub fn advance<S: BlockSource, P: PieceList>(
@@ -109,8 +109,8 @@ impl SumStream {
         ensures kept { S.kept src.old src.new }
         ensures cause { HasCause (S.faults src.old) (S.faults src.new) result }
         ensures spent { self.new.spent ≡ self.old.spent }
-        ensures taken { OnOk result (IsTaken self.old self.new piece) }
-        ensures stands { OverTold S.tells (S.blocks src.old) (λ image. OnOk result (sum_standing self.new ≡ sums_item self.old.sums image (piece.place + self.old.done) (taken self.old piece))) }
+        ensures blocks_taken { OnOk result (IsPieceTaken self.old self.new piece) }
+        ensures stands { OverTold S.tells (S.blocks src.old) (λ image. OnOk result (sum_standing self.new ≡ sums_item self.old.sums image (piece.place + self.old.done) (blocks_taken self.old piece))) }
     {
         let first = piece.place + self.done;
         let count = (piece.count - self.done).min(sums_in_item(self.sums));

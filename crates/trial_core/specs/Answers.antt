@@ -39,8 +39,8 @@ abbrev pub IsStop : Answer → Type 0
 IsStop e = (e ≡ answer.Fault) ⊎ (e ≡ answer.Memory)
 
 -- what may be answered of what is only read, whatever the disk gives
-abbrev pub IsReadAnswer : Answer → Type 0
-IsReadAnswer e = IsStop e ⊎ (e ≡ changed)
+abbrev pub IsTrialReadAnswer : Answer → Type 0
+IsTrialReadAnswer e = IsStop e ⊎ (e ≡ changed)
 
 -- a call failed or memory was short, or this is not so of the volume that is read
 abbrev pub StopsUnless : Type 0 → Answer → Type 0

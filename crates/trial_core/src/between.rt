@@ -4,7 +4,7 @@ ghost use Rattle.std.specs.Result.{MatchResult};
 ghost use Rattle.reiser_bitmap.specs.outside.Fault.{HasCauseOf};
 ghost use Rattle.reiser_bitmap.specs.outside.History.{OverTold};
 ghost use Rattle.btr_reader.specs.Parts.{HasBtrfsRows, ListsBtrfs};
-ghost use Rattle.trial_core.specs.Answers.{IsReadAnswer, StopsUnless};
+ghost use Rattle.trial_core.specs.Answers.{IsTrialReadAnswer, StopsUnless};
 
 use crate::answers::step_answer;
 use btr_reader::Btrfs;
@@ -20,7 +20,7 @@ pub fn read_btrfs_rows<S: BlockSource>(alloc: Global, src: &mut S) -> Result<Row
     ensures kept { S.kept src.old src.new }
     ensures told { OverTold S.tells (S.blocks src.old) (λ image. MatchResult result (ListsBtrfs image) (StopsUnless (HasBtrfsRows image))) }
     ensures cause { HasCauseOf Answer.Fault (S.faults src.old) (S.faults src.new) result }
-    ensures answers { IfErr result IsReadAnswer }
+    ensures answers { IfErr result IsTrialReadAnswer }
 {
     let mut block = Block::zero();
     src.read(SUPER_BLOCK, &mut block)?;

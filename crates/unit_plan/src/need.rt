@@ -2,7 +2,7 @@ ghost use Rattle.std.specs.Prelude.{◌≡◌, ◌+◌, ◌*◌, ◌≤◌, ◌<
 ghost use Rattle.btr_tree.specs.btr_node.NodeSize.{IsNodeSize};
 ghost use Rattle.btr_tree.specs.Counting.{node_bound};
 ghost use Rattle.btr_tree.specs.csum_kinds.Kind.{kind_width};
-ghost use Rattle.unit_plan.specs.Choice.{IsSmall};
+ghost use Rattle.unit_plan.specs.Choice.{IsSmallNeed};
 ghost use Rattle.unit_plan.specs.Needed.{
   AreSmall,
   need,
@@ -59,7 +59,7 @@ pub fn needed(counts: &Counts, options: &Options) -> Need
     requires counts { AreSmall counts.now }
     requires size { IsNodeSize options.now.nodesize }
     ensures exact { result ≡ need counts.now options.now }
-    ensures small { IsSmall result }
+    ensures small { IsSmallNeed result }
 {
     let others = other_nodes(counts, options);
     let extents = extent_nodes(counts, options);

@@ -14,7 +14,7 @@ use crate::ending::{Ending, printed};
 use crate::format::open_format;
 use crate::reiser::ReiserSummary;
 use btrfs_format::block::SUPER_BLOCK;
-use convert_core::{Answer, Found};
+use convert_core::{Answer, FormatFound};
 use convert_options::Options;
 use reiser_volume::{Access, Block, BlockSource, Disk, Fault, Format, Sink};
 use std::alloc::Global;
@@ -82,7 +82,7 @@ fn inspect<D: Disk>(
 
 /// Checks a volume of the format that was found.
 fn inspect_as<S: BlockSource>(
-    found: &Found,
+    found: &FormatFound,
     alloc: Global,
     options: &Options,
     source: &mut S,

@@ -13,7 +13,7 @@ use crate::format::open_format;
 use crate::reiser::reiser_rows;
 use btr_reader::Btrfs;
 use btrfs_format::block::SUPER_BLOCK;
-use convert_core::{Answer, Found};
+use convert_core::{Answer, FormatFound};
 use fs_rows::{Rows, write_rows};
 use reiser_volume::{Access, Block, BlockSource, Disk, Format, Sink};
 use std::alloc::Global;
@@ -45,7 +45,11 @@ fn list<D: Disk>(alloc: Global, path: &str, disk: &mut D) -> Result<Rows, Answer
 }
 
 /// The rows of a volume of the format that was found.
-fn list_as<S: BlockSource>(found: &Found, alloc: Global, source: &mut S) -> Result<Rows, Answer>
+fn list_as<S: BlockSource>(
+    found: &FormatFound,
+    alloc: Global,
+    source: &mut S,
+) -> Result<Rows, Answer>
     ensures kept { S.kept source.old source.new }
     ensures cause { HasCauseOf Answer.Fault (S.faults source.old) (S.faults source.new) result }
     ensures right { OverTold S.tells (S.blocks source.old) (λ image. IsFoundOn image found.now → MatchResult result (Lists image) (ListRefuses image)) }

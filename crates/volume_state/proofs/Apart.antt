@@ -15,7 +15,7 @@ use Rattle.btr_reader_walk.specs.Events.{TreeItem, nodes_in}
 use Rattle.btr_reader_walk.specs.Map.{place}
 use Rattle.btr_reader_walk.specs.Walks.{met}
 use Rattle.btr_reader_walk.specs.declared.map.MapRange.{MapRange}
-use Rattle.btr_reader_walk.specs.declared.tree.Pointer.{Pointer}
+use Rattle.btr_reader_walk.specs.declared.tree.NodePointer.{NodePointer}
 use Rattle.btr_reader_walk.specs.declared.tree.Tree.{Tree}
 use Rattle.btr_reader.specs.Apart.{AreExtentsApart, AreNodesApart, IsApart, IsContentApart, root_of, saved_tree}
 use Rattle.reiser_volume.proofs.fs_paths.Lists.{from_filter}
@@ -62,13 +62,13 @@ module _ (disk : Image) where
   ranges = own_map disk
 
   -- the file tree is one of them, and that of the saved image is the other
-  pub file_tree_among : (p : Pointer) → root_of disk FS_TREE ≡ Some p → Contains (file_trees disk s ranges) (tree_of s FS_TREE p)
+  pub file_tree_among : (p : NodePointer) → root_of disk FS_TREE ≡ Some p → Contains (file_trees disk s ranges) (tree_of s FS_TREE p)
   file_tree_among p is =
-      subst (λ (o : Option Pointer). Contains (tree_if s FS_TREE o ++ named_by disk s ranges o) (tree_of s FS_TREE p)) (sym is) (0, omega arith, refl)
+      subst (λ (o : Option NodePointer). Contains (tree_if s FS_TREE o ++ named_by disk s ranges o) (tree_of s FS_TREE p)) (sym is) (0, omega arith, refl)
 
-  pub saved_tree_among : (p : Pointer) (number : ℕ) (q : Pointer) → root_of disk FS_TREE ≡ Some p → saved_tree disk p ≡ Some number → root_of disk number ≡ Some q
+  pub saved_tree_among : (p : NodePointer) (number : ℕ) (q : NodePointer) → root_of disk FS_TREE ≡ Some p → saved_tree disk p ≡ Some number → root_of disk number ≡ Some q
       → Contains (file_trees disk s ranges) (tree_of s number q)
   saved_tree_among p number q root saved at =
-      subst (λ (o : Option Pointer). Contains (tree_if s FS_TREE o ++ named_by disk s ranges o) (tree_of s number q)) (sym root)
+      subst (λ (o : Option NodePointer). Contains (tree_if s FS_TREE o ++ named_by disk s ranges o) (tree_of s number q)) (sym root)
       (subst (λ (o : Option ℕ). Contains (tree_of s FS_TREE p ∷ numbered disk s ranges o) (tree_of s number q)) (sym saved)
-      (subst (λ (o : Option Pointer). Contains (tree_of s FS_TREE p ∷ tree_if s number o) (tree_of s number q)) (sym at) (1, omega arith, refl)))
+      (subst (λ (o : Option NodePointer). Contains (tree_of s FS_TREE p ∷ tree_if s number o) (tree_of s number q)) (sym at) (1, omega arith, refl)))

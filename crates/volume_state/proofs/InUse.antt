@@ -15,7 +15,7 @@ use Rattle.btr_reader.proofs.Opens.{opening_is}
 use Rattle.btr_reader.proofs.PartsRead.{no_log, of_disk, of_volume, one_log, opened_super}
 use Rattle.btr_reader.proofs.Supers.{in_bounds}
 use Rattle.btr_reader.specs.Chunks.{items_refusals}
-use Rattle.btr_reader.specs.Opening.{IsInBounds, IsOpened, boot_chunks, boot_list, boot_refusals, chunk_tree, map_from, or_later, root_tree, trees_refusals}
+use Rattle.btr_reader.specs.Opening.{IsSuperInBounds, IsBtrfsOpened, boot_chunks, boot_list, boot_refusals, chunk_tree, map_from, or_later, root_tree, trees_refusals}
 use Rattle.btr_reader.specs.Parts.{way_refusals}
 use Rattle.btr_reader.specs.declared.chunk.ChunkAt.{ChunkAt}
 use Rattle.btr_super.specs.declared.superblock.Super.{Super}
@@ -34,11 +34,11 @@ early_blocks : (early late : List MapRange) → AreInBlocks (early ++ late) → 
 early_blocks [] late all = All-nil IsInBlocks
 early_blocks (r ∷ early) late all = All-cons IsInBlocks r early (All-head IsInBlocks r (early ++ late) all) (early_blocks early late (All-tail IsInBlocks r (early ++ late) all))
 
-module _ (image : Image) (s : Super) (ranges : List MapRange) (opened : IsOpened image s ranges) where
+module _ (image : Image) (s : Super) (ranges : List MapRange) (opened : IsBtrfsOpened image s ranges) where
   abbrev boot : List ChunkAt
   boot = boot_list (boot_chunks s)
 
-  pub bounds : IsInBounds s
+  pub bounds : IsSuperInBounds s
   bounds = in_bounds (block_at image SUPER_BLOCK) (length image) s opened.super
 
   -- nothing is wrong with the chunk tree and the root tree

@@ -16,7 +16,7 @@ ghost use Rattle.volume_state.specs.Trees.{FindsSaved};
 
 use btr_node::{Key, SumKind};
 use btr_reader::{Btrfs, RootFound, find_entry};
-use btr_reader_walk::{Form, Pointer, Tree};
+use btr_reader_walk::{Form, NodePointer, Tree};
 use btr_super::{Super, sum_kind};
 use btrfs_format::block::SUPER_INFO_OFFSET;
 use btrfs_format::key::ROOT_ITEM;
@@ -54,7 +54,7 @@ pub fn chunk_tree(volume: &Btrfs) -> Result<Tree, BtrAnswer>
     }
     Ok(Tree {
         form: form_of(sup),
-        root: Pointer {
+        root: NodePointer {
             address: sup.chunk_root,
             level: sup.chunk_root_level,
             generation: sup.chunk_root_generation,
@@ -71,7 +71,7 @@ pub fn root_tree(volume: &Btrfs) -> Tree
     let sup = &volume.sup;
     Tree {
         form: form_of(sup),
-        root: Pointer {
+        root: NodePointer {
             address: sup.root,
             level: sup.root_level,
             generation: sup.generation,

@@ -6,14 +6,14 @@ use Rattle.reiser_volume.specs.outside.Format.{format_in}
 use Rattle.reiser_volume.specs.outside.History.{Image, block_at}
 use Rattle.reiser_volume.specs.vol_block.Format.{format}
 use Rattle.reiser_volume.specs.vol_block.declared.format.Format.TheVariants.{Btrfs, Neither}
-use Rattle.convert_core.specs.Converted.{IsBefore, IsConvertible}
+use Rattle.convert_core.specs.Converted.{KeepsOldVolume, IsConvertible}
 use Rattle.convert_core_laws.specs.opening.Opens.{StandsAsBefore}
 use Rattle.reiser_volume.proofs.reiser_bitmap.SystemBlocks.{superblock_in}
 use Rattle.reiser_volume.specs.Laws.{UsedBlocksDecide}
 use Rattle.reiser_volume.specs.Volume.{IsAccepted, superblock}
 use Rattle.convert_core.specs.convert_options.declared.options.Options.{Options}
 
-module _ (decide : UsedBlocksDecide) (o : Options) (image other : Image) (other_format : format_in image ≢ Btrfs) (can : IsConvertible o image) (before : IsBefore image other) where
+module _ (decide : UsedBlocksDecide) (o : Options) (image other : Image) (other_format : format_in image ≢ Btrfs) (can : IsConvertible o image) (before : KeepsOldVolume image other) where
   accepted : IsAccepted image
   accepted = can.sorted.accepted
 

@@ -19,7 +19,7 @@ use Rattle.btr_reader.specs.btr_reader_walk.Events.{TreeItem, nodes_in}
 use Rattle.btr_reader.specs.btr_reader_walk.Map.{place}
 use Rattle.btr_reader.specs.btr_reader_walk.Walks.{found, met}
 use Rattle.btr_reader.specs.btr_reader_walk.declared.map.MapRange.{MapRange}
-use Rattle.btr_reader.specs.btr_reader_walk.declared.tree.Pointer.{Pointer}
+use Rattle.btr_reader.specs.btr_reader_walk.declared.tree.NodePointer.{NodePointer}
 use Rattle.btr_reader.specs.btr_reader_walk.declared.tree.Tree.{Tree}
 use Rattle.btr_reader.specs.Apart.{AreExtentsApart, AreNodesApart, IsApart, IsContentApart, IsVolumeApart, boot_map, is_spare, is_spare_in, root_of, saved_tree}
 use Rattle.volume_state.proofs.Apart.{extents_apart, file_tree_among, nodes_apart, saved_tree_among}

@@ -45,7 +45,7 @@ use Rattle.convert_trees_laws.specs.Names.{NamesKeepRules}
 use Rattle.convert_trees_laws.specs.Rows.{HasBytes, KeepsBytes, RowsAreKept}
 use Rattle.convert_core.specs.space_items.Laws.{AreIds}
 use Rattle.convert_core.specs.space_items.declared.node.TreeNode.{TreeNode}
-use Rattle.convert_core.specs.btr_tree_writer.Trees.{root_pointer}
+use Rattle.convert_core.specs.btr_tree_writer.Trees.{pointer_to_root}
 use Rattle.convert_core.specs.convert_options.declared.options.Options.{Options}
 use Rattle.convert_core_laws.specs.opening.Opens.{ConvertedVolumesOpen, OpensAsBefore}
 
@@ -94,7 +94,7 @@ module _ (reads : SuperblockReads) (readable : ConvertedIsReadable) (saved : Sav
   tree = is.trees.files
 
   abbrev items : List TreeItem
-  items = found other (own_map other) (tree_of (own_super other) FS_TREE (root_pointer r.files))
+  items = found other (own_map other) (tree_of (own_super other) FS_TREE (pointer_to_root r.files))
 
   names_kept : KeepsNames (has_root (roots_on other (own_super other) (own_map other))) items r.files.address
   names_kept = names m.volume image m.options m.plan m.pieces items (has_root (roots_on other (own_super other) (own_map other))) r.files.address making.has_pieces tree.items_are
@@ -117,7 +117,7 @@ module _ (reads : SuperblockReads) (readable : ConvertedIsReadable) (saved : Sav
     readable = λ refusal broken. tree_readable refusal (inr (no_opening, broken));
     item = tree.item;
     has_item = tree.has_item;
-    at = root_pointer r.files;
+    at = pointer_to_root r.files;
     has_root = tree.leads;
     rows_are = kept m.volume image other m.options m.plan m.pieces (own_map other) items rows making.has_pieces tree.items_are blocks keeps_bytes are;
   }

@@ -12,13 +12,13 @@ use Rattle.reiser_volume.specs.outside.History.{Image}
 use Rattle.btr_reader.specs.btr_node.NodeSize.{IsNodeSize}
 use Rattle.btr_reader.specs.btr_node.Leaf.{Item}
 use Rattle.convert_core.specs.btr_tree.Counting.{tree_nodes}
-use Rattle.convert_core.specs.btr_tree.Packing.{leaves, tree_levels}
+use Rattle.convert_core.specs.btr_tree.Packing.{packed_leaves, tree_levels}
 use Rattle.convert_core.specs.btr_tree.Roots.{level_pointers, lengths_of, pointers_to}
 use Rattle.convert_core.specs.btr_tree.Building.{pointer_to}
 use Rattle.convert_core.specs.btr_tree.declared.climb.Root.{Root}
 use Rattle.convert_core.specs.convert_steps.Making.{IsMaking, Making, chunk_slots, new_ids, slots}
 use Rattle.convert_core.specs.convert_steps.Source.{HasPieces}
-use Rattle.convert_core.specs.convert_steps.Standing.{HasTrees, device_from, extents_from, file_tree_items, form, image_from, image_tree_items, nodes_from, other_nodes, relocation_from, root_from, root_tree_items, sum_tree_items, sums_from, used_bytes}
+use Rattle.convert_core.specs.convert_steps.Standing.{HasTrees, device_from, extents_from, file_tree_items, form, image_from, image_tree_items, nodes_from, nodes_of_others, relocation_from, root_from, root_tree_items, sum_tree_items, sums_from, used_bytes}
 use Rattle.convert_core.specs.convert_steps.declared.trees.VolumeTrees.{VolumeTrees}
 use Rattle.convert_core.proofs.Moving.{sound}
 use Rattle.convert_core.proofs.Wholeness.{are_pieces}
@@ -37,7 +37,7 @@ use Rattle.convert_core.specs.btr_tree_writer.Trees.{TreeStands}
 use Rattle.convert_core.specs.unit_plan.Laws.{IsSoundPlan}
 use Rattle.convert_core.specs.unit_plan.Needed.{need, nodes_in_unit}
 use Rattle.convert_core.specs.unit_plan.Places.{node_places, places_in}
-use Rattle.convert_core.specs.unit_plan.declared.chunk.Chunk.{Chunk}
+use Rattle.convert_core.specs.unit_plan.declared.chunk.PlannedChunk.{PlannedChunk}
 
 -- ---- the slots of units
 
@@ -99,7 +99,7 @@ levels_few generation level skip slots (n ∷ sizes) =
 
 tree_few : (owner nodesize : ℕ) (lengths slots : List ℕ) → length (nodes_of_tree owner nodesize lengths slots) ≤ tree_nodes nodesize lengths
 tree_few owner nodesize lengths slots =
-    let sizes : List ℕ = tree_levels nodesize (length (leaves nodesize lengths)) in
+    let sizes : List ℕ = tree_levels nodesize (length (packed_leaves nodesize lengths)) in
     let is = length-map (level_pointers 1 0 0 slots sizes) (λ p. let t : TreeNode = record { address = p.address; level = p.level; owner = owner } in t) in
     let few = levels_few 1 0 0 slots sizes in
     omega (arith, is, few)
@@ -173,7 +173,7 @@ module _ (image : Image) (m : Making) (made : IsMaking image m) (size : IsNodeSi
         let extents = tree_fits other EXTENT_TREE (drop (extents_from r) (slots m)) (extent_items m.chunks m.pieces nodes m.options.nodesize) r.extents has.extents (later_few (extents_from r)) in
         let first : length front ≤ 6 * 2 ^ 37 = six _ _ _ _ _ _ files saved relocation sums device root_few in
         let inner = merge_few front (nodes_of_tree CHUNK_TREE m.options.nodesize (lengths_of (chunk_items (new_ids m) m.volume.sup.blocks m.chunks)) (chunk_slots m)) in
-        let all = merge_few (other_nodes image other m r) (nodes_from m EXTENT_TREE (extents_from r) (extent_items m.chunks m.pieces nodes m.options.nodesize)) in
+        let all = merge_few (nodes_of_others image other m r) (nodes_from m EXTENT_TREE (extents_from r) (extent_items m.chunks m.pieces nodes m.options.nodesize)) in
         let is = ap (λ (ns : List TreeNode). length ns) has.nodes_are.is in
         omega (arith, first, inner, all, is, chunk, extents)
       where
@@ -185,10 +185,10 @@ module _ (image : Image) (m : Making) (made : IsMaking image m) (size : IsNodeSi
         files : length (nodes_from m FS_TREE 0 (file_tree_items image m)) ≤ 2 ^ 37
         files = tree_fits other FS_TREE (slots m) (file_tree_items image m) r.files has.files slots_few
 
-    sum_both : (f g : Chunk → ℕ) (cs : List Chunk) → sum_by (λ c. f c + g c) cs ≡ sum_by f cs + sum_by g cs
+    sum_both : (f g : PlannedChunk → ℕ) (cs : List PlannedChunk) → sum_by (λ c. f c + g c) cs ≡ sum_by f cs + sum_by g cs
     sum_both f g [] = refl
     sum_both f g (c ∷ cs) =
-        let all = sum_by-cons (λ (d : Chunk). f d + g d) c cs in
+        let all = sum_by-cons (λ (d : PlannedChunk). f d + g d) c cs in
         let first = sum_by-cons f c cs in
         let second = sum_by-cons g c cs in
         let rest = sum_both f g cs in
@@ -198,11 +198,11 @@ module _ (image : Image) (m : Making) (made : IsMaking image m) (size : IsNodeSi
     pub used_small : used_bytes m nodes < 2 ^ 64
     used_small =
         let both = sum_both (bytes_of_pieces m.pieces) (bytes_of_nodes nodes m.options.nodesize) m.chunks in
-        let behind : AllPairs (λ (c d : Chunk). 4096 * (c.start + c.length) ≤ 4096 * d.start) m.chunks = λ i j d order inside. let h = (chunks_of image m made).ascending i j d order inside in omega (arith, h) in
+        let behind : AllPairs (λ (c d : PlannedChunk). 4096 * (c.start + c.length) ≤ 4096 * d.start) m.chunks = λ i j d order inside. let h = (chunks_of image m made).ascending i j d order inside in omega (arith, h) in
         let of_pieces : sum_by (bytes_of_pieces m.pieces) m.chunks ≤ sum_by piece_bytes m.pieces =
-        apart_counted piece_place piece_bytes (λ (c : Chunk). 4096 * c.start) (λ (c : Chunk). 4096 * (c.start + c.length)) m.pieces m.chunks (λ c. omega arith) behind in
+        apart_counted piece_place piece_bytes (λ (c : PlannedChunk). 4096 * c.start) (λ (c : PlannedChunk). 4096 * (c.start + c.length)) m.pieces m.chunks (λ c. omega arith) behind in
         let of_nodes : sum_by (bytes_of_nodes nodes m.options.nodesize) m.chunks ≤ sum_by (λ (t : TreeNode). m.options.nodesize) nodes =
-        apart_counted node_place (λ (t : TreeNode). m.options.nodesize) (λ (c : Chunk). 4096 * c.start) (λ (c : Chunk). 4096 * (c.start + c.length)) nodes m.chunks (λ c. omega arith) behind in
+        apart_counted node_place (λ (t : TreeNode). m.options.nodesize) (λ (c : PlannedChunk). 4096 * c.start) (λ (c : PlannedChunk). 4096 * (c.start + c.length)) nodes m.chunks (λ c. omega arith) behind in
         let few = pieces_fit m.pieces (are_pieces m.volume image m.options m.plan m.pieces of) in
         let each = sum_by-le (λ (t : TreeNode). m.options.nodesize) 65536 nodes (λ k d inside. size_small m.options.nodesize size) in
         let count = nodes_few in

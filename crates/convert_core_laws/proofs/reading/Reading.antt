@@ -13,7 +13,7 @@ use Rattle.btr_reader.specs.btr_node.Leaf.{Item}
 use Rattle.btr_reader.specs.Opening.{chunk_map, opening_refusals, tree_of}
 use Rattle.btr_reader.specs.Parts.{own_map, own_super}
 use Rattle.btr_reader.specs.Roots.{pointer_of, root_item}
-use Rattle.btr_reader.specs.Rows.{BreaksExtents, IsTreeRefusal, roots_on, no_root_item, bad_root_item, bad_tree, bad_names, bad_extents}
+use Rattle.btr_reader.specs.Rows.{BreaksExtents, IsFileTreeRefusal, roots_on, no_root_item, bad_root_item, bad_tree, bad_names, bad_extents}
 use Rattle.btr_reader.specs.btr_super.declared.superblock.Super.{Super}
 use Rattle.btr_reader.specs.btr_super.Rules.{super_refusals, unless_refused, super_of}
 use Rattle.btr_reader.specs.btr_super.Super.{super_in}
@@ -22,7 +22,7 @@ use Rattle.btr_reader.specs.btr_reader_walk.Events.{TreeItem}
 use Rattle.btr_reader.specs.btr_reader_walk.Tree.{bare_item}
 use Rattle.btr_reader.specs.btr_reader_walk.Walks.{found, wrong}
 use Rattle.btr_reader.specs.btr_reader_walk.declared.map.MapRange.{MapRange}
-use Rattle.btr_reader.specs.btr_reader_walk.declared.tree.Pointer.{Pointer}
+use Rattle.btr_reader.specs.btr_reader_walk.declared.tree.NodePointer.{NodePointer}
 use Rattle.convert_core.specs.convert_steps.Making.{IsMaking, Making, new_ids, saved_index, slots}
 use Rattle.convert_core.specs.convert_steps.Standing.{HasTrees, device_from, extents_from, file_tree_items, form, image_from, image_tree_items, relocation_from, root_tree_items, sum_tree_items, sums_from}
 use Rattle.convert_core.specs.convert_steps.declared.trees.VolumeTrees.{VolumeTrees}
@@ -31,10 +31,10 @@ use Rattle.reiser_volume.specs.outside.History.{block_at}
 use Rattle.reiser_volume.proofs.reiser_bitmap.Ranges.{all_from_contains}
 use Rattle.convert_core.specs.space_items.Chunks.{device_items}
 use Rattle.convert_core.specs.space_items.Extents.{extent_items}
-use Rattle.convert_core.specs.space_items.Roots.{root_item as item_of_root}
+use Rattle.convert_core.specs.space_items.Roots.{tree_root_item as item_of_root}
 use Rattle.convert_core.specs.space_items.declared.node.TreeNode.{TreeNode}
 use Rattle.convert_core.specs.space_items.declared.node.TreeRoot.{TreeRoot}
-use Rattle.convert_core.specs.btr_tree_writer.Trees.{TreeStands, root_pointer}
+use Rattle.convert_core.specs.btr_tree_writer.Trees.{TreeStands, pointer_to_root}
 use Rattle.convert_core.specs.convert_options.declared.options.Options.{Options}
 use Rattle.convert_core_laws.specs.reading.Laws.{ConvertedIsReadable, IsReadableWithTrees, OpensWithTrees, TreesRead}
 use Rattle.convert_core_laws.specs.reading.Opened.{AreRangesFor, GivesItsOwn, IsNewVolume, ReadsTree, ReadsTrees, map_for, super_for}
@@ -49,7 +49,7 @@ pub none_of : (xs : List BtrRefusal) (r : BtrRefusal) → xs ≡ [] → ¬ Conta
 none_of [] r is h = omega (arith, h.1)
 none_of (x ∷ xs) r is h = cc is
 
-some_pointer : (p q : Pointer) → Some p ≡ Some q → p ≡ q
+some_pointer : (p q : NodePointer) → Some p ≡ Some q → p ≡ q
 some_pointer p q e = cc
 
 some_item : (i j : TreeItem) → Some i ≡ Some j → i ≡ j
@@ -58,7 +58,7 @@ some_item i j e = cc
 no_item : (o : Option TreeItem) (i : TreeItem) → o ≡ None → o ≡ Some i → ⊥
 no_item o i none some = absurd (cc)
 
-no_pointer : (o : Option Pointer) (p : Pointer) → o ≡ None → o ≡ Some p → ⊥
+no_pointer : (o : Option NodePointer) (p : NodePointer) → o ≡ None → o ≡ Some p → ⊥
 no_pointer o p none some = absurd (cc)
 
 -- a superblock that is read is what the block is
@@ -72,19 +72,19 @@ super_is block device s e = is_super (super_refusals block SUPER_BLOCK device) (
 
 -- the file tree is refused for its names or its extents alone
 module _ (image : Image) (s : Super) (ranges : List MapRange) (root : Root) (items : List Item) (tree : ReadsTree image s ranges FS_TREE root items) where
-  pointer_is : (i : TreeItem) (p : Pointer) → root_item FS_TREE (roots_on image s ranges) ≡ Some i → pointer_of i.body ≡ Some p → p ≡ root_pointer root
+  pointer_is : (i : TreeItem) (p : NodePointer) → root_item FS_TREE (roots_on image s ranges) ≡ Some i → pointer_of i.body ≡ Some p → p ≡ pointer_to_root root
   pointer_is i p has leads_to =
       let same : i ≡ tree.item = some_item i tree.item (sym has ∙ tree.has_item) in
-      some_pointer p (root_pointer root) (sym leads_to ∙ (ap (λ (j : TreeItem). pointer_of j.body) same ∙ tree.leads))
+      some_pointer p (pointer_to_root root) (sym leads_to ∙ (ap (λ (j : TreeItem). pointer_of j.body) same ∙ tree.leads))
 
-  pub rest : (r : BtrRefusal) → IsTreeRefusal image s ranges r
-      → BreaksNames (has_root (roots_on image s ranges)) (found image ranges (tree_of s FS_TREE (root_pointer root))) root.address r ⊎ BreaksExtents ranges (found image ranges (tree_of s FS_TREE (root_pointer root))) r
+  pub rest : (r : BtrRefusal) → IsFileTreeRefusal image s ranges r
+      → BreaksNames (has_root (roots_on image s ranges)) (found image ranges (tree_of s FS_TREE (pointer_to_root root))) root.address r ⊎ BreaksExtents ranges (found image ranges (tree_of s FS_TREE (pointer_to_root root))) r
   rest r (no_root_item none is) = absurd (no_item (root_item FS_TREE (roots_on image s ranges)) tree.item none tree.has_item)
-  rest r (bad_root_item i has none is) = absurd (no_pointer (pointer_of i.body) (root_pointer root) none (ap (λ (j : TreeItem). pointer_of j.body) (some_item i tree.item (sym has ∙ tree.has_item)) ∙ tree.leads))
-  rest r (bad_tree i p has leads_to among) = absurd (none_of (wrong image ranges (tree_of s FS_TREE p)) r (ap (λ (q : Pointer). wrong image ranges (tree_of s FS_TREE q)) (pointer_is i p has leads_to) ∙ tree.sound) among)
+  rest r (bad_root_item i has none is) = absurd (no_pointer (pointer_of i.body) (pointer_to_root root) none (ap (λ (j : TreeItem). pointer_of j.body) (some_item i tree.item (sym has ∙ tree.has_item)) ∙ tree.leads))
+  rest r (bad_tree i p has leads_to among) = absurd (none_of (wrong image ranges (tree_of s FS_TREE p)) r (ap (λ (q : NodePointer). wrong image ranges (tree_of s FS_TREE q)) (pointer_is i p has leads_to) ∙ tree.sound) among)
   rest r (bad_names i p has leads_to breaks) =
-      inl (subst (λ (q : Pointer). BreaksNames (has_root (roots_on image s ranges)) (found image ranges (tree_of s FS_TREE q)) q.address r) (pointer_is i p has leads_to) breaks)
-  rest r (bad_extents i p has leads_to breaks) = inr (subst (λ (q : Pointer). BreaksExtents ranges (found image ranges (tree_of s FS_TREE q)) r) (pointer_is i p has leads_to) breaks)
+      inl (subst (λ (q : NodePointer). BreaksNames (has_root (roots_on image s ranges)) (found image ranges (tree_of s FS_TREE q)) q.address r) (pointer_is i p has leads_to) breaks)
+  rest r (bad_extents i p has leads_to breaks) = inr (subst (λ (q : NodePointer). BreaksExtents ranges (found image ranges (tree_of s FS_TREE q)) r) (pointer_is i p has leads_to) breaks)
 
 module _ (o : Options) (ids : Ids) (now : ℕ) (image other : Image) (m : Making) (r : VolumeTrees) (nodes : List TreeNode) (v : IsNewVolume o ids now image other m r nodes) where
   abbrev making : IsMaking image m

@@ -23,12 +23,12 @@ use Rattle.btr_reader.specs.btr_space_items.declared.root_item.RootItem.{RootIte
 use Rattle.btr_reader.proofs.btr_space_items.Records.{root_items_read_back}
 use Rattle.btr_reader.specs.btr_reader_walk.Events.{TreeItem}
 use Rattle.btr_reader.specs.btr_reader_walk.Tree.{bare_item}
-use Rattle.convert_core.specs.convert_steps.Standing.{listed}
+use Rattle.convert_core.specs.convert_steps.Standing.{rooted_trees}
 use Rattle.convert_core.specs.convert_steps.declared.trees.VolumeTrees.{VolumeTrees}
 use Rattle.convert_core.specs.space_items.Laws.{AreIds}
-use Rattle.convert_core.specs.space_items.Roots.{default_item, is_file_tree, root_body, root_dirid, root_items, root_item as item_of_root, saved_ref, tree_uuid}
+use Rattle.convert_core.specs.space_items.Roots.{default_item, is_file_tree, root_body, root_dirid, root_items, tree_root_item as item_of_root, saved_ref, tree_uuid}
 use Rattle.convert_core.specs.space_items.declared.node.TreeRoot.{TreeRoot}
-use Rattle.convert_core.specs.btr_tree_writer.Trees.{root_pointer}
+use Rattle.convert_core.specs.btr_tree_writer.Trees.{pointer_to_root}
 use Rattle.convert_core.specs.btr_item_list.Inodes.{inode_item, inode_made, ref_item}
 
 -- ---- what a root item leads to
@@ -65,7 +65,7 @@ low_pointer : (r : RootItem) → r.level ≤ 7 → read_pointer r ≡ Some (reco
 low_pointer r low = ap (λ (b : Bool). if b then None else Some (record { address = r.bytenr; level = r.level; generation = r.generation })) (le-ltb 7 r.level low)
 
 pub leads : (ids : Ids) (nodesize : ℕ) (r : TreeRoot) → AreIds ids → nodesize ≤ 65536 → r.root.address < 2 ^ 64 → r.root.level ≤ 7 → r.root.nodes ≤ 2 ^ 40
-    → pointer_of (root_item_bytes (root_body ids nodesize r)) ≡ Some (root_pointer r.root)
+    → pointer_of (root_item_bytes (root_body ids nodesize r)) ≡ Some (pointer_to_root r.root)
 leads ids nodesize r are small address low few =
     ap (λ (o : Option RootItem). option_and_then read_pointer o) (root_items_read_back (root_body ids nodesize r) (body_fits ids nodesize r are small address low few))
     ∙ low_pointer (root_body ids nodesize r) low
@@ -86,7 +86,7 @@ in_order r index ids now nodesize =
     ∷ ((make_key CONV_IMAGE_SUBVOL ROOT_BACKREF FS_TREE, saved_ref index)
     ∷ (item_of_root ids nodesize (record { tree = DATA_RELOC_TREE; root = r.relocation }) ∷ []))))))))))
 
-pub order_is : (r : VolumeTrees) (index : ℕ) (ids : Ids) (now nodesize : ℕ) → root_items (listed r) index ids now nodesize ≡ in_order r index ids now nodesize
+pub order_is : (r : VolumeTrees) (index : ℕ) (ids : Ids) (now nodesize : ℕ) → root_items (rooted_trees r) index ids now nodesize ≡ in_order r index ids now nodesize
 order_is r index ids now nodesize = refl
 
 -- the root item of a tree among items without their leaves
@@ -134,7 +134,7 @@ named number (j ∷ items) i e = by (root_item number items) (named number items
     by None later is false t e = absurd (cc e)
     by (Some k) later is false t e = or_right (is_root_of number j) _ (later k is)
 
-module _ (r : VolumeTrees) (index : ℕ) (ids : Ids) (now nodesize : ℕ) (items : List TreeItem) (are : map bare_item items ≡ root_items (listed r) index ids now nodesize) where
+module _ (r : VolumeTrees) (index : ℕ) (ids : Ids) (now nodesize : ℕ) (items : List TreeItem) (are : map bare_item items ≡ root_items (rooted_trees r) index ids now nodesize) where
   found_in : (number : ℕ) (x : Item) → bare_root number (in_order r index ids now nodesize) ≡ Some x → IsFoundRoot number items x
   found_in number x e = find number items x (ap (bare_root number) (are ∙ order_is r index ids now nodesize) ∙ e)
 

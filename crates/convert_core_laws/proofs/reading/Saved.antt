@@ -24,9 +24,9 @@ use Rattle.btr_reader.specs.btr_keys.Stamp.{stamp_layout}
 use Rattle.btr_reader.specs.btr_keys.declared.inode.Inode.{Inode}
 use Rattle.btr_reader.specs.btr_keys.declared.key.Key.{Key}
 use Rattle.btr_reader.proofs.btr_keys.Records.{dir_items_read_back, inodes_read_back}
-use Rattle.btr_reader.specs.btr_reader_names.Inodes.{inode_item}
-use Rattle.btr_reader.specs.btr_reader_names.Links.{index_entry, naming_at, namings, only_one, own_naming}
-use Rattle.btr_reader.specs.btr_reader_names.declared.naming.Naming.{Naming}
+use Rattle.btr_reader.specs.btr_reader_names.Inodes.{find_inode_item}
+use Rattle.btr_reader.specs.btr_reader_names.Links.{index_entry, naming_at, dir_indexes, only_one, own_naming}
+use Rattle.btr_reader.specs.btr_reader_names.declared.dir_index.DirIndex.{DirIndex}
 use Rattle.btr_reader.specs.btr_node.Leaf.{Item, keys_of}
 use Rattle.btr_reader.specs.btr_node.NodeSize.{IsNodeSize}
 use Rattle.btr_reader.specs.btr_node.Order.{ascends}
@@ -54,7 +54,7 @@ use Rattle.convert_trees_laws.proofs.Booting.{blocks_are}
 use Rattle.convert_core.specs.convert_options.declared.options.Options.{Options}
 use Rattle.convert_core.specs.unit_plan.declared.piece.Piece.{Piece}
 use Rattle.convert_core_laws.specs.reading.Opened.{IsNewVolume, map_for}
-use Rattle.convert_core_laws.specs.reading.Saved.{HasImage, IsImageOf, SavedImageReads}
+use Rattle.convert_core_laws.specs.reading.Saved.{HasSavedImage, IsImageOf, SavedImageReads}
 use Rattle.convert_core_laws.proofs.reading.Chunks.{item_parts}
 use Rattle.convert_core_laws.proofs.reading.SavedExtents.{AreSources, FoundIn, IsSource, extents_sound, place_of, reads_extent, source_in, sources_bytes}
 use Rattle.convert_core_laws.proofs.reading.SavedPieces.{are_sources, held, member, six_behind}
@@ -96,14 +96,14 @@ no_index i key is off =
     ∙ ap (λ (b : Bool). if b && eqb key.objectid 256 then index_refusals_at i (index_entry i.body) else []) off
 
 -- extents name nothing, and are all of the file
-extents_names : (ps : List Piece) (items : List TreeItem) → map bare_item items ≡ extents_at 257 source_block ps → (namings items ≡ []) × (index_refusals items ≡ [])
+extents_names : (ps : List Piece) (items : List TreeItem) → map bare_item items ≡ extents_at 257 source_block ps → (dir_indexes items ≡ []) × (index_refusals items ≡ [])
 extents_names [] [] are = (refl, refl)
 extents_names [] (i ∷ items) are = absurd (cc are)
 extents_names (p ∷ ps) [] are = absurd (cc are)
 extents_names (p ∷ ps) (i ∷ items) are =
     let parts = item_parts i items (make_key 257 EXTENT_DATA (4096 * source_block p), file_extent_bytes (regular_extent p.place p.count)) (extents_at 257 source_block ps) are in
     let rest = extents_names ps items parts.2 in (
-      ap (λ (l : List Naming). l ++ namings items) (no_naming i (make_key 257 EXTENT_DATA (4096 * source_block p)) parts.0 refl) ∙ rest.0,
+      ap (λ (l : List DirIndex). l ++ dir_indexes items) (no_naming i (make_key 257 EXTENT_DATA (4096 * source_block p)) parts.0 refl) ∙ rest.0,
       ap (λ (l : List BtrRefusal). l ++ index_refusals items) (no_index i (make_key 257 EXTENT_DATA (4096 * source_block p)) parts.0 refl) ∙ rest.1,
     )
 
@@ -120,10 +120,10 @@ not_extent i items key is off =
     ap (λ (k : Key). cond (eqb k.objectid 257 && eqb k.kind EXTENT_DATA) (i ∷ extents_of items 257) (extents_of items 257)) is
     ∙ ap (λ (b : Bool). cond b (i ∷ extents_of items 257) (extents_of items 257)) off
 
-not_inode : (i : TreeItem) (items : List TreeItem) (key : Key) → i.key ≡ key → (eqb key.objectid 257 && (eqb key.kind INODE_ITEM && eqb key.offset 0)) ≡ false → inode_item (i ∷ items) 257 ≡ inode_item items 257
+not_inode : (i : TreeItem) (items : List TreeItem) (key : Key) → i.key ≡ key → (eqb key.objectid 257 && (eqb key.kind INODE_ITEM && eqb key.offset 0)) ≡ false → find_inode_item (i ∷ items) 257 ≡ find_inode_item items 257
 not_inode i items key is off =
-    ap (λ (k : Key). if eqb k.objectid 257 && (eqb k.kind INODE_ITEM && eqb k.offset 0) then Some i else inode_item items 257) is
-    ∙ ap (λ (b : Bool). if b then Some i else inode_item items 257) off
+    ap (λ (k : Key). if eqb k.objectid 257 && (eqb k.kind INODE_ITEM && eqb k.offset 0) then Some i else find_inode_item items 257) is
+    ∙ ap (λ (b : Bool). if b then Some i else find_inode_item items 257) off
 
 -- ---- the inode and the entry that are read back
 
@@ -161,9 +161,9 @@ record IsTold (blocks : ℕ) (pieces : List Piece) (datasum : Bool) (now : ℕ) 
   index_key : index.key ≡ make_key FIRST_FREE_OBJECTID DIR_INDEX 2
   index_body : index.body ≡ dir_entry_bytes entry
   inode_body : inode.body ≡ inode_bytes (file_inode blocks (piece_bytes (pieces_of_volume pieces)) datasum now)
-  namings_are : namings items ≡ own_naming index
+  namings_are : dir_indexes items ≡ own_naming index
   refusals_are : index_refusals items ≡ own_index_refusals index
-  inode_is : inode_item items 257 ≡ Some inode
+  inode_is : find_inode_item items 257 ≡ Some inode
   extents_are : extents_of items 257 ≡ extents
 
 one_left : {A : Type 0} (a b c d e f g : List A) → a ≡ [] → b ≡ [] → c ≡ [] → e ≡ [] → f ≡ [] → g ≡ [] → a ++ (b ++ (c ++ (d ++ (e ++ (f ++ g))))) ≡ d
@@ -185,7 +185,7 @@ module _ (blocks : ℕ) (pieces : List Piece) (datasum : Bool) (now : ℕ) (a b 
         index_body = bd;
         inode_body = bf;
         namings_are =
-            one_left (own_naming a) (own_naming b) (own_naming c) (own_naming d) (own_naming f) (own_naming g) (namings extents)
+            one_left (own_naming a) (own_naming b) (own_naming c) (own_naming d) (own_naming f) (own_naming g) (dir_indexes extents)
             (no_naming a (make_key FIRST_FREE_OBJECTID INODE_ITEM 0) ka refl) (no_naming b (make_key FIRST_FREE_OBJECTID INODE_REF FIRST_FREE_OBJECTID) kb refl) (no_naming c (make_key FIRST_FREE_OBJECTID DIR_ITEM (name_hash image_name)) kc refl)
             (no_naming f (make_key 257 INODE_ITEM 0) kf refl) (no_naming g (make_key 257 INODE_REF FIRST_FREE_OBJECTID) kg refl) names.0;
         refusals_are =
@@ -197,7 +197,7 @@ module _ (blocks : ℕ) (pieces : List Piece) (datasum : Bool) (now : ℕ) (a b 
             ∙ (not_inode b (c ∷ (d ∷ (f ∷ (g ∷ extents)))) (make_key FIRST_FREE_OBJECTID INODE_REF FIRST_FREE_OBJECTID) kb refl
             ∙ (not_inode c (d ∷ (f ∷ (g ∷ extents))) (make_key FIRST_FREE_OBJECTID DIR_ITEM (name_hash image_name)) kc refl
             ∙ (not_inode d (f ∷ (g ∷ extents)) (make_key FIRST_FREE_OBJECTID DIR_INDEX 2) kd refl
-            ∙ ap (λ (k : Key). if eqb k.objectid 257 && (eqb k.kind INODE_ITEM && eqb k.offset 0) then Some f else inode_item (g ∷ extents) 257) kf)));
+            ∙ ap (λ (k : Key). if eqb k.objectid 257 && (eqb k.kind INODE_ITEM && eqb k.offset 0) then Some f else find_inode_item (g ∷ extents) 257) kf)));
         extents_are =
             not_extent a (b ∷ (c ∷ (d ∷ (f ∷ (g ∷ extents))))) (make_key FIRST_FREE_OBJECTID INODE_ITEM 0) ka refl
             ∙ (not_extent b (c ∷ (d ∷ (f ∷ (g ∷ extents)))) (make_key FIRST_FREE_OBJECTID INODE_REF FIRST_FREE_OBJECTID) kb refl
@@ -243,18 +243,18 @@ module _ (blocks : ℕ) (pieces : List Piece) (datasum : Bool) (now : ℕ) (item
   abbrev own : Inode
   own = file_inode blocks (piece_bytes (pieces_of_volume pieces)) datasum now
 
-  abbrev naming : Naming
+  abbrev naming : DirIndex
   naming = record { leaf = t.index.leaf; dir = FIRST_FREE_OBJECTID; index = 2; location = make_key 257 INODE_ITEM 0; name = image_name }
 
   naming_is : own_naming t.index ≡ naming ∷ []
   naming_is =
       ap (λ (b : List ℕ). if eqb t.index.key.kind DIR_INDEX then naming_at t.index (index_entry b) else []) t.index_body
       ∙ (ap (λ (o : Option DirEntryValue). if eqb t.index.key.kind DIR_INDEX then naming_at t.index o else []) entry_read
-      ∙ ap (λ (k : Key). if eqb k.kind DIR_INDEX then (let n : Naming = record { leaf = t.index.leaf; dir = k.objectid; index = k.offset; location = make_key 257 INODE_ITEM 0; name = image_name } in n ∷ []) else []) t.index_key)
+      ∙ ap (λ (k : Key). if eqb k.kind DIR_INDEX then (let n : DirIndex = record { leaf = t.index.leaf; dir = k.objectid; index = k.offset; location = make_key 257 INODE_ITEM 0; name = image_name } in n ∷ []) else []) t.index_key)
 
   names_sound : root_refusals items ≡ []
   names_sound =
-      ap (λ (rs : List BtrRefusal). rs ++ twice_refusals (namings items)) (t.refusals_are ∙ index_sound)
+      ap (λ (rs : List BtrRefusal). rs ++ twice_refusals (dir_indexes items)) (t.refusals_are ∙ index_sound)
       ∙ ap twice_refusals (t.namings_are ∙ naming_is)
     where
       index_sound : own_index_refusals t.index ≡ []
@@ -267,7 +267,7 @@ module _ (blocks : ℕ) (pieces : List Piece) (datasum : Bool) (now : ℕ) (item
           none false = refl
 
   number_is : option_and_then inode_number (image_entry items) ≡ Some 257
-  number_is = ap (λ (ns : List Naming). option_and_then inode_number (entry_named (is_called (codes "image")) ns)) (t.namings_are ∙ naming_is)
+  number_is = ap (λ (ns : List DirIndex). option_and_then inode_number (entry_named (is_called (codes "image")) ns)) (t.namings_are ∙ naming_is)
 
   own_is : inode_of t.inode.body ≡ Some own
   own_is = ap inode_of t.inode_body ∙ inode_read blocks (piece_bytes (pieces_of_volume pieces)) datasum now few small low
@@ -275,7 +275,7 @@ module _ (blocks : ℕ) (pieces : List Piece) (datasum : Bool) (now : ℕ) (item
   module _ (ranges : List MapRange) (sources : AreSources ranges 0 (pieces_of_volume pieces)) (lie : (p : Piece) → Contains (pieces_of_volume pieces) p → p.place + p.count ≤ 2 ^ 29) where
     extents_none : image_refusals_in ranges items ≡ []
     extents_none =
-        ap (λ (o : Option ℕ). if_there (λ ino. file_refusals ranges items ino (inode_item items ino)) o) number_is
+        ap (λ (o : Option ℕ). if_there (λ ino. file_refusals ranges items ino (find_inode_item items ino)) o) number_is
         ∙ (ap (λ (o : Option TreeItem). file_refusals ranges items 257 o) t.inode_is
         ∙ (ap (λ (o : Option Inode). own_refusals ranges (extents_of items 257) t.inode.leaf o) own_is
         ∙ (ap (extents_refusals ranges 0 0) t.extents_are ∙ extents_sound ranges (pieces_of_volume pieces) t.extents 0 0 t.are sources (omega arith))))
@@ -285,7 +285,7 @@ module _ (blocks : ℕ) (pieces : List Piece) (datasum : Bool) (now : ℕ) (item
 
     file_is : image_in items ≡ Some (record { extents = t.extents; blocks = 4096 * blocks / 4096 })
     file_is =
-        ap (λ (o : Option ℕ). option_and_then (λ ino. image_at items ino (inode_item items ino)) o) number_is
+        ap (λ (o : Option ℕ). option_and_then (λ ino. image_at items ino (find_inode_item items ino)) o) number_is
         ∙ (ap (λ (o : Option TreeItem). image_at items 257 o) t.inode_is
         ∙ (ap (λ (o : Option Inode). file_if_image (extents_of items 257) o) own_is
         ∙ (ap (λ (es : List TreeItem). file_if_image es (Some own)) t.extents_are
@@ -376,7 +376,7 @@ module _ (rising : ImageKeysAscend) (o : Options) (ids : Ids) (now : ℕ) (image
       nowhere true o is = is
       nowhere false o is = refl
 
-  pub has_image : HasImage image other (map_for m.chunks) m.volume.sup.blocks items
+  pub has_image : HasSavedImage image other (map_for m.chunks) m.volume.sup.blocks items
   has_image = record {
     file = record { extents = tell.extents; blocks = 4096 * m.volume.sup.blocks / 4096 };
     found_ = file_is m.volume.sup.blocks m.pieces m.options.datasum m.now items tell few small made_low (map_for m.chunks) sources lie;

@@ -34,7 +34,7 @@ use Rattle.convert_core.specs.space_items.Laws.{AreIds}
 use Rattle.convert_core.specs.space_items.declared.node.TreeNode.{TreeNode}
 use Rattle.convert_core.proofs.space_items.ChunkLists.{chunk_blocks_fit}
 use Rattle.convert_trees_laws.proofs.Booting.{boot_fits}
-use Rattle.convert_core.specs.unit_plan.declared.chunk.Chunk.{Chunk}
+use Rattle.convert_core.specs.unit_plan.declared.chunk.PlannedChunk.{PlannedChunk}
 use Rattle.convert_core.specs.convert_options.declared.options.Options.{Options}
 use Rattle.convert_core_laws.specs.reading.Laws.{ReadsSuperblock, SuperblockReads}
 use Rattle.convert_core_laws.specs.reading.Opened.{IsNewVolume, super_for}
@@ -48,13 +48,13 @@ label_long bytes =
     omega (arith, length-take 256 (bytes ++ replicate 256 0), length-append bytes (replicate 256 0), length-replicate {A = ℕ} 256 0)
 
 -- the device's numbers fit
-device_fits : (ids : Ids) (blocks : ℕ) (chunks : List Chunk) → AreIds ids → blocks ≤ 2 ^ 29 → sum_by (λ c. c.length) chunks ≤ blocks → device_layout.fits (device_body ids blocks chunks)
+device_fits : (ids : Ids) (blocks : ℕ) (chunks : List PlannedChunk) → AreIds ids → blocks ≤ 2 ^ 29 → sum_by (λ c. c.length) chunks ≤ blocks → device_layout.fits (device_body ids blocks chunks)
 unfolding device_layout
 device_fits ids blocks chunks are few fit =
     ((((((((((((((tt, omega arith), omega (arith, few)), omega (arith, few, fit)), omega arith), omega arith), omega arith), omega arith), omega arith), omega arith), omega arith), omega arith), omega arith), are.device), are.fsid)
 
 -- what is asked of the numbers
-record HasRoom (ids : Ids) (blocks nodesize : ℕ) (label : List ℕ) (chunks : List Chunk) (roots : NewRoots) : Type 0 where
+record HasRoom (ids : Ids) (blocks nodesize : ℕ) (label : List ℕ) (chunks : List PlannedChunk) (roots : NewRoots) : Type 0 where
   ids_ : AreIds ids
   small : blocks ≤ 2 ^ 29
   size : IsNodeSize nodesize
@@ -81,7 +81,7 @@ sized n size =
     at : (k : ℕ) → n ≡ k → is_node_size k ≡ true → is_node_size n ≡ true
     at k e is = subst (λ (j : ℕ). is_node_size j ≡ true) (sym e) is
 
-module _ (ids : Ids) (blocks nodesize : ℕ) (label : List ℕ) (chunks : List Chunk) (roots : NewRoots) (room : HasRoom ids blocks nodesize label chunks roots) where
+module _ (ids : Ids) (blocks nodesize : ℕ) (label : List ℕ) (chunks : List PlannedChunk) (roots : NewRoots) (room : HasRoom ids blocks nodesize label chunks roots) where
   array_long : length (boot_bytes ids chunks ++ replicate (2048 - length (boot_bytes ids chunks)) 0) ≡ 2048
   array_long = omega (arith, length-append (boot_bytes ids chunks) (replicate (2048 - length (boot_bytes ids chunks)) 0), length-replicate {A = ℕ} (2048 - length (boot_bytes ids chunks)) 0, room.boot)
 

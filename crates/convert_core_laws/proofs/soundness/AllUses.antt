@@ -32,7 +32,7 @@ use Rattle.convert_core.specs.space_items.Sums.{run_items, sum_items}
 use Rattle.convert_core.specs.space_items.declared.node.TreeNode.{TreeNode}
 use Rattle.convert_core.proofs.space_items.Merges.{all-merge}
 use Rattle.convert_trees_laws.proofs.Booting.{used_few}
-use Rattle.convert_core.specs.unit_plan.declared.chunk.Chunk.{Chunk}
+use Rattle.convert_core.specs.unit_plan.declared.chunk.PlannedChunk.{PlannedChunk}
 use Rattle.convert_core.specs.unit_plan.declared.piece.Piece.{Piece}
 use Rattle.std.specs.Prelude.{length}
 use Rattle.convert_core_laws.specs.soundness.Recounted.{recount_for, tree_for}
@@ -115,7 +115,7 @@ module _ (image : Image) (m : Making) (made : IsMaking image m) (size : IsNodeSi
 
     extents_none : filter is_file_extent (extent_items m.chunks m.pieces nodes m.options.nodesize) ≡ []
     extents_none =
-        let group : Chunk → Item = λ c. group_item (used_in m.pieces nodes m.options.nodesize c) c in
+        let group : PlannedChunk → Item = λ c. group_item (used_in m.pieces nodes m.options.nodesize c) c in
         filter_none is_file_extent (extent_items m.chunks m.pieces nodes m.options.nodesize)
         (all-merge item_cmp (λ (i : Item). is_file_extent i ≡ false) (map group m.chunks) (merged (map node_item nodes) (map piece_item m.pieces)) (All-map (λ (i : Item). is_file_extent i ≡ false) group m.chunks (λ n d h. refl))
         (all-merge item_cmp (λ (i : Item). is_file_extent i ≡ false) (map node_item nodes) (map piece_item m.pieces)

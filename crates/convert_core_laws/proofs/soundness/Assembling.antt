@@ -11,7 +11,7 @@ use Rattle.reiser_volume.proofs.fs_paths.Lists.{at_head, from_filter, head_or_ta
 use Rattle.btr_reader.specs.btr_keys.Inode.{inode_of}
 use Rattle.btr_reader.specs.btr_keys.declared.inode.Inode.{Inode}
 use Rattle.btr_reader.specs.btr_node.Leaf.{Item}
-use Rattle.btr_check_rules.specs.Names.{AreNames, AreOnForm, BackName, Entry, IndexEntry, IsInode, IsThere, IsTreeEntry, back_name, directory_size, hashed_entries, index_entries, name_count, names_inode, of_kind, own_name, ref_names}
+use Rattle.btr_check_rules.specs.Names.{AreTreeNames, AreOnForm, BackName, NamedEntry, IndexEntry, IsInode, IsThere, IsTreeEntry, back_name, directory_size, hashed_entries, index_entries, ref_name_count, names_inode_item, of_kind, own_name, ref_names}
 use Rattle.btr_check_rules.specs.Recount.{TreeOn}
 use Rattle.convert_trees_laws.proofs.Rising.{Climb, all_append}
 use Rattle.reiser_volume.proofs.reiser_bitmap.Ranges.{all_from_contains}
@@ -19,7 +19,7 @@ use Rattle.convert_trees_laws.proofs.Lists.{all_in}
 use Rattle.convert_core_laws.proofs.soundness.NameLists.{flat_append, flat_kept, middle_swap}
 use Rattle.convert_core_laws.proofs.soundness.Telling.{IsOnForm, Told, far_of, hashed_of, if_kind, indexed_of, ref_of}
 
-abbrev pub entry_part : IndexEntry → Entry
+abbrev pub entry_part : IndexEntry → NamedEntry
 entry_part e = e.entry
 
 -- What items tell: these entries by their indexes, the same ones by their hashes, and these names of inodes.
@@ -29,7 +29,7 @@ pub record Tells (items : List Item) (indexes : List IndexEntry) (names : List B
   pub refs : IsPermutation names (flat_map (if_kind INODE_REF ref_of) items ++ flat_map (if_kind INODE_EXTREF far_of) items)
   pub forms : AllByRecursion IsOnForm items
 
-pub tells_of : (items : List Item) (h : List Entry) (x : List IndexEntry) (r f names : List BackName) → Told items h x r f → IsPermutation (map entry_part x) h → IsPermutation names (r ++ f) → Tells items x names
+pub tells_of : (items : List Item) (h : List NamedEntry) (x : List IndexEntry) (r f names : List BackName) → Told items h x r f → IsPermutation (map entry_part x) h → IsPermutation names (r ++ f) → Tells items x names
 tells_of items h x r f names told entries back = record {
   index = told.index_is;
   hashed = subst (IsPermutation (map entry_part x)) (sym told.hash_is) entries;
@@ -46,12 +46,12 @@ tells_append xs ys a b m n one two =
     let ry : List BackName = flat_map (if_kind INODE_REF ref_of) ys in
     let fx : List BackName = flat_map (if_kind INODE_EXTREF far_of) xs in
     let fy : List BackName = flat_map (if_kind INODE_EXTREF far_of) ys in
-    let hx : List Entry = flat_map (if_kind DIR_ITEM hashed_of) xs in
-    let hy : List Entry = flat_map (if_kind DIR_ITEM hashed_of) ys in
+    let hx : List NamedEntry = flat_map (if_kind DIR_ITEM hashed_of) xs in
+    let hy : List NamedEntry = flat_map (if_kind DIR_ITEM hashed_of) ys in
     record {
       index = flat_append (if_kind DIR_INDEX indexed_of) xs ys ∙ (ap (λ (l : List IndexEntry). l ++ flat_map (if_kind DIR_INDEX indexed_of) ys) one.index ∙ ap (λ (l : List IndexEntry). a ++ l) two.index);
       hashed =
-          subst (λ (l : List Entry). IsPermutation l (flat_map (if_kind DIR_ITEM hashed_of) (xs ++ ys))) (sym (map-append entry_part a b))
+          subst (λ (l : List NamedEntry). IsPermutation l (flat_map (if_kind DIR_ITEM hashed_of) (xs ++ ys))) (sym (map-append entry_part a b))
           (subst (IsPermutation (map entry_part a ++ map entry_part b)) (sym (flat_append (if_kind DIR_ITEM hashed_of) xs ys)) (IsPermutation-append (map entry_part a) hx (map entry_part b) hy one.hashed two.hashed));
       refs =
           subst (IsPermutation (m ++ n)) (sym (ap₂ (λ (r f : List BackName). r ++ f) (flat_append (if_kind INODE_REF ref_of) xs ys) (flat_append (if_kind INODE_EXTREF far_of) xs ys)))
@@ -99,21 +99,21 @@ module _ (t : TreeOn) (indexes : List IndexEntry) (names : List BackName) (tells
   size_is ino = ap (λ (l : List IndexEntry). 2 * sum_by (λ e. length e.entry.name) (filter (λ e. e.entry.dir == ino) l)) entries_are
 
   -- the names of an inode
-  pub count_is : (ino : ℕ) → name_count t ino ≡ count_by (λ n. n.inode == ino) names
+  pub count_is : (ino : ℕ) → ref_name_count t ino ≡ count_by (λ n. n.inode == ino) names
   count_is ino = sum_by-IsPermutation (λ (n : BackName). cond (n.inode == ino) 1 0) names (ref_names t) refs_told
 
-  pub have_names : (roots : List Item) → IsPermutation (own_name ∷ map back_name (filter names_inode indexes)) names
-      → ((e : IndexEntry) → Contains indexes e → names_inode e ≡ false → IsTreeEntry roots t.number e)
-      → ((e : IndexEntry) → Contains indexes e → IsThere t e.entry.dir × (names_inode e ≡ true → IsThere t e.entry.location.objectid))
-      → ((ino : ℕ) (body : List ℕ) (inode : Inode) → Contains t.items (record { objectid = ino; kind = INODE_ITEM; offset = 0 }, body) → inode_of body ≡ Some inode → IsInode t ino inode) → AreNames roots t
+  pub have_names : (roots : List Item) → IsPermutation (own_name ∷ map back_name (filter names_inode_item indexes)) names
+      → ((e : IndexEntry) → Contains indexes e → names_inode_item e ≡ false → IsTreeEntry roots t.number e)
+      → ((e : IndexEntry) → Contains indexes e → IsThere t e.entry.dir × (names_inode_item e ≡ true → IsThere t e.entry.location.objectid))
+      → ((ino : ℕ) (body : List ℕ) (inode : Inode) → Contains t.items (record { objectid = ino; kind = INODE_ITEM; offset = 0 }, body) → inode_of body ≡ Some inode → IsInode t ino inode) → AreTreeNames roots t
   have_names roots same trees there inodes = record {
     forms = forms;
     entries = subst (λ (l : List IndexEntry). IsPermutation (map entry_part l) (hashed_entries t)) (sym entries_are) (subst (IsPermutation (map entry_part indexes)) (sym hashed_are) tells.hashed);
-    names = subst (λ (l : List IndexEntry). IsPermutation (own_name ∷ map back_name (filter names_inode l)) (ref_names t)) (sym entries_are)
-        (IsPermutation-trans (own_name ∷ map back_name (filter names_inode indexes)) names (ref_names t) same refs_told);
-    trees = subst (All (λ e. names_inode e ≡ false → IsTreeEntry roots t.number e)) (sym entries_are) (all_from_contains (λ e. names_inode e ≡ false → IsTreeEntry roots t.number e) indexes trees);
-    there = subst (All (λ e. IsThere t e.entry.dir × (names_inode e ≡ true → IsThere t e.entry.location.objectid))) (sym entries_are)
-        (all_from_contains (λ e. IsThere t e.entry.dir × (names_inode e ≡ true → IsThere t e.entry.location.objectid)) indexes there);
+    names = subst (λ (l : List IndexEntry). IsPermutation (own_name ∷ map back_name (filter names_inode_item l)) (ref_names t)) (sym entries_are)
+        (IsPermutation-trans (own_name ∷ map back_name (filter names_inode_item indexes)) names (ref_names t) same refs_told);
+    trees = subst (All (λ e. names_inode_item e ≡ false → IsTreeEntry roots t.number e)) (sym entries_are) (all_from_contains (λ e. names_inode_item e ≡ false → IsTreeEntry roots t.number e) indexes trees);
+    there = subst (All (λ e. IsThere t e.entry.dir × (names_inode_item e ≡ true → IsThere t e.entry.location.objectid))) (sym entries_are)
+        (all_from_contains (λ e. IsThere t e.entry.dir × (names_inode_item e ≡ true → IsThere t e.entry.location.objectid)) indexes there);
     inodes = inodes;
   }
 

@@ -16,8 +16,8 @@ use Rattle.btr_reader.specs.Chunks.{data_kind, range_of}
 use Rattle.btr_reader.specs.Opening.{form_of}
 use Rattle.btr_check_rules.specs.Names.{has_no_sums}
 use Rattle.btr_check_rules.specs.Places.{IsExtent, some_data}
-use Rattle.btr_check_rules.specs.Recount.{DataUse, Recount, TreeOn, all_trees, data_uses, items_of_tree, uses_in}
-use Rattle.btr_check_rules.specs.Sums.{AreSums, HasSum, IsRight, IsSumItem, WantsSum, sum_count}
+use Rattle.btr_check_rules.specs.Recount.{DataUse, Recount, TreeOn, all_trees, data_uses, recounted_items, uses_in}
+use Rattle.btr_check_rules.specs.Sums.{AreSums, HasBlockSum, AreSumsRight, IsSumItem, WantsSum, sum_count}
 use Rattle.btr_reader.specs.btr_reader_walk.Map.{place}
 use Rattle.btr_reader.specs.btr_reader_walk.declared.tree.Form.{Form}
 use Rattle.convert_core.specs.convert_steps.Making.{IsMaking, Making}
@@ -33,7 +33,7 @@ use Rattle.convert_core_laws.proofs.reading.SavedPieces.{are_sources}
 use Rattle.btr_reader.specs.csum_kinds.declared.kind.SumKind.{SumKind}
 use Rattle.convert_core.proofs.extent_pieces.Owning.{two_cases}
 use Rattle.convert_core.specs.file_items.Extents.{piece_bytes, pieces_of_volume, source_block}
-use Rattle.convert_core.specs.file_items.Tree.{Source, inode_in, kind_in, number_of}
+use Rattle.convert_core.specs.file_items.Tree.{Source, inode_in, kind_in, ino_of}
 use Rattle.convert_trees_laws.specs.Held.{FilesAreHeld}
 use Rattle.convert_trees_laws.specs.Inodes.{InodesAreThere}
 use Rattle.convert_trees_laws.specs.Keys.{ImageKeysAscend}
@@ -91,7 +91,7 @@ module _ (o : Options) (ids : Ids) (now : ℕ) (image other : Image) (m : Making
   kind_is : (form_of k.super).sums ≡ sums
   kind_is = ap (λ (f : Form). f.sums) (form_is m r nodes)
 
-  items_are : items_of_tree k CSUM_TREE ≡ items
+  items_are : recounted_items k CSUM_TREE ≡ items
   items_are = append-nil items
 
   -- ---- the items are those of the pieces, where data has checksums
@@ -137,7 +137,7 @@ module _ (o : Options) (ids : Ids) (now : ℕ) (image other : Image) (m : Making
       let extent : IsExtent k (span_of p) data_kind = some_data (is_data image m making fit held other r nodes p h) refl in
       means_itself o ids now image other m r nodes v a (good o ids now image other m r nodes v (span_of p) data_kind a extent low high).has
 
-  item_right : (p : Piece) (at long : ℕ) → Contains m.pieces p → p.place ≤ at → at + long ≤ p.place + p.count → IsRight other k sums (sums_item sums other at long)
+  item_right : (p : Piece) (at long : ℕ) → Contains m.pieces p → p.place ≤ at → at + long ≤ p.place + p.count → AreSumsRight other k sums (sums_item sums other at long)
   item_right p at long h low high = λ j q inside found.
       let count = count_of sums other at long in
       let less : j < long = omega (arith, inside, count) in
@@ -147,11 +147,11 @@ module _ (o : Options) (ids : Ids) (now : ℕ) (image other : Image) (m : Making
       let block : at + j ≡ q / 4096 = omega (arith, same) in
       sum_of sums other at long j less ∙ ap (block_sum sums other) block
 
-  rights : All (IsRight other k sums) items
+  rights : All (AreSumsRight other k sums) items
   rights =
-      all_from_contains (IsRight other k sums) items (λ i h.
+      all_from_contains (AreSumsRight other k sums) items (λ i h.
       let is : OfPiece i = piece_of_item i h in
-      subst (IsRight other k sums) (sym is.part.is) (item_right is.piece is.part.at is.part.long is.among is.part.low is.part.high))
+      subst (AreSumsRight other k sums) (sym is.part.is) (item_right is.piece is.part.at is.part.long is.among is.part.low is.part.high))
 
   -- ---- the trees that use data
 
@@ -202,7 +202,7 @@ module _ (o : Options) (ids : Ids) (now : ℕ) (image other : Image) (m : Making
   record HasFile (inode : ℕ) : Type 0 where
     key : ObjectKey
     among : Contains s.keys key
-    number_is : number_of s key ≡ inode
+    number_is : ino_of s key ≡ inode
     file : kind_in s key ≡ File
 
   file_of : (p : Piece) (inode block : ℕ) → Contains m.pieces p → p.owner ≡ Some (inode, block) → HasFile inode
@@ -307,7 +307,7 @@ module _ (o : Options) (ids : Ids) (now : ℕ) (image other : Image) (m : Making
       by true is = refl
       by false is = absurd (wants_on a w (wanted_use a w) is)
 
-  has_sum : (a : ℕ) → a % 4096 ≡ 0 → WantsSum k a → HasSum k sums a
+  has_sum : (a : ℕ) → a % 4096 ≡ 0 → WantsSum k a → HasBlockSum k sums a
   has_sum a aligned w =
       let on : m.options.datasum ≡ true = wants_sums a w in
       let is : InPiece a = wants_piece a w (wanted_use a w) in
@@ -325,7 +325,7 @@ module _ (o : Options) (ids : Ids) (now : ℕ) (image other : Image) (m : Making
         high = omega (arith, to, count, aligned);
       }
 
-  wants_sum : (a : ℕ) → HasSum k sums a → WantsSum k a
+  wants_sum : (a : ℕ) → HasBlockSum k sums a → WantsSum k a
   wants_sum a h =
       let there : Contains items h.item = subst (λ (l : List Item). Contains l h.item) items_are h.there in
       let is : OfPiece h.item = piece_of_item h.item there in
@@ -337,15 +337,15 @@ module _ (o : Options) (ids : Ids) (now : ℕ) (image other : Image) (m : Making
       let to = is.part.high in
       piece_wants is.piece a (from_items h.item there).on is.among (omega (arith, low, offset, from)) (omega (arith, high, offset, count, to))
 
-  exact : (a : ℕ) → a % 4096 ≡ 0 → HasSum k sums a ↔ WantsSum k a
+  exact : (a : ℕ) → a % 4096 ≡ 0 → HasBlockSum k sums a ↔ WantsSum k a
   exact a aligned = (λ h. wants_sum a h, λ w. has_sum a aligned w)
 
   pub checksums : AreSums other k
   checksums = record {
-    forms = subst (λ (x : SumKind). All (IsSumItem x) (items_of_tree k CSUM_TREE)) (sym kind_is) (subst (All (IsSumItem sums)) (sym items_are) forms);
-    once = subst (λ (x : SumKind). AllPairs (EndsFirst x) (items_of_tree k CSUM_TREE)) (sym kind_is) (subst (AllPairs (EndsFirst sums)) (sym items_are) once);
-    exactly = subst (λ (x : SumKind). (a : ℕ) → a % 4096 ≡ 0 → HasSum k x a ↔ WantsSum k a) (sym kind_is) exact;
-    right = subst (λ (x : SumKind). All (IsRight other k x) (items_of_tree k CSUM_TREE)) (sym kind_is) (subst (All (IsRight other k sums)) (sym items_are) rights);
+    forms = subst (λ (x : SumKind). All (IsSumItem x) (recounted_items k CSUM_TREE)) (sym kind_is) (subst (All (IsSumItem sums)) (sym items_are) forms);
+    once = subst (λ (x : SumKind). AllPairs (EndsFirst x) (recounted_items k CSUM_TREE)) (sym kind_is) (subst (AllPairs (EndsFirst sums)) (sym items_are) once);
+    exactly = subst (λ (x : SumKind). (a : ℕ) → a % 4096 ≡ 0 → HasBlockSum k x a ↔ WantsSum k a) (sym kind_is) exact;
+    right = subst (λ (x : SumKind). All (AreSumsRight other k x) (recounted_items k CSUM_TREE)) (sym kind_is) (subst (All (AreSumsRight other k sums)) (sym items_are) rights);
   }
 
 pub converted_checksums_are_sound : NewIdsFit → FilesAreHeld → ImageKeysAscend → InodesAreThere → ConvertedChecksumsAreSound

@@ -28,8 +28,8 @@ use Rattle.convert_core.specs.convert_steps.Source.{HasPieces, made_from}
 use Rattle.convert_core.proofs.extent_pieces.Owning.{two_cases}
 use Rattle.convert_core.specs.file_items.Extents.{extents_at, piece_bytes, pieces_of_volume, source_block}
 use Rattle.convert_core.specs.file_items.Inodes.{if_set, inode_flags}
-use Rattle.convert_core.specs.file_items.Small.{image_entries, image_flags, image_head, image_items, image_name, root_items}
-use Rattle.convert_core.specs.file_items.Tree.{Source, content_items, inode_in, kind_in, name_items, number_of, object_items, stat_in, tree_items}
+use Rattle.convert_core.specs.file_items.Small.{image_entries, image_flags, image_head, image_items, image_name, root_directory_items}
+use Rattle.convert_core.specs.file_items.Tree.{Source, content_items, inode_in, kind_in, name_items, ino_of, object_items, stat_in, fs_tree_items}
 use Rattle.convert_trees_laws.specs.Inodes.{InodesAreThere}
 use Rattle.reiser_volume.specs.fs_rows.Kinds.{is_file, is_symlink}
 use Rattle.reiser_volume.specs.fs_rows.declared.row.Kind.{Kind}
@@ -115,13 +115,13 @@ in_order all key h =
     (λ (f : same_key key root ≡ false). contains_tail key root (filter (λ x. not (same_key x root)) all) (in_filter (λ x. not (same_key x root)) all key h (not_from_false (same_key key root) f)))
     (cases_Bool (same_key key root))
 
-own_there : (s : Source) (key : ObjectKey) → Contains (object_items s key) (inode_item (number_of s key) (inode_in s key))
+own_there : (s : Source) (key : ObjectKey) → Contains (object_items s key) (inode_item (ino_of s key) (inode_in s key))
 unfolding object_items
-own_there s key = contains_head (inode_item (number_of s key) (inode_in s key)) (name_items s key ++ content_items s key (kind_in s key))
+own_there s key = contains_head (inode_item (ino_of s key) (inode_in s key)) (name_items s key ++ content_items s key (kind_in s key))
 
-pub inode_there : (s : Source) (key : ObjectKey) → Contains s.keys key → Contains (tree_items s) (inode_item (number_of s key) (inode_in s key))
-unfolding tree_items
-inode_there s key h = in_flat_map (object_items s) (by_inode s.keys) key (inode_item (number_of s key) (inode_in s key)) (in_order s.keys key h) (own_there s key)
+pub inode_there : (s : Source) (key : ObjectKey) → Contains s.keys key → Contains (fs_tree_items s) (inode_item (ino_of s key) (inode_in s key))
+unfolding fs_tree_items
+inode_there s key h = in_flat_map (object_items s) (by_inode s.keys) key (inode_item (ino_of s key) (inode_in s key)) (in_order s.keys key h) (own_there s key)
 
 -- an item in some leaf
 abbrev placed : Item → TreeItem
@@ -136,8 +136,8 @@ pub inode_reads : InodesAreThere → (volume : Volume) (image : Image) (o : Opti
     → inode_of (inode_bytes (inode_in (made_from volume image o pieces) key)) ≡ Some (inode_in (made_from volume image o pieces) key)
 inode_reads there volume image o plan pieces has bytes key among =
     let s : Source = made_from volume image o pieces in
-    let items : List TreeItem = map placed (tree_items s) in
-    let are : map bare_item items ≡ tree_items s = bare_placed (tree_items s) in
+    let items : List TreeItem = map placed (fs_tree_items s) in
+    let are : map bare_item items ≡ fs_tree_items s = bare_placed (fs_tree_items s) in
     let at = there volume image o plan pieces items key has are among in
     let read = inodes_are_read there volume image o plan pieces items key has are bytes among in
     sym (ap (λ (i : Item). inode_of i.1) at.2) ∙ (sym (ap (option_and_then (λ (i : TreeItem). inode_of i.body)) at.1) ∙ read)
@@ -152,8 +152,8 @@ unfolding image_items image_head
 image_inode_there blocks pieces datasum now =
     let own : Item = inode_item 257 (image_inode blocks pieces datasum now) in
     let rest : List Item = ref_item 257 FIRST_FREE_OBJECTID 2 image_name ∷ [] in
-    Contains-append_left (root_items now image_entries ++ (own ∷ rest)) (extents_at 257 source_block (pieces_of_volume pieces)) own
-    (Contains-append_right (root_items now image_entries) (own ∷ rest) own (contains_head own rest))
+    Contains-append_left (root_directory_items now image_entries ++ (own ∷ rest)) (extents_at 257 source_block (pieces_of_volume pieces)) own
+    (Contains-append_right (root_directory_items now image_entries) (own ∷ rest) own (contains_head own rest))
 
 pub stamp_fits : (now : ℕ) → now < 2 ^ 63 → stamp_layout.fits (stamp_of now)
 unfolding stamp_layout

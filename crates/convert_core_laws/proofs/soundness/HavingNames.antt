@@ -8,7 +8,7 @@ use Rattle.btrfs_format.specs.declared.object.TheConstants.{CONV_IMAGE_SUBVOL, D
 use Rattle.reiser_volume.specs.outside.History.{Image}
 use Rattle.reiser_volume.specs.vol_block.declared.ids.Ids.{Ids}
 use Rattle.btr_reader.specs.btr_node.NodeSize.{IsNodeSize}
-use Rattle.btr_check_rules.specs.Names.{AreNames, HaveNames}
+use Rattle.btr_check_rules.specs.Names.{AreTreeNames, HaveNames}
 use Rattle.btr_check_rules.specs.Recount.{Recount, TreeOn}
 use Rattle.convert_core.specs.convert_steps.Making.{IsMaking, Making}
 use Rattle.convert_core.specs.convert_steps.Source.{HasPieces}
@@ -79,7 +79,7 @@ module _ (o : Options) (ids : Ids) (now : ℕ) (image other : Image) (m : Making
   -- ---- the file trees
 
   abbrev roots : TreeOn → Type 0
-  roots = AreNames (root_tree_items m r)
+  roots = AreTreeNames (root_tree_items m r)
 
   abbrev files : TreeOn
   files = tree_for other (super_for m r nodes) FS_TREE r.files (file_tree_items image m)

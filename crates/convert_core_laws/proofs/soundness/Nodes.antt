@@ -13,15 +13,15 @@ use Rattle.btr_check_rules.specs.Recount.{Recount, TreeOn, all_trees}
 use Rattle.btr_reader.specs.btr_super.declared.superblock.Super.{Super}
 use Rattle.convert_core.specs.btr_tree.Building.{pointer_to}
 use Rattle.convert_core.specs.btr_tree.Laws.{GivesItself, IsSameBy}
-use Rattle.convert_core.specs.btr_tree.Packing.{leaves, tree_levels}
+use Rattle.convert_core.specs.btr_tree.Packing.{packed_leaves, tree_levels}
 use Rattle.convert_core.specs.btr_tree.Roots.{level_pointers, lengths_of, pointers_to}
 use Rattle.convert_core.specs.btr_tree.declared.climb.Root.{Root}
 use Rattle.convert_core.proofs.btr_tree.Maps.{agree}
-use Rattle.btr_reader.specs.btr_reader_walk.Events.{Event, nodes_in, tree_events}
+use Rattle.btr_reader.specs.btr_reader_walk.Events.{TreeEvent, nodes_in, walk_events}
 use Rattle.btr_reader.specs.btr_reader_walk.Map.{identity}
 use Rattle.btr_reader.specs.btr_reader_walk.declared.map.MapRange.{MapRange}
 use Rattle.btr_reader.specs.btr_reader_walk.declared.tree.Form.{Form}
-use Rattle.btr_reader.specs.btr_reader_walk.declared.tree.Pointer.{Pointer}
+use Rattle.btr_reader.specs.btr_reader_walk.declared.tree.NodePointer.{NodePointer}
 use Rattle.convert_core.specs.convert_steps.Making.{Making, chunk_slots, new_ids, slots}
 use Rattle.convert_core.specs.convert_steps.Standing.{HasTrees, device_from, extents_from, file_tree_items, form, image_from, image_tree_items, relocation_from, root_from, root_tree_items, sum_tree_items, sums_from}
 use Rattle.convert_core.specs.convert_steps.declared.trees.VolumeTrees.{VolumeTrees}
@@ -32,7 +32,7 @@ use Rattle.reiser_volume.proofs.reiser_bitmap.Ranges.{all_from_contains}
 use Rattle.convert_core.specs.space_items.Chunks.{chunk_items, device_items}
 use Rattle.convert_core.specs.space_items.Extents.{extent_items}
 use Rattle.convert_core.specs.space_items.declared.node.TreeNode.{TreeNode}
-use Rattle.convert_core.specs.btr_tree_writer.Trees.{TreeStands, root_pointer}
+use Rattle.convert_core.specs.btr_tree_writer.Trees.{TreeStands, pointer_to_root}
 use Rattle.convert_core.specs.convert_options.declared.options.Options.{Options}
 use Rattle.convert_core_laws.specs.soundness.Recounted.{recount_for, tree_for}
 use Rattle.convert_core_laws.proofs.soundness.Recounting.{form_is}
@@ -40,26 +40,26 @@ use Rattle.convert_core_laws.proofs.soundness.Trees.{map_is, six_all}
 
 -- what holds of the slots holds of the addresses of nodes at them
 pub level_all : (Q : ℕ → Type 0) (generation level skip : ℕ) (list sizes : List ℕ) → All Q list → All (λ p. Q p.address) (level_pointers generation level skip list sizes)
-level_all Q generation level skip list [] all = All-nil (λ (p : Pointer). Q p.address)
+level_all Q generation level skip list [] all = All-nil (λ (p : NodePointer). Q p.address)
 level_all Q generation level skip list (n ∷ sizes) all =
-    All-append (λ (p : Pointer). Q p.address) (pointers_to generation level skip n list) (level_pointers generation (suc level) (skip + n) list sizes)
-    (All-map (λ (p : Pointer). Q p.address) (pointer_to generation level) (take n (drop skip list)) (All-take Q n (drop skip list) (All-drop Q skip list all)))
+    All-append (λ (p : NodePointer). Q p.address) (pointers_to generation level skip n list) (level_pointers generation (suc level) (skip + n) list sizes)
+    (All-map (λ (p : NodePointer). Q p.address) (pointer_to generation level) (take n (drop skip list)) (All-take Q n (drop skip list) (All-drop Q skip list all)))
     (level_all Q generation (suc level) (skip + n) list sizes all)
 
 -- the nodes that packing items gives, at these slots
-abbrev pub packed_at : ℕ → List ℕ → List Item → List Pointer
-packed_at nodesize list items = level_pointers 1 0 0 list (tree_levels nodesize (length (leaves nodesize (lengths_of items))))
+abbrev pub packed_at : ℕ → List ℕ → List Item → List NodePointer
+packed_at nodesize list items = level_pointers 1 0 0 list (tree_levels nodesize (length (packed_leaves nodesize (lengths_of items))))
 
 -- a walk by a map that gives the slots themselves meets these
 pub met : (image : Image) (form : Form) (owner : ℕ) (list : List ℕ) (items : List Item) (root : Root) (ranges : List MapRange) → TreeStands image form owner list items root → All (GivesItself ranges form.nodesize) list
-    → IsPermutation (nodes_in (tree_events image ranges form (root_pointer root) owner)) (packed_at form.nodesize list items)
+    → IsPermutation (nodes_in (walk_events image ranges form (pointer_to_root root) owner)) (packed_at form.nodesize list items)
 met image form owner list items root ranges stands gives =
-    let own : List Pointer = nodes_in (tree_events image identity form (root_pointer root) owner) in
+    let own : List NodePointer = nodes_in (walk_events image identity form (pointer_to_root root) owner) in
     let all : All (λ p. GivesItself ranges form.nodesize p.address) own =
-    All-permutation (λ (p : Pointer). GivesItself ranges form.nodesize p.address) (packed_at form.nodesize list items) own (IsPermutation-sym own (packed_at form.nodesize list items) stands.nodes_are)
-    (level_all (GivesItself ranges form.nodesize) 1 0 0 list (tree_levels form.nodesize (length (leaves form.nodesize (lengths_of items)))) gives) in
-    let same : IsSameBy image ranges identity form (root_pointer root) owner = agree image ranges form (root_pointer root) owner all in
-    subst (λ (es : List Event). IsPermutation (nodes_in es) (packed_at form.nodesize list items)) (sym same.events) stands.nodes_are
+    All-permutation (λ (p : NodePointer). GivesItself ranges form.nodesize p.address) (packed_at form.nodesize list items) own (IsPermutation-sym own (packed_at form.nodesize list items) stands.nodes_are)
+    (level_all (GivesItself ranges form.nodesize) 1 0 0 list (tree_levels form.nodesize (length (packed_leaves form.nodesize (lengths_of items)))) gives) in
+    let same : IsSameBy image ranges identity form (pointer_to_root root) owner = agree image ranges form (pointer_to_root root) owner all in
+    subst (λ (es : List TreeEvent). IsPermutation (nodes_in es) (packed_at form.nodesize list items)) (sym same.events) stands.nodes_are
 
 module _ (o : Options) (ids : Ids) (now : ℕ) (image other : Image) (m : Making) (r : VolumeTrees) (nodes : List TreeNode) (v : IsNewVolume o ids now image other m r nodes) where
   abbrev stand : HasTrees image other other m r nodes
@@ -80,7 +80,7 @@ module _ (o : Options) (ids : Ids) (now : ℕ) (image other : Image) (m : Making
 
   at_list : (list : List ℕ) (number : ℕ) (items : List Item) (root : Root) → TreeStands other (form m) number list items root → All (GivesItself own m.options.nodesize) list → AreAt list (tree_for other (super_for m r nodes) number root items)
   at_list list number items root stands gives =
-      subst (λ (f : Form). IsPermutation (nodes_in (tree_events other own f (root_pointer root) number)) (packed_at m.options.nodesize list items)) (sym (form_is m r nodes))
+      subst (λ (f : Form). IsPermutation (nodes_in (walk_events other own f (pointer_to_root root) number)) (packed_at m.options.nodesize list items)) (sym (form_is m r nodes))
       (met other (form m) number list items root own stands gives)
 
   chunk_give : All (GivesItself own m.options.nodesize) (chunk_slots m)
@@ -128,14 +128,14 @@ module _ (o : Options) (ids : Ids) (now : ℕ) (image other : Image) (m : Making
     of_others : number ≢ 3 → Contains (slots m) a → LiesAt number a
 
   abbrev AllLie : TreeOn → Type 0
-  AllLie t = (p : Pointer) → Contains t.nodes p → LiesAt t.number p.address
+  AllLie t = (p : NodePointer) → Contains t.nodes p → LiesAt t.number p.address
 
   lie_at : (t : TreeOn) (list : List ℕ) → AreAt list t → ((a : ℕ) → Contains list a → LiesAt t.number a) → AllLie t
   lie_at t list are each p h =
       let Q : ℕ → Type 0 = LiesAt t.number in
       let there : All (λ q. Q q.address) (packed_at m.options.nodesize list t.items) =
-      level_all Q 1 0 0 list (tree_levels m.options.nodesize (length (leaves m.options.nodesize (lengths_of t.items)))) (all_from_contains Q list each) in
-      All-contains (λ (q : Pointer). Q q.address) t.nodes p (All-permutation (λ (q : Pointer). Q q.address) (packed_at m.options.nodesize list t.items) t.nodes (IsPermutation-sym t.nodes (packed_at m.options.nodesize list t.items) are) there) h
+      level_all Q 1 0 0 list (tree_levels m.options.nodesize (length (packed_leaves m.options.nodesize (lengths_of t.items)))) (all_from_contains Q list each) in
+      All-contains (λ (q : NodePointer). Q q.address) t.nodes p (All-permutation (λ (q : NodePointer). Q q.address) (packed_at m.options.nodesize list t.items) t.nodes (IsPermutation-sym t.nodes (packed_at m.options.nodesize list t.items) are) there) h
 
   other_at : (t : TreeOn) (n : ℕ) → t.number ≢ CHUNK_TREE → AreAt (drop n (slots m)) t → AllLie t
   other_at t n apart are = lie_at t (drop n (slots m)) are (λ a h. of_others apart (in_drop n a h))
@@ -162,5 +162,5 @@ module _ (o : Options) (ids : Ids) (now : ℕ) (image other : Image) (m : Making
           All-contains (Contains (slots m)) (take r.root.nodes (drop (root_from r) (slots m))) a
           (All-take (Contains (slots m)) r.root.nodes (drop (root_from r) (slots m)) (All-drop (Contains (slots m)) (root_from r) (slots m) (All-contains_itself (slots m)))) h
 
-  pub node_lies : (t : TreeOn) (p : Pointer) → Contains (all_trees k) t → Contains t.nodes p → LiesAt t.number p.address
+  pub node_lies : (t : TreeOn) (p : NodePointer) → Contains (all_trees k) t → Contains t.nodes p → LiesAt t.number p.address
   node_lies t p h k_p = All-contains AllLie (all_trees k) t all_lie h p k_p

@@ -16,11 +16,11 @@ use Rattle.btr_reader.specs.btr_keys.Key.{make_key}
 use Rattle.btr_reader.specs.btr_keys.declared.key.Key.{Key}
 use Rattle.btr_reader.specs.btr_node.Leaf.{Item}
 use Rattle.btr_reader.specs.btr_node.NodeSize.{IsNodeSize}
-use Rattle.btr_check_rules.specs.Recount.{DataUse, Recount, TreeOn, all_trees, data_uses, items_of_tree}
+use Rattle.btr_check_rules.specs.Recount.{DataUse, Recount, TreeOn, all_trees, data_uses, recounted_items}
 use Rattle.btr_check_rules.specs.References.{AreReferences, HasKey, IsDataItem, IsNodeItem, is_group}
 use Rattle.btr_reader.specs.btr_space_items.InlineRef.{FitsInline}
 use Rattle.btr_reader.specs.btr_space_items.declared.inline_ref.InlineRef.TheVariants.{TreeBlock}
-use Rattle.btr_reader.specs.btr_reader_walk.declared.tree.Pointer.{Pointer}
+use Rattle.btr_reader.specs.btr_reader_walk.declared.tree.NodePointer.{NodePointer}
 use Rattle.convert_core.specs.convert_steps.Making.{IsMaking, Making, new_ids}
 use Rattle.convert_core.specs.convert_steps.Source.{HasPieces, made_from}
 use Rattle.convert_core.specs.convert_steps.Standing.{file_tree_items, image_tree_items, sum_tree_items}
@@ -32,7 +32,7 @@ use Rattle.convert_core.proofs.extent_pieces.Lists.{all_at}
 use Rattle.convert_core.proofs.extent_pieces.Owning.{two_cases}
 use Rattle.convert_core.specs.file_items.Extents.{file_block, source_block}
 use Rattle.convert_core.specs.file_items.Small.{relocation_items}
-use Rattle.convert_core.specs.file_items.Tree.{number_of}
+use Rattle.convert_core.specs.file_items.Tree.{ino_of}
 use Rattle.convert_trees_laws.specs.Held.{FilesAreHeld}
 use Rattle.convert_trees_laws.specs.Keys.{ImageKeysAscend}
 use Rattle.reiser_volume.proofs.reiser_bitmap.Ranges.{all_from_contains}
@@ -43,7 +43,7 @@ use Rattle.convert_core.specs.space_items.Merging.{item_cmp, merged}
 use Rattle.convert_core.specs.space_items.declared.node.TreeNode.{TreeNode}
 use Rattle.convert_core.proofs.space_items.Merges.{all-merge}
 use Rattle.std.proofs.lemmas.List.{append-nil}
-use Rattle.convert_core.specs.unit_plan.declared.chunk.Chunk.{Chunk}
+use Rattle.convert_core.specs.unit_plan.declared.chunk.PlannedChunk.{PlannedChunk}
 use Rattle.convert_core.specs.convert_options.declared.options.Options.{Options}
 use Rattle.convert_core.specs.unit_plan.declared.piece.Piece.{Piece}
 use Rattle.convert_core_laws.specs.soundness.Recounted.{recount_for, tree_for}
@@ -88,7 +88,7 @@ module _ (o : Options) (ids : Ids) (now : ℕ) (image other : Image) (m : Making
   abbrev items : List Item
   items = extent_items m.chunks m.pieces nodes m.options.nodesize
 
-  abbrev group : Chunk → Item
+  abbrev group : PlannedChunk → Item
   group c = group_item (used_in m.pieces nodes m.options.nodesize c) c
 
   abbrev groups : List Item
@@ -98,7 +98,7 @@ module _ (o : Options) (ids : Ids) (now : ℕ) (image other : Image) (m : Making
   below = merged (map node_item nodes) (map piece_item m.pieces)
 
   -- the items of tree 2 are these
-  items_are : items_of_tree k EXTENT_TREE ≡ items
+  items_are : recounted_items k EXTENT_TREE ≡ items
   items_are = append-nil items
 
   data IsListed (i : Item) : Type 0 where
@@ -150,7 +150,7 @@ module _ (o : Options) (ids : Ids) (now : ℕ) (image other : Image) (m : Making
       subst (λ (y : TreeNode). IsNodeItem k (node_item y)) (sym is.is)
       (is.tree, is.pointer, is.there, is.met, refl, has_refs EXTENT_FLAG_TREE_BLOCK (TreeBlock is.tree.number ∷ []) (omega arith) (omega arith) (node_fits is.tree.number low, tt))
 
-  node_key : (t : TreeOn) (p : Pointer) → Contains (all_trees k) t → Contains t.nodes p → HasKey items (record { objectid = p.address; kind = METADATA_ITEM; offset = p.level })
+  node_key : (t : TreeOn) (p : NodePointer) → Contains (all_trees k) t → Contains t.nodes p → HasKey items (record { objectid = p.address; kind = METADATA_ITEM; offset = p.level })
   node_key t p h l =
       let told : IsTold o ids now image other m r nodes v p = all_met o ids now image other m r nodes v t p h l in
       let key : (node_item told.node).0 ≡ record { objectid = p.address; kind = METADATA_ITEM; offset = p.level } =
@@ -196,8 +196,8 @@ module _ (o : Options) (ids : Ids) (now : ℕ) (image other : Image) (m : Making
       let s = made_from m.volume image m.options m.pieces in
       let w = (held m.volume image m.options m.plan m.pieces of).each p inode block h own in
       let few = (accepted_is_small image of.accepted).objects (keys m.volume.named) of.opened.are_keys in
-      let number : number_of s w.0 ≡ inode = w.2 in
-      let low : number_of s w.0 < 2 ^ 64 = inode_low (keys m.volume.named) w.0 few in
+      let number : ino_of s w.0 ≡ inode = w.2 in
+      let low : ino_of s w.0 < 2 ^ 64 = inode_low (keys m.volume.named) w.0 few in
       let place : file_block p ≡ block = ap (λ (x : Option (ℕ × ℕ)). option_map_or (λ y. y.1) x 0) own in
       let bound = owner_low image m making p inode h (subst (λ (b : ℕ). p.owner ≡ Some (inode, b)) (sym place) own) in
       record { inode_low_ = subst (λ (n : ℕ). n < 2 ^ 64) number low; offset_low = omega (arith, bound, place) }

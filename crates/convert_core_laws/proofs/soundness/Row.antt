@@ -20,9 +20,9 @@ use Rattle.btr_reader.specs.btr_super.declared.superblock.Super.{Super}
 use Rattle.convert_core.specs.btr_tree.Counting.{tree_nodes}
 use Rattle.convert_core.specs.btr_tree.Roots.{lengths_of}
 use Rattle.convert_core.specs.btr_tree.declared.climb.Root.{Root}
-use Rattle.btr_reader.specs.btr_reader_walk.declared.tree.Pointer.{Pointer}
+use Rattle.btr_reader.specs.btr_reader_walk.declared.tree.NodePointer.{NodePointer}
 use Rattle.convert_core.specs.convert_steps.Making.{IsMaking, Making, chunk_slots, new_ids, slots}
-use Rattle.convert_core.specs.convert_steps.Standing.{HasTrees, device_from, extents_from, file_tree_items, image_from, image_tree_items, nodes_from, other_nodes, relocation_from, root_from, root_tree_items, sum_tree_items, sums_from}
+use Rattle.convert_core.specs.convert_steps.Standing.{HasTrees, device_from, extents_from, file_tree_items, image_from, image_tree_items, nodes_from, nodes_of_others, relocation_from, root_from, root_tree_items, sum_tree_items, sums_from}
 use Rattle.convert_core.specs.convert_steps.declared.trees.VolumeTrees.{VolumeTrees}
 use Rattle.convert_core.proofs.Moving.{sound}
 use Rattle.convert_core.proofs.Slots.{slot_unit}
@@ -227,7 +227,7 @@ module _ (o : Options) (ids : Ids) (now : ℕ) (image other : Image) (m : Making
     abbrev at : TreeNode → ℕ
     at t = f t.address
 
-    abbrev met_at : Pointer → ℕ
+    abbrev met_at : NodePointer → ℕ
     met_at p = f p.address
 
     first_merge : sum_by at (merged_nodes row chunked) ≡ sum_by at row + sum_by at chunked
@@ -241,10 +241,10 @@ module _ (o : Options) (ids : Ids) (now : ℕ) (image other : Image) (m : Making
     first_lies : All InFirst (merged_nodes row chunked)
     first_lies = all-merge node_cmp InFirst row chunked (λ i d h. inl (in_row (get_or row i d) (All-contains_itself row i d h))) (λ i d h. inr (in_chunked (get_or chunked i d) (All-contains_itself chunked i d h)))
 
-    second_merge : sum_by at (merged_nodes (other_nodes image other m r) extended) ≡ sum_by at (other_nodes image other m r) + sum_by at extended
+    second_merge : sum_by at (merged_nodes (nodes_of_others image other m r) extended) ≡ sum_by at (nodes_of_others image other m r) + sum_by at extended
     second_merge =
-        sum_merged node_cmp at (other_nodes image other m r) extended
-        (λ x y h l. differ x.address y.address (λ e. apart x y (All-contains InFirst (other_nodes image other m r) x first_lies h) (in_extended y l) e))
+        sum_merged node_cmp at (nodes_of_others image other m r) extended
+        (λ x y h l. differ x.address y.address (λ e. apart x y (All-contains InFirst (nodes_of_others image other m r) x first_lies h) (in_extended y l) e))
       where
         apart : (x y : TreeNode) → InFirst x → Contains (drop (extents_from r) (slots m)) y.address → x.address ≡ y.address → ⊥
         apart x y first l e =
@@ -255,7 +255,7 @@ module _ (o : Options) (ids : Ids) (now : ℕ) (image other : Image) (m : Making
     tree_sum : (owner : ℕ) (list : List ℕ) (t : TreeOn) → AreAt o ids now image other m r nodes v list t → sum_by met_at t.nodes ≡ sum_by at (nodes_of_tree owner n (lengths_of t.items) list)
     tree_sum owner list t are =
         sym (sum_by-IsPermutation met_at t.nodes (packed_at n list t.items) are)
-        ∙ sym (sum_mapped (λ (p : Pointer). record { address = p.address; level = p.level; owner = owner }) at (packed_at n list t.items))
+        ∙ sym (sum_mapped (λ (p : NodePointer). record { address = p.address; level = p.level; owner = owner }) at (packed_at n list t.items))
 
     abbrev six : List TreeNode → List TreeNode → List TreeNode → List TreeNode → List TreeNode → List TreeNode → ℕ
     six a b c d e g = sum_by at a + (sum_by at b + (sum_by at c + (sum_by at d + (sum_by at e + sum_by at g))))

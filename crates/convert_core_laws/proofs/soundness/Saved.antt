@@ -10,13 +10,13 @@ use Rattle.btr_reader.specs.btr_keys.InodeRef.{InodeRefValue, inode_ref_head}
 use Rattle.btr_reader.specs.btr_keys.Key.{make_key}
 use Rattle.btr_reader.specs.btr_keys.declared.inode.Inode.{Inode}
 use Rattle.btr_reader.specs.btr_node.Leaf.{Item}
-use Rattle.btr_check_rules.specs.Names.{AreNames, BackName, IndexEntry, IsInode, IsThere, inode_nbytes, names_inode, own_name}
+use Rattle.btr_check_rules.specs.Names.{AreTreeNames, BackName, IndexEntry, IsInode, IsThere, inode_nbytes, names_inode_item, own_name}
 use Rattle.btr_check_rules.specs.Recount.{TreeOn}
-use Rattle.btr_reader.specs.btr_reader_walk.declared.tree.Pointer.{Pointer}
+use Rattle.btr_reader.specs.btr_reader_walk.declared.tree.NodePointer.{NodePointer}
 use Rattle.convert_core_laws.proofs.ByteReading.{filter_all, filter_none, is_extent, regular_read}
 use Rattle.convert_core.specs.file_items.Extents.{extents_at, piece_bytes, pieces_of_volume, source_block}
 use Rattle.convert_core.specs.file_items.Names.{entry_items, entry_to, root_ref}
-use Rattle.convert_core.specs.file_items.Small.{image_entries, image_head, image_items, image_name, root_items}
+use Rattle.convert_core.specs.file_items.Small.{image_entries, image_head, image_items, image_name, root_directory_items}
 use Rattle.convert_trees_laws.proofs.Rising.{all_append, all_mapped, all_true}
 use Rattle.convert_trees_laws.proofs.Short.{sum_mapped}
 use Rattle.reiser_volume.specs.fs_rows.declared.row.Kind.TheVariants.{File}
@@ -83,17 +83,17 @@ module _ (blocks now : ℕ) (pieces : List Piece) (datasum : Bool) (few : blocks
   of_image_told : Told of_image [] [] (image_back ∷ []) []
   of_image_told = told_append (inode_item 257 own ∷ []) (ref_item 257 FIRST_FREE_OBJECTID 2 image_name ∷ []) [] [] [] [] [] (image_back ∷ []) [] [] (told_inode 257 own) (told_ref 257 FIRST_FREE_OBJECTID image_ref image_ref_fits)
 
-  told : Told ((root_items now image_entries ++ of_image) ++ extents) (hash_entries FIRST_FREE_OBJECTID image_entries) indexes names []
+  told : Told ((root_directory_items now image_entries ++ of_image) ++ extents) (hash_entries FIRST_FREE_OBJECTID image_entries) indexes names []
   told =
-      told_append (root_items now image_entries ++ of_image) extents (hash_entries FIRST_FREE_OBJECTID image_entries) [] indexes [] names [] [] []
-      (told_append (root_items now image_entries) of_image (hash_entries FIRST_FREE_OBJECTID image_entries) [] indexes [] (own_name ∷ []) (image_back ∷ []) [] [] (root_told now image_entries image_entry_fits) of_image_told)
+      told_append (root_directory_items now image_entries ++ of_image) extents (hash_entries FIRST_FREE_OBJECTID image_entries) [] indexes [] names [] [] []
+      (told_append (root_directory_items now image_entries) of_image (hash_entries FIRST_FREE_OBJECTID image_entries) [] indexes [] (own_name ∷ []) (image_back ∷ []) [] [] (root_told now image_entries image_entry_fits) of_image_told)
       (parts_told parts are_low)
 
   tells : Tells (image_items blocks pieces datasum now) indexes names
   unfolding image_items image_head
-  tells = tells_of ((root_items now image_entries ++ of_image) ++ extents) (hash_entries FIRST_FREE_OBJECTID image_entries) indexes names [] names told (IsPermutation-refl (hash_entries FIRST_FREE_OBJECTID image_entries)) (IsPermutation-refl names)
+  tells = tells_of ((root_directory_items now image_entries ++ of_image) ++ extents) (hash_entries FIRST_FREE_OBJECTID image_entries) indexes names [] names told (IsPermutation-refl (hash_entries FIRST_FREE_OBJECTID image_entries)) (IsPermutation-refl names)
 
-  module _ (nodes : List Pointer) (roots : List Item) where
+  module _ (nodes : List NodePointer) (roots : List Item) where
     abbrev pub saved : TreeOn
     saved = record { number = CONV_IMAGE_SUBVOL; nodes = nodes; items = image_items blocks pieces datasum now }
 
@@ -104,7 +104,7 @@ module _ (blocks now : ℕ) (pieces : List Piece) (datasum : Bool) (few : blocks
     no_root_bytes =
         bytes_are saved FIRST_FREE_OBJECTID
         ∙ ap (sum_by _)
-        (filter-append (is_extent FIRST_FREE_OBJECTID) (root_items now image_entries ++ of_image) extents
+        (filter-append (is_extent FIRST_FREE_OBJECTID) (root_directory_items now image_entries ++ of_image) extents
         ∙ filter_none (is_extent FIRST_FREE_OBJECTID) extents (all_mapped (λ i. is_extent FIRST_FREE_OBJECTID i ≡ false) (λ (p : Piece). extent_item 257 (source_block p) (regular_extent p.place p.count)) parts (all_true _ parts (λ p. refl))))
 
     own_bytes_are : inode_nbytes saved 257 ≡ piece_bytes parts
@@ -112,7 +112,7 @@ module _ (blocks now : ℕ) (pieces : List Piece) (datasum : Bool) (few : blocks
     own_bytes_are =
         bytes_are saved 257
         ∙ (ap (sum_by _)
-        (filter-append (is_extent 257) (root_items now image_entries ++ of_image) extents
+        (filter-append (is_extent 257) (root_directory_items now image_entries ++ of_image) extents
         ∙ filter_all (is_extent 257) extents (all_mapped (λ i. is_extent 257 i ≡ true) (λ (p : Piece). extent_item 257 (source_block p) (regular_extent p.place p.count)) parts (all_true _ parts (λ p. refl))))
         ∙ (sum_mapped (λ (p : Piece). extent_item 257 (source_block p) (regular_extent p.place p.count)) _ parts
         ∙ sum_on _ (λ (p : Piece). 4096 * p.count) parts (λ p h.
@@ -129,7 +129,7 @@ module _ (blocks now : ℕ) (pieces : List Piece) (datasum : Bool) (few : blocks
     ones : AllByRecursion IsOne (image_items blocks pieces datasum now)
     unfolding image_items image_head
     ones =
-        all_append IsOne (root_items now image_entries ++ of_image) extents
+        all_append IsOne (root_directory_items now image_entries ++ of_image) extents
         (λ e. inl refl, (λ e. absurd (omega (arith, e)), (λ e. absurd (omega (arith, e)), (λ e. absurd (omega (arith, e)), (λ e. inr refl, (λ e. absurd (omega (arith, e)), tt))))))
         (all_mapped IsOne (λ (p : Piece). extent_item 257 (source_block p) (regular_extent p.place p.count)) parts (all_true _ parts (λ p e. absurd (omega (arith, e)))))
 
@@ -158,11 +158,11 @@ module _ (blocks now : ℕ) (pieces : List Piece) (datasum : Bool) (few : blocks
     unfolding image_items image_head
     root_there = (inode_bytes (root_inode now image_entries), at_head (inode_item FIRST_FREE_OBJECTID (root_inode now image_entries)) (((root_ref ∷ entry_items FIRST_FREE_OBJECTID image_entries) ++ of_image) ++ extents))
 
-    pub saved_names : AreNames roots saved
+    pub saved_names : AreTreeNames roots saved
     saved_names =
         have_names saved indexes names tells roots (IsPermutation-refl names)
-        (λ e h is. let same = only e h in absurd (true≢false (ap names_inode same ∙ is)))
-        (λ e h. let same = only e h in subst (λ (x : IndexEntry). IsThere saved x.entry.dir × (names_inode x ≡ true → IsThere saved x.entry.location.objectid)) same (root_there, λ is. (inode_bytes own, image_inode_there blocks pieces datasum now)))
+        (λ e h is. let same = only e h in absurd (true≢false (ap names_inode_item same ∙ is)))
+        (λ e h. let same = only e h in subst (λ (x : IndexEntry). IsThere saved x.entry.dir × (names_inode_item x ≡ true → IsThere saved x.entry.location.objectid)) same (root_there, λ is. (inode_bytes own, image_inode_there blocks pieces datasum now)))
         inodes
       where
         only : (e : IndexEntry) → Contains indexes e → image_index ≡ e

@@ -10,11 +10,11 @@ use Rattle.btr_reader.specs.btr_keys.Key.{make_key}
 use Rattle.btr_reader.specs.btr_keys.declared.inode.Inode.{Inode}
 use Rattle.btr_reader.proofs.btr_keys.Records.{inodes_read_back}
 use Rattle.btr_reader.specs.btr_node.Leaf.{Item}
-use Rattle.btr_check_rules.specs.Names.{AreNames, BackName, IndexEntry, IsInode, inode_nbytes, own_name}
+use Rattle.btr_check_rules.specs.Names.{AreTreeNames, BackName, IndexEntry, IsInode, inode_nbytes, own_name}
 use Rattle.btr_check_rules.specs.Recount.{TreeOn}
-use Rattle.btr_reader.specs.btr_reader_walk.declared.tree.Pointer.{Pointer}
+use Rattle.btr_reader.specs.btr_reader_walk.declared.tree.NodePointer.{NodePointer}
 use Rattle.convert_core.specs.file_items.Names.{Indexed, entry_items, letters, root_ref}
-use Rattle.convert_core.specs.file_items.Small.{relocation_items, root_items}
+use Rattle.convert_core.specs.file_items.Small.{relocation_items, root_directory_items}
 use Rattle.convert_trees_laws.proofs.Short.{sum_mapped}
 use Rattle.convert_core.specs.btr_item_list.Inodes.{inode_item, inode_made}
 use Rattle.reiser_volume.proofs.fs_paths.Lists.{from_map, head_or_tail}
@@ -30,7 +30,7 @@ some_inode a b e = cc
 
 -- ---- a root directory
 
-pub root_told : (now : ℕ) (list : List Indexed) → AllByRecursion (FitsEntry FIRST_FREE_OBJECTID) list → Told (root_items now list) (hash_entries FIRST_FREE_OBJECTID list) (map (index_by FIRST_FREE_OBJECTID) list) (own_name ∷ []) []
+pub root_told : (now : ℕ) (list : List Indexed) → AllByRecursion (FitsEntry FIRST_FREE_OBJECTID) list → Told (root_directory_items now list) (hash_entries FIRST_FREE_OBJECTID list) (map (index_by FIRST_FREE_OBJECTID) list) (own_name ∷ []) []
 root_told now list fit =
     told_append (inode_item FIRST_FREE_OBJECTID (inode_made now DIRECTORY_MODE (2 * letters list) 0 0) ∷ []) (root_ref ∷ entry_items FIRST_FREE_OBJECTID list) [] (hash_entries FIRST_FREE_OBJECTID list) [] (map (index_by FIRST_FREE_OBJECTID) list) [] (own_name ∷ []) [] []
     (told_inode FIRST_FREE_OBJECTID (inode_made now DIRECTORY_MODE (2 * letters list) 0 0))
@@ -62,13 +62,13 @@ root_inode_told now list t names tells none =
 
 -- ---- the relocation tree
 
-module _ (now : ℕ) (low : now < 2 ^ 63) (nodes : List Pointer) (roots : List Item) where
+module _ (now : ℕ) (low : now < 2 ^ 63) (nodes : List NodePointer) (roots : List Item) where
   abbrev pub relocation : TreeOn
   relocation = record { number = DATA_RELOC_TREE; nodes = nodes; items = relocation_items now }
 
   relocation_tells : Tells (relocation_items now) [] (own_name ∷ [])
   unfolding relocation_items
-  relocation_tells = tells_of (root_items now []) [] [] (own_name ∷ []) [] (own_name ∷ []) (root_told now [] tt) (IsPermutation-refl []) (IsPermutation-refl (own_name ∷ []))
+  relocation_tells = tells_of (root_directory_items now []) [] [] (own_name ∷ []) [] (own_name ∷ []) (root_told now [] tt) (IsPermutation-refl []) (IsPermutation-refl (own_name ∷ []))
 
   relocation_bytes : inode_nbytes relocation FIRST_FREE_OBJECTID ≡ 0
   unfolding relocation_items
@@ -82,7 +82,7 @@ module _ (now : ℕ) (low : now < 2 ^ 63) (nodes : List Pointer) (roots : List I
       (λ (none : Contains [] (make_key ino INODE_ITEM 0, body)). absurd (omega (arith, none.1))) (head_or_tail root_ref [] (make_key ino INODE_ITEM 0, body) later))
       (head_or_tail (inode_item FIRST_FREE_OBJECTID (root_inode now [])) (root_ref ∷ []) (make_key ino INODE_ITEM 0, body) h)
 
-  pub relocation_names : AreNames roots relocation
+  pub relocation_names : AreTreeNames roots relocation
   relocation_names =
       have_names relocation [] (own_name ∷ []) relocation_tells roots (IsPermutation-refl (own_name ∷ [])) (λ e h. absurd (omega (arith, h.1))) (λ e h. absurd (omega (arith, h.1))) (λ ino body inode h read.
       let is = relocation_inode ino body h in

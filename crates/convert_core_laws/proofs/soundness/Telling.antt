@@ -17,7 +17,7 @@ use Rattle.btr_reader.specs.btr_keys.Repeated.{RecordsReadBack}
 use Rattle.btr_reader.specs.btr_keys.declared.inode.Inode.{Inode}
 use Rattle.btr_reader.proofs.btr_keys.Records.{dir_items_read_back, extrefs_read_back, inode_refs_read_back}
 use Rattle.btr_reader.specs.btr_node.Leaf.{Item}
-use Rattle.btr_check_rules.specs.Names.{BackName, Entry, IndexEntry, entry_of, or_none}
+use Rattle.btr_check_rules.specs.Names.{BackName, NamedEntry, IndexEntry, entry_of, or_none}
 use Rattle.convert_core.specs.file_items.Names.{Indexed, entry_items}
 use Rattle.convert_trees_laws.proofs.Rising.{all_append, all_mapped}
 use Rattle.convert_core.specs.btr_item_list.Extents.{extent_item}
@@ -28,7 +28,7 @@ use Rattle.convert_core_laws.proofs.soundness.NameLists.{flat_append, flat_mappe
 
 -- ---- what an item tells
 
-abbrev pub hashed_of : Item → List Entry
+abbrev pub hashed_of : Item → List NamedEntry
 hashed_of i = map (entry_of i) (or_none (dir_items_of i.1))
 
 abbrev pub indexed_of : Item → List IndexEntry
@@ -53,7 +53,7 @@ pub record IsOnForm (i : Item) : Type 0 where
   pub extent : i.0.kind ≡ EXTENT_DATA → IsTrue (is_some (file_extent_of i.1))
 
 -- What items tell: entries by their hashes, entries by their indexes, and the names of inode refs and extrefs.
-pub record Told (items : List Item) (hashed : List Entry) (indexed : List IndexEntry) (refs fars : List BackName) : Type 0 where
+pub record Told (items : List Item) (hashed : List NamedEntry) (indexed : List IndexEntry) (refs fars : List BackName) : Type 0 where
   pub hash_is : flat_map (if_kind DIR_ITEM hashed_of) items ≡ hashed
   pub index_is : flat_map (if_kind DIR_INDEX indexed_of) items ≡ indexed
   pub ref_is : flat_map (if_kind INODE_REF ref_of) items ≡ refs
@@ -63,7 +63,7 @@ pub record Told (items : List Item) (hashed : List Entry) (indexed : List IndexE
 joined_is : {X : Type 0} (f : Item → List X) (xs ys : List Item) (a b : List X) → flat_map f xs ≡ a → flat_map f ys ≡ b → flat_map f (xs ++ ys) ≡ a ++ b
 joined_is {X} f xs ys a b one two = flat_append f xs ys ∙ (ap (λ (l : List X). l ++ flat_map f ys) one ∙ ap (λ (l : List X). a ++ l) two)
 
-pub told_append : (xs ys : List Item) (h h' : List Entry) (x x' : List IndexEntry) (r r' f f' : List BackName) → Told xs h x r f → Told ys h' x' r' f' → Told (xs ++ ys) (h ++ h') (x ++ x') (r ++ r') (f ++ f')
+pub told_append : (xs ys : List Item) (h h' : List NamedEntry) (x x' : List IndexEntry) (r r' f f' : List BackName) → Told xs h x r f → Told ys h' x' r' f' → Told (xs ++ ys) (h ++ h') (x ++ x') (r ++ r') (f ++ f')
 told_append xs ys h h' x x' r r' f f' one two = record {
   hash_is = joined_is (if_kind DIR_ITEM hashed_of) xs ys h h' one.hash_is two.hash_is;
   index_is = joined_is (if_kind DIR_INDEX indexed_of) xs ys x x' one.index_is two.index_is;
@@ -289,7 +289,7 @@ module _ {A : Type 0} (n : ℕ) (value : A → ExtrefValue) where
 -- ---- entries of a directory
 
 module _ (n : ℕ) where
-  abbrev pub entry_by : Indexed → Entry
+  abbrev pub entry_by : Indexed → NamedEntry
   entry_by e = record { dir = n; name = e.1.name; location = e.1.location; kind = e.1.kind }
 
   abbrev pub index_by : Indexed → IndexEntry
@@ -368,11 +368,11 @@ module _ (n : ℕ) where
   index_list (e ∷ list) all = told_append (index_item e ∷ []) (map index_item list) [] [] (index_by e ∷ []) (map index_by list) [] [] [] [] (one_index e all.0) (index_list list all.1)
 
   -- the entries in the order of their hashes
-  abbrev pub hash_entries : List Indexed → List Entry
+  abbrev pub hash_entries : List Indexed → List NamedEntry
   hash_entries list = flat_map (λ g. map entry_by g.1) (grouped hash_by list)
 
   pub told_entries : (list : List Indexed) → AllByRecursion FitsEntry list → Told (entry_items n list) (hash_entries list) (map index_by list) [] []
   told_entries list all =
-      let hashed : List Entry = hash_entries list in
-      subst (λ (h : List Entry). Told (entry_items n list) h (map index_by list) [] []) (append-nil hashed)
+      let hashed : List NamedEntry = hash_entries list in
+      subst (λ (h : List NamedEntry). Told (entry_items n list) h (map index_by list) [] []) (append-nil hashed)
       (told_append (map hash_group (grouped hash_by list)) (map index_item list) hashed [] [] (map index_by list) [] [] [] [] (hash_groups (grouped hash_by list) (groups_are hash_by FitsEntry list all)) (index_list list all))

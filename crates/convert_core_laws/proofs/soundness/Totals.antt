@@ -35,7 +35,7 @@ use Rattle.convert_core.specs.space_items.Laws.{AreIds}
 use Rattle.convert_core.specs.space_items.declared.node.TreeNode.{TreeNode}
 use Rattle.convert_core.proofs.space_items.ChunkLists.{chunk_blocks_fit}
 use Rattle.convert_core.proofs.space_items.Merges.{all-merge}
-use Rattle.convert_core.specs.unit_plan.declared.chunk.Chunk.{Chunk}
+use Rattle.convert_core.specs.unit_plan.declared.chunk.PlannedChunk.{PlannedChunk}
 use Rattle.convert_core.specs.unit_plan.declared.chunk.Role.{Role}
 use Rattle.convert_core.specs.unit_plan.declared.chunk.Role.TheVariants.{System, Metadata, Data}
 use Rattle.convert_core.specs.convert_options.declared.options.Options.{Options}
@@ -46,7 +46,7 @@ use Rattle.convert_core_laws.proofs.soundness.Recounting.{device_is, in_parts, t
 
 -- ---- block groups
 
-abbrev group_of : Making → List TreeNode → Chunk → Item
+abbrev group_of : Making → List TreeNode → PlannedChunk → Item
 group_of m nodes c = group_item (used_in m.pieces nodes m.options.nodesize c) c
 
 -- the block groups are the items of this kind
@@ -59,7 +59,7 @@ groups_are image other m r nodes =
     (All-map (λ (i : Item). eqb i.0.kind BLOCK_GROUP_ITEM ≡ false) node_item nodes (λ k d h. refl)) (All-map (λ (i : Item). eqb i.0.kind BLOCK_GROUP_ITEM ≡ false) piece_item m.pieces (λ k d h. refl)))
 
 -- what a block group's item tells
-pub group_reads : (used : ℕ) (c : Chunk) → used < 2 ^ 64 → block_group_of (group_item used c).1 ≡ Some (record { used = used; chunk_objectid = FIRST_CHUNK_TREE_OBJECTID; flags = chunk_kind c.role })
+pub group_reads : (used : ℕ) (c : PlannedChunk) → used < 2 ^ 64 → block_group_of (group_item used c).1 ≡ Some (record { used = used; chunk_objectid = FIRST_CHUNK_TREE_OBJECTID; flags = chunk_kind c.role })
 unfolding block_group_layout
 group_reads used c small = block_groups_read_back (record { used = used; chunk_objectid = FIRST_CHUNK_TREE_OBJECTID; flags = chunk_kind c.role }) (((tt, omega (arith, small)), omega arith), kind_low c.role)
   where
@@ -68,15 +68,15 @@ group_reads used c small = block_groups_read_back (record { used = used; chunk_o
     kind_low Metadata = omega arith
     kind_low Data = omega arith
 
-group_tells : (used : ℕ) (c : Chunk) → used < 2 ^ 64 → group_used (group_item used c) ≡ used
+group_tells : (used : ℕ) (c : PlannedChunk) → used < 2 ^ 64 → group_used (group_item used c) ≡ used
 group_tells used c small = ap (λ (o : Option BlockGroup). option_map_or (λ (g : BlockGroup). g.used) o 0) (group_reads used c small)
 
 -- each is part of the sum
-sum_is : (f : Chunk → ℕ) (m : Chunk → Item) (cs : List Chunk) → sum_by f cs < 2 ^ 64 → ((c : Chunk) → f c < 2 ^ 64 → group_used (m c) ≡ f c) → sum_by (λ c. group_used (m c)) cs ≡ sum_by f cs
+sum_is : (f : PlannedChunk → ℕ) (m : PlannedChunk → Item) (cs : List PlannedChunk) → sum_by f cs < 2 ^ 64 → ((c : PlannedChunk) → f c < 2 ^ 64 → group_used (m c) ≡ f c) → sum_by (λ c. group_used (m c)) cs ≡ sum_by f cs
 sum_is f m [] few each = refl
 sum_is f m (c ∷ cs) few each =
     let whole = sum_by-cons f c cs in
-    let mapped = sum_by-cons (λ (d : Chunk). group_used (m d)) c cs in
+    let mapped = sum_by-cons (λ (d : PlannedChunk). group_used (m d)) c cs in
     let here : group_used (m c) ≡ f c = each c (omega (arith, few, whole)) in
     let rest : sum_by (λ d. group_used (m d)) cs ≡ sum_by f cs = sum_is f m cs (omega (arith, few, whole)) each in
     omega (arith, whole, mapped, here, rest)
@@ -84,16 +84,16 @@ sum_is f m (c ∷ cs) few each =
 -- ---- the device
 
 -- as many bytes as 4096 times the blocks
-bytes_of : (ids : Ids) (cs : List Chunk) → sum_by (λ c. (chunk_at ids c).chunk.length) cs ≡ 4096 * sum_by (λ c. c.length) cs
+bytes_of : (ids : Ids) (cs : List PlannedChunk) → sum_by (λ c. (chunk_at ids c).chunk.length) cs ≡ 4096 * sum_by (λ c. c.length) cs
 bytes_of ids [] = refl
-bytes_of ids (c ∷ cs) = omega (arith, sum_by-cons (λ (d : Chunk). (chunk_at ids d).chunk.length) c cs, sum_by-cons (λ (d : Chunk). d.length) c cs, bytes_of ids cs)
+bytes_of ids (c ∷ cs) = omega (arith, sum_by-cons (λ (d : PlannedChunk). (chunk_at ids d).chunk.length) c cs, sum_by-cons (λ (d : PlannedChunk). d.length) c cs, bytes_of ids cs)
 
-pub chunk_bytes_are : (ids : Ids) (cs : List Chunk) → sum_by (λ (c : ChunkAt). c.chunk.length) (map (chunk_at ids) (in_parts cs)) ≡ 4096 * sum_by (λ c. c.length) cs
+pub chunk_bytes_are : (ids : Ids) (cs : List PlannedChunk) → sum_by (λ (c : ChunkAt). c.chunk.length) (map (chunk_at ids) (in_parts cs)) ≡ 4096 * sum_by (λ c. c.length) cs
 chunk_bytes_are ids cs =
     sum_mapped (chunk_at ids) (λ (c : ChunkAt). c.chunk.length) (in_parts cs)
-    ∙ (sum_parts (λ (c : Chunk). is_system_role c.role) (λ (c : Chunk). (chunk_at ids c).chunk.length) cs ∙ bytes_of ids cs)
+    ∙ (sum_parts (λ (c : PlannedChunk). is_system_role c.role) (λ (c : PlannedChunk). (chunk_at ids c).chunk.length) cs ∙ bytes_of ids cs)
 
-device_reads : (ids : Ids) (blocks : ℕ) (chunks : List Chunk) → AreIds ids → blocks ≤ 2 ^ 29 → sum_by (λ c. c.length) chunks ≤ blocks → device_of (device_bytes (device_body ids blocks chunks)) ≡ Some (device_body ids blocks chunks)
+device_reads : (ids : Ids) (blocks : ℕ) (chunks : List PlannedChunk) → AreIds ids → blocks ≤ 2 ^ 29 → sum_by (λ c. c.length) chunks ≤ blocks → device_of (device_bytes (device_body ids blocks chunks)) ≡ Some (device_body ids blocks chunks)
 unfolding device_layout
 device_reads ids blocks chunks are few fit =
     devices_read_back (device_body ids blocks chunks)

@@ -7,7 +7,7 @@ use Rattle.btr_reader.specs.Opening.{chunk_map, form_of}
 use Rattle.btr_check_rules.specs.Recount.{Recount, TreeOn}
 use Rattle.btr_reader.specs.btr_super.declared.superblock.Super.{Super}
 use Rattle.convert_core.specs.btr_tree.declared.climb.Root.{Root}
-use Rattle.btr_reader.specs.btr_reader_walk.Events.{nodes_in, tree_events}
+use Rattle.btr_reader.specs.btr_reader_walk.Events.{nodes_in, walk_events}
 use Rattle.convert_core.specs.convert_steps.Making.{Making, new_ids}
 use Rattle.convert_core.specs.convert_steps.Standing.{file_tree_items, image_tree_items, root_tree_items, sum_tree_items}
 use Rattle.convert_core.specs.convert_steps.declared.trees.VolumeTrees.{VolumeTrees}
@@ -16,13 +16,13 @@ use Rattle.convert_core.specs.file_items.Small.{relocation_items}
 use Rattle.convert_core.specs.space_items.Chunks.{chunk_items, device_items}
 use Rattle.convert_core.specs.space_items.Extents.{extent_items}
 use Rattle.convert_core.specs.space_items.declared.node.TreeNode.{TreeNode}
-use Rattle.convert_core.specs.btr_tree_writer.Trees.{root_pointer}
+use Rattle.convert_core.specs.btr_tree_writer.Trees.{pointer_to_root}
 
 -- a tree with these items, and the nodes that a walk from its root meets
 abbrev pub tree_for : Image → Super → ℕ → Root → List Item → TreeOn
 tree_for other s number root items = record {
   number = number;
-  nodes = nodes_in (tree_events other (chunk_map other s) (form_of s) (root_pointer root) number);
+  nodes = nodes_in (walk_events other (chunk_map other s) (form_of s) (pointer_to_root root) number);
   items = items;
 }
 

@@ -4,7 +4,7 @@ use Rattle.btrfs_format.specs.declared.size.TheConstants.{ITEM_SIZE}
 use Rattle.btr_node.specs.Areas.{are_apart}
 use Rattle.btr_node.specs.Leaf.{item_layout}
 use Rattle.btr_node.specs.Records.{records_in}
-use Rattle.btr_node.specs.declared.item.ItemHead.{ItemHead}
+use Rattle.btr_node.specs.declared.item.BtrItemHead.{BtrItemHead}
 use Rattle.btr_node.proofs.Rows.{next_row, passed, failed, finished}
 use Rattle.btr_node.proofs.areas.apart_from_later.Goals as goal
 
@@ -13,7 +13,7 @@ returns-then-not-are_apart c =
     failed _ _ _ _ (sym c.if-not-are_apart.ensures)
     (next_row (list_all (are_apart c.at-head.result)) ITEM_SIZE item_layout c.args.count c.loop-j.j c.args.entries.now c.at-later.result c.loop-j-test.true c.at-later.ensures)
     c.loop-j.invariant
-    ∙ ap (λ (head : ItemHead). list_all (are_apart head) (drop (c.args.i + 1) (records_in ITEM_SIZE item_layout c.args.count c.args.entries.now))) c.at-head.ensures
+    ∙ ap (λ (head : BtrItemHead). list_all (are_apart head) (drop (c.args.i + 1) (records_in ITEM_SIZE item_layout c.args.count c.args.entries.now))) c.at-head.ensures
 
 pub loop-j-preserved : goal.loop-j-preserved
 loop-j-preserved c =
@@ -25,4 +25,4 @@ pub returns : goal.returns
 returns c =
     finished (list_all (are_apart c.at-head.result)) ITEM_SIZE item_layout c.args.count c.loop-j.j c.args.entries.now _
     c.loop-j-test.false refl c.loop-j.invariant
-    ∙ ap (λ (head : ItemHead). list_all (are_apart head) (drop (c.args.i + 1) (records_in ITEM_SIZE item_layout c.args.count c.args.entries.now))) c.at-head.ensures
+    ∙ ap (λ (head : BtrItemHead). list_all (are_apart head) (drop (c.args.i + 1) (records_in ITEM_SIZE item_layout c.args.count c.args.entries.now))) c.at-head.ensures

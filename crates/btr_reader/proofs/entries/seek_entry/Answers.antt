@@ -6,8 +6,8 @@ use Rattle.btrfs_format.specs.declared.object.TheConstants.{FIRST_FREE_OBJECTID}
 use Rattle.btr_reader_walk.specs.refusals.declared.refusal.BtrRefusal.{BtrRefusal}
 use Rattle.btr_reader_walk.specs.btr_keys.declared.key.Key.{Key}
 use Rattle.btr_reader_walk.specs.btr_keys.DirEntry.{DirEntryValue, dir_entry_value}
-use Rattle.btr_reader_names.specs.declared.naming.Naming.{Naming}
-use Rattle.btr_reader_names.specs.Links.{is_index, index_entry, naming_of, namings}
+use Rattle.btr_reader_names.specs.declared.dir_index.DirIndex.{DirIndex}
+use Rattle.btr_reader_names.specs.Links.{is_index, index_entry, naming_of, dir_indexes}
 use Rattle.btr_reader_names.specs.Passes.{HasSeen}
 use Rattle.btr_reader.specs.Image.{is_root_directory}
 use Rattle.btr_reader.specs.Opening.{IsAmong}
@@ -31,7 +31,7 @@ pub returns-in_err-see_entry-clause-err : goal.returns-in_err-see_entry-clause-e
 returns-in_err-see_entry-clause-err c = λ i given key body leaf has.
     let k : Key = c.args.key.now in
     let e : DirEntryValue = dir_entry_value c.in-Some.entry in
-    let n : Naming = c.in_ok-naming.naming in
+    let n : DirIndex = c.in_ok-naming.naming in
     let kind : (k.kind == DIR_INDEX) ≡ true = grind (arith, nat_tests, c.if-key-ne-DIR_INDEX.false) in
     let dir : (k.objectid == FIRST_FREE_OBJECTID) ≡ true = grind (arith, nat_tests, c.if-key-ne-FIRST_FREE_OBJECTID.false) in
     let index : is_index i ≡ true = ap (λ (q : Key). q.kind == DIR_INDEX) key ∙ kind in
@@ -40,27 +40,27 @@ returns-in_err-see_entry-clause-err c = λ i given key body leaf has.
     let naming : n ≡ naming_of i e = c.in_ok-naming.ensures i key leaf in
     let err = err_from_is_err_and c.from_residual-in_err-see_entry.result c.from_residual-in_err-see_entry.ensures.1 in
     rw err.1 (subst (λ (z : List BtrRefusal). IsAmong z err.0) (refused_entry i e index is root n naming given)
-    (subst (IsAmong _) (sym err.2) (c.in_err-see_entry.ensures.err (namings given) (in_root i e index is root n naming) has)))
+    (subst (IsAmong _) (sym err.2) (c.in_err-see_entry.ensures.err (dir_indexes given) (in_root i e index is root n naming) has)))
 
 pub returns-clause-seen : goal.returns-clause-seen
 returns-clause-seen c = λ i given key body leaf has.
     let k : Key = c.args.key.now in
     let e : DirEntryValue = dir_entry_value c.in-Some.entry in
-    let n : Naming = c.in_ok-naming.naming in
+    let n : DirIndex = c.in_ok-naming.naming in
     let kind : (k.kind == DIR_INDEX) ≡ true = grind (arith, nat_tests, c.if-key-ne-DIR_INDEX.false) in
     let dir : (k.objectid == FIRST_FREE_OBJECTID) ≡ true = grind (arith, nat_tests, c.if-key-ne-FIRST_FREE_OBJECTID.false) in
     let index : is_index i ≡ true = ap (λ (q : Key). q.kind == DIR_INDEX) key ∙ kind in
     let root : is_root_directory i.key.objectid ≡ true = ap (λ (q : Key). q.objectid == FIRST_FREE_OBJECTID) key ∙ dir in
     let is : index_entry i.body ≡ Some e = ap index_entry body ∙ (sym c.index_entry.ensures ∙ ap (option_map dir_entry_value) c.in-Some.is) in
     let naming : n ≡ naming_of i e = c.in_ok-naming.ensures i key leaf in
-    subst (λ (ns : List Naming). HasSeen is_root_directory c.see_entry.new.seen ns) (with_entry i e index is root n naming given)
-    (c.in_ok-see_entry.ensures.seen (namings given) (in_root i e index is root n naming) has)
+    subst (λ (ns : List DirIndex). HasSeen is_root_directory c.see_entry.new.seen ns) (with_entry i e index is root n naming given)
+    (c.in_ok-see_entry.ensures.seen (dir_indexes given) (in_root i e index is root n naming) has)
 
 pub returns-clause-ok : goal.returns-clause-ok
 returns-clause-ok c = λ i key body leaf.
     let k : Key = c.args.key.now in
     let e : DirEntryValue = dir_entry_value c.in-Some.entry in
-    let n : Naming = c.in_ok-naming.naming in
+    let n : DirIndex = c.in_ok-naming.naming in
     let kind : (k.kind == DIR_INDEX) ≡ true = grind (arith, nat_tests, c.if-key-ne-DIR_INDEX.false) in
     let dir : (k.objectid == FIRST_FREE_OBJECTID) ≡ true = grind (arith, nat_tests, c.if-key-ne-FIRST_FREE_OBJECTID.false) in
     let index : is_index i ≡ true = ap (λ (q : Key). q.kind == DIR_INDEX) key ∙ kind in

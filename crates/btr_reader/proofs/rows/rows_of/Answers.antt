@@ -4,7 +4,7 @@ use Rattle.std.proofs.lemmas.Result.{err_from_is_err_and}
 use Rattle.btrfs_format.specs.declared.object.TheConstants.{FIRST_FREE_OBJECTID}
 use Rattle.indexmap.specs.IndexSet.{contains}
 use Rattle.fs_rows.specs.Rows.{row_of}
-use Rattle.fs_paths.specs.declared.link.PathTo.{PathTo}
+use Rattle.fs_paths.specs.declared.node_link.PathTo.{PathTo}
 use Rattle.fs_paths.specs.Links.{same_node}
 use Rattle.btr_reader_names.specs.Steps.{inode_node, links_of}
 use Rattle.btr_reader.specs.Made.{IsMemory, made_row}

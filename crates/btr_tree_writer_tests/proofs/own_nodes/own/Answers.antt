@@ -3,7 +3,7 @@ use Rattle.std.proofs.lemmas.List.{length-map}
 use Rattle.btrfs_format.specs.declared.object.TheConstants.{FS_TREE}
 use Rattle.btr_tree.specs.Counting.{node_bound}
 use Rattle.unit_plan.specs.Chunks.{AreChunks, FitsVolume}
-use Rattle.unit_plan.specs.declared.chunk.Chunk.{Chunk}
+use Rattle.unit_plan.specs.declared.chunk.PlannedChunk.{PlannedChunk}
 use Rattle.unit_plan.specs.declared.piece.Piece.{Piece}
 use Rattle.unit_plan.specs.declared.plan.Plan.{Plan}
 use Rattle.space_items.specs.Nodes.{AreNodes, nodes_at}
@@ -34,7 +34,7 @@ leaves_at slots nodes is up many =
 pub own_nodes-requires-clause-nodes : goal.own_nodes-requires-clause-nodes
 own_nodes-requires-clause-nodes c = leaves_at c.in_ok-row.field-0 c.in_ok-others.others c.in_ok-others.ensures c.in_ok-row.ensures.order c.in_ok-row.ensures.long
 
-bound_is : (chunks : List Chunk) (pieces : List Piece) (others : List TreeNode) (plan : Plan) (blocks : ℕ) → blocks ≤ 12288 → AreChunks plan blocks chunks → length pieces ≡ 1 → length others ≡ 200 → own_bound chunks pieces others 4096 ≤ 1000
+bound_is : (chunks : List PlannedChunk) (pieces : List Piece) (others : List TreeNode) (plan : Plan) (blocks : ℕ) → blocks ≤ 12288 → AreChunks plan blocks chunks → length pieces ≡ 1 → length others ≡ 200 → own_bound chunks pieces others 4096 ≤ 1000
 bound_is chunks pieces others plan blocks small are one many =
     let up : node_bound (extent_bytes (length pieces) (length chunks) (length others)) 4096 ≤ node_bound 613819 4096 = bound_up (extent_bytes (length pieces) (length chunks) (length others)) 613819 4096 (inl refl) (omega (arith, few_chunks plan blocks chunks are, small, one, many)) in
     omega (arith, up)

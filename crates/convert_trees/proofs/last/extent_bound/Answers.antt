@@ -6,7 +6,7 @@ use Rattle.space_items.proofs.OneList.{chunks_one}
 use Rattle.space_items.proofs.Tallying.{few_chunks}
 use Rattle.space_items.specs.Own.{extent_bytes}
 use Rattle.unit_plan.specs.Chunks.{AreChunks}
-use Rattle.unit_plan.specs.declared.chunk.Chunk.{Chunk}
+use Rattle.unit_plan.specs.declared.chunk.PlannedChunk.{PlannedChunk}
 use Rattle.convert_trees.proofs.Few.{few_pieces}
 use Rattle.convert_trees.proofs.last.extent_bound.Goals as goal
 
@@ -29,5 +29,5 @@ pub returns : goal.returns
 returns g c = λ chunks are nodes long.
     let own = subst (λ (s : Super). AreChunks c.args.w.now.plan.now s.blocks c.in_ok-chunks.chunks) c.sup.ensures c.in_ok-chunks.ensures in
     let one : c.in_ok-chunks.chunks ≡ chunks = chunks_one _ _ c.in_ok-chunks.chunks chunks own are in
-    let bytes : EXTENT_BYTES * c.len.result + BLOCK_GROUP_BYTES * c.len-2.result + NODE_BYTES * c.args.others ≡ extent_bytes (length (g.P.PieceList.pieces c.args.w.now.pieces.now)) (length chunks) (length nodes) = omega (arith, c.len.ensures, c.len-2.ensures, ap (λ (cs : List Chunk). length cs) one, long) in
+    let bytes : EXTENT_BYTES * c.len.result + BLOCK_GROUP_BYTES * c.len-2.result + NODE_BYTES * c.args.others ≡ extent_bytes (length (g.P.PieceList.pieces c.args.w.now.pieces.now)) (length chunks) (length nodes) = omega (arith, c.len.ensures, c.len-2.ensures, ap (λ (cs : List PlannedChunk). length cs) one, long) in
     ap (λ (n : ℕ). 2 * n + 16) (c.node_bound.ensures ∙ ap (λ (b : ℕ). node_bound b c.args.w.now.form.nodesize) bytes)

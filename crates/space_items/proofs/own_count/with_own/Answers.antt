@@ -3,7 +3,7 @@ use Rattle.btrfs_format.specs.declared.object.TheConstants.{EXTENT_TREE}
 use Rattle.btr_tree.specs.btr_node.NodeSize.{IsNodeSize}
 use Rattle.btr_tree.specs.Counting.{Counted, Tally, tree_nodes}
 use Rattle.btr_tree.specs.Roots.{lengths_of}
-use Rattle.unit_plan.specs.declared.chunk.Chunk.{Chunk}
+use Rattle.unit_plan.specs.declared.chunk.PlannedChunk.{PlannedChunk}
 use Rattle.unit_plan.specs.declared.piece.Piece.{Piece}
 use Rattle.space_items.specs.Extents.{extent_items}
 use Rattle.space_items.specs.Nodes.{AreNodes, HasSlots, merged_nodes, nodes_of_tree}
@@ -18,7 +18,7 @@ pub counted-requires-clause-nodes : goal.counted-requires-clause-nodes
 counted-requires-clause-nodes g c = subst AreNodes (sym c.in_ok-leaves.ensures) (with_leaves c.args.others.now c.args.rest.now c.requires.nodes c.requires.slots c.requires.few c.args.count)
 
 -- there are as many slots as the counter tells
-has_slots : (chunks : List Chunk) (pieces : List Piece) (others nodes : List TreeNode) (slots : List ℕ) (nodesize count : ℕ) (tally : Tally) → IsNodeSize nodesize → tally.nodesize ≡ nodesize → nodes ≡ merged_nodes others (own_at slots count)
+has_slots : (chunks : List PlannedChunk) (pieces : List Piece) (others nodes : List TreeNode) (slots : List ℕ) (nodesize count : ℕ) (tally : Tally) → IsNodeSize nodesize → tally.nodesize ≡ nodesize → nodes ≡ merged_nodes others (own_at slots count)
     → Counted tally (lengths_of (extent_items chunks pieces nodes nodesize)) → IsOwnCount chunks pieces others slots nodesize count → count ≤ length slots → HasSlots tally 0 slots
 has_slots chunks pieces others nodes slots nodesize count tally size same is counted own enough =
     let lengths : List ℕ = own_lengths chunks pieces others slots nodesize count in
