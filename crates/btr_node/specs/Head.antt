@@ -8,7 +8,7 @@ use Rattle.btr_node.specs.declared.expect.Expect.{Expect}
 use Rattle.btr_node.specs.declared.head.Head.{Head}
 
 abbrev pub make_head : List ℕ → ℕ → List ℕ → ℕ → List ℕ → ℕ → ℕ → ℕ → ℕ → Head
-make_head fsid address flags revision chunk_tree generation owner nritems level =
+make_head fsid address flags revision chunk_tree generation owner count level =
     record {
       fsid = fsid;
       address = address;
@@ -17,7 +17,7 @@ make_head fsid address flags revision chunk_tree generation owner nritems level 
       chunk_tree = chunk_tree;
       generation = generation;
       owner = owner;
-      nritems = nritems;
+      count = count;
       level = level;
     }
 
