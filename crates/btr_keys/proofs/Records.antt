@@ -3,6 +3,7 @@ use Rattle.std.proofs.Common.{◌≡◌, [], ◌∷◌, length, drop, cond, ltb,
 use Rattle.std.proofs.lemmas.Bool.{le-ltb}
 use Rattle.std.proofs.lemmas.List.{take_at, drop_at}
 use Rattle.std.specs.Option.{option_map}
+use Rattle.btrfs_format.specs.declared.size.TheConstants.{INODE_ITEM_SIZE, KEY_SIZE, TIMESPEC_SIZE}
 use Rattle.byteorder.specs.Numbers.{little_number-reads_back}
 use Rattle.btr_keys.specs.Layout.{ReadsBack}
 use Rattle.btr_keys.specs.Key.{key_layout, make_key}
@@ -20,7 +21,7 @@ pub key_reads : Reads key_layout (λ v. v)
 unfolding key_layout
 key_reads = start make_key ▹ u64_reads ▹ u8_reads ▹ u64_reads
 
-pub keys_read_back : ReadsBack 17 key_layout
+pub keys_read_back : ReadsBack KEY_SIZE key_layout
 unfolding key_layout
 keys_read_back = reads_back refl key_reads
 
@@ -28,7 +29,7 @@ pub stamp_reads : Reads stamp_layout (λ v. v)
 unfolding stamp_layout
 stamp_reads = start make_stamp ▹ i64_reads ▹ u32_reads
 
-pub stamps_read_back : ReadsBack 12 stamp_layout
+pub stamps_read_back : ReadsBack TIMESPEC_SIZE stamp_layout
 unfolding stamp_layout
 stamps_read_back = reads_back refl stamp_reads
 
@@ -38,7 +39,7 @@ inode_reads =
     skip 32 (start make_inode ▹ u64_reads ▹ u64_reads ▹ u64_reads ▹ u64_reads ▹ u64_reads ▹ u32_reads ▹ u32_reads ▹ u32_reads ▹ u32_reads ▹ u64_reads ▹ u64_reads ▹ u64_reads)
     ▹ part_reads stamp_reads ▹ part_reads stamp_reads ▹ part_reads stamp_reads ▹ part_reads stamp_reads
 
-pub inodes_read_back : ReadsBack 160 inode_layout
+pub inodes_read_back : ReadsBack INODE_ITEM_SIZE inode_layout
 unfolding inode_layout stamp_layout
 inodes_read_back = reads_back refl inode_reads
 

@@ -2,6 +2,7 @@
 use Rattle.std.proofs.Common.{◌≡◌, ◌<◌, ◌^◌, ℕ, ◌*◌, List, [], ◌∷◌, length, refl, arith, length-append}
 use Rattle.std.proofs.Math.Nat.{mul-suc}
 use Rattle.std.specs.List.{flat_map}
+use Rattle.btrfs_format.specs.declared.size.TheConstants.{CSUM_SIZE, ITEM_SIZE, KEY_PTR_SIZE}
 use Rattle.btr_keys.specs.Key.{key_layout}
 use Rattle.btr_keys.specs.declared.key.Key.{Key}
 use Rattle.btr_keys.specs.Layout.{spelling}
@@ -14,17 +15,17 @@ use Rattle.btr_node.specs.Head.{make_head, head_layout}
 use Rattle.btr_node.specs.Inner.{make_child, child_layout}
 use Rattle.btr_node.specs.Leaf.{make_item_head, item_layout}
 use Rattle.btr_node.specs.declared.child.Child.{Child}
-use Rattle.btr_node.specs.declared.item.ItemHead.{ItemHead}
+use Rattle.btr_node.specs.declared.item.BtrItemHead.{BtrItemHead}
 
-pub length-kind_sum : (sums : SumKind) (bytes : List ℕ) → length (kind_sum sums bytes) ≡ 32
+pub length-kind_sum : (sums : SumKind) (bytes : List ℕ) → length (kind_sum sums bytes) ≡ CSUM_SIZE
 unfolding kind_sum
 length-kind_sum Crc32c bytes = refl
 
-pub item_size : (head : ItemHead) → length (spelling item_layout head) ≡ 25
+pub item_size : (head : BtrItemHead) → length (spelling item_layout head) ≡ ITEM_SIZE
 unfolding item_layout key_layout
 item_size head = refl
 
-pub child_size : (child : Child) → length (spelling child_layout child) ≡ 33
+pub child_size : (child : Child) → length (spelling child_layout child) ≡ KEY_PTR_SIZE
 unfolding child_layout key_layout
 child_size child = refl
 

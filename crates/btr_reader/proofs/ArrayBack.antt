@@ -5,8 +5,10 @@ use Rattle.std.specs.Option.{option_map}
 use Rattle.std.proofs.Math.Seq.{drop-append-add}
 use Rattle.std.proofs.lemmas.Bool.{le-ltb}
 use Rattle.std.proofs.lemmas.List.{take_at, drop_at}
+use Rattle.btrfs_format.specs.declared.key.TheConstants.{CHUNK_ITEM}
+use Rattle.btrfs_format.specs.declared.object.TheConstants.{FIRST_CHUNK_TREE_OBJECTID}
 use Rattle.btr_reader_walk.specs.vol_block.Volume.{field}
-use Rattle.btr_reader_walk.specs.btr_keys.Key.{key_layout, key_bytes, make_key, key_at}
+use Rattle.btr_reader_walk.specs.btr_keys.Key.{key_layout, key_bytes, make_key, key_in_bytes}
 use Rattle.btr_reader_walk.specs.btr_keys.declared.key.Key.{Key}
 use Rattle.btr_reader_walk.proofs.btr_keys.Records.{key_reads}
 use Rattle.btr_space_items.specs.Chunk.{chunk_of, chunk_bytes}
@@ -23,34 +25,34 @@ key_width : key_layout.width ≡ 17
 unfolding key_layout
 key_width = refl
 
-fits_key : (n : ℕ) → n < 2 ^ 64 → key_layout.fits (make_key 256 228 n)
+fits_key : (n : ℕ) → n < 2 ^ 64 → key_layout.fits (make_key FIRST_CHUNK_TREE_OBJECTID CHUNK_ITEM n)
 unfolding key_layout
 fits_key n small = (((tt, omega arith), omega arith), omega (arith, small))
 
 module _ (c : ChunkAt) (fits : FitsArray c) (rest : List ℕ) where
   own : Key
-  own = make_key 256 228 c.logical
+  own = make_key FIRST_CHUNK_TREE_OBJECTID CHUNK_ITEM c.logical
 
-  key_len : length (key_bytes (make_key 256 228 c.logical)) ≡ 17
-  key_len = key_reads.len (make_key 256 228 c.logical) (fits_key c.logical fits.logical) ∙ key_width
+  key_len : length (key_bytes (make_key FIRST_CHUNK_TREE_OBJECTID CHUNK_ITEM c.logical)) ≡ 17
+  key_len = key_reads.len (make_key FIRST_CHUNK_TREE_OBJECTID CHUNK_ITEM c.logical) (fits_key c.logical fits.logical) ∙ key_width
 
   body_len : length (chunk_bytes c.chunk) ≡ 80
   body_len = chunk_reads.len c.chunk fits.fields ∙ chunk_width
 
-  apart : array_entry c ++ rest ≡ key_bytes (make_key 256 228 c.logical) ++ (chunk_bytes c.chunk ++ rest)
-  apart = append_assoc (key_bytes (make_key 256 228 c.logical)) (chunk_bytes c.chunk) rest
+  apart : array_entry c ++ rest ≡ key_bytes (make_key FIRST_CHUNK_TREE_OBJECTID CHUNK_ITEM c.logical) ++ (chunk_bytes c.chunk ++ rest)
+  apart = append_assoc (key_bytes (make_key FIRST_CHUNK_TREE_OBJECTID CHUNK_ITEM c.logical)) (chunk_bytes c.chunk) rest
 
   -- what is behind the key
   behind_key : (n : ℕ) → drop (17 + n) (array_entry c ++ rest) ≡ drop n (chunk_bytes c.chunk ++ rest)
   behind_key n =
       ap (λ (m : ℕ). drop (m + n) (array_entry c ++ rest)) (sym key_len)
-      ∙ (ap (drop (length (key_bytes (make_key 256 228 c.logical)) + n)) apart
-      ∙ drop-append-add (key_bytes (make_key 256 228 c.logical)) (chunk_bytes c.chunk ++ rest) n)
+      ∙ (ap (drop (length (key_bytes (make_key FIRST_CHUNK_TREE_OBJECTID CHUNK_ITEM c.logical)) + n)) apart
+      ∙ drop-append-add (key_bytes (make_key FIRST_CHUNK_TREE_OBJECTID CHUNK_ITEM c.logical)) (chunk_bytes c.chunk ++ rest) n)
 
-  keyed : key_at (array_entry c ++ rest) 0 ≡ make_key 256 228 c.logical
+  keyed : key_in_bytes (array_entry c ++ rest) 0 ≡ make_key FIRST_CHUNK_TREE_OBJECTID CHUNK_ITEM c.logical
   keyed =
-      ap key_layout.read (apart ∙ sym (key_reads.apart (make_key 256 228 c.logical) (chunk_bytes c.chunk ++ rest)))
-      ∙ key_reads.back (make_key 256 228 c.logical) (chunk_bytes c.chunk ++ rest) (fits_key c.logical fits.logical)
+      ap key_layout.read (apart ∙ sym (key_reads.apart (make_key FIRST_CHUNK_TREE_OBJECTID CHUNK_ITEM c.logical) (chunk_bytes c.chunk ++ rest)))
+      ∙ key_reads.back (make_key FIRST_CHUNK_TREE_OBJECTID CHUNK_ITEM c.logical) (chunk_bytes c.chunk ++ rest) (fits_key c.logical fits.logical)
 
   pub entry : entry_size (array_entry c ++ rest) ≡ 97
   entry =
@@ -60,7 +62,7 @@ module _ (c : ChunkAt) (fits : FitsArray c) (rest : List ℕ) where
       omega (arith, stripes)
 
   long : length (array_entry c ++ rest) ≡ 97 + length rest
-  long = omega (arith, length-append (array_entry c) rest, length-append (key_bytes (make_key 256 228 c.logical)) (chunk_bytes c.chunk), key_len, body_len)
+  long = omega (arith, length-append (array_entry c) rest, length-append (key_bytes (make_key FIRST_CHUNK_TREE_OBJECTID CHUNK_ITEM c.logical)) (chunk_bytes c.chunk), key_len, body_len)
 
   pub size : length (array_entry c ++ rest) ≡ 97 + length rest
   size = long
@@ -78,14 +80,14 @@ module _ (c : ChunkAt) (fits : FitsArray c) (rest : List ℕ) where
       let bytes : List ℕ = array_entry c ++ rest in
       let read : chunk_of (take (entry_size bytes - 17) (drop 17 bytes)) ≡ Some c.chunk = ap chunk_of body ∙ chunks_read_back c.chunk fits.fields fits.single in
       let whole : ltb (length bytes) 97 ≡ false = le-ltb _ _ (omega (arith, long)) in
-      ap (λ (b : Bool). cond b None (cond (is_chunk_key (key_at bytes 0)) (placed (key_at bytes 0) (chunk_of (take (entry_size bytes - 17) (drop 17 bytes)))) None)) whole
-      ∙ (ap (λ (b : Bool). cond b (placed (key_at bytes 0) (chunk_of (take (entry_size bytes - 17) (drop 17 bytes)))) None) (ap is_chunk_key keyed)
-      ∙ (ap (λ (k : Key). placed k (chunk_of (take (entry_size bytes - 17) (drop 17 bytes)))) keyed ∙ ap (placed (make_key 256 228 c.logical)) read))
+      ap (λ (b : Bool). cond b None (cond (is_chunk_key (key_in_bytes bytes 0)) (placed (key_in_bytes bytes 0) (chunk_of (take (entry_size bytes - 17) (drop 17 bytes)))) None)) whole
+      ∙ (ap (λ (b : Bool). cond b (placed (key_in_bytes bytes 0) (chunk_of (take (entry_size bytes - 17) (drop 17 bytes)))) None) (ap is_chunk_key keyed)
+      ∙ (ap (λ (k : Key). placed k (chunk_of (take (entry_size bytes - 17) (drop 17 bytes)))) keyed ∙ ap (placed (make_key FIRST_CHUNK_TREE_OBJECTID CHUNK_ITEM c.logical)) read))
 
   pub behind : drop (entry_size (array_entry c ++ rest)) (array_entry c ++ rest) ≡ rest
   behind =
       ap (λ (n : ℕ). drop n (array_entry c ++ rest)) entry
-      ∙ drop_at (array_entry c) rest 97 (omega (arith, length-append (key_bytes (make_key 256 228 c.logical)) (chunk_bytes c.chunk), key_len, body_len))
+      ∙ drop_at (array_entry c) rest 97 (omega (arith, length-append (key_bytes (make_key FIRST_CHUNK_TREE_OBJECTID CHUNK_ITEM c.logical)) (chunk_bytes c.chunk), key_len, body_len))
 
 within : (n : ℕ) (chunks : List ChunkAt) → AllByRecursion FitsArray chunks → length (flat_map array_entry chunks) ≤ n → chunks_within n (flat_map array_entry chunks) ≡ Some chunks
 unfolding chunks_within

@@ -2,6 +2,8 @@
 use Rattle.std.proofs.Common.{◌≡◌, ◌∙◌, ⊎_elim, inl, inr, ℕ, ◌+◌, ◌/◌, ◌%◌, ◌<◌, Bool, true, not, false, cond, List, length, nat_le, Option, Some, None, refl, sym, ap, subst}
 use Rattle.std.specs.Prelude.{Contains, bytes_eq, slice_index}
 use Rattle.std.proofs.lemmas.Slice.Eq.{bytes_eq-Decides}
+use Rattle.btrfs_format.specs.declared.block.TheConstants.{SUPER_BLOCK}
+use Rattle.btrfs_format.specs.declared.object.TheConstants.{FS_TREE}
 use Rattle.btr_reader_walk.specs.outside.Format.{format_in}
 use Rattle.btr_reader_walk.specs.outside.History.{Image, block_at}
 use Rattle.btr_reader_walk.specs.refusals.declared.refusal.BtrRefusal.{BtrRefusal}
@@ -58,25 +60,25 @@ module _ (test : ℕ → Bool) (image other : Image) (apart : IsVolumeApart test
 
   rows_over : (rows : List WholeRow) → AreRowsOfBtrfs image rows → AreRowsOfBtrfs other rows
   rows_over rows is =
-      let root : root_of image 5 ≡ Some is.at = ap pointer_in is.has_item ∙ is.has_root in
+      let root : root_of image FS_TREE ≡ Some is.at = ap pointer_in is.has_item ∙ is.has_root in
       let nodes = apart.files is.at root in
       let items = items_same test image other apart same 5 is.at nodes in
       record {
         readable = λ r refused. is.readable r (tree_refused test other image (apart_again test image other apart same) (back test image other same) r refused);
         item = is.item;
         has_item =
-            both test image other apart same (λ t m. root_item 5 (roots_on other t m)) ∙ (root_item_same test image other apart same ∙ is.has_item);
+            both test image other apart same (λ t m. root_item FS_TREE (roots_on other t m)) ∙ (root_item_same test image other apart same ∙ is.has_item);
         at = is.at;
         has_root = is.has_root;
         rows_are =
-            over test image other apart same (λ t m. AreRows other m (items_at other t m 5 is.at) rows)
-            (items_decide_rows image other (own_map image) (own_map image) (items_at image (own_super image) (own_map image) 5 is.at) (items_at other (own_super image) (own_map image) 5 is.at) rows
-            (ap unplaced (sym items)) (extents_same test image other same (own_map image) (items_at image (own_super image) (own_map image) 5 is.at) (apart.extents is.at root)) is.rows_are);
+            over test image other apart same (λ t m. AreRows other m (items_at other t m FS_TREE is.at) rows)
+            (items_decide_rows image other (own_map image) (own_map image) (items_at image (own_super image) (own_map image) FS_TREE is.at) (items_at other (own_super image) (own_map image) FS_TREE is.at) rows
+            (ap unplaced (sym items)) (extents_same test image other same (own_map image) (items_at image (own_super image) (own_map image) FS_TREE is.at) (apart.extents is.at root)) is.rows_are);
       }
 
-format_same : (image other : Image) → length other ≡ length image → block_at other 16 ≡ block_at image 16 → format_in other ≡ format_in image
+format_same : (image other : Image) → length other ≡ length image → block_at other SUPER_BLOCK ≡ block_at image SUPER_BLOCK → format_in other ≡ format_in image
 format_same image other size block =
-    ap (λ (n : ℕ). cond (nat_le n 16) Neither (format (block_at other 16))) size ∙ ap (λ (bytes : List ℕ). cond (nat_le (length image) 16) Neither (format bytes)) block
+    ap (λ (n : ℕ). cond (nat_le n 16) Neither (format (block_at other SUPER_BLOCK))) size ∙ ap (λ (bytes : List ℕ). cond (nat_le (length image) 16) Neither (format bytes)) block
 
 same_btrfs : (test : ℕ → Bool) (image other : Image) → IsVolumeApart test image → IsSameOutside test image other → IsSameBtrfs image other
 same_btrfs test image other apart same =

@@ -12,18 +12,18 @@ use Rattle.btr_reader_walk.specs.declared.map.MapRange.{MapRange}
 use Rattle.btr_reader_walk.specs.Events.{TreeItem}
 use Rattle.btr_reader_walk.specs.Walks.{LieOn, wrong, found}
 use Rattle.btr_reader_contents.specs.Blocks.{IsInBlocks, AreInBlocks}
-use Rattle.btr_reader_contents.specs.Extents.{unless}
+use Rattle.btr_reader_contents.specs.Extents.{refused_unless}
 use Rattle.btr_reader_contents.proofs.ExtentLists.{none_left, none_right, holds_unless, first, second}
 use Rattle.btr_reader.specs.declared.chunk.ChunkAt.{ChunkAt}
 use Rattle.btr_reader.specs.Chunks.{range_of, is_read_kind, lies_on, chunk_refusals, beside_refusals, chunks_refusals, chunk_in, with_chunk, chunk_item_refusals, with_items, items_refusals}
-use Rattle.btr_reader.specs.Opening.{chunk_tree, root_tree, boot_chunks, boot_list, boot_refusals, map_from, or_later, trees_refusals, IsOpened}
+use Rattle.btr_reader.specs.Opening.{chunk_tree, root_tree, boot_chunks, boot_list, boot_refusals, map_from, or_later, trees_refusals, IsBtrfsOpened}
 use Rattle.btr_reader.proofs.Opens.{opening_is}
 
 on_device : (device : ℕ) (c : ChunkAt) → chunk_refusals device c ≡ [] → lies_on device c ≡ true
 on_device device c none =
-    let plain : List BtrRefusal = unless (is_read_kind c.chunk.kind) (Unsupported ChunkType c.chunk.kind) in
-    let single : List BtrRefusal = unless (eqb c.chunk.num_stripes 1) (Unsupported ChunkType c.chunk.num_stripes) in
-    let placed : List BtrRefusal = unless (lies_on device c) (BadBtrfs c.logical ChunkForm) in
+    let plain : List BtrRefusal = refused_unless (is_read_kind c.chunk.kind) (Unsupported ChunkType c.chunk.kind) in
+    let single : List BtrRefusal = refused_unless (eqb c.chunk.num_stripes 1) (Unsupported ChunkType c.chunk.num_stripes) in
+    let placed : List BtrRefusal = refused_unless (lies_on device c) (BadBtrfs c.logical ChunkForm) in
     holds_unless (lies_on device c) (BadBtrfs c.logical ChunkForm) (none_right single placed (none_right plain (single ++ placed) none))
 
 is_in_blocks : (device : ℕ) (c : ChunkAt) → lies_on device c ≡ true → IsInBlocks (range_of c)
@@ -86,7 +86,7 @@ later_none [] ys none = none
 later_none (x ∷ xs) ys none = absurd (cc none)
 
 -- nothing is wrong with the array of a volume that was opened, nor with the items of its chunk tree
-pub opened_sound : (image : Image) (s : Super) (ranges : List MapRange) → IsOpened image s ranges
+pub opened_sound : (image : Image) (s : Super) (ranges : List MapRange) → IsBtrfsOpened image s ranges
     → (boot_refusals (length image) (boot_chunks s) ≡ []) × (items_refusals (length image) (boot_list (boot_chunks s)) (map range_of (boot_list (boot_chunks s))) (found image (map range_of (boot_list (boot_chunks s))) (chunk_tree s)) ≡ [])
 opened_sound image s ranges opened =
     let device : ℕ = length image in
@@ -100,7 +100,7 @@ opened_sound image s ranges opened =
     )
 
 -- the map of a volume that was opened
-pub opened_in_blocks : (image : Image) (s : Super) (ranges : List MapRange) → IsOpened image s ranges → AreInBlocks ranges
+pub opened_in_blocks : (image : Image) (s : Super) (ranges : List MapRange) → IsBtrfsOpened image s ranges → AreInBlocks ranges
 opened_in_blocks image s ranges opened =
     let device : ℕ = length image in
     let boot : List ChunkAt = boot_list (boot_chunks s) in

@@ -11,7 +11,7 @@ use Rattle.btr_reader_walk.specs.Walks.{wrong, found}
 use Rattle.btr_reader.specs.declared.chunk.ChunkAt.{ChunkAt}
 use Rattle.btr_reader.specs.declared.roots.RootItems.{RootItems}
 use Rattle.btr_reader.specs.Chunks.{range_of, items_refusals, with_items}
-use Rattle.btr_reader.specs.Opening.{super_on, chunk_tree, root_tree, boot_chunks, boot_list, boot_refusals, map_from, or_later, trees_refusals, refusals_after, opening_refusals, IsOpened, IsAmong, IsSuperAnswer}
+use Rattle.btr_reader.specs.Opening.{super_on, chunk_tree, root_tree, boot_chunks, boot_list, boot_refusals, map_from, or_later, trees_refusals, refusals_after, opening_refusals, IsBtrfsOpened, IsAmong, IsSuperAnswer}
 use Rattle.btr_reader.specs.Roots.{HasRoots}
 use Rattle.btr_reader.specs.Rows.{roots_on}
 use Rattle.btr_reader.proofs.Among.{among_first, among_later, none_later}
@@ -83,7 +83,7 @@ module _ (image : Image) (s : Super) (device : ℕ) (chunks : List ChunkAt) (fir
         (subst (λ (t : Tree). IsAmong (wrong image (map_from image s (here s)) t) e) root_is
         (subst (λ (r : List MapRange). IsAmong (wrong image r root) e) (copied ∙ same_map) bad))))
 
-    pub opened : wrong image other root ≡ [] → IsOpened image s ranges
+    pub opened : wrong image other root ≡ [] → IsBtrfsOpened image s ranges
     opened right = record {
       sound =
           opening_is image s read

@@ -6,7 +6,7 @@ use Rattle.btr_reader_walk.specs.outside.History.{Image}
 use Rattle.btr_reader_walk.specs.btr_keys.declared.inode.Inode.{Inode}
 use Rattle.btr_reader_walk.specs.declared.map.MapRange.{MapRange}
 use Rattle.btr_reader_walk.specs.Events.{TreeItem}
-use Rattle.btr_reader_contents.specs.Extents.{file_bytes}
+use Rattle.btr_reader_contents.specs.Extents.{bytes_of_inode}
 use Rattle.btr_reader_names.specs.Inodes.{kind_of_mode}
 use Rattle.fs_rows.specs.declared.content.Content.{Content}
 use Rattle.btr_reader_contents.specs.declared.wanted.Wanted.{Wanted}
@@ -27,7 +27,7 @@ wanted_is own kind o known is = sym (ap (option_and_then (wanted_by own.size)) k
 
 module _ (image : Image) (ranges : List MapRange) (items : List TreeItem) (ino : ℕ) (own : Inode) where
   abbrev bytes : List ℕ
-  bytes = file_bytes image ranges items ino own.size
+  bytes = bytes_of_inode image ranges items ino own.size
 
   abbrev Has : Kind → ℕ → List ℕ → List ℕ → Type 0
   Has kind size mark target = IsContent kind (bytes_at image ranges items ino own kind) size mark target

@@ -2,12 +2,16 @@
 use Rattle.std.specs.Prelude.{ℕ, zero, suc, ◌+◌, ◌*◌, ◌%◌, ◌==◌, nat_eq, nat_lt, nat_le, max, min, Bool, ◌&&◌, ◌||◌, if◌then◌else◌, List, [], ◌∷◌, ◌++◌, length, drop, slice_range, Option, Some, None}
 use Rattle.std.specs.List.{list_any}
 use Rattle.std.specs.Option.{option_map, option_and_then}
+use Rattle.btrfs_format.specs.declared.flag.TheConstants.{BLOCK_GROUP_DATA, BLOCK_GROUP_METADATA, BLOCK_GROUP_SYSTEM}
+use Rattle.btrfs_format.specs.declared.key.TheConstants.{CHUNK_ITEM}
+use Rattle.btrfs_format.specs.declared.object.TheConstants.{FIRST_CHUNK_TREE_OBJECTID}
+use Rattle.btrfs_format.specs.declared.size.TheConstants.{CHUNK_HEAD_SIZE, KEY_SIZE, STRIPE_SIZE, SYSTEM_CHUNK_SIZE}
 use Rattle.btr_reader_walk.specs.refusals.declared.refusal.BtrRefusal.{BtrRefusal}
 use Rattle.btr_reader_walk.specs.refusals.declared.refusal.BtrRefusal.TheVariants.{BadBtrfs, Unsupported}
 use Rattle.btr_reader_walk.specs.refusals.declared.rule.BtrRule.TheVariants.{ChunkForm}
 use Rattle.btr_reader_walk.specs.refusals.declared.rule.Feature.TheVariants.{ChunkType}
 use Rattle.btr_reader_walk.specs.vol_block.Volume.{field}
-use Rattle.btr_reader_walk.specs.btr_keys.Key.{key_at}
+use Rattle.btr_reader_walk.specs.btr_keys.Key.{key_in_bytes}
 use Rattle.btr_reader_walk.specs.btr_keys.declared.key.Key.{Key}
 use Rattle.btr_space_items.specs.Chunk.{chunk_of}
 use Rattle.btr_space_items.specs.declared.chunk.Chunk.{Chunk}
@@ -15,12 +19,12 @@ use Rattle.btr_space_items.specs.declared.stripe.Stripe.{Stripe}
 use Rattle.std.specs.Cmp.Lexicographic.{pointwise}
 use Rattle.btr_reader_walk.specs.declared.map.MapRange.{MapRange}
 use Rattle.btr_reader_walk.specs.Events.{TreeItem}
-use Rattle.btr_reader_contents.specs.Extents.{unless}
+use Rattle.btr_reader_contents.specs.Extents.{refused_unless}
 use Rattle.btr_reader.specs.declared.chunk.ChunkAt.{ChunkAt}
 
 -- the key of a chunk, whose offset is the logical address
 abbrev pub is_chunk_key : Key → Bool
-is_chunk_key key = (key.objectid == 256) && (key.kind == 228)
+is_chunk_key key = (key.objectid == FIRST_CHUNK_TREE_OBJECTID) && (key.kind == CHUNK_ITEM)
 
 -- the range of addresses that a chunk maps
 abbrev pub range_of : ChunkAt → MapRange
@@ -28,14 +32,14 @@ range_of c = record { logical = c.logical; length = c.chunk.length; physical = c
 
 -- The bootstrap array is a list of chunks, each a key of 17 bytes and a body of 48 bytes and 32 for each stripe.
 abbrev pub entry_size : List ℕ → ℕ
-entry_size bytes = 17 + (48 + 32 * field 2 bytes 61)
+entry_size bytes = KEY_SIZE + (CHUNK_HEAD_SIZE + STRIPE_SIZE * field 2 bytes 61)
 
 -- the chunk that bytes begin with
 abbrev pub front_chunk : List ℕ → Option ChunkAt
 front_chunk bytes =
-    if nat_lt (length bytes) 97 then None
-    else (if is_chunk_key (key_at bytes 0)
-    then option_map (λ chunk. record { logical = (key_at bytes 0).offset; chunk = chunk }) (chunk_of (slice_range bytes 17 (entry_size bytes)))
+    if nat_lt (length bytes) SYSTEM_CHUNK_SIZE then None
+    else (if is_chunk_key (key_in_bytes bytes 0)
+    then option_map (λ chunk. record { logical = (key_in_bytes bytes 0).offset; chunk = chunk }) (chunk_of (slice_range bytes KEY_SIZE (entry_size bytes)))
     else None)
 
 -- the chunks that bytes are, at most n
@@ -57,13 +61,13 @@ lies_on device c =
 -- The kinds of chunks that are read: data, system or metadata alone, in one piece. Other bits say that a chunk is mixed, or how
 -- it is spread over devices.
 abbrev pub data_kind : ℕ
-data_kind = 1
+data_kind = BLOCK_GROUP_DATA
 
 abbrev pub system_kind : ℕ
-system_kind = 2
+system_kind = BLOCK_GROUP_SYSTEM
 
 abbrev pub metadata_kind : ℕ
-metadata_kind = 4
+metadata_kind = BLOCK_GROUP_METADATA
 
 abbrev pub is_read_kind : ℕ → Bool
 is_read_kind kind = (kind == data_kind) || ((kind == system_kind) || (kind == metadata_kind))
@@ -71,8 +75,8 @@ is_read_kind kind = (kind == data_kind) || ((kind == system_kind) || (kind == me
 -- What is wrong with a chunk by itself.
 abbrev pub chunk_refusals : ℕ → ChunkAt → List BtrRefusal
 chunk_refusals device c =
-    unless (is_read_kind c.chunk.kind) (Unsupported ChunkType c.chunk.kind)
-    ++ (unless (c.chunk.num_stripes == 1) (Unsupported ChunkType c.chunk.num_stripes) ++ unless (lies_on device c) (BadBtrfs c.logical ChunkForm))
+    refused_unless (is_read_kind c.chunk.kind) (Unsupported ChunkType c.chunk.kind)
+    ++ (refused_unless (c.chunk.num_stripes == 1) (Unsupported ChunkType c.chunk.num_stripes) ++ refused_unless (lies_on device c) (BadBtrfs c.logical ChunkForm))
 
 -- there is an address in both
 abbrev pub overlap : MapRange → MapRange → Bool

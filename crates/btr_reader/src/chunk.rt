@@ -8,19 +8,10 @@ ghost use Rattle.btr_reader_walk.specs.Walks.{LieOn};
 
 use btr_reader_walk::{BtrAnswer, BtrRefusal, BtrRule, Feature, Key, MapRange, Memory};
 use btr_space_items::{Chunk, Stripe};
+use btrfs_format::flag::{BLOCK_GROUP_DATA, BLOCK_GROUP_METADATA, BLOCK_GROUP_SYSTEM};
+use btrfs_format::key::CHUNK_ITEM;
+use btrfs_format::object::FIRST_CHUNK_TREE_OBJECTID;
 use std::alloc::Global;
-
-/// The object and the kind in the key of a chunk; the offset is its logical address in bytes.
-const CHUNK_OBJECT: u64 = 256;
-
-const CHUNK_KIND: u8 = 228;
-
-/// The kinds of chunks that are read.
-const DATA: u64 = 1;
-
-const SYSTEM: u64 = 2;
-
-const METADATA: u64 = 4;
 
 /// A chunk, and its logical address in bytes.
 #[derive(Clone, Copy, Debug, PartialEq, Eq)]
@@ -33,7 +24,7 @@ pub struct ChunkAt {
 pub fn is_chunk_key(key: &Key) -> bool
     ensures { result ≡ is_chunk_key key.now }
 {
-    key.objectid == CHUNK_OBJECT && key.kind == CHUNK_KIND
+    key.objectid == FIRST_CHUNK_TREE_OBJECTID && key.kind == CHUNK_ITEM
 }
 
 /// The range of addresses that a chunk maps.
@@ -126,7 +117,7 @@ pub fn is_among(c: &ChunkAt, others: &[ChunkAt]) -> bool
 fn is_read_kind(kind: u64) -> bool
     ensures { result ≡ is_read_kind kind }
 {
-    kind == DATA || kind == SYSTEM || kind == METADATA
+    kind == BLOCK_GROUP_DATA || kind == BLOCK_GROUP_SYSTEM || kind == BLOCK_GROUP_METADATA
 }
 
 /// What is wrong with a chunk beside others, on a device of `device` blocks.

@@ -3,6 +3,7 @@ use Rattle.std.proofs.Common.{◌≡◌, ◌<◌, ◌≤◌, ◌+◌, ◌*◌, �
 use Rattle.std.proofs.lemmas.Bool.{lt-ltb}
 use Rattle.std.proofs.lemmas.List.{take_at, drop_at, drop-drop, drop-append-le, drop-take}
 use Rattle.std.specs.List.{starts_with}
+use Rattle.btrfs_format.specs.declared.block.TheConstants.{SUPER_INFO_OFFSET, SUPER_MAGIC_OFFSET}
 use Rattle.byteorder.specs.Endian.{little_number, little_bytes}
 use Rattle.byteorder.specs.Numbers.{little_number-reads_back}
 use Rattle.refusals.specs.vol_block.Volume.{put_field}
@@ -129,10 +130,10 @@ unfolding super_of
 mirrors_read block s place device to len is below there =
     let read = unless_ok (super_refusals block place device) (super_in block) s is in
     let held =
-    three_held (is_super block place device) (is_some (known_kind (csum_type_of block))) (has_sum (known_kind (csum_type_of block)) block) bad_field (Unsupported ChecksumType (csum_type_of block)) (BadBtrfs 65536 SuperCsum)
+    three_held (is_super block place device) (is_some (known_kind (csum_type_of block))) (has_sum (known_kind (csum_type_of block)) block) bad_field (Unsupported ChecksumType (csum_type_of block)) (BadBtrfs SUPER_INFO_OFFSET SuperCsum)
     (field_rules (super_in block) place device) read.0 in
     let kind = known_of (known_kind (csum_type_of block)) held.1 in
-    let magic = both_of (nat_lt place device) (has_bytes_at block 64 (codes "_BHRfS_M")) held.0 in
+    let magic = both_of (nat_lt place device) (has_bytes_at block SUPER_MAGIC_OFFSET (codes "_BHRfS_M")) held.0 in
     let c = drop 32 block in
     let x = 4096 * to in
     let moved = put_field 8 block 48 x in
@@ -152,7 +153,7 @@ mirrors_read block s place device to len is below there =
     let type_is : csum_type_of copy ≡ csum_type_of block =
     ap (little_number 2) (sym (drop-drop 164 32 copy) ∙ ap (drop 164) behind ∙ sym (drop-drop 140 24 covered) ∙ ap (drop 140) rest ∙ drop-drop 140 24 c ∙ drop-drop 164 32 block) in
     let names_kind : known_kind (csum_type_of copy) ≡ Some kind.0 = ap known_kind type_is ∙ kind.1 in
-    let has_magic : has_bytes_at copy 64 (codes "_BHRfS_M") ≡ true =
+    let has_magic : has_bytes_at copy SUPER_MAGIC_OFFSET (codes "_BHRfS_M") ≡ true =
     ap (λ (z : List ℕ). starts_with nat_eq z (codes "_BHRfS_M")) (sym (drop-drop 32 32 copy) ∙ ap (drop 32) behind ∙ sym (drop-drop 8 24 covered) ∙ ap (drop 8) rest ∙ drop-drop 8 24 c ∙ drop-drop 32 32 block) ∙ magic.1 in
     let first : is_super copy to device ≡ true = ap (λ (b : Bool). nat_lt to device && b) has_magic ∙ ap (λ (b : Bool). b && true) (lt-ltb to device there) in
     let second : is_some (known_kind (csum_type_of copy)) ≡ true = ap is_some names_kind in

@@ -3,6 +3,7 @@ use Rattle.std.proofs.Common.{◌≡◌, ℕ, Bool, true, ◌&&◌, List, [], �
 use Rattle.std.proofs.lemmas.Bool.{lt-ltb}
 use Rattle.std.proofs.lemmas.List.{drop_at, drop-drop}
 use Rattle.std.specs.List.{starts_with}
+use Rattle.btrfs_format.specs.declared.block.TheConstants.{SUPER_MAGIC_OFFSET}
 use Rattle.byteorder.specs.Endian.{little_number, little_bytes}
 use Rattle.refusals.specs.vol_block.Volume.{field}
 use Rattle.refusals.specs.vol_block.Format.{has_bytes_at}
@@ -95,7 +96,7 @@ supers_read_back s kind place device fits known there fields =
     let reads : super_in block ≡ s = ap super_layout.read behind ∙ super_reads.back s [] fits in
     let named : csum_type_of block ≡ field 2 covered 164 = ap (little_number 2) (sym (drop-drop 164 32 block) ∙ ap (drop 164) behind) in
     let names_kind : known_kind (csum_type_of block) ≡ Some kind = ap known_kind named ∙ kind_is in
-    let magic : has_bytes_at block 64 (codes "_BHRfS_M") ≡ true =
+    let magic : has_bytes_at block SUPER_MAGIC_OFFSET (codes "_BHRfS_M") ≡ true =
     ap (λ (z : List ℕ). starts_with nat_eq z (codes "_BHRfS_M")) (sym (drop-drop 32 32 block) ∙ ap (drop 32) behind) ∙ magic_in s fits in
     let first : is_super block place device ≡ true = ap (λ (b : Bool). nat_lt place device && b) magic ∙ ap (λ (b : Bool). b && true) (lt-ltb place device there) in
     let second : is_some (known_kind (csum_type_of block)) ≡ true = ap is_some names_kind in

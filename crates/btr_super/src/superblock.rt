@@ -5,6 +5,7 @@ ghost use Rattle.btr_super.specs.Super.{super_layout, super_in, super_bytes, mir
 
 use crate::sums::seal;
 use btr_space_items::Device;
+use btrfs_format::block::MAGIC;
 use refusals::{Block, BlockNo, Field, array_at, put_fields, put_u64, u16_at, u32_at, u64_at};
 
 /// The superblock of a Btrfs volume: block 16 and the copies of it, as the Btrfs on-disk format documentation has it.
@@ -73,9 +74,6 @@ pub struct Super {
     /// Four older sets of roots.
     pub backup_roots: [u8; 672],
 }
-
-/// The bytes by which a superblock is known.
-pub(crate) const MAGIC: &[u8] = b"_BHRfS_M";
 
 impl Super {
     /// The superblock that a block is, whatever its rules say.

@@ -8,7 +8,7 @@ use Rattle.btr_node.specs.Draft.{node_bytes}
 use Rattle.btr_node.specs.Leaf.{Item, items_in}
 use Rattle.btr_node.specs.declared.child.Child.{Child}
 use Rattle.btr_reader_walk.specs.Laws.{LeavesGiveItems}
-use Rattle.btr_tree.specs.Building.{ReadsBack, Goes, HasBack, taken, whole}
+use Rattle.btr_tree.specs.Building.{NodeReadsBack, Goes, HasBack, taken, with_written}
 use Rattle.btr_tree.specs.Builder.{Building, Standing, Holds, IsIdle, IsInHand, all_made, leaf_closed}
 use Rattle.btr_tree.specs.Counting.{tree_nodes, nodes_above}
 use Rattle.btr_tree.specs.Roots.{IsForest, HasForest, IsClimbed, IsCompleted, lengths_of}
@@ -20,7 +20,7 @@ pub if_ok_map : {T E : Type 0} (r : Result T E) (P Q : T → Type 0) → ((x : T
 if_ok_map (Ok x) P Q turn h = turn x h
 if_ok_map (Err e) P Q turn h = tt
 
-module _ (law : LeavesGiveItems) (b : Building) (child : Child) (some : b.hand ≡ Some child) (read : ReadsBack b.made.draft (node_bytes b.made.draft)) where
+module _ (law : LeavesGiveItems) (b : Building) (child : Child) (some : b.hand ≡ Some child) (read : NodeReadsBack b.made.draft (node_bytes b.made.draft)) where
   in_hand : (front : List (List ℕ)) → Standing (all_made b front) → IsInHand (all_made b front) child
   in_hand front standing = subst (λ h. MatchOption h (IsIdle (all_made b front)) (IsInHand (all_made b front))) some standing.hand
 
@@ -63,7 +63,7 @@ module _ (law : LeavesGiveItems) (b : Building) (child : Child) (some : b.hand �
         stands = r.stands;
         now = λ standing.
             completed law (all_made b front) child standing (in_hand front standing) read (all_made new r.back) root
-            (subst (λ ns. IsClimbed (record b.made { written = 0; nodes = ns }) (b.children ++ child ∷ []) (whole new.made r.back) root) (sym (assoc front)) r.now);
+            (subst (λ ns. IsClimbed (record b.made { written = 0; nodes = ns }) (b.children ++ child ∷ []) (with_written new.made r.back) root) (sym (assoc front)) r.now);
       }
 
 -- no slot is left for the leaf of a tree without items

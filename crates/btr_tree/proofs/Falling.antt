@@ -8,7 +8,7 @@ use Rattle.std.proofs.lemmas.Grind.{div_ceil_times}
 use Rattle.std.proofs.lemmas.List.Sums.{sum_by_push}
 use Rattle.std.proofs.lemmas.Nat.{mul-le}
 use Rattle.btr_tree.specs.Laws.{NodesNeverFall}
-use Rattle.btr_tree.specs.Packing.{capacity, weight, packed_from, level_sizes, fan_out, leaves}
+use Rattle.btr_tree.specs.Packing.{capacity, weight, packed_from, level_sizes, fan_out, packed_leaves}
 use Rattle.btr_tree.proofs.Climbing.{wide_fan}
 use Rattle.btr_tree.proofs.Groups.{packed-fits, packed-next, packed-none}
 use Rattle.btr_tree.proofs.Sizes.{sizes-none, sum-one, sum-more}
@@ -111,5 +111,5 @@ levels_up (suc levels) fan n m some h =
 
 pub never_fall : NodesNeverFall
 never_fall = λ nodesize before after n size.
-    levels_up 256 (fan_out nodesize) (length (leaves nodesize (before ++ after))) (length (leaves nodesize (before ++ n ∷ after))) (omega (arith, wide_fan nodesize size))
+    levels_up 256 (fan_out nodesize) (length (packed_leaves nodesize (before ++ after))) (length (packed_leaves nodesize (before ++ n ∷ after))) (omega (arith, wide_fan nodesize size))
     (inserted (capacity nodesize) [] before after n)

@@ -4,7 +4,7 @@ use Rattle.std.specs.Prelude.{is_some}
 use Rattle.std.proofs.lemmas.Bool.{and_from, le-leb, lt-ltb}
 use Rattle.btr_node.specs.outside.History.{Image}
 use Rattle.btr_reader_walk.specs.declared.tree.Form.{Form}
-use Rattle.btr_reader_walk.specs.declared.tree.Pointer.{Pointer}
+use Rattle.btr_reader_walk.specs.declared.tree.NodePointer.{NodePointer}
 use Rattle.btr_reader_walk.specs.declared.map.MapRange.{MapRange}
 use Rattle.btr_reader_walk.specs.Map.{place, holds, identity, are_mapped, is_mapped, block_of_place, blocks_at, node_at}
 use Rattle.btr_tree.specs.Laws.{GivesItself, MapsAgree}
@@ -39,17 +39,17 @@ module _ (image : Image) (ranges : List MapRange) where
       ∙ ap (λ bytes. block_of_place image (place identity a) ++ bytes) (blocks_same n (a + 4096) (further n a same))
 
   module _ (form : Form) where
-    abbrev P : Pointer → Type 0
+    abbrev P : NodePointer → Type 0
     P p = GivesItself ranges form.nodesize p.address
 
-    same_places : (p : Pointer) → P p → Same (form.nodesize / 4096) p.address
+    same_places : (p : NodePointer) → P p → Same (form.nodesize / 4096) p.address
     same_places p gives = λ j h. (gives j h).1 ∙ sym (identity_gives (p.address + 4096 * j) (gives j h).0)
 
-    node_same : (p : Pointer) → P p → node_at image ranges form.nodesize p.address ≡ node_at image identity form.nodesize p.address
+    node_same : (p : NodePointer) → P p → node_at image ranges form.nodesize p.address ≡ node_at image identity form.nodesize p.address
     unfolding node_at
     node_same p gives = blocks_same (form.nodesize / 4096) p.address (same_places p gives)
 
-    is_same : (p : Pointer) → P p → is_mapped ranges form.nodesize p.address ≡ is_mapped identity form.nodesize p.address
+    is_same : (p : NodePointer) → P p → is_mapped ranges form.nodesize p.address ≡ is_mapped identity form.nodesize p.address
     unfolding is_mapped
     is_same p gives = ap (λ (b : Bool). eqb (p.address % 4096) 0 && b) (mapped_same (form.nodesize / 4096) p.address (same_places p gives))
 

@@ -18,9 +18,9 @@ use Rattle.btr_reader_walk.specs.Laws.{ChildrenGiveItems}
 use Rattle.btr_tree.specs.Building.{Made, AreSlots, StandAt, IsParent, pointer_to}
 use Rattle.btr_tree.specs.Builder.{first_key}
 use Rattle.btr_tree.specs.Packing.{fan_out}
-use Rattle.btr_tree.specs.Roots.{AreRoots, IsExtended, HasRoots, IsRaised, nodes_below, pointers_to}
+use Rattle.btr_tree.specs.Roots.{AreRoots, IsExtended, HasSubtreeRoots, IsRaised, nodes_below, pointers_to}
 use Rattle.btr_reader_walk.specs.Node.{child_pointer}
-use Rattle.btr_reader_walk.specs.declared.tree.Pointer.{Pointer}
+use Rattle.btr_reader_walk.specs.declared.tree.NodePointer.{NodePointer}
 use Rattle.std.specs.List.Sorted.{IsPermutation}
 use Rattle.std.proofs.lemmas.List.Sorted.{IsPermutation-refl, IsPermutation-trans, IsPermutation-append_left}
 use Rattle.btr_tree.proofs.Meeting.{perm_more, below_append}
@@ -71,7 +71,7 @@ pub record IsRaising (old : Made) (children : List Child) (level : ℕ) (now : M
   pub tight : fan_out old.form.nodesize * length parents < length children + fan_out old.form.nodesize
   pub made : length now.nodes ≡ length old.nodes + length parents
   pub few : length now.nodes ≤ length now.slots
-  pub roots : (below : ℕ) (lists : List (List Item)) → level ≡ suc below → AreRoots old below children lists → HasRoots now level parents (flat (take start lists))
+  pub roots : (below : ℕ) (lists : List (List Item)) → level ≡ suc below → AreRoots old below children lists → HasSubtreeRoots now level parents (flat (take start lists))
   pub pointers : map (child_pointer level) parents ≡ pointers_to old.generation level (length old.nodes) (length parents) old.slots
   pub nodes : (below : ℕ) (lists : List (List Item)) → level ≡ suc below → AreRoots old below children lists → (image : Image) (bare : Bool) → StandAt image now.form.nodesize now.slots now.nodes
       → IsPermutation (nodes_below image now bare level parents) (map (child_pointer level) parents ++ nodes_below image now bare below (take start children))
@@ -146,7 +146,7 @@ pointers_more old now new level parents part child ext made so_far parent =
     ∙ (take_more (drop (length old.nodes) old.slots) n 0 (omega (arith, inside, length-drop (length old.nodes) old.slots)) ∙ ap (λ (a : ℕ). take n (drop (length old.nodes) old.slots) ++ a ∷ []) at) in
     map-append (child_pointer level) parents (child ∷ [])
     ∙ (ap (λ ps. ps ++ child_pointer level child ∷ []) so_far
-    ∙ (ap (λ (p : Pointer). pointers_to old.generation level (length old.nodes) n old.slots ++ p ∷ []) one
+    ∙ (ap (λ (p : NodePointer). pointers_to old.generation level (length old.nodes) n old.slots ++ p ∷ []) one
     ∙ sym (ap (map (pointer_to old.generation level)) taken ∙ map-append (pointer_to old.generation level) (take n (drop (length old.nodes) old.slots)) (parent.address ∷ []))))
 
 pub raising_goes_on : (law : ChildrenGiveItems) (old now new : Made) (children parents part : List Child) (level start end : ℕ) (child : Child)

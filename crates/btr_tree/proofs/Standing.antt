@@ -7,16 +7,17 @@ use Rattle.std.proofs.lemmas.List.{append-nil, map-append, length-map, get_or_ap
 use Rattle.std.proofs.lemmas.List.Concat.{flat_map-append}
 use Rattle.std.proofs.lemmas.List.Elements.{All-nil, All-cons, All-head, All-tail}
 use Rattle.std.proofs.lemmas.Option.{get_or_from_slice_get, slice_get_within}
+use Rattle.btrfs_format.specs.declared.size.TheConstants.{ITEM_SIZE}
 use Rattle.btr_node.specs.btr_keys.declared.key.Key.{Key}
 use Rattle.btr_node.specs.Draft.{node_bytes, room}
-use Rattle.btr_node.specs.Leaf.{Item, IsLeaf, items_in, keys_of}
+use Rattle.btr_node.specs.Leaf.{Item, IsBtrfsLeaf, items_in, keys_of}
 use Rattle.btr_node.specs.NodeSize.{IsNodeSize}
 use Rattle.btr_reader_walk.specs.declared.tree.Form.{Form}
 use Rattle.btr_node.specs.Order.{Ascends, ascends}
 use Rattle.btr_node.specs.declared.child.Child.{Child}
 use Rattle.btr_node.specs.declared.expect.Expect.{Expect}
 use Rattle.btr_node.proofs.Ascending.{second_ascends}
-use Rattle.btr_tree.specs.Building.{Made, whole, AreSlots, slot, expected_at, with_node, with_item, ReadsBack, IsFresh}
+use Rattle.btr_tree.specs.Building.{Made, with_written, AreSlots, slot, expected_at, with_node, with_item, NodeReadsBack, IsFresh}
 use Rattle.btr_tree.specs.Builder.{Building, pushed, first_key, child_of, children_of, leaf_closed, leaf_begun, IsNextSlot, item_size, IsInHand, IsIdle, Standing, leaves_of}
 use Rattle.btr_tree.specs.Packing.{capacity, packed}
 use Rattle.btr_tree.proofs.Groups.{packed-fits, packed-none, one_more_fits, one_more_next, ends_in}
@@ -80,7 +81,7 @@ stands_first b a key body so_far idle at order small =
     }
 
 -- the leaf in hand is made
-module _ (b : Building) (child : Child) (so_far : Standing b) (hand : IsInHand b child) (read : ReadsBack b.made.draft (node_bytes b.made.draft)) where
+module _ (b : Building) (child : Child) (so_far : Standing b) (hand : IsInHand b child) (read : NodeReadsBack b.made.draft (node_bytes b.made.draft)) where
   abbrev pub bytes : List ℕ
   bytes = node_bytes b.made.draft
 
@@ -96,15 +97,15 @@ module _ (b : Building) (child : Child) (so_far : Standing b) (hand : IsInHand b
   pub pushed_same : flat_map items_in (b.made.nodes ++ bytes ∷ []) ≡ pushed b
   pushed_same = flat_map-append items_in b.made.nodes (bytes ∷ []) ∙ ap (λ items. flat_map items_in b.made.nodes ++ items) (append-nil (items_in bytes) ∙ items_are)
 
-  pub leaves_more : (i : ℕ) → i < length (b.made.nodes ++ bytes ∷ []) → IsLeaf (expected_at b.made 0 (slot b.made.slots i)) (get_or (b.made.nodes ++ bytes ∷ []) i [])
+  pub leaves_more : (i : ℕ) → i < length (b.made.nodes ++ bytes ∷ []) → IsBtrfsLeaf (expected_at b.made 0 (slot b.made.slots i)) (get_or (b.made.nodes ++ bytes ∷ []) i [])
   leaves_more i h =
       ⊎_elim
       (λ (before : i < length b.made.nodes).
-      subst (IsLeaf (expected_at b.made 0 (slot b.made.slots i))) (sym (get_or_append_left b.made.nodes (bytes ∷ []) [] i before)) (so_far.leaves i before))
+      subst (IsBtrfsLeaf (expected_at b.made 0 (slot b.made.slots i))) (sym (get_or_append_left b.made.nodes (bytes ∷ []) [] i before)) (so_far.leaves i before))
       (λ (last : length b.made.nodes ≤ i).
       let at : length b.made.nodes ≡ i = omega (arith, length_push b.made.nodes bytes) in
-      subst (IsLeaf (expected_at b.made 0 (slot b.made.slots i))) (sym (get_or_push b.made.nodes bytes [] i at))
-      (subst (λ (w : Expect). IsLeaf w bytes) (hand.want_is ∙ ap (λ (k : ℕ). expected_at b.made 0 (slot b.made.slots k)) at) (read.leaf level)))
+      subst (IsBtrfsLeaf (expected_at b.made 0 (slot b.made.slots i))) (sym (get_or_push b.made.nodes bytes [] i at))
+      (subst (λ (w : Expect). IsBtrfsLeaf w bytes) (hand.want_is ∙ ap (λ (k : ℕ). expected_at b.made 0 (slot b.made.slots k)) at) (read.leaf level)))
       (cases_lt i (length b.made.nodes))
 
   pub children_more : b.children ++ child ∷ [] ≡ children_of b.made.generation b.made.slots (map items_in (b.made.nodes ++ bytes ∷ []))
@@ -120,7 +121,7 @@ module _ (b : Building) (child : Child) (so_far : Standing b) (hand : IsInHand b
 
   -- and the next one is begun
   pub stands_next : (a : ℕ) (key : Key) (body : List ℕ) → IsNextSlot (with_node b.made bytes) a → Ascends (keys_of (pushed b ++ (key, body) ∷ []))
-      → room b.made.draft < 25 + length body → Standing (leaf_begun (leaf_closed b child) a key body)
+      → room b.made.draft < ITEM_SIZE + length body → Standing (leaf_begun (leaf_closed b child) a key body)
   stands_next a key body at order full =
       let next = next_is (with_node b.made bytes) a at in
       let new : Building = leaf_begun (leaf_closed b child) a key body in
@@ -148,7 +149,7 @@ module _ (b : Building) (child : Child) (so_far : Standing b) (hand : IsInHand b
         order = ap (λ items. ascends (keys_of items)) here ∙ order;
       }
 
-pub leaves_next : (b : Building) (key : Key) (body : List ℕ) → Standing b → b.made.draft.children ≡ [] → b.made.draft.nodesize ≡ b.made.form.nodesize → room b.made.draft < 25 + length body
+pub leaves_next : (b : Building) (key : Key) (body : List ℕ) → Standing b → b.made.draft.children ≡ [] → b.made.draft.nodesize ≡ b.made.form.nodesize → room b.made.draft < ITEM_SIZE + length body
     → leaves_of b.made.form.nodesize (pushed b ++ (key, body) ∷ []) ≡ length b.made.nodes + 2
 leaves_next b key body so_far no_children size full =
     let done : List (List Item) = map items_in b.made.nodes in
@@ -165,7 +166,7 @@ first_same (i ∷ items) item some = refl
 
 -- an item goes into the leaf in hand
 pub stands_fits : (b : Building) (child : Child) (key : Key) (body : List ℕ) → Standing b → IsInHand b child → b.hand ≡ Some child → Ascends (keys_of (pushed b ++ (key, body) ∷ []))
-    → 25 + length body ≤ room b.made.draft → Standing (record b { made = with_item b.made key body })
+    → ITEM_SIZE + length body ≤ room b.made.draft → Standing (record b { made = with_item b.made key body })
 stands_fits b child key body so_far hand is order fits =
     let items : List Item = b.made.draft.items in
     let new : Building = record b { made = with_item b.made key body } in
@@ -215,7 +216,7 @@ stands_new m form owner generation chunk_tree slots size right fresh = record {
 
 -- the same with no node in place of those that were written
 pub fresh_whole : (m : Made) (form : Form) (owner generation : ℕ) (chunk_tree slots : List ℕ) (front : List (List ℕ)) → front ≡ [] → IsFresh form owner generation chunk_tree slots m
-    → IsFresh form owner generation chunk_tree slots (whole m front)
+    → IsFresh form owner generation chunk_tree slots (with_written m front)
 fresh_whole m form owner generation chunk_tree slots front none fresh = record {
   form_is = fresh.form_is;
   owner_is = fresh.owner_is;

@@ -2,16 +2,17 @@
 use Rattle.std.specs.Prelude.{◌≡◌, ℕ, ◌+◌, ◌≤◌, ◌<◌, Bool, true, List, [], ◌∷◌, ◌++◌, length, map, slice_index_or, Option, Some, MatchOption}
 use Rattle.std.specs.List.{slice_get}
 use Rattle.std.specs.List.{All, flat_map}
+use Rattle.btrfs_format.specs.declared.size.TheConstants.{ITEM_SIZE}
 use Rattle.btr_node.specs.outside.History.{Image}
 use Rattle.btr_node.specs.btr_keys.declared.key.Key.{Key}
 use Rattle.btr_node.specs.Draft.{node_bytes}
-use Rattle.btr_node.specs.Leaf.{Item, IsLeaf, items_in, keys_of}
+use Rattle.btr_node.specs.Leaf.{Item, IsBtrfsLeaf, items_in, keys_of}
 use Rattle.btr_node.specs.NodeSize.{IsNodeSize}
 use Rattle.btr_node.specs.Order.{Ascends}
 use Rattle.btr_node.specs.declared.child.Child.{Child}
 use Rattle.btr_reader_walk.specs.Map.{identity}
 use Rattle.btr_reader_walk.specs.Tree.{tree_items}
-use Rattle.btr_tree.specs.Building.{Made, AreSlots, slot, taken, whole, nodes_on, pointer_to, expected_at, begun_at, with_node, with_item}
+use Rattle.btr_tree.specs.Building.{Made, AreSlots, slot, taken, with_written, nodes_on, pointer_to, expected_at, begun_at, with_node, with_item}
 use Rattle.btr_tree.specs.Packing.{capacity, packed}
 
 -- the nodes, and of the level that is being made the children that its nodes are for the level above
@@ -66,7 +67,7 @@ IsNextTaken m address = slice_get m.slots (taken m) ≡ Some address
 
 -- the bytes that an item takes in a leaf
 abbrev pub item_size : Item → ℕ
-item_size item = 25 + length item.1
+item_size item = ITEM_SIZE + length item.1
 
 -- the leaf in hand, which is this child
 pub record IsInHand (b : Building) (child : Child) : Type 0 where
@@ -90,7 +91,7 @@ pub record Standing (b : Building) : Type 0 where
   pub slots : AreSlots b.made.form.nodesize b.made.slots
   pub few : length b.made.nodes ≤ length b.made.slots
   pub hand : MatchOption b.hand (IsIdle b) (IsInHand b)
-  pub leaves : (i : ℕ) → i < length b.made.nodes → IsLeaf (expected_at b.made 0 (slot b.made.slots i)) (slice_index_or b.made.nodes i [])
+  pub leaves : (i : ℕ) → i < length b.made.nodes → IsBtrfsLeaf (expected_at b.made 0 (slot b.made.slots i)) (slice_index_or b.made.nodes i [])
   pub full : All (λ items. 1 ≤ length items) (map items_in b.made.nodes)
   pub children : b.children ≡ children_of b.made.generation b.made.slots (map items_in b.made.nodes)
   pub packing : packed item_size (capacity b.made.form.nodesize) (pushed b) ≡ map items_in b.made.nodes ++ b.made.draft.items ∷ []
@@ -98,7 +99,7 @@ pub record Standing (b : Building) : Type 0 where
 
 -- all that was made, where the nodes that were written are these
 abbrev pub all_made : Building → List (List ℕ) → Building
-all_made b front = record b { made = whole b.made front }
+all_made b front = record b { made = with_written b.made front }
 
 -- The builder holds the last of these items, and the first ones are in nodes that were written.
 pub record Holds (b : Building) (items : List Item) : Type 0 where
@@ -135,7 +136,7 @@ pub record HasPut (old new : Building) (item : Item) : Type 0 where
   pub put : (front : List (List ℕ)) → length front ≡ old.made.written → Standing (all_made old front) → IsPushed (all_made old front) (all_made new front) item
 
 -- the tree and its slots stay
-pub record IsSameTree (old new : Building) : Type 0 where
+pub record IsSameBuilding (old new : Building) : Type 0 where
   pub form : new.made.form ≡ old.made.form
   pub owner : new.made.owner ≡ old.made.owner
   pub generation : new.made.generation ≡ old.made.generation

@@ -13,12 +13,12 @@ use Rattle.btr_reader_walk.specs.Laws.{AreSubtrees}
 use Rattle.btr_reader_walk.specs.Map.{identity}
 use Rattle.btr_reader_walk.specs.Node.{child_pointer}
 use Rattle.btr_reader_walk.specs.Tree.{tree_items}
-use Rattle.btr_reader_walk.specs.Events.{nodes_in, pointer_events, tree_events}
-use Rattle.btr_reader_walk.specs.declared.tree.Pointer.{Pointer}
-use Rattle.btr_tree.specs.Building.{Made, StandAt, taken, whole, pointer_to}
-use Rattle.btr_tree.specs.Builder.{Building, pushed, first_key, IsSameTree}
+use Rattle.btr_reader_walk.specs.Events.{nodes_in, pointer_events, walk_events}
+use Rattle.btr_reader_walk.specs.declared.tree.NodePointer.{NodePointer}
+use Rattle.btr_tree.specs.Building.{Made, StandAt, taken, with_written, pointer_to}
+use Rattle.btr_tree.specs.Builder.{Building, pushed, first_key, IsSameBuilding}
 use Rattle.btr_tree.specs.Counting.{tree_nodes}
-use Rattle.btr_tree.specs.Packing.{fan_out, leaves as leaves_by, tree_levels}
+use Rattle.btr_tree.specs.Packing.{fan_out, packed_leaves as leaves_by, tree_levels}
 use Rattle.btr_tree.specs.declared.climb.Root.{Root}
 
 -- Each child is the root of a subtree that has these items and some at all, on every disk on which the nodes stand.
@@ -30,16 +30,16 @@ pub record AreRoots (m : Made) (level : ℕ) (children : List Child) (lists : Li
       → AreSubtrees image identity m.form m.owner bare (map (child_pointer level) children) lists
 
 -- the nodes that a walk meets below these children, each child before those below it
-abbrev pub nodes_below : Image → Made → Bool → ℕ → List Child → List Pointer
+abbrev pub nodes_below : Image → Made → Bool → ℕ → List Child → List NodePointer
 nodes_below image m bare level children = flat_map (λ p. nodes_in (pointer_events image identity m.form m.owner bare p)) (map (child_pointer level) children)
 
 -- nodes of one level at so many slots behind the first ones
-abbrev pub pointers_to : ℕ → ℕ → ℕ → ℕ → List ℕ → List Pointer
+abbrev pub pointers_to : ℕ → ℕ → ℕ → ℕ → List ℕ → List NodePointer
 pointers_to generation level skip n slots = map (pointer_to generation level) (take n (drop skip slots))
 
 -- The nodes of a tree by its levels, which have these sizes: those of a level take the slots behind those of the levels
 -- below it.
-abbrev pub level_pointers : ℕ → ℕ → ℕ → List ℕ → List ℕ → List Pointer
+abbrev pub level_pointers : ℕ → ℕ → ℕ → List ℕ → List ℕ → List NodePointer
 level_pointers generation level skip slots [] = []
 level_pointers generation level skip slots (n ∷ sizes) = pointers_to generation level skip n slots ++ level_pointers generation (suc level) (skip + n) slots sizes
 
@@ -50,7 +50,7 @@ pub record IsExtended (old new : Made) : Type 0 where
   pub is : new ≡ record old { nodes = old.nodes ++ more; draft = draft }
 
 -- the roots of subtrees of the next level, with the same items
-pub record HasRoots (m : Made) (level : ℕ) (children : List Child) (items : List Item) : Type 0 where
+pub record HasSubtreeRoots (m : Made) (level : ℕ) (children : List Child) (items : List Item) : Type 0 where
   pub lists : List (List Item)
   pub roots : AreRoots m level children lists
   pub items_are : flat_map (λ is. is) lists ≡ items
@@ -61,15 +61,15 @@ pub record IsRaised (old : Made) (children : List Child) (level : ℕ) (new : Ma
   pub count : length parents ≡ div_ceil (length children) (fan_out old.form.nodesize)
   pub made : length new.nodes ≡ length old.nodes + length parents
   pub few : length new.nodes ≤ length new.slots
-  pub roots : (below : ℕ) (items : List Item) → level ≡ suc below → HasRoots old below children items → HasRoots new level parents items
+  pub roots : (below : ℕ) (items : List Item) → level ≡ suc below → HasSubtreeRoots old below children items → HasSubtreeRoots new level parents items
   pub pointers : map (child_pointer level) parents ≡ pointers_to old.generation level (length old.nodes) (length parents) old.slots
-  pub nodes : (below : ℕ) (items : List Item) → level ≡ suc below → HasRoots old below children items → (image : Image) (bare : Bool) → StandAt image new.form.nodesize new.slots new.nodes
+  pub nodes : (below : ℕ) (items : List Item) → level ≡ suc below → HasSubtreeRoots old below children items → (image : Image) (bare : Bool) → StandAt image new.form.nodesize new.slots new.nodes
       → IsPermutation (nodes_below image new bare level parents) (map (child_pointer level) parents ++ nodes_below image new bare below children)
 
 -- roots of subtrees whose keys ascend
 pub record IsForest (m : Made) (level : ℕ) (children : List Child) : Type 0 where
   pub items : List Item
-  pub roots : HasRoots m level children items
+  pub roots : HasSubtreeRoots m level children items
   pub order : Ascends (keys_of items)
 
 -- the tree of a root has these items, on every disk on which the nodes stand
@@ -82,7 +82,7 @@ IsRoot m address level items =
 abbrev pub HasNodes : Made → ℕ → ℕ → List ℕ → Type 0
 HasNodes m address level sizes =
     (image : Image) → StandAt image m.form.nodesize m.slots m.nodes
-    → IsPermutation (nodes_in (tree_events image identity m.form (pointer_to m.generation level address) m.owner)) (level_pointers m.generation 0 0 m.slots sizes)
+    → IsPermutation (nodes_in (walk_events image identity m.form (pointer_to m.generation level address) m.owner)) (level_pointers m.generation 0 0 m.slots sizes)
 
 -- the leaves are met at the first slots
 abbrev pub AreFirst : Made → List Child → Type 0
@@ -96,8 +96,8 @@ pub record IsClimbed (old : Made) (leaves : List Child) (new : Made) (root : Roo
   pub few : length new.nodes ≤ length new.slots
   pub count : length new.nodes ≡ sum (tree_levels old.form.nodesize (length leaves))
   pub nodes_are : root.nodes ≡ length new.nodes
-  pub root_is : (items : List Item) → HasRoots old 0 leaves items → Ascends (keys_of items) → IsRoot new root.address root.level items
-  pub nodes : (items : List Item) → HasRoots old 0 leaves items → AreFirst old leaves → HasNodes new root.address root.level (tree_levels old.form.nodesize (length leaves))
+  pub root_is : (items : List Item) → HasSubtreeRoots old 0 leaves items → Ascends (keys_of items) → IsRoot new root.address root.level items
+  pub nodes : (items : List Item) → HasSubtreeRoots old 0 leaves items → AreFirst old leaves → HasNodes new root.address root.level (tree_levels old.form.nodesize (length leaves))
 
 -- the lengths of the bodies of items
 abbrev pub lengths_of : List Item → List ℕ
@@ -116,18 +116,18 @@ pub record IsCompleted (old new : Building) (root : Root) : Type 0 where
 -- the leaves at the first ones and each level behind those below it, and no other.
 abbrev pub MeetsNodes : Image → Made → ℕ → ℕ → List Item → Type 0
 MeetsNodes image m address level items =
-    IsPermutation (nodes_in (tree_events image identity m.form (pointer_to m.generation level address) m.owner))
+    IsPermutation (nodes_in (walk_events image identity m.form (pointer_to m.generation level address) m.owner))
     (level_pointers m.generation 0 0 m.slots (tree_levels m.form.nodesize (length (leaves_by m.form.nodesize (lengths_of items)))))
 
 -- The leaves were made, which are these children, with some nodes in place of those that were written.
 pub record HasForest (m : Made) (leaves : List Child) : Type 0 where
   pub front : List (List ℕ)
   pub count : length front ≡ m.written
-  pub forest : IsForest (whole m front) 0 leaves
+  pub forest : IsForest (with_written m front) 0 leaves
 
 -- The tree of these items was written: its nodes are as many as packing the items gives.
 pub record IsFinished (old new : Building) (root : Root) (items : List Item) : Type 0 where
-  pub same : IsSameTree old new
+  pub same : IsSameBuilding old new
   pub few : taken new.made ≤ length new.made.slots
   pub count : taken new.made ≡ tree_nodes old.made.form.nodesize (lengths_of items)
   pub nodes_are : root.nodes ≡ taken new.made

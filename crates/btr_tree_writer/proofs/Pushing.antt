@@ -20,7 +20,7 @@ use Rattle.btr_tree.proofs.btr_node.Ascending.{second_ascends}
 use Rattle.btr_tree.proofs.btr_node.Rows.{both, joined}
 use Rattle.btr_tree.specs.Builder.{leaves_of}
 use Rattle.btr_tree.specs.Counting.{bytes_of, tree_nodes}
-use Rattle.btr_tree.specs.Packing.{capacity, fan_out, weight, leaves, level_sizes}
+use Rattle.btr_tree.specs.Packing.{capacity, fan_out, weight, packed_leaves, level_sizes}
 use Rattle.btr_tree.specs.Roots.{lengths_of}
 use Rattle.btr_tree.specs.Writing.{IsInSlots}
 use Rattle.btr_tree.proofs.Falling.{never_fall}
@@ -86,7 +86,7 @@ too_few nodesize slots items rest item size short = λ writable.
     let lens : lengths_of (items ++ item ∷ rest) ≡ lengths_of first ++ lengths_of rest =
     sym (ap lengths_of (append_assoc items (item ∷ []) rest)) ∙ map-append (λ (i : Item). length i.1) first rest in
     let few : tree_nodes nodesize (lengths_of first ++ lengths_of rest) ≤ length slots = subst (λ (ls : List ℕ). tree_nodes nodesize ls ≤ length slots) lens writable.few in
-    omega (arith, short, few, packed_same (capacity nodesize) first, leaves_within (fan_out nodesize) (length (leaves nodesize (lengths_of first))), first_nodes nodesize size (lengths_of first) (lengths_of rest))
+    omega (arith, short, few, packed_same (capacity nodesize) first, leaves_within (fan_out nodesize) (length (packed_leaves nodesize (lengths_of first))), first_nodes nodesize size (lengths_of first) (lengths_of rest))
 
 bytes_within : (room : ℕ) (groups : List (List ℕ)) → All (λ g. bytes_of g ≤ room) groups → bytes_of (concat groups) ≤ room * length groups
 bytes_within room [] all = omega arith
@@ -106,7 +106,7 @@ weights_short nodesize (i ∷ items) all =
 pub bytes_fit : (nodesize : ℕ) (slots : List ℕ) (items : List Item) → All (λ i. length i.1 + 126 ≤ nodesize) items → leaves_of nodesize items ≤ length slots
     → bytes_of (lengths_of items) ≤ capacity nodesize * length slots
 bytes_fit nodesize slots items short fits =
-    let groups : List (List ℕ) = leaves nodesize (lengths_of items) in
+    let groups : List (List ℕ) = packed_leaves nodesize (lengths_of items) in
     let is = packing_full (capacity nodesize) (lengths_of items) (weights_short nodesize items short) in
     let few : length groups ≤ length slots = omega (arith, fits, packed_same (capacity nodesize) items) in
     let all : bytes_of (concat groups) ≤ capacity nodesize * length groups = bytes_within (capacity nodesize) groups is.fit in

@@ -9,7 +9,7 @@ use Rattle.btr_tree.specs.outside.Fault.{HasCauseOf}
 use Rattle.btr_tree.specs.btr_node.NodeSize.{IsNodeSize}
 use Rattle.btr_tree.specs.Building.{AreSlots}
 use Rattle.btr_tree.specs.Counting.{Counted, Tally, tree_nodes}
-use Rattle.btr_tree.specs.Packing.{leaves, tree_levels}
+use Rattle.btr_tree.specs.Packing.{packed_leaves, tree_levels}
 use Rattle.btr_tree.specs.Writing.{IsInSlots}
 use Rattle.space_items.specs.Nodes.{HasSlots, nodes_of_tree}
 use Rattle.space_items.specs.declared.node.TreeNode.{TreeNode}
@@ -20,7 +20,7 @@ use Rattle.btr_tree_writer.specs.declared.answer.WriteAnswer.TheVariants as answ
 
 -- the nodes of a tree lie at the first slots
 pub addresses_at : (owner nodesize : ℕ) (lengths slots : List ℕ) → map (λ n. n.address) (nodes_of_tree owner nodesize lengths slots) ≡ take (tree_nodes nodesize lengths) slots
-addresses_at owner nodesize lengths slots = upper_at owner 0 0 slots (tree_levels nodesize (length (leaves nodesize lengths)))
+addresses_at owner nodesize lengths slots = upper_at owner 0 0 slots (tree_levels nodesize (length (packed_leaves nodesize lengths)))
 
 -- and behind those that were taken
 pub taken_more : (nodes : List TreeNode) (owner nodesize : ℕ) (lengths slots : List ℕ) (taken : ℕ) → map (λ n. n.address) nodes ≡ take taken slots

@@ -15,11 +15,11 @@ use Rattle.btr_tree.specs.btr_node.Leaf.{Item}
 use Rattle.btr_tree.specs.Building.{Made, pointer_to}
 use Rattle.btr_tree.specs.Builder.{HasTree}
 use Rattle.btr_tree.specs.Counting.{tree_nodes}
-use Rattle.btr_tree.specs.Packing.{leaves, tree_levels}
+use Rattle.btr_tree.specs.Packing.{packed_leaves, tree_levels}
 use Rattle.btr_tree.specs.Roots.{MeetsNodes, level_pointers, lengths_of}
 use Rattle.btr_tree.specs.Writing.{IsInSlots}
 use Rattle.btr_tree.specs.declared.climb.Root.{Root}
-use Rattle.btr_tree.specs.btr_reader_walk.Events.{nodes_in, tree_events}
+use Rattle.btr_tree.specs.btr_reader_walk.Events.{nodes_in, walk_events}
 use Rattle.btr_tree.specs.btr_reader_walk.Map.{identity}
 use Rattle.btr_tree.specs.btr_reader_walk.Tree.{tree_items}
 use Rattle.btr_tree.specs.btr_reader_walk.declared.tree.Form.{Form}
@@ -106,11 +106,11 @@ stands_by image m form owner slots pushed items root form-is owner-is generation
       (subst (λ (n : ℕ). tree_items image identity m.form (pointer_to n root.level root.address) m.owner ≡ Some items) generation
       (subst (λ (is : List Item). tree_items image identity m.form (pointer_to m.generation root.level root.address) m.owner ≡ Some is) pushed-are tree)));
   nodes_are =
-      subst (λ (f : Form). IsPermutation (nodes_in (tree_events image identity f (pointer_to 1 root.level root.address) owner)) (level_pointers 1 0 0 slots (tree_levels f.nodesize (length (leaves f.nodesize (lengths_of items)))))) form-is
-      (subst (λ (o : ℕ). IsPermutation (nodes_in (tree_events image identity m.form (pointer_to 1 root.level root.address) o)) (level_pointers 1 0 0 slots (tree_levels m.form.nodesize (length (leaves m.form.nodesize (lengths_of items)))))) owner-is
-      (subst (λ (n : ℕ). IsPermutation (nodes_in (tree_events image identity m.form (pointer_to n root.level root.address) m.owner)) (level_pointers n 0 0 slots (tree_levels m.form.nodesize (length (leaves m.form.nodesize (lengths_of items)))))) generation
-      (subst (λ (s : List ℕ). IsPermutation (nodes_in (tree_events image identity m.form (pointer_to m.generation root.level root.address) m.owner)) (level_pointers m.generation 0 0 s (tree_levels m.form.nodesize (length (leaves m.form.nodesize (lengths_of items)))))) slots-are
-      (subst (λ (is : List Item). IsPermutation (nodes_in (tree_events image identity m.form (pointer_to m.generation root.level root.address) m.owner)) (level_pointers m.generation 0 0 m.slots (tree_levels m.form.nodesize (length (leaves m.form.nodesize (lengths_of is)))))) pushed-are meets))));
+      subst (λ (f : Form). IsPermutation (nodes_in (walk_events image identity f (pointer_to 1 root.level root.address) owner)) (level_pointers 1 0 0 slots (tree_levels f.nodesize (length (packed_leaves f.nodesize (lengths_of items)))))) form-is
+      (subst (λ (o : ℕ). IsPermutation (nodes_in (walk_events image identity m.form (pointer_to 1 root.level root.address) o)) (level_pointers 1 0 0 slots (tree_levels m.form.nodesize (length (packed_leaves m.form.nodesize (lengths_of items)))))) owner-is
+      (subst (λ (n : ℕ). IsPermutation (nodes_in (walk_events image identity m.form (pointer_to n root.level root.address) m.owner)) (level_pointers n 0 0 slots (tree_levels m.form.nodesize (length (packed_leaves m.form.nodesize (lengths_of items)))))) generation
+      (subst (λ (s : List ℕ). IsPermutation (nodes_in (walk_events image identity m.form (pointer_to m.generation root.level root.address) m.owner)) (level_pointers m.generation 0 0 s (tree_levels m.form.nodesize (length (packed_leaves m.form.nodesize (lengths_of items)))))) slots-are
+      (subst (λ (is : List Item). IsPermutation (nodes_in (walk_events image identity m.form (pointer_to m.generation root.level root.address) m.owner)) (level_pointers m.generation 0 0 m.slots (tree_levels m.form.nodesize (length (packed_leaves m.form.nodesize (lengths_of is)))))) pushed-are meets))));
   count = subst (λ (f : Form). root.nodes ≡ tree_nodes f.nodesize (lengths_of items)) form-is count;
   few = subst (λ (s : List ℕ). root.nodes ≤ length s) slots-are few;
 }

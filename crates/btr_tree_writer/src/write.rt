@@ -10,7 +10,7 @@ ghost use Rattle.btr_tree.specs.Roots.{lengths_of};
 ghost use Rattle.btr_tree.specs.Writing.{IsInSlots};
 ghost use Rattle.btr_tree_writer.specs.Answers.{IsFailure};
 ghost use Rattle.btr_tree_writer.specs.Source.{LieApart};
-ghost use Rattle.btr_tree_writer.specs.Trees.{AreWritable, TreeStands, form_of};
+ghost use Rattle.btr_tree_writer.specs.Trees.{AreWritable, TreeStands, read_form};
 
 use crate::answer::WriteAnswer;
 use crate::form::NodeForm;
@@ -49,7 +49,7 @@ pub fn write_tree<D: Disk, I: ItemSource>(
     requires live { I.is_live items.old }
     requires reach { I.reach items.old ≤ D.size disk.old }
     ensures tree { OverTold D.tells (D.blocks disk.old) (λ image. I.fits items.old image → LieApart (I.needs items.old) form.nodesize slots → (all : List Item) → I.ahead items.old image ≡ all → AreWritable form.nodesize slots all
-        → MatchResult result (λ t. TreeStands (reads (D.history disk.new)) (form_of form) owner slots all t.root × Counted t.counter (lengths_of all)) IsFailure) }
+        → MatchResult result (λ t. TreeStands (reads (D.history disk.new)) (read_form form) owner slots all t.root × Counted t.counter (lengths_of all)) IsFailure) }
     ensures counted { IfOk result (λ t. (lengths : List ℕ) × Counted t.counter lengths × (t.root.nodes ≡ tree_nodes form.nodesize lengths)) }
     ensures size_is { IfOk result (λ t. t.counter.nodesize ≡ form.nodesize) }
     ensures few { IfOk result (λ t. t.root.nodes ≤ length slots) }

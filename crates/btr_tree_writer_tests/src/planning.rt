@@ -1,11 +1,11 @@
-ghost use Rattle.unit_plan.specs.Choice.{IsSmall};
+ghost use Rattle.unit_plan.specs.Choice.{IsSmallNeed};
 
 use convert_options::Options;
 use outside::Memory;
 use reiser_bitmap::{Bitmap, Run};
 use std::alloc::Global;
 use unit_plan::{
-    Chunk, Counts, Need, Piece, PieceList, Plan, PlanAnswer, Role, Units, choose, chunks_of,
+    Counts, Need, Piece, PieceList, Plan, PlanAnswer, PlannedChunk, Role, Units, choose, chunks_of,
     needed, plans_fit,
 };
 
@@ -139,8 +139,12 @@ fn pieces_in_a_list(rt: HostRuntime) {
 }
 
 /// The last chunk of the plan for a volume, and how many there are.
-fn chunks(alloc: Global, map: &Bitmap, need: &Need) -> Result<(usize, Option<Chunk>), PlanAnswer>
-    requires need { IsSmall need.now }
+fn chunks(
+    alloc: Global,
+    map: &Bitmap,
+    need: &Need,
+) -> Result<(usize, Option<PlannedChunk>), PlanAnswer>
+    requires need { IsSmallNeed need.now }
 {
     plans_fit();
     let plan = choose(alloc, map, need)?;
@@ -162,7 +166,7 @@ fn chunks_of_an_empty_volume(rt: HostRuntime) -> Result<(), PlanAnswer> {
     let map = begun(rt.alloc(), 12288, 8212)?;
     let (count, last) = chunks(rt.alloc(), &map, &need)?;
     assert_eq!(rt; count, 4);
-    let wanted = Chunk {
+    let wanted = PlannedChunk {
         start: 9216,
         length: 256,
         role: Role::Data,

@@ -4,9 +4,10 @@ ghost use Rattle.btr_tree.specs.Building.{AreSlots};
 
 use btr_item_list::ItemList;
 use btr_keys::Key;
-use btr_reader_walk::{Form, MapRange, Pointer, Tree, TreeWalker};
+use btr_reader_walk::{Form, MapRange, NodePointer, Tree, TreeWalker};
 use btr_tree::{Root, Slots};
 use btr_tree_writer::{ListItems, NodeForm, Trees, WriteAnswer, WrittenTree, write_tree};
+use btrfs_format::block::SUPER_INFO_OFFSET;
 use csum_kinds::SumKind;
 use outside::{Access, BlockSource, Disk, Memory};
 use outside_mem::MemDisk;
@@ -78,7 +79,7 @@ fn has_items<S: BlockSource>(
             nodesize: FORM.nodesize,
             sums: FORM.sums,
         },
-        root: Pointer {
+        root: NodePointer {
             address: root.address,
             level: root.level,
             generation: 1,
@@ -125,7 +126,7 @@ fn one_leaf(rt: HostRuntime) -> Result<(), Fail> {
     assert_eq!(rt;
         tree.root,
         Root {
-            address: 65536,
+            address: SUPER_INFO_OFFSET,
             level: 0,
             nodes: 1
         }

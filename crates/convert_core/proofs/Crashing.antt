@@ -8,19 +8,19 @@ use Rattle.reiser_volume.proofs.outside.Crash.{left_each, writes_length, writes_
 use Rattle.reiser_volume.proofs.outside.Phases.{left_outside, left_then, left_unwritten, reads_outside}
 use Rattle.unit_plan.specs.btr_node.NodeSize.{IsNodeSize}
 use Rattle.convert_steps.specs.Source.{HasPieces}
-use Rattle.convert_steps.specs.Switch.{HasCopies, IsMirror, IsPart, IsSwitched}
+use Rattle.convert_steps.specs.Switch.{HasCopies, IsMirror, IsSwitchPart, IsSwitched}
 use Rattle.reiser_volume.specs.reiser_super.declared.superblock.Super.{Super}
 use Rattle.reiser_volume.specs.Volume.{superblock, used_of}
 use Rattle.reiser_volume.proofs.Holding.{used_length}
 use Rattle.convert_options.specs.declared.options.Options.{Options}
-use Rattle.convert_core.specs.Converted.{DiffersInFree, IsBefore, IsConverted, IsConvertible, IsEither, IsFree, IsNew, IsPutDown}
+use Rattle.convert_core.specs.Converted.{DiffersInFree, KeepsOldVolume, IsConverted, IsConvertible, IsEither, IsFree, IsNew, IsPutDown}
 use Rattle.convert_core.specs.declared.volume.Written.{Written}
 use Rattle.convert_core.proofs.Putting.{convertible, free_before, node_free, piece_some, used_not_free}
 use Rattle.convert_core.proofs.Reserved.{free_apart, piece_apart, switch_reserved}
 use Rattle.convert_core.proofs.Standing.{InNodes, InPieces, stands_stay}
 
 -- while free blocks alone are written, a crash leaves the old volume
-pub free_crash : (h₀ h₁ : History) → IsSettled h₀ → WritesOnly (λ b _. IsFree (reads h₀) b) h₀ h₁ → (other : Image) → LeftSince (clock h₀) h₁ other → IsBefore (reads h₀) other
+pub free_crash : (h₀ h₁ : History) → IsSettled h₀ → WritesOnly (λ b _. IsFree (reads h₀) b) h₀ h₁ → (other : Image) → LeftSince (clock h₀) h₁ other → KeepsOldVolume (reads h₀) other
 free_crash h₀ h₁ settled only other left =
     let outside = left_outside (λ b. IsFree (reads h₀) b) h₀ h₁ only settled other left in
     record { size = outside.0; used = λ b used. outside.1 b (used_not_free (reads h₀) b used) }
@@ -32,7 +32,7 @@ behind_not_free : (image : Image) (b : ℕ) → (superblock image).blocks ≤ b 
 behind_not_free image b behind free = (let size = used_length image in omega (arith, free.inside, size, behind))
 
 -- nor is one a part of the switch
-behind_no_part : (bytes : List ℕ) (blocks b : ℕ) (written : List ℕ) → 16 < blocks → blocks ≤ b → IsPart bytes blocks b written → ⊥
+behind_no_part : (bytes : List ℕ) (blocks b : ℕ) (written : List ℕ) → 16 < blocks → blocks ≤ b → IsSwitchPart bytes blocks b written → ⊥
 behind_no_part bytes blocks b written some behind part = ⊎_elim (λ is. omega (arith, is.0, some, behind)) (λ copy. omega (arith, copy.within, behind)) part
 
 -- the blocks behind the volume are those that were there
@@ -104,7 +104,7 @@ may_keep o h₀ h₁ may = record {
 
 -- and the switch too writes nothing behind the volume
 pub keeps_behind : (o : Options) (ids : Ids) (now : ℕ) (h₀ h₁ : History) → MayWrite o h₀ h₁ → (w : Written) → IsPutDown o ids now (reads h₀) (reads h₁) w → 16 < w.blocks → (other : Image)
-    → ((b : ℕ) → (block_at other b ≡ block_at (reads h₁) b) ⊎ IsPart w.superblock.bytes w.blocks b (block_at other b)) → KeepsBehind (reads h₀) other
+    → ((b : ℕ) → (block_at other b ≡ block_at (reads h₁) b) ⊎ IsSwitchPart w.superblock.bytes w.blocks b (block_at other b)) → KeepsBehind (reads h₀) other
 keeps_behind o ids now h₀ h₁ may w down some other each b behind =
     let blocks : w.blocks ≡ (superblock (reads h₀)).blocks = down.blocks ∙ ap (λ (s : Super). s.blocks) down.conversion.making.has_pieces.opened.sup in
     let low : w.blocks ≤ b = omega (arith, blocks, behind) in
@@ -119,16 +119,16 @@ module _ (o : Options) (ids : Ids) (now : ℕ) (h₀ h₁ : History) (settled : 
 
   -- and while the superblock and its copies are written
   pub switch_crash : (h₂ : History) (w : Written) → IsNodeSize o.nodesize → IsPutDown o ids now (reads h₀) (reads h₁) w → IsSettled h₁ → 16 < w.blocks
-      → WritesOnly (IsPart w.superblock.bytes w.blocks) h₁ h₂
+      → WritesOnly (IsSwitchPart w.superblock.bytes w.blocks) h₁ h₂
       → ((other : Image) → LeftSince (clock h₁) h₂ other → (other ≡ reads h₁) ⊎ IsSwitched w.superblock.bytes (reads h₁) other)
       → (other : Image) → LeftSince (clock h₀) h₂ other → IsEither o ids now (reads h₀) other
   switch_crash h₂ w size down put some only each other left =
-      let P : ℕ → List ℕ → Type 0 = IsPart w.superblock.bytes w.blocks in
+      let P : ℕ → List ℕ → Type 0 = IsSwitchPart w.superblock.bytes w.blocks in
       let can : IsConvertible o (reads h₀) = put_convertible o ids now (reads h₀) (reads h₁) w down in
-      let before : IsBefore (reads h₀) (reads h₁) = free_before (reads h₀) h₀ h₁ refl (may_only o h₀ h₁ may) in
+      let before : KeepsOldVolume (reads h₀) (reads h₁) = free_before (reads h₀) h₀ h₁ refl (may_only o h₀ h₁ may) in
       ⊎_elim (λ early. early_crash other early)
       (λ late. ⊎_elim
-      (λ same. inr (reiser, can, inl (subst (IsBefore (reads h₀)) (sym same) before)))
+      (λ same. inr (reiser, can, inl (subst (KeepsOldVolume (reads h₀)) (sym same) before)))
       (λ is. inr (
         reiser,
         can,

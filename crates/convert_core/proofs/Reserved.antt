@@ -6,6 +6,7 @@ use Rattle.std.proofs.lemmas.Bool.{both_ways}
 use Rattle.std.proofs.lemmas.List.Elements.{Contains-append_cases}
 use Rattle.std.proofs.lemmas.List.Sorted.{Contains-permutation, IsPermutation-sym}
 use Rattle.std.proofs.Math.Seq.{take-append_seam}
+use Rattle.btrfs_format.specs.declared.block.TheConstants.{FIRST_MIRROR, SECOND_MIRROR}
 use Rattle.reiser_volume.proofs.fs_paths.Lists.{from_flat_map}
 use Rattle.reiser_volume.specs.vol_block.Volume.{IsReserved, is_reserved}
 use Rattle.reiser_volume.specs.outside.History.{Image}
@@ -35,7 +36,7 @@ use Rattle.convert_core.proofs.Moving.{can_move, sound, stays_or_moves, well}
 pub switch_reserved : (n b : ℕ) → (b ≡ 16) ⊎ IsMirror b → IsReserved b n
 switch_reserved n b at =
     ⊎_elim (λ (is : b ≡ 16). inl (omega (arith, is)))
-    (λ mirror. ⊎_elim (λ (is : b ≡ 16384). inr (inl (omega (arith, is), omega (arith, is)))) (λ (is : b ≡ 67108864). inr (inr (inl (omega (arith, is), omega (arith, is))))) mirror) at
+    (λ mirror. ⊎_elim (λ (is : b ≡ FIRST_MIRROR). inr (inl (omega (arith, is), omega (arith, is)))) (λ (is : b ≡ SECOND_MIRROR). inr (inr (inl (omega (arith, is), omega (arith, is))))) mirror) at
 
 -- so they are not free
 pub free_apart : (image : Image) (b : ℕ) → IsFree image b → (b ≡ 16) ⊎ IsMirror b → ⊥

@@ -2,6 +2,7 @@
 use Rattle.std.proofs.Common.{◌≡◌, ◌≤◌, ◌<◌, ℕ, ◌+◌, ◌^◌, List, length, get_or, Option, Some, None, sym, ap, subst, ◌∙◌, ⊎_elim, arith}
 use Rattle.std.specs.Prelude.{All, AllPairs, MatchOption}
 use Rattle.std.proofs.lemmas.Bool.{cases_lt}
+use Rattle.btrfs_format.specs.declared.block.TheConstants.{SUPER_BLOCK}
 use Rattle.reiser_volume.specs.outside.History.{Image, block_at}
 use Rattle.unit_plan.specs.btr_node.NodeSize.{IsNodeSize}
 use Rattle.reiser_volume.specs.reiser_super.Rules.{IsCleanSuper}
@@ -108,7 +109,7 @@ module _ (volume : Volume) (image : Image) (o : Options) (plan : Plan) (pieces :
   pub map_long : length volume.bitmap ≡ volume.sup.blocks
   map_long = ap length of.opened.bitmap ∙ (used_length image ∙ sym blocks_are)
 
-  clean : IsCleanSuper (block_at image 16) (length image)
+  clean : IsCleanSuper (block_at image SUPER_BLOCK) (length image)
   clean = of.accepted.clean.superblock
 
   pub blocks_some : 16 < volume.sup.blocks

@@ -12,7 +12,7 @@ ghost use Rattle.convert_core.specs.Surveyed.{IsSummary};
 use crate::summary::ConvertSummary;
 use crate::volume::write_volume;
 use convert_options::Options;
-use convert_steps::{Answer, Found, find_format, switch_to};
+use convert_steps::{Answer, FormatFound, find_format, switch_to};
 use reiser_volume::{Access, Disk, Format, Ids};
 use std::alloc::Global;
 
@@ -56,7 +56,7 @@ pub fn convert<D: Disk>(
 }
 
 /// Whether what was found is a Btrfs volume.
-fn is_btrfs(found: &Found) -> bool
+fn is_btrfs(found: &FormatFound) -> bool
     ensures { (IsTrue result → found.now.format ≡ formats.Btrfs) × (found.now.format ≡ formats.Btrfs → IsTrue result) }
 {
     found.format == Format::Btrfs

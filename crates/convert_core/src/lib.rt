@@ -12,7 +12,7 @@ mod survey;
 mod volume;
 mod whole;
 
-pub use convert_steps::{Answer, Found, find_format};
+pub use convert_steps::{Answer, FormatFound, find_format};
 pub use in_place::convert;
 pub use laws::surveys_are_one;
 pub use summary::ConvertSummary;

@@ -12,9 +12,9 @@ use Rattle.reiser_volume.proofs.fs_rows.FileMarks.{below_size, short_is}
 use Rattle.reiser_volume.proofs.fs_rows.Functions.{byte_at}
 use Rattle.reiser_volume.proofs.fs_paths.Lists.{from_filter}
 use Rattle.reiser_volume.specs.reiser_node.declared.head.ItemKind.TheVariants.{Indirect}
-use Rattle.reiser_volume.specs.reiser_walk.Items.{Item}
+use Rattle.reiser_volume.specs.reiser_walk.Items.{ReiserItem}
 use Rattle.reiser_volume.specs.reiser_walk.Laws.{FitsHead}
-use Rattle.reiser_volume.specs.reiser_walk.Tree.{items_of as items_of_tree}
+use Rattle.reiser_volume.specs.reiser_walk.Tree.{items_of_tree}
 use Rattle.reiser_volume.proofs.reiser_walk.Rules.{sound_exactly}
 use Rattle.reiser_volume.specs.reiser_volume_files.declared.map.RunFrom.{RunFrom}
 use Rattle.reiser_volume.specs.reiser_volume_files.declared.map.RunFrom.TheVariants.{Disk, Tail}
@@ -25,14 +25,14 @@ use Rattle.reiser_volume.proofs.reiser_volume_files.Sorts.{blocks_held, target_i
 use Rattle.reiser_volume.proofs.reiser_volume_contents.Files.{aligned_by}
 use Rattle.reiser_volume.specs.reiser_volume_objects.declared.key.ObjectKey.{ObjectKey}
 use Rattle.reiser_volume.specs.reiser_volume_objects.declared.stat.ObjectStat.{ObjectStat}
-use Rattle.reiser_volume.specs.reiser_volume_objects.Keys.{items_of, key_of, same_key}
+use Rattle.reiser_volume.specs.reiser_volume_objects.Keys.{items_of, object_key_of, same_key}
 use Rattle.reiser_volume.specs.reiser_volume_objects.Kinds.{fits_size, may_have}
 use Rattle.reiser_volume.specs.reiser_volume_objects.Names.{IsNamed}
 use Rattle.reiser_volume.specs.reiser_volume_objects.Rules.{IsObject}
 use Rattle.convert_core.proofs.extent_pieces.Once.{kind_there, stat_there}
-use Rattle.reiser_volume.specs.Inline.{is_inline, is_tail}
+use Rattle.reiser_volume.specs.Inline.{stays_in_tree, is_tail}
 use Rattle.reiser_volume.specs.Made.{kind_by, stat_at}
-use Rattle.reiser_volume.specs.Volume.{IsAccepted, superblock, tree_of, used_of, volume_items}
+use Rattle.reiser_volume.specs.Volume.{IsAccepted, superblock, reiser_tree_of, used_of, volume_items}
 use Rattle.reiser_volume.proofs.Holding.{used_length}
 use Rattle.reiser_volume.proofs.Leading.{all_of, fits_each}
 use Rattle.reiser_volume.proofs.SameRows.{none_saves}
@@ -50,7 +50,7 @@ up_to_byte bytes size k j inside below =
     (cases_lt j (length (take cut bytes)))
 
 module _ (image : Image) (a : IsAccepted image) (key : ObjectKey) (named : IsNamed (volume_items image) key) where
-  abbrev items : List Item
+  abbrev items : List ReiserItem
   items = items_of key (volume_items image)
 
   abbrev object : IsObject (volume_items image) key
@@ -67,10 +67,10 @@ module _ (image : Image) (a : IsAccepted image) (key : ObjectKey) (named : IsNam
 
   aligned : All IsAligned items
   aligned = all_of IsAligned items (λ i among.
-      let whole = (from_filter (λ (j : Item). same_key (key_of j.head) key) (volume_items image) i among).0 in
-      let bodies : All (λ (j : Item). FitsHead j.head j.body) (volume_items image) =
-      subst (λ (n : ℕ). All (λ (j : Item). FitsHead j.head j.body) (items_of_tree (tree_of (superblock image)) image n)) (used_length image) ((sound_exactly (tree_of (superblock image)) image (used_of image)).0 a.tree).bodies in
-      let fits : FitsHead i.head i.body = All-contains (λ (j : Item). FitsHead j.head j.body) (volume_items image) i bodies whole in
+      let whole = (from_filter (λ (j : ReiserItem). same_key (object_key_of j.head) key) (volume_items image) i among).0 in
+      let bodies : All (λ (j : ReiserItem). FitsHead j.head j.body) (volume_items image) =
+      subst (λ (n : ℕ). All (λ (j : ReiserItem). FitsHead j.head j.body) (items_of_tree (reiser_tree_of (superblock image)) image n)) (used_length image) ((sound_exactly (reiser_tree_of (superblock image)) image (used_of image)).0 a.tree).bodies in
+      let fits : FitsHead i.head i.body = All-contains (λ (j : ReiserItem). FitsHead j.head j.body) (volume_items image) i bodies whole in
       ⊎_elim (λ save. absurd (true≢false (sym save ∙ none_saves (volume_items image) i a.objects.no_save_link whole))) (λ f. aligned_by i.head.kind i.head i.body f.0) fits)
 
   -- a byte by where its block lies
@@ -98,7 +98,7 @@ module _ (image : Image) (a : IsAccepted image) (key : ObjectKey) (named : IsNam
   -- a symlink has no items of pointers
   no_pointers : object.kind ≡ Symlink → All IsNoIndirect items
   no_pointers link = all_of IsNoIndirect items (λ i among.
-      let may : may_have object.kind i.head.kind ≡ true = fits_each (λ (x : Item). may_have object.kind x.head.kind) items i object.fits among in
+      let may : may_have object.kind i.head.kind ≡ true = fits_each (λ (x : ReiserItem). may_have object.kind x.head.kind) items i object.fits among in
       λ (indirect : i.head.kind ≡ Indirect). false≢true (sym (ap (λ (k : Kind). may_have k i.head.kind) link ∙ ap (may_have Symlink) indirect) ∙ may))
 
   link_short : object.kind ≡ Symlink → size ≤ 3900
@@ -133,10 +133,10 @@ module _ (image : Image) (a : IsAccepted image) (key : ObjectKey) (named : IsNam
     pub short : size ≤ 4096
     pub bytes : target_bytes items size ≡ file_bytes image items size
 
-  pub stays : (inline : Bool) → is_inline inline items size (kind_by (stat_at (volume_items image) key)) ≡ true → StaysInTree
+  pub stays : (inline : Bool) → stays_in_tree inline items size (kind_by (stat_at (volume_items image) key)) ≡ true → StaysInTree
   stays inline is = by (kind_by (stat_at (volume_items image) key)) refl is
     where
-      by : (kind : Kind) → kind_by (stat_at (volume_items image) key) ≡ kind → is_inline inline items size kind ≡ true → StaysInTree
+      by : (kind : Kind) → kind_by (stat_at (volume_items image) key) ≡ kind → stays_in_tree inline items size kind ≡ true → StaysInTree
       by File same h =
           let parts = and_parts inline (nat_le size 2048 && is_tail (block_from items size 0)) h in
           let more = and_parts (nat_le size 2048) (is_tail (block_from items size 0)) parts.1 in
@@ -154,7 +154,7 @@ module _ (image : Image) (a : IsAccepted image) (key : ObjectKey) (named : IsNam
       by Subvolume same h = absurd (cc)
 
   -- what does not stay there is a file
-  pub other_is_file : (inline : Bool) (kind : Kind) → has_bytes kind ≡ true → is_inline inline items size kind ≡ false → kind ≡ File
+  pub other_is_file : (inline : Bool) (kind : Kind) → has_bytes kind ≡ true → stays_in_tree inline items size kind ≡ false → kind ≡ File
   other_is_file inline File has out = refl
   other_is_file inline Symlink has out = absurd (cc)
   other_is_file inline Directory has out = absurd (cc)

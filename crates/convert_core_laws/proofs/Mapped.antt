@@ -24,14 +24,14 @@ use Rattle.reiser_volume.proofs.Holding.{used_length}
 use Rattle.convert_core.specs.unit_plan.Choice.{holds_data, is_among, is_data}
 use Rattle.convert_core.specs.unit_plan.Chunks.{AreChunks, HoldsUnit, IsChunk, is_data_unit, role_of, usable_end, use_of}
 use Rattle.convert_core.specs.unit_plan.Needed.{need}
-use Rattle.convert_core.specs.unit_plan.declared.chunk.Chunk.{Chunk}
+use Rattle.convert_core.specs.unit_plan.declared.chunk.PlannedChunk.{PlannedChunk}
 use Rattle.convert_core.specs.unit_plan.declared.chunk.Role.{Role}
 use Rattle.convert_core.specs.unit_plan.declared.chunk.Role.TheVariants.{System, Metadata, Data}
 use Rattle.convert_core.specs.convert_options.declared.options.Options.{Options}
 use Rattle.convert_core.specs.unit_plan.declared.piece.Piece.{Piece}
 use Rattle.convert_core.specs.unit_plan.declared.plan.Plan.{Plan}
 use Rattle.convert_core.proofs.unit_plan.Uses.{roles_uses}
-use Rattle.convert_core_laws.specs.Mapped.{ChunksMapPieces, range_of}
+use Rattle.convert_core_laws.specs.Mapped.{ChunksMapPieces, identity_range}
 
 -- a map that gives each of its addresses itself
 own_address : (ranges : List MapRange) (r : MapRange) (a : ℕ) → ((x : MapRange) → Contains ranges x → x.physical ≡ x.logical) → Contains ranges r → holds r a ≡ true → place ranges a ≡ Some a
@@ -90,8 +90,8 @@ module _ (volume : Volume) (image : Image) (o : Options) (plan : Plan) (pieces :
       (stays_or_moves p.from p.place)
 
   -- each block of a piece lies in a chunk
-  in_chunk : (chunks : List Chunk) → AreChunks plan (length used) chunks → (p : Piece) → Contains pieces p → (b : ℕ) → p.place ≤ b → b < p.place + p.count
-      → (c : Chunk) × Contains chunks c × (c.start ≤ b) × (b < c.start + c.length)
+  in_chunk : (chunks : List PlannedChunk) → AreChunks plan (length used) chunks → (p : Piece) → Contains pieces p → (b : ℕ) → p.place ≤ b → b < p.place + p.count
+      → (c : PlannedChunk) × Contains chunks c × (c.start ≤ b) × (b < c.start + c.length)
   in_chunk chunks are p among b low high =
       let apart = piece_apart volume image o plan pieces of p among b low high in
       let inside = all_at (λ q. q.place + q.count ≤ length used) pieces p (well volume image o plan pieces of).apart.inside among in
@@ -101,7 +101,7 @@ module _ (volume : Volume) (image : Image) (o : Options) (plan : Plan) (pieces :
       let needed = some_use used plan (b / 256) (data_unit p among b low high) in
       let role : role_of plan n (b / 256) ≡ Some needed.0 = roles_uses used (need of.found.counts o) plan of.plan_.enough of.plan_.plan_ (b / 256) (omega (arith, first)) ∙ needed.1 in
       let found = are.whole (b / 256) needed.0 role in
-      let c : Chunk = found.1 in
+      let c : PlannedChunk = found.1 in
       let there : Contains chunks c = (found.0, found.2, found.3) in
       let unit : HoldsUnit c (b / 256) = found.4 in
       let is : IsChunk (role_of plan n) (usable_end n) c = all_at (IsChunk (role_of plan n) (usable_end n)) chunks c are.each there in
@@ -118,10 +118,10 @@ chunks_map image m ranges making are =
     record {
       places = λ p a among low high.
           let found = in_chunk m.volume image m.options m.plan m.pieces of m.chunks chunks p among (a / 4096) (omega (arith, low)) (omega (arith, high)) in
-          let c : Chunk = found.0 in
+          let c : PlannedChunk = found.0 in
           let from = found.2 in
           let to = found.3 in
-          own_address ranges (range_of c) a (λ x h. let of_chunk = are.each x h in ap (λ (r : MapRange). r.physical) of_chunk.2 ∙ sym (ap (λ (r : MapRange). r.logical) of_chunk.2)) (are.whole c found.1)
+          own_address ranges (identity_range c) a (λ x h. let of_chunk = are.each x h in ap (λ (r : MapRange). r.physical) of_chunk.2 ∙ sym (ap (λ (r : MapRange). r.logical) of_chunk.2)) (are.whole c found.1)
           (within (4096 * c.start) (4096 * c.length) a (omega (arith, from)) (omega (arith, to)));
     }
   where

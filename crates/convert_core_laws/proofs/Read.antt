@@ -4,14 +4,14 @@ use Rattle.std.specs.Option.{option_and_then}
 use Rattle.std.proofs.lemmas.List.{drop_at}
 use Rattle.byteorder.specs.Endian.{little_bytes, little_number}
 use Rattle.byteorder.specs.Numbers.{little_number-reads_back}
-use Rattle.btr_reader.specs.btr_reader_contents.Extents.{file_bytes as bytes_on}
+use Rattle.btr_reader.specs.btr_reader_contents.Extents.{bytes_of_inode as bytes_on}
 use Rattle.btr_reader.specs.btr_keys.Inode.{inode_bytes, inode_layout, inode_of}
 use Rattle.btr_reader.specs.btr_keys.Stamp.{stamp_layout}
 use Rattle.btr_reader.specs.btr_keys.declared.inode.Inode.{Inode}
 use Rattle.btr_reader.specs.btr_node.Leaf.{Item}
 use Rattle.btr_reader.specs.btr_reader_walk.Events.{TreeItem}
 use Rattle.convert_core.specs.convert_steps.Source.{made_from}
-use Rattle.convert_core.specs.file_items.Tree.{Source, inode_in, kind_in, number_of, size_by, size_in}
+use Rattle.convert_core.specs.file_items.Tree.{Source, inode_in, kind_in, ino_of, size_by, size_in}
 use Rattle.convert_trees_laws.specs.Inodes.{InodesAreThere}
 use Rattle.convert_trees_laws.proofs.Short.{inode_long}
 use Rattle.reiser_volume.specs.fs_rows.Kinds.{has_bytes}
@@ -65,5 +65,5 @@ bytes_read inodes kept volume image other o plan pieces ranges items key has hol
       own = read_again i;
       has = ap (option_and_then (λ (t : TreeItem). inode_of t.body)) found.1 ∙ (ap (λ (t : Item). inode_of t.1) found.2 ∙ inode_again i);
       size = same;
-      bytes = ap (λ (n : ℕ). bytes_on other ranges items (number_of s key) n) same ∙ kept volume image other o plan pieces ranges items key has hold maps read named kind;
+      bytes = ap (λ (n : ℕ). bytes_on other ranges items (ino_of s key) n) same ∙ kept volume image other o plan pieces ranges items key has hold maps read named kind;
     }

@@ -11,7 +11,7 @@ use Rattle.reiser_volume.proofs.fs_paths.Lists.{from_filter}
 use Rattle.reiser_volume.specs.refusals.declared.refusal.BtrRefusal.{BtrRefusal}
 use Rattle.reiser_volume.specs.refusals.declared.refusal.BtrRefusal.TheVariants.{BadBtrfs}
 use Rattle.reiser_volume.specs.refusals.declared.rule.BtrRule.TheVariants.{ExtentForm}
-use Rattle.btr_reader.specs.btr_reader_contents.Extents.{at_unmapped, covered_after, covered_by, end_after, extent_length, extent_refusals, extents_of, extents_refusals, has_form, is_aligned, is_extent_of, place_refusals, refusals_at, unless, unmapped_in}
+use Rattle.btr_reader.specs.btr_reader_contents.Extents.{at_unmapped, covered_after, covered_by, end_after, extent_length, extent_refusals, extents_of, extents_refusals, has_form, is_aligned, is_extent_of, place_refusals, refusals_at, refused_unless, unmapped_in}
 use Rattle.btr_reader.specs.btr_keys.FileExtent.{FileExtentValue, file_extent_of}
 use Rattle.btr_reader.specs.btr_node.Leaf.{Item}
 use Rattle.btr_reader.specs.btr_reader_walk.Events.{TreeItem}
@@ -125,7 +125,7 @@ module _ (ranges : List MapRange) where
         (lt_test (covered + covered_by e.content) (2 ^ 59) (omega (arith, is, short, behind, less)))
 
     pub piece_sound : (leaf : ℕ) → extent_refusals ranges end covered (4096 * file_block p) leaf e ≡ []
-    piece_sound leaf = ap (λ (b : Bool). unless b (BadBtrfs leaf ExtentForm) ++ place_refusals ranges e.content) formed ∙ places_are
+    piece_sound leaf = ap (λ (b : Bool). refused_unless b (BadBtrfs leaf ExtentForm) ++ place_refusals ranges e.content) formed ∙ places_are
 
     pub still_less : covered + covered_by e.content ≤ 4096 * file_block p + extent_length e.content
     still_less = let is = covered_is in omega (arith, is, behind, less)

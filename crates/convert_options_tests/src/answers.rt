@@ -1,4 +1,5 @@
 // The lines of answers, also of those that no command of a program gives yet.
+use btrfs_format::block::SUPER_INFO_OFFSET;
 use command_answers::Answer;
 use outside_mem::MemSink;
 use program_words::{answer_status, write_answer};
@@ -42,7 +43,7 @@ fn answers_have_lines_and_statuses(rt: HostRuntime) -> Result<(), Fail> {
         ),
         (
             Answer::Btr(BtrRefusal::BadBtrfs {
-                address: 65536,
+                address: SUPER_INFO_OFFSET,
                 rule: BtrRule::SuperCsum,
             }),
             1,

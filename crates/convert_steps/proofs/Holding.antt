@@ -7,7 +7,7 @@ use Rattle.reiser_volume.specs.reiser_volume_contents.Answers.{IsFault}
 use Rattle.command_answers.specs.outside.History.{Image, block_at}
 use Rattle.command_answers.specs.refusals.declared.answer.VolAnswer.{VolAnswer}
 use Rattle.reiser_volume.specs.reiser_volume_files.Bytes.{tail_block}
-use Rattle.reiser_volume.specs.reiser_volume_names.Names.{inode_of}
+use Rattle.reiser_volume.specs.reiser_volume_names.Names.{ino_of_key}
 use Rattle.reiser_volume.specs.reiser_volume_objects.Keys.{items_of}
 use Rattle.reiser_volume.specs.reiser_volume_objects.declared.key.ObjectKey.{ObjectKey}
 use Rattle.reiser_volume.specs.Made.{stat_at}
@@ -47,13 +47,13 @@ module _ (volume : Volume) (image new : Image) (p : Piece) where
 
   -- a tail that was written
   pub tail_holds : {T : Type 0} (result : Result T VolAnswer) (inode at : ℕ) → p.from ≡ None → p.owner ≡ Some (inode, at) → p.place < length image → HasOwner (keys volume.named) p
-      → (at < 2 ^ 52 → (key : ObjectKey) → Contains (keys volume.named) key → inode ≡ inode_of (keys volume.named) key
+      → (at < 2 ^ 52 → (key : ObjectKey) → Contains (keys volume.named) key → inode ≡ ino_of_key (keys volume.named) key
       → MatchResult result (λ _. new ≡ set image p.place (tail_block (items_of key (volume_items image)) (stat_at (volume_items image) key).fields.size at)) IsFault)
       → MatchResult result (λ _. HoldsPiece volume image new p) IsFault
   tail_holds (Ok x) inode at none own inside owned each = record {
     blocks = λ b j is few. absurd (some_never b (sym none ∙ is));
     tail = λ key k _ among owner.
-        let first : inode ≡ inode_of (keys volume.named) key = ap inode_in (sym own ∙ owner) in
+        let first : inode ≡ ino_of_key (keys volume.named) key = ap inode_in (sym own ∙ owner) in
         let second : at ≡ k = ap block_in (sym own ∙ owner) in
         let has = owned none in
         let known : at ≡ has.1 = ap block_in (sym own ∙ has.3) in

@@ -1,9 +1,14 @@
 -- The fields of a new superblock.
 use Rattle.std.proofs.Common.{◌≡◌, ℕ, ◌*◌, ◌-◌, ◌++◌, List, length, replicate, ◌∙◌, ap}
+use Rattle.btrfs_format.specs.declared.block.TheConstants.{SUPER_INFO_OFFSET}
+use Rattle.btrfs_format.specs.declared.feature.TheConstants.{CSUM_TYPE_CRC32}
+use Rattle.btrfs_format.specs.declared.flag.TheConstants.{HEADER_FLAG_WRITTEN}
+use Rattle.btrfs_format.specs.declared.object.TheConstants.{ROOT_TREE_DIR_OBJECTID}
+use Rattle.btrfs_format.specs.declared.size.TheConstants.{SYSTEM_CHUNK_ARRAY_SIZE}
 use Rattle.btr_tree_writer.specs.btr_space_items.declared.device.Device.{Device}
 use Rattle.btr_super.specs.declared.superblock.Super.{Super}
 use Rattle.space_items.specs.Chunks.{device_body}
-use Rattle.unit_plan.specs.declared.chunk.Chunk.{Chunk}
+use Rattle.unit_plan.specs.declared.chunk.PlannedChunk.{PlannedChunk}
 use Rattle.command_answers.specs.vol_block.declared.ids.Ids.{Ids}
 use Rattle.convert_steps.specs.Superblock.{boot_bytes, features, new_super}
 use Rattle.convert_steps.specs.declared.fields.NewRoots.{NewRoots}
@@ -13,8 +18,8 @@ module _ (ids : Ids) (blocks nodesize : ℕ) (label : List ℕ) (roots : NewRoot
   abbrev pub by_parts : List ℕ → ℕ → ℕ → Device → Super
   by_parts array size incompat device = record {
     fsid = ids.fsid;
-    bytenr = 65536;
-    flags = 1;
+    bytenr = SUPER_INFO_OFFSET;
+    flags = HEADER_FLAG_WRITTEN;
     generation = 1;
     root = roots.root.address;
     chunk_root = roots.chunk.address;
@@ -22,7 +27,7 @@ module _ (ids : Ids) (blocks nodesize : ℕ) (label : List ℕ) (roots : NewRoot
     log_root_transid = 0;
     total_bytes = 4096 * blocks;
     bytes_used = roots.used;
-    root_dir_objectid = 6;
+    root_dir_objectid = ROOT_TREE_DIR_OBJECTID;
     num_devices = 1;
     sectorsize = 4096;
     nodesize = nodesize;
@@ -33,7 +38,7 @@ module _ (ids : Ids) (blocks nodesize : ℕ) (label : List ℕ) (roots : NewRoot
     compat = 0;
     compat_ro = 0;
     incompat = incompat;
-    csum_type = 0;
+    csum_type = CSUM_TYPE_CRC32;
     root_level = roots.root.level;
     chunk_root_level = roots.chunk.level;
     log_root_level = 0;
@@ -45,14 +50,14 @@ module _ (ids : Ids) (blocks nodesize : ℕ) (label : List ℕ) (roots : NewRoot
     backup_roots = replicate 672 0;
   }
 
-  pub fields_are : (chunks list : List Chunk) (array : List ℕ) (size incompat : ℕ) (device : Device) → chunks ≡ list
-      → array ≡ boot_bytes ids chunks ++ replicate (2048 - length (boot_bytes ids chunks)) 0 → size ≡ length (boot_bytes ids chunks)
+  pub fields_are : (chunks list : List PlannedChunk) (array : List ℕ) (size incompat : ℕ) (device : Device) → chunks ≡ list
+      → array ≡ boot_bytes ids chunks ++ replicate (SYSTEM_CHUNK_ARRAY_SIZE - length (boot_bytes ids chunks)) 0 → size ≡ length (boot_bytes ids chunks)
       → incompat ≡ features nodesize → device ≡ device_body ids blocks chunks
       → by_parts array size incompat device ≡ new_super ids blocks nodesize label list roots
   unfolding new_super
   fields_are chunks list array size incompat device same array_is size_is incompat_is device_is =
       ap (λ (a : List ℕ). by_parts a size incompat device) array_is
-      ∙ (ap (λ (n : ℕ). by_parts (boot_bytes ids chunks ++ replicate (2048 - length (boot_bytes ids chunks)) 0) n incompat device) size_is
-      ∙ (ap (λ (n : ℕ). by_parts (boot_bytes ids chunks ++ replicate (2048 - length (boot_bytes ids chunks)) 0) (length (boot_bytes ids chunks)) n device) incompat_is
-      ∙ (ap (λ (d : Device). by_parts (boot_bytes ids chunks ++ replicate (2048 - length (boot_bytes ids chunks)) 0) (length (boot_bytes ids chunks)) (features nodesize) d) device_is
-      ∙ ap (λ (cs : List Chunk). new_super ids blocks nodesize label cs roots) same)))
+      ∙ (ap (λ (n : ℕ). by_parts (boot_bytes ids chunks ++ replicate (SYSTEM_CHUNK_ARRAY_SIZE - length (boot_bytes ids chunks)) 0) n incompat device) size_is
+      ∙ (ap (λ (n : ℕ). by_parts (boot_bytes ids chunks ++ replicate (SYSTEM_CHUNK_ARRAY_SIZE - length (boot_bytes ids chunks)) 0) (length (boot_bytes ids chunks)) n device) incompat_is
+      ∙ (ap (λ (d : Device). by_parts (boot_bytes ids chunks ++ replicate (SYSTEM_CHUNK_ARRAY_SIZE - length (boot_bytes ids chunks)) 0) (length (boot_bytes ids chunks)) (features nodesize) d) device_is
+      ∙ ap (λ (cs : List PlannedChunk). new_super ids blocks nodesize label cs roots) same)))

@@ -1,17 +1,18 @@
 -- What a crash leaves in each phase of the switch.
 use Rattle.std.proofs.Common.{◌≡◌, ◌≢◌, ◌⊎◌, inl, inr, ⊎_elim, ℕ, ◌<◌, List, [], length, set, Result, Ok, Err, OnOk, refl, sym, ◌∙◌, ap, subst, arith, get_or-set_same, get_or-set_other}
 use Rattle.std.proofs.lemmas.List.{length-set, ext_get_or}
+use Rattle.btrfs_format.specs.declared.block.TheConstants.{FIRST_MIRROR, SECOND_MIRROR, SUPER_BLOCK}
 use Rattle.command_answers.specs.outside.History.{Image, History, block_at, reads, clock, IsSettled, IsBlock, LeftSince, WritesBlock, WritesOnly}
 use Rattle.command_answers.proofs.outside.Crash.{left_each, reads_only, write_only, writes_length, writes_then, writes_weaker}
 use Rattle.command_answers.proofs.outside.Phases.{only_not, set_stands, write_reads}
 use Rattle.btr_super.specs.Super.{mirror_bytes}
-use Rattle.convert_steps.specs.Switch.{IsMirror, IsCopy, IsCopyAt, IsPart, IsSwitched, HasCopies}
+use Rattle.convert_steps.specs.Switch.{IsMirror, IsCopy, IsCopyAt, IsSwitchPart, IsSwitched, HasCopies}
 
 not_mirror : ¬ IsMirror 16
 not_mirror mirror = ⊎_elim (λ eq. omega (arith, eq)) (λ eq. omega (arith, eq)) mirror
 
 -- block 16 differs, and no other
-switched : (superblock : List ℕ) (old image : Image) → length image ≡ length old → block_at image 16 ≡ superblock
+switched : (superblock : List ℕ) (old image : Image) → length image ≡ length old → block_at image SUPER_BLOCK ≡ superblock
     → ((b : ℕ) → b ≢ 16 → block_at image b ≡ block_at old b) → IsSwitched superblock old image
 switched superblock old image size is others = record {
   size = size;
@@ -36,7 +37,7 @@ pub superblock_stands : (superblock : List ℕ) (h₀ h₁ : History) → 16 < l
 superblock_stands superblock h₀ h₁ long is =
     switched superblock (reads h₀) (reads h₁)
     (ap (λ (image : Image). length image) is ∙ length-set (reads h₀) 16 superblock)
-    (ap (λ (image : Image). block_at image 16) is ∙ get_or-set_same (reads h₀) 16 superblock [] long)
+    (ap (λ (image : Image). block_at image SUPER_BLOCK) is ∙ get_or-set_same (reads h₀) 16 superblock [] long)
     (λ b not. ap (λ (image : Image). block_at image b) is ∙ get_or-set_other (reads h₀) 16 b superblock [] not)
 
 -- what differs in the copies' blocks alone is switched too
@@ -65,34 +66,34 @@ module _ (superblock : List ℕ) (blocks : ℕ) (old : Image) where
 
 -- what each phase writes is part of what the switch writes
 module _ (superblock : List ℕ) (blocks : ℕ) where
-  pub superblock_part : (h₀ h₁ : History) → WritesOnly (IsBlock 16 superblock) h₀ h₁ → WritesOnly (IsPart superblock blocks) h₀ h₁
-  superblock_part h₀ h₁ = writes_weaker (IsBlock 16 superblock) (IsPart superblock blocks) (λ b bytes is. inl is) h₀ h₁
+  pub superblock_part : (h₀ h₁ : History) → WritesOnly (IsBlock 16 superblock) h₀ h₁ → WritesOnly (IsSwitchPart superblock blocks) h₀ h₁
+  superblock_part h₀ h₁ = writes_weaker (IsBlock 16 superblock) (IsSwitchPart superblock blocks) (λ b bytes is. inl is) h₀ h₁
 
-  pub copies_part : (h₀ h₁ h₂ : History) → WritesOnly (IsBlock 16 superblock) h₀ h₁ → WritesOnly (IsCopy superblock blocks) h₁ h₂ → WritesOnly (IsPart superblock blocks) h₀ h₂
+  pub copies_part : (h₀ h₁ h₂ : History) → WritesOnly (IsBlock 16 superblock) h₀ h₁ → WritesOnly (IsCopy superblock blocks) h₁ h₂ → WritesOnly (IsSwitchPart superblock blocks) h₀ h₂
   copies_part h₀ h₁ h₂ first then =
-      writes_then (IsPart superblock blocks) h₀ h₁ h₂ (superblock_part h₀ h₁ first)
-      (writes_weaker (IsCopy superblock blocks) (IsPart superblock blocks) (λ b bytes is. inr is) h₁ h₂ then)
+      writes_then (IsSwitchPart superblock blocks) h₀ h₁ h₂ (superblock_part h₀ h₁ first)
+      (writes_weaker (IsCopy superblock blocks) (IsSwitchPart superblock blocks) (λ b bytes is. inr is) h₁ h₂ then)
 
   pub copy_part : (place : ℕ) (h₀ h₁ : History) → WritesOnly (IsCopyAt place superblock blocks) h₀ h₁ → WritesOnly (IsCopy superblock blocks) h₀ h₁
   copy_part place h₀ h₁ = writes_weaker (IsCopyAt place superblock blocks) (IsCopy superblock blocks) (λ b bytes is. is.1) h₀ h₁
 
   -- both copies stand
-  pub both_stand : (h₀ h₁ h₂ : History) → (16384 < blocks → block_at (reads h₁) 16384 ≡ mirror_bytes 16384 superblock)
-      → (67108864 < blocks → block_at (reads h₂) 67108864 ≡ mirror_bytes 67108864 superblock)
-      → WritesOnly (IsCopyAt 67108864 superblock blocks) h₁ h₂ → HasCopies superblock blocks (reads h₂)
+  pub both_stand : (h₀ h₁ h₂ : History) → (FIRST_MIRROR < blocks → block_at (reads h₁) FIRST_MIRROR ≡ mirror_bytes FIRST_MIRROR superblock)
+      → (SECOND_MIRROR < blocks → block_at (reads h₂) SECOND_MIRROR ≡ mirror_bytes SECOND_MIRROR superblock)
+      → WritesOnly (IsCopyAt SECOND_MIRROR superblock blocks) h₁ h₂ → HasCopies superblock blocks (reads h₂)
   both_stand h₀ h₁ h₂ one two only b mirror below =
       ⊎_elim first second mirror
     where
-      first : b ≡ 16384 → block_at (reads h₂) b ≡ mirror_bytes b superblock
+      first : b ≡ FIRST_MIRROR → block_at (reads h₂) b ≡ mirror_bytes b superblock
       first eq =
-          let long : 16384 < blocks = omega (arith, eq, below) in
-          let kept : block_at (reads h₂) 16384 ≡ block_at (reads h₁) 16384 =
-          ⊎_elim (λ same. same) (λ is. absurd (omega (arith, is.0))) (reads_only (IsCopyAt 67108864 superblock blocks) h₁ h₂ only 16384) in
+          let long : FIRST_MIRROR < blocks = omega (arith, eq, below) in
+          let kept : block_at (reads h₂) FIRST_MIRROR ≡ block_at (reads h₁) FIRST_MIRROR =
+          ⊎_elim (λ same. same) (λ is. absurd (omega (arith, is.0))) (reads_only (IsCopyAt SECOND_MIRROR superblock blocks) h₁ h₂ only FIRST_MIRROR) in
           subst (λ (n : ℕ). block_at (reads h₂) n ≡ mirror_bytes n superblock) (sym eq) (kept ∙ one long)
 
-      second : b ≡ 67108864 → block_at (reads h₂) b ≡ mirror_bytes b superblock
+      second : b ≡ SECOND_MIRROR → block_at (reads h₂) b ≡ mirror_bytes b superblock
       second eq =
-          let long : 67108864 < blocks = omega (arith, eq, below) in
+          let long : SECOND_MIRROR < blocks = omega (arith, eq, below) in
           subst (λ (n : ℕ). block_at (reads h₂) n ≡ mirror_bytes n superblock) (sym eq) (two long)
 
   -- one copy was written, or its write failed

@@ -6,7 +6,7 @@ use Rattle.std.proofs.lemmas.Option.{slice_get-get_or, slice_get_within}
 use Rattle.indexmap.specs.IndexMap.{keys}
 use Rattle.command_answers.specs.outside.History.{Image}
 use Rattle.extent_pieces.proofs.Named.{numbered}
-use Rattle.reiser_volume.specs.reiser_volume_names.Names.{inode_of}
+use Rattle.reiser_volume.specs.reiser_volume_names.Names.{ino_of_key}
 use Rattle.reiser_volume.specs.reiser_volume_objects.declared.key.ObjectKey.{ObjectKey}
 use Rattle.reiser_volume.specs.reiser_volume_objects.Keys.{root}
 use Rattle.reiser_volume.specs.Numbers.{AreNumbered, by_inode}
@@ -17,9 +17,9 @@ use Rattle.reiser_volume.proofs.Numbered.{inode_of_root, inode_before, inode_beh
 
 -- a named key has an inode, and by that its place
 pub record IsNumbered (keys : List ObjectKey) (key : ObjectKey) : Type 0 where
-  pub low : 256 ≤ inode_of keys key
-  pub few : inode_of keys key - 256 < length keys
-  pub there : slice_get (by_inode keys) (inode_of keys key - 256) ≡ Some key
+  pub low : 256 ≤ ino_of_key keys key
+  pub few : ino_of_key keys key - 256 < length keys
+  pub there : slice_get (by_inode keys) (ino_of_key keys key - 256) ≡ Some key
 
 module _ (keys : List ObjectKey) (at : ℕ) (are : AreNumbered at keys) (i : ℕ) (key : ObjectKey) (there : slice_get keys i ≡ Some key) where
   within : i < length keys
@@ -28,9 +28,9 @@ module _ (keys : List ObjectKey) (at : ℕ) (are : AreNumbered at keys) (i : ℕ
   root_within : at < length keys
   root_within = slice_get_within keys at root are.has_root
 
-  by : (n : ℕ) → inode_of keys key ≡ 256 + n → n < length keys → slice_get (by_inode keys) n ≡ Some key → IsNumbered keys key
+  by : (n : ℕ) → ino_of_key keys key ≡ 256 + n → n < length keys → slice_get (by_inode keys) n ≡ Some key → IsNumbered keys key
   by n is few found =
-      let same : n ≡ inode_of keys key - 256 = omega (arith, is) in
+      let same : n ≡ ino_of_key keys key - 256 = omega (arith, is) in
       record { low = omega (arith, is); few = omega (arith, is, few); there = subst (λ (m : ℕ). slice_get (by_inode keys) m ≡ Some key) same found }
 
   at_root : i ≡ at → IsNumbered keys key

@@ -1,11 +1,12 @@
 -- What the switch to a Btrfs superblock leaves.
 use Rattle.std.specs.Prelude.{◌≡◌, ◌≢◌, ◌⊎◌, ℕ, ◌<◌, nat_lt, if◌then◌else◌, Option, Some, None, List, [], ◌∷◌, length}
+use Rattle.btrfs_format.specs.declared.block.TheConstants.{FIRST_MIRROR, SECOND_MIRROR, SUPER_BLOCK}
 use Rattle.command_answers.specs.outside.History.{Image, block_at, IsBlock}
 use Rattle.btr_super.specs.Super.{mirror_bytes}
 
 -- the blocks of the copies of a superblock, at 64 MiB and at 256 GiB, as the Btrfs on-disk format documentation has them
 abbrev pub IsMirror : ℕ → Type 0
-IsMirror b = (b ≡ 16384) ⊎ (b ≡ 67108864)
+IsMirror b = (b ≡ FIRST_MIRROR) ⊎ (b ≡ SECOND_MIRROR)
 
 -- a block, where a volume of so many blocks has it
 abbrev pub on_volume : ℕ → ℕ → Option ℕ
@@ -13,7 +14,7 @@ on_volume blocks b = if nat_lt b blocks then Some b else None
 
 -- those of a volume of so many blocks
 abbrev pub mirror_places : ℕ → List (Option ℕ)
-mirror_places blocks = on_volume blocks 16384 ∷ on_volume blocks 67108864 ∷ []
+mirror_places blocks = on_volume blocks FIRST_MIRROR ∷ on_volume blocks SECOND_MIRROR ∷ []
 
 -- a copy of the superblock, on a volume of so many blocks
 pub record IsCopy (superblock : List ℕ) (blocks b : ℕ) (bytes : List ℕ) : Type 0 where
@@ -26,13 +27,13 @@ abbrev pub IsCopyAt : ℕ → List ℕ → ℕ → ℕ → List ℕ → Type 0
 IsCopyAt place superblock blocks b bytes = (b ≡ place) × IsCopy superblock blocks b bytes
 
 -- what a switch writes
-abbrev pub IsPart : List ℕ → ℕ → ℕ → List ℕ → Type 0
-IsPart superblock blocks b bytes = IsBlock 16 superblock b bytes ⊎ IsCopy superblock blocks b bytes
+abbrev pub IsSwitchPart : List ℕ → ℕ → ℕ → List ℕ → Type 0
+IsSwitchPart superblock blocks b bytes = IsBlock 16 superblock b bytes ⊎ IsCopy superblock blocks b bytes
 
 -- the new superblock, and all else as it was but for the copies' blocks
 pub record IsSwitched (superblock : List ℕ) (old image : Image) : Type 0 where
   pub size : length image ≡ length old
-  pub superblock_is : block_at image 16 ≡ superblock
+  pub superblock_is : block_at image SUPER_BLOCK ≡ superblock
   pub others : (b : ℕ) → b ≢ 16 → ¬ IsMirror b → block_at image b ≡ block_at old b
 
 -- all copies stand

@@ -3,27 +3,19 @@ ghost use Rattle.std.specs.Prelude.{◌≡◌, ◌≤◌, ◌<◌, ◌⊎◌, sl
 ghost use Rattle.command_answers.specs.outside.Fault.{HasCause};
 ghost use Rattle.command_answers.specs.outside.History.{block_at, reads, IsSettled, IsBlock, EachCrash, WritesOnly};
 ghost use Rattle.btr_super.specs.Super.{mirror_bytes};
-ghost use Rattle.convert_steps.specs.Switch.{IsMirror, IsPart, IsCopy, IsCopyAt, IsSwitched, HasCopies, mirror_places, on_volume};
+ghost use Rattle.convert_steps.specs.Switch.{IsMirror, IsSwitchPart, IsCopy, IsCopyAt, IsSwitched, HasCopies, mirror_places, on_volume};
 
 use btr_super::mirror;
+use btrfs_format::block::{FIRST_MIRROR, SECOND_MIRROR, SUPER_BLOCK};
 use command_answers::{Access, Block, BlockNo, Disk, Fault};
-
-/// The block of the superblock.
-const SUPERBLOCK: BlockNo = 16;
-
-/// The block of its first copy, as the Btrfs on-disk format documentation has it: at 64 MiB.
-const FIRST_COPY: BlockNo = 16384;
-
-/// The block of its second copy: at 256 GiB.
-const SECOND_COPY: BlockNo = 67_108_864;
 
 /// The blocks of the copies of a Btrfs superblock, each where a volume of so many blocks has it.
 pub fn mirror_places(blocks: u64) -> [Option<BlockNo>; 2]
     ensures { result ≡ mirror_places blocks }
 {
     [
-        on_volume(FIRST_COPY, blocks),
-        on_volume(SECOND_COPY, blocks),
+        on_volume(FIRST_MIRROR, blocks),
+        on_volume(SECOND_MIRROR, blocks),
     ]
 }
 
@@ -47,7 +39,7 @@ pub fn switch_to<D: Disk>(disk: &mut D, superblock: &Block, blocks: u64) -> Resu
     ensures open { D.opened disk.new ≡ D.opened disk.old }
     ensures size { D.size disk.new ≡ D.size disk.old }
     ensures borrow { D.borrow disk.new ≡ D.borrow disk.old }
-    ensures only { IsTrue D.tells → WritesOnly (IsPart superblock.now.bytes blocks) (D.history disk.old) (D.history disk.new) }
+    ensures only { IsTrue D.tells → WritesOnly (IsSwitchPart superblock.now.bytes blocks) (D.history disk.old) (D.history disk.new) }
     ensures written { IsTrue D.tells → OnOk result (IsSwitched superblock.now.bytes (reads (D.history disk.old)) (reads (D.history disk.new))) }
     ensures copies { IsTrue D.tells → OnOk result (HasCopies superblock.now.bytes blocks (reads (D.history disk.new))) }
     ensures settled { IsTrue D.tells → OnOk result (IsSettled (D.history disk.new)) }
@@ -69,7 +61,7 @@ fn write_superblock<D: Disk>(disk: &mut D, superblock: &Block) -> Result<(), Fau
     ensures settled { IsTrue D.tells → OnOk result (IsSettled (D.history disk.new)) }
     ensures cause { HasCause (D.faults disk.old) (D.faults disk.new) result }
 {
-    disk.write(SUPERBLOCK, superblock)?;
+    disk.write(SUPER_BLOCK, superblock)?;
     disk.sync()
 }
 
@@ -85,8 +77,8 @@ fn write_copies<D: Disk>(disk: &mut D, superblock: &Block, blocks: u64) -> Resul
     ensures settled { IsTrue D.tells → OnOk result (IsSettled (D.history disk.new)) }
     ensures cause { HasCause (D.faults disk.old) (D.faults disk.new) result }
 {
-    write_copy(disk, superblock, FIRST_COPY, blocks)?;
-    write_copy(disk, superblock, SECOND_COPY, blocks)?;
+    write_copy(disk, superblock, FIRST_MIRROR, blocks)?;
+    write_copy(disk, superblock, SECOND_MIRROR, blocks)?;
     disk.sync()
 }
 

@@ -4,6 +4,8 @@ use Rattle.std.specs.Int.{div_ceil}
 use Rattle.std.specs.List.{All, flat_map, range_with_len}
 use Rattle.std.proofs.Math.Nat.{min-le_right}
 use Rattle.std.proofs.lemmas.List.Elements.{All-drop, All-head, All-tail}
+use Rattle.btrfs_format.specs.declared.key.TheConstants.{EXTENT_CSUM}
+use Rattle.btrfs_format.specs.declared.object.TheConstants.{EXTENT_CSUM_OBJECTID}
 use Rattle.btr_tree.specs.outside.History.{Image, block_at}
 use Rattle.btr_tree.specs.btr_keys.Key.{make_key}
 use Rattle.btr_tree.specs.btr_node.Leaf.{Item}
@@ -40,7 +42,7 @@ module _ (sums : SumKind) (image other : Image) where
 
   item_same : (first count : ℕ) → Same first count → sums_item sums other first count ≡ sums_item sums image first count
   item_same first count same =
-      ap (λ (body : List ℕ). (make_key (2 ^ 64 - 10) 128 (4096 * first), body))
+      ap (λ (body : List ℕ). (make_key EXTENT_CSUM_OBJECTID EXTENT_CSUM (4096 * first), body))
       (flat_same (block_sum sums image) (block_sum sums other) first count (λ b low high. ap (λ (bytes : List ℕ). take (kind_width sums) (kind_sum sums bytes)) (same b low high)))
 
   run_same : (first count : ℕ) → Same first count → run_items sums other first count ≡ run_items sums image first count

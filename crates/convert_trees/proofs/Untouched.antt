@@ -14,7 +14,7 @@ use Rattle.convert_steps.specs.extent_pieces.Files.{owner, tails}
 use Rattle.convert_steps.specs.extent_pieces.Found.{files_of}
 use Rattle.convert_steps.specs.extent_pieces.Laws.{HasPlan, HoldsUsed, LiesInUnit}
 use Rattle.convert_steps.specs.extent_pieces.Pieces.{Owners, pieces as all_pieces}
-use Rattle.convert_steps.specs.extent_pieces.Placed.{ArePlaced, at_place, at_places, blocks_of_units}
+use Rattle.convert_steps.specs.extent_pieces.Placed.{WerePlaced, at_place, at_places, blocks_of_units}
 use Rattle.convert_steps.specs.extent_pieces.declared.pieces.Pieces.{Pieces}
 use Rattle.convert_steps.proofs.extent_pieces.Covering.{pieces_cover_used}
 use Rattle.convert_steps.proofs.extent_pieces.Lists.{all_at}
@@ -23,7 +23,7 @@ use Rattle.reiser_volume.specs.reiser_bitmap.Units.{IsFreeUnit}
 use Rattle.reiser_volume.proofs.reiser_bitmap.Ranges.{contains_cases, contains_head, contains_tail, range_contains}
 use Rattle.reiser_volume.specs.Volume.{used_of}
 use Rattle.btr_tree_writer.specs.Source.{LieApart}
-use Rattle.unit_plan.specs.Laws.{AreApart}
+use Rattle.unit_plan.specs.Laws.{AreUnitsApart}
 use Rattle.unit_plan.specs.Needed.{nodes_in_unit}
 use Rattle.unit_plan.specs.Places.{node_places, places_in}
 use Rattle.convert_options.specs.declared.options.Options.{Options}
@@ -55,7 +55,7 @@ in_units nodesize units b size found =
     subst (λ (u : ℕ). Contains units u) (in_unit nodesize unit.0 node.0 b size (omega (arith, few.1)) inside) unit.1
 
 -- the slots of units that are apart share no block
-pub units_apart : (nodesize : ℕ) (units others : List ℕ) (b : ℕ) → IsNodeSize nodesize → AreApart units others → IsInSlots nodesize (node_places nodesize units) b → IsInSlots nodesize (node_places nodesize others) b → ⊥
+pub units_apart : (nodesize : ℕ) (units others : List ℕ) (b : ℕ) → IsNodeSize nodesize → AreUnitsApart units others → IsInSlots nodesize (node_places nodesize units) b → IsInSlots nodesize (node_places nodesize others) b → ⊥
 units_apart nodesize units others b size apart one other = apart (b / 256) (in_units nodesize units b size one) (in_units nodesize others b size other)
 
 -- a block of a free unit is unused
@@ -64,7 +64,7 @@ units_unused used nodesize units size free b marked inside =
     true≢false (sym marked ∙ (free (b / 256) (in_units nodesize units b size inside)).unused b refl)
 
 -- a piece that stays holds used blocks, another one lies in a data unit
-pub pieces_apart : (used : List Bool) (nodesize : ℕ) (units data_ : List ℕ) (pieces : List Piece) → IsNodeSize nodesize → ((u : ℕ) → Contains units u → IsFreeUnit used u) → AreApart units data_
+pub pieces_apart : (used : List Bool) (nodesize : ℕ) (units data_ : List ℕ) (pieces : List Piece) → IsNodeSize nodesize → ((u : ℕ) → Contains units u → IsFreeUnit used u) → AreUnitsApart units data_
     → ((p : Piece) → Contains pieces p → LiesInUnit data_ p) → ((p : Piece) (b : ℕ) → Contains pieces p → p.from ≡ Some p.place → p.place ≤ b → b < p.place + p.count → has used b ≡ true)
     → LieApart (IsInPieces pieces) nodesize (node_places nodesize units)
 pieces_apart used nodesize units data_ pieces size free apart moved kept b within inside =
@@ -110,7 +110,7 @@ placed_one (q ∷ old) (b ∷ bs) p h =
     (λ (later : Contains (at_places old bs) p). let of = placed_one old bs p later in record { was = of.was; among = contains_tail of.was q old of.among; from = of.from; count = of.count })
     (contains_cases p (at_place q b) (at_places old bs) h)
 
-was_one : (kept : ℕ) (units : List ℕ) (old placed : List Piece) (p : Piece) → ArePlaced kept units old placed → Contains placed p → WasOne old p
+was_one : (kept : ℕ) (units : List ℕ) (old placed : List Piece) (p : Piece) → WerePlaced kept units old placed → Contains placed p → WasOne old p
 was_one kept units old placed p are among =
     let split : take kept old ++ drop kept old ≡ old = take-append-drop kept old in
     ⊎_elim
@@ -122,7 +122,7 @@ was_one kept units old placed p are among =
     (Contains-permutation placed (take kept old ++ at_places (drop kept old) (blocks_of_units units)) p (IsPermutation-sym (take kept old ++ at_places (drop kept old) (blocks_of_units units)) placed are.same) among))
 
 -- the blocks of a piece that stays are used
-pub stays_used : (image : Image) (found : Pieces) (o : Options) (plan : Plan) (placed : List Piece) → HasPlan image found o plan → ArePlaced found.kept plan.data_ found.items.items placed
+pub stays_used : (image : Image) (found : Pieces) (o : Options) (plan : Plan) (placed : List Piece) → HasPlan image found o plan → WerePlaced found.kept plan.data_ found.items.items placed
     → (p : Piece) (b : ℕ) → Contains placed p → p.from ≡ Some p.place → p.place ≤ b → b < p.place + p.count → has (used_of image) b ≡ true
 stays_used image found o plan placed has_plan are p b among stays low high =
     let used : List Bool = used_of image in

@@ -19,7 +19,7 @@ use Rattle.convert_steps.proofs.space_items.OwnBound.{bound_up}
 use Rattle.convert_steps.specs.unit_plan.Choice.{HasEnoughSpace, IsPlan}
 use Rattle.convert_steps.specs.unit_plan.Chunks.{AreChunks}
 use Rattle.convert_steps.specs.unit_plan.Needed.{chunk_bound, chunk_nodes, chunk_tree_bytes, need, nodes_in_unit}
-use Rattle.convert_steps.specs.unit_plan.declared.chunk.Chunk.{Chunk}
+use Rattle.convert_steps.specs.unit_plan.declared.chunk.PlannedChunk.{PlannedChunk}
 use Rattle.convert_steps.specs.unit_plan.declared.chunk.Role.{Role}
 use Rattle.convert_steps.specs.unit_plan.declared.chunk.Role.TheVariants.{Metadata, Data}
 use Rattle.convert_steps.specs.unit_plan.declared.counts.Counts.{Counts}
@@ -67,16 +67,16 @@ system_few used c o size small blocks runs = system_need_few c o size (omega (ar
 -- ---- what they take in the array
 
 -- The array holds a record for each chunk of the chunk tree. A test tells these from the others.
-module _ (tells : Role → Bool) (metadata : tells Metadata ≡ false) (data_ : tells Data ≡ false) (record_of : Chunk → List ℕ) (sized : (c : Chunk) → length (record_of c) ≡ 97) where
-  boot_length : (cs : List Chunk) → length (flat_map record_of cs) ≡ 97 * length cs
+module _ (tells : Role → Bool) (metadata : tells Metadata ≡ false) (data_ : tells Data ≡ false) (record_of : PlannedChunk → List ℕ) (sized : (c : PlannedChunk) → length (record_of c) ≡ 97) where
+  boot_length : (cs : List PlannedChunk) → length (flat_map record_of cs) ≡ 97 * length cs
   boot_length [] = refl
   boot_length (c ∷ cs) = let both = length-append (record_of c) (flat_map record_of cs) in let here = sized c in let rest = boot_length cs in omega (arith, both, here, rest)
 
-  abbrev boot : List Chunk → List ℕ
+  abbrev boot : List PlannedChunk → List ℕ
   boot chunks = flat_map record_of (filter (λ c. tells c.role) chunks)
 
   -- 21 chunks have room, and there are no more than 17
-  pub boot_fits_by : (used : List Bool) (n : Need) (plan : Plan) (chunks : List Chunk) → HasEnoughSpace used n → IsPlan used n plan → AreChunks plan (length used) chunks → n.system ≤ 16384
+  pub boot_fits_by : (used : List Bool) (n : Need) (plan : Plan) (chunks : List PlannedChunk) → HasEnoughSpace used n → IsPlan used n plan → AreChunks plan (length used) chunks → n.system ≤ 16384
       → length (boot chunks) ≤ 2048
   boot_fits_by used n plan chunks enough is are small =
       let few = system_chunks_few tells metadata data_ used n plan chunks enough is are in
@@ -101,7 +101,7 @@ module _ (image : Image) (m : Making) (made : IsMaking image m) where
       system_few (used_of image) counts m.options size used_few (ap (λ (c : Counts). c.blocks) made.has_pieces.plan_.found_.counts_are)
       (ap (λ (c : Counts). c.runs) made.has_pieces.plan_.found_.counts_are)
 
-  pub boot_fits : (tells : Role → Bool) → tells Metadata ≡ false → tells Data ≡ false → (record_of : Chunk → List ℕ) → ((c : Chunk) → length (record_of c) ≡ 97) → IsNodeSize m.options.nodesize
+  pub boot_fits : (tells : Role → Bool) → tells Metadata ≡ false → tells Data ≡ false → (record_of : PlannedChunk → List ℕ) → ((c : PlannedChunk) → length (record_of c) ≡ 97) → IsNodeSize m.options.nodesize
       → length (flat_map record_of (filter (λ c. tells c.role) m.chunks)) ≤ 2048
   boot_fits tells metadata data_ record_of sized size =
       boot_fits_by tells metadata data_ record_of sized (used_of image) (need counts m.options) m.plan m.chunks made.has_pieces.plan_.enough made.has_pieces.plan_.plan_ chunks_of (system_few_made size)

@@ -5,6 +5,7 @@ use Rattle.std.specs.List.{flat_map, range_with_len}
 use Rattle.std.proofs.lemmas.Grind.{div_ceil_times}
 use Rattle.std.proofs.lemmas.List.{length-map}
 use Rattle.std.proofs.lemmas.List.FromFn.{length-range_with_len}
+use Rattle.unit_plan.specs.declared.item_bytes.TheConstants.{BLOCK_GROUP_BYTES, EXTENT_BYTES, NODE_BYTES, RELOCATION_ROOM, ROOT_TREE_ROOM}
 use Rattle.btr_reader.specs.outside.History.{Image}
 use Rattle.btr_reader.specs.btr_node.Leaf.{Item}
 use Rattle.btr_reader.specs.btr_node.NodeSize.{IsNodeSize}
@@ -116,10 +117,10 @@ module _ (counted : FileTreeIsCounted) (files_ascend : FileKeysAscend) (small_as
   other_nodes_few =
       let files = few (file_tree_items image m) (file_tree_bytes c) (counted image m made) (files_low c small) in
       let saved = few (image_tree_items m) (image_tree_bytes c) trees.saved (image_low c small) in
-      let relocation = few (relocation_items m.now) 1000 trees.relocation (omega arith) in
+      let relocation = few (relocation_items m.now) RELOCATION_ROOM trees.relocation (omega arith) in
       let sums = few (sum_tree_items other m) (checksum_tree_bytes o.sums c) trees.sums (sums_low o.sums c small) in
       let device = few (device_items (new_ids m) m.chunks) (device_tree_bytes (chunk_bound c.runs c.blocks)) trees.device (device_low c small) in
-      let root = few (root_tree_items m no_trees) 8192 (trees.root no_trees) (omega arith) in
+      let root = few (root_tree_items m no_trees) ROOT_TREE_ROOM (trees.root no_trees) (omega arith) in
       six _ _ _ _ _ _ _ _ _ _ _ _ files saved relocation sums device root
     where
       six : (a b d e f g a' b' d' e' f' g' : ℕ) → a ≤ a' → b ≤ b' → d ≤ d' → e ≤ e' → f ≤ f' → g ≤ g' → a + b + d + e + f + g ≤ a' + b' + e' + f' + g' + d'
@@ -131,7 +132,7 @@ module _ (counted : FileTreeIsCounted) (files_ascend : FileKeysAscend) (small_as
       (pieces_few image m made) (few_chunks image m made) (both _ _ _ _ other_nodes_few chunk_nodes_few) in
       twice _ _ (bound_up (extent_bytes (length m.pieces) (length m.chunks) (other_count image other m no_trees + chunk_count m)) (extent_tree_bytes o c) o.nodesize size bytes)
     where
-      by_parts : (p p' q q' n n' : ℕ) → p ≤ p' → q ≤ q' → n ≤ n' → 107 * p + 49 * q + 58 * n ≤ 107 * p' + 49 * q' + 58 * n'
+      by_parts : (p p' q q' n n' : ℕ) → p ≤ p' → q ≤ q' → n ≤ n' → EXTENT_BYTES * p + BLOCK_GROUP_BYTES * q + NODE_BYTES * n ≤ EXTENT_BYTES * p' + BLOCK_GROUP_BYTES * q' + NODE_BYTES * n'
       by_parts p p' q q' n n' a b d = omega arith
 
       both : (x x' y y' : ℕ) → x ≤ x' → y ≤ y' → x + y ≤ x' + y'

@@ -6,6 +6,7 @@ use Rattle.std.proofs.lemmas.List.{length-take}
 use Rattle.std.proofs.lemmas.List.Concat.{length-flat_map}
 use Rattle.std.proofs.lemmas.List.FromFn.{length-range_with_len}
 use Rattle.std.proofs.lemmas.List.Sums.{sum_by-cons, sum_by-le}
+use Rattle.btrfs_format.specs.declared.size.TheConstants.{ITEM_SIZE}
 use Rattle.btr_reader.specs.outside.History.{Image, block_at}
 use Rattle.btr_reader.specs.csum_kinds.Kind.{kind_sum}
 use Rattle.btr_reader.specs.csum_kinds.declared.kind.SumKind.{SumKind}
@@ -26,21 +27,21 @@ sums_short image first count =
     omega (arith, long, each, many)
 
 -- the blocks of the items from number a on
-sum_parts : (count a k : ℕ) → sum_by (λ i. 25 + 4 * min 900 (count - 900 * i)) (range_with_len a k) ≤ 25 * k + 4 * (count - 900 * a)
+sum_parts : (count a k : ℕ) → sum_by (λ i. ITEM_SIZE + 4 * min 900 (count - 900 * i)) (range_with_len a k) ≤ ITEM_SIZE * k + 4 * (count - 900 * a)
 sum_parts count a zero = omega arith
 sum_parts count a (suc k) =
-    let all = sum_by-cons (λ (i : ℕ). 25 + 4 * min 900 (count - 900 * i)) a (range_with_len (a + 1) k) in
+    let all = sum_by-cons (λ (i : ℕ). ITEM_SIZE + 4 * min 900 (count - 900 * i)) a (range_with_len (a + 1) k) in
     let rest = sum_parts count (a + 1) k in
     omega (arith, all, rest)
 
-run_bytes : (image : Image) (first count : ℕ) → bytes_in (run_items Crc32c image first count) ≤ 25 * div_ceil count 900 + 4 * count
+run_bytes : (image : Image) (first count : ℕ) → bytes_in (run_items Crc32c image first count) ≤ ITEM_SIZE * div_ceil count 900 + 4 * count
 run_bytes image first count =
     let each = bytes-map (λ (i : ℕ). sums_item Crc32c image (first + 900 * i) (min 900 (count - 900 * i))) (λ i. 4 * min 900 (count - 900 * i))
     (λ i. sums_short image (first + 900 * i) (min 900 (count - 900 * i))) (range_with_len 0 (div_ceil count 900)) in
     let parts = sum_parts count 0 (div_ceil count 900) in
     omega (arith, each, parts)
 
-sum_bytes : (image : Image) (ps : List Piece) → bytes_in (sum_items Crc32c image ps) ≤ 4 * sum_by (λ p. p.count) ps + 25 * (length ps + sum_by (λ p. p.count) ps / 900)
+sum_bytes : (image : Image) (ps : List Piece) → bytes_in (sum_items Crc32c image ps) ≤ 4 * sum_by (λ p. p.count) ps + ITEM_SIZE * (length ps + sum_by (λ p. p.count) ps / 900)
 sum_bytes image [] = omega arith
 sum_bytes image (p ∷ ps) =
     let both = bytes-append (run_items Crc32c image p.place p.count) (sum_items Crc32c image ps) in
@@ -49,7 +50,7 @@ sum_bytes image (p ∷ ps) =
     let all = sum_by-cons (λ (q : Piece). q.count) p ps in
     by p.count (sum_by (λ (q : Piece). q.count) ps) (sum_by (λ (q : Piece). q.count) (p ∷ ps)) (length ps) _ _ _ both here rest all
   where
-    by : (n s t l whole first later : ℕ) → whole ≡ first + later → first ≤ 25 * div_ceil n 900 + 4 * n → later ≤ 4 * s + 25 * (l + s / 900) → t ≡ n + s → whole ≤ 4 * t + 25 * (suc l + t / 900)
+    by : (n s t l whole first later : ℕ) → whole ≡ first + later → first ≤ ITEM_SIZE * div_ceil n 900 + 4 * n → later ≤ 4 * s + ITEM_SIZE * (l + s / 900) → t ≡ n + s → whole ≤ 4 * t + ITEM_SIZE * (suc l + t / 900)
     by n s t l whole first later both here rest all = omega arith
 
 -- with or without checksums

@@ -35,11 +35,11 @@ use Rattle.unit_plan.specs.Needed.{need}
 use Rattle.extent_pieces.specs.declared.pieces.Pieces.{Pieces}
 use Rattle.extent_pieces.specs.declared.tail.Tail.{Tail}
 use Rattle.reiser_volume.specs.Inline.{is_tail}
-use Rattle.extent_pieces.specs.Files.{FileAt, file_at, file_blocks, file_tails, has_tail, is_inline, owner, tails}
+use Rattle.extent_pieces.specs.Files.{FileAt, file_at, file_blocks, file_tails, has_tail, is_file_inline, owner, tails}
 use Rattle.extent_pieces.specs.Found.{files_of}
 use Rattle.extent_pieces.specs.Laws.{AreKeptPieces, HasPlan, IsKeptPiece, LieWell, LiesInUnit, PlacesAreApart, PlansHaveRoom}
 use Rattle.extent_pieces.specs.Pieces.{Owners, advanced, copied_pieces, kept_pieces, tail_piece}
-use Rattle.extent_pieces.specs.Placed.{ArePlaced, FitsPlan, at_place, at_places, blocks_of_units}
+use Rattle.extent_pieces.specs.Placed.{WerePlaced, FitsPlan, at_place, at_places, blocks_of_units}
 use Rattle.extent_pieces.proofs.Covering.{IsCopied, is_copied_piece, used_inside}
 use Rattle.extent_pieces.proofs.Ending.{data_used}
 use Rattle.extent_pieces.proofs.Lists.{all_at, all_head, all_tail, pairs_append, pairs_head, pairs_tail}
@@ -301,7 +301,7 @@ module _ (image : Image) (found : Pieces) (o : Options) (plan : Plan) (has_plan 
       omega (arith, short, size, below)
 
   tail_of : (f : FileAt) (t : Tail) → Contains all_files f → Contains (file_tails o.inline f) t → t.at + 1 ≤ 2 ^ 32
-  tail_of f t among = go (is_inline o.inline f)
+  tail_of f t among = go (is_file_inline o.inline f)
     where
       go : (b : Bool) → Contains (if b then [] else map (λ k. record { inode = f.inode; at = k }) (filter (has_tail f) (file_blocks f))) t → t.at + 1 ≤ 2 ^ 32
       go true h = absurd (omega (arith, h.1))
@@ -392,7 +392,7 @@ module _ (image : Image) (found : Pieces) (o : Options) (plan : Plan) (has_plan 
       let data_ = (is_kept p in_p).data_ q.place (omega (arith, low, one), high) in
       both_ways (has used q.place) unused (data_used used q.place data_))))
 
-  pub lie_well : (placed : List Piece) → ArePlaced found.kept plan.data_ old placed → LieWell used plan.data_ placed
+  pub lie_well : (placed : List Piece) → WerePlaced found.kept plan.data_ old placed → LieWell used plan.data_ placed
   lie_well placed are =
       let same : IsPermutation (kept ++ moved) placed =
       subst (λ (xs : List Piece). IsPermutation (xs ++ moved) placed) front (subst (λ (xs : List Piece). IsPermutation (take found.kept old ++ at_places xs places) placed) back are.same) in

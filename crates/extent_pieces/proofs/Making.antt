@@ -22,7 +22,7 @@ use Rattle.extent_pieces.specs.Laws.{AreSortedKeys}
 use Rattle.extent_pieces.specs.Owned.{TellOwners}
 use Rattle.extent_pieces.specs.Parts.{AreParts, capped}
 use Rattle.extent_pieces.specs.Pieces.{Owners, copied_pieces, kept_pieces, pieces, tail_piece}
-use Rattle.extent_pieces.specs.Tallies.{Tells}
+use Rattle.extent_pieces.specs.Tallies.{TellsCounts}
 use Rattle.extent_pieces.proofs.Named.{numbered}
 use Rattle.extent_pieces.proofs.Once.{owned_once}
 use Rattle.extent_pieces.proofs.Owners.{tells_owners}
@@ -68,7 +68,7 @@ module _ (inline : Bool) (image : Image) (volume : Volume) (accepted : IsAccepte
   small = counts_small image accepted all opened.are_keys inline opened.visible links opened.are_links
 
   pub found : (pieces_ : Pieces) → pieces_.items.items ≡ (kept_pieces volume.bitmap by ++ copied_pieces volume.bitmap by) ++ map tail_piece parts.tails.items → pieces_.kept ≡ length (kept_pieces volume.bitmap by)
-      → Tells volume parts pieces_.items.items pieces_.kept pieces_.counts → IsFound inline image all links pieces_
+      → TellsCounts volume parts pieces_.items.items pieces_.kept pieces_.counts → IsFound inline image all links pieces_
   found pieces_ items kept told =
       let ts : List Tail = tails inline (files_of image all) in
       let bits : volume.bitmap ≡ used = opened.bitmap in
@@ -110,7 +110,7 @@ module _ (inline : Bool) (image : Image) (volume : Volume) (accepted : IsAccepte
   -- the same of the lists as they grew
   pub found_of : (pieces_ : Pieces) (empty kept both shown : List Piece) (map_first map_second : List Bool) (ts : List Tail) → empty ≡ [] → map_first ≡ volume.bitmap → kept ≡ empty ++ kept_pieces map_first by
       → map_second ≡ volume.bitmap → both ≡ kept ++ copied_pieces map_second by → ts ≡ parts.tails.items → pieces_.items.items ≡ both ++ map tail_piece ts → pieces_.kept ≡ length kept
-      → shown ≡ pieces_.items.items → Tells volume parts shown pieces_.kept pieces_.counts → IsFound inline image all links pieces_
+      → shown ≡ pieces_.items.items → TellsCounts volume parts shown pieces_.kept pieces_.counts → IsFound inline image all links pieces_
   found_of pieces_ empty kept both shown map_first map_second ts none first kept_is second both_is tails_are items_are long seen told =
       let kept_all : kept ≡ kept_pieces volume.bitmap by = kept_is ∙ (ap (λ (xs : List Piece). xs ++ kept_pieces map_first by) none ∙ ap (λ (u : List Bool). kept_pieces u by) first) in
       let both_all : both ≡ kept_pieces volume.bitmap by ++ copied_pieces volume.bitmap by =
@@ -118,4 +118,4 @@ module _ (inline : Bool) (image : Image) (volume : Volume) (accepted : IsAccepte
       found pieces_
       (items_are ∙ (ap (λ (xs : List Piece). xs ++ map tail_piece ts) both_all ∙ ap (λ (t : List Tail). (kept_pieces volume.bitmap by ++ copied_pieces volume.bitmap by) ++ map tail_piece t) tails_are))
       (long ∙ ap length kept_all)
-      (subst (λ (xs : List Piece). Tells volume parts xs pieces_.kept pieces_.counts) seen told)
+      (subst (λ (xs : List Piece). TellsCounts volume parts xs pieces_.kept pieces_.counts) seen told)

@@ -6,7 +6,7 @@ use Rattle.reiser_bitmap.specs.outside.History.{Image}
 use Rattle.fs_rows.specs.declared.row.Kind.{Kind}
 use Rattle.fs_rows.specs.declared.row.Kind.TheVariants.{File}
 use Rattle.reiser_volume.proofs.fs_paths.Lists.{in_filter, in_map}
-use Rattle.reiser_volume.specs.reiser_walk.Items.{Item}
+use Rattle.reiser_volume.specs.reiser_walk.Items.{ReiserItem}
 use Rattle.reiser_volume_files.specs.declared.map.FileRun.{FileRun}
 use Rattle.reiser_volume_files.specs.Runs.{file_runs}
 use Rattle.reiser_volume_objects.specs.declared.key.ObjectKey.{ObjectKey}
@@ -31,12 +31,12 @@ pub owns_file : (image : Image) (key : ObjectKey) (k b : ℕ) → Owns image key
 owns_file image key k b owns =
     ap is_file (ap kind_by (ap (λ (o : Option ObjectStat). unwrap_or o no_stat) owns.has_stat) ∙ ap (λ (o : Option Kind). unwrap_or o File) owns.file)
 
-file_among : (items : List Item) (keys some : List ObjectKey) (key : ObjectKey) → Contains some key → is_file_at items key ≡ true → Contains (files_among items keys some) (file_at items keys key)
+file_among : (items : List ReiserItem) (keys some : List ObjectKey) (key : ObjectKey) → Contains some key → is_file_at items key ≡ true → Contains (files_among items keys some) (file_at items keys key)
 unfolding files_among
 file_among items keys some key among file = in_map (file_at items keys) (filter (is_file_at items) some) key (in_filter (is_file_at items) some key among file)
 
 module _ (image : Image) (keys : List ObjectKey) (sorted : AreSortedKeys image keys) where
-  abbrev items : List Item
+  abbrev items : List ReiserItem
   items = volume_items image
 
   -- the root's place

@@ -17,7 +17,7 @@ use Rattle.reiser_volume_files.specs.declared.map.RunFrom.TheVariants.{Disk, Tai
 use Rattle.reiser_volume_files.specs.Runs.{block_from, file_runs, next_from}
 use Rattle.extent_pieces.specs.declared.run.OwnedRun.{OwnedRun}
 use Rattle.extent_pieces.specs.Files.{FileAt, file_blocks, is_in_block, owner, owns}
-use Rattle.extent_pieces.specs.Owned.{IsBefore, IsRun, TellOwners, holds_block, owner_in}
+use Rattle.extent_pieces.specs.Owned.{IsRunBefore, IsRun, TellOwners, holds_block, owner_in}
 use Rattle.extent_pieces.specs.Parts.{file_owned, owned_by_run, owned_in}
 use Rattle.extent_pieces.proofs.Owning.{Holds, find_none, holds, holds_from}
 use Rattle.extent_pieces.proofs.Lists.{all_at, pairs_append, pairs_head, pairs_tail}
@@ -206,7 +206,7 @@ run_is fs f o once among is =
 pub tells_owners : (fs : List FileAt) (runs : List OwnedRun) → OwnedOnce fs → IsPermutation (flat_map file_owned fs) runs → IsNonDecreasingBy (λ r. r.first) runs → TellOwners runs (owner fs)
 tells_owners fs runs once permuted order =
     let each : (o : OwnedRun) → Contains runs o → IsRun o = λ o h. let from = all_runs fs runs permuted o h in run_is fs from.0 o once from.1 from.2 in
-    let ascending : AllPairs IsBefore runs = λ i j d before inside.
+    let ascending : AllPairs IsRunBefore runs = λ i j d before inside.
     let r : OwnedRun = get_or runs i d in
     let s : OwnedRun = get_or runs j d in
     clash_tells r s (no_two fs runs once permuted i j d before inside) (order i j d (omega arith) inside) (each r (Contains-get_or runs i d (omega arith))).some (each s (Contains-get_or runs j d inside)).some in

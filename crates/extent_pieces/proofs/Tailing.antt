@@ -12,7 +12,7 @@ use Rattle.reiser_volume_files.specs.declared.map.RunFrom.TheVariants.{Disk, Tai
 use Rattle.reiser_volume_files.specs.Runs.{runs_of, file_runs, extended, with_block, goes_on, is_next, longer, block_from}
 use Rattle.extent_pieces.specs.declared.tail.Tail.{Tail}
 use Rattle.reiser_volume.specs.Inline.{is_tail}
-use Rattle.extent_pieces.specs.Files.{FileAt, file_blocks, has_tail, is_inline}
+use Rattle.extent_pieces.specs.Files.{FileAt, file_blocks, has_tail, is_file_inline}
 use Rattle.extent_pieces.specs.Parts.{owned_in, owned_by_run, tails_in, tails_by_run, tails_from, is_one_tail, is_tail_alone}
 
 -- a run with one block more
@@ -130,5 +130,5 @@ short f =
     (λ (off : nat_le f.size 2048 ≡ false). and_left (nat_le f.size 2048) _ off ∙ sym (and_left (nat_le f.size 2048) _ off))
     (cases_Bool (nat_le f.size 2048))
 
-pub one_tail : (inline : Bool) (f : FileAt) → (inline && is_tail_alone (file_runs f.items f.size) f.size) ≡ is_inline inline f
+pub one_tail : (inline : Bool) (f : FileAt) → (inline && is_tail_alone (file_runs f.items f.size) f.size) ≡ is_file_inline inline f
 one_tail inline f = ap (λ (b : Bool). inline && b) (short f)

@@ -9,11 +9,11 @@ use Rattle.reiser_volume_files.proofs.Ascending.{file_runs_are}
 use Rattle.reiser_volume_files.specs.declared.map.FileRun.{FileRun}
 use Rattle.reiser_volume_files.specs.declared.map.RunFrom.{RunFrom}
 use Rattle.reiser_volume_files.specs.declared.map.RunFrom.TheVariants.{Disk, Tail as InTree}
-use Rattle.reiser_volume_files.specs.Runs.{AreRunsOf, IsBefore as IsBeforeRun, block_from, disk_or_hole, file_runs, goes_on, is_held, is_in_run, lies_at, next_from}
+use Rattle.reiser_volume_files.specs.Runs.{AreRunsOf, IsFileRunBefore as IsBeforeRun, block_from, disk_or_hole, file_runs, goes_on, is_held, is_in_run, lies_at, next_from}
 use Rattle.reiser_volume_files.specs.Bytes.{named_block}
 use Rattle.extent_pieces.specs.declared.run.OwnedRun.{OwnedRun}
 use Rattle.extent_pieces.specs.Files.{FileAt}
-use Rattle.extent_pieces.specs.Owned.{GoesOn, IsBefore}
+use Rattle.extent_pieces.specs.Owned.{GoesOn, IsRunBefore}
 use Rattle.extent_pieces.specs.Parts.{owned_by_run, owned_in}
 use Rattle.extent_pieces.proofs.Lists.{all_at, all_head, all_none, all_one, all_tail, pairs_append, pairs_head, pairs_tail}
 use Rattle.extent_pieces.proofs.Owning.{Holds}
@@ -267,7 +267,7 @@ or_second true b c t = refl
 or_second false b c t = rw t refl
 
 -- of two runs that do not clash, the one that begins first lies before the other
-pub clash_tells : (r s : OwnedRun) → clash r s ≡ false → r.first ≤ s.first → 0 < r.count → 0 < s.count → IsBefore r s
+pub clash_tells : (r s : OwnedRun) → clash r s ≡ false → r.first ≤ s.first → 0 < r.count → 0 < s.count → IsRunBefore r s
 clash_tells r s off order some_r some_s = record {
   apart =
       ⊎_elim

@@ -15,7 +15,7 @@ use Rattle.reiser_volume.specs.Numbers.{by_inode, AreNumbered}
 use Rattle.reiser_volume.proofs.Numbered.{place_behind}
 use Rattle.reiser_volume.specs.declared.volume.Volume.{Volume}
 use Rattle.unit_plan.specs.declared.piece.Piece.{Piece}
-use Rattle.file_items.specs.Spots.{IsAt}
+use Rattle.file_items.specs.Spots.{IsObjectAt}
 use Rattle.file_items.specs.Stream.{AddsSome, AddsExtent, Begins, Comes, FitsRestBlocks, file_ahead, tree_ahead, rest_ahead}
 use Rattle.file_items.specs.Tree.{source_of, object_items}
 use Rattle.file_items.specs.declared.files.Basis.{Basis}
@@ -52,7 +52,7 @@ no_object all at n numbered behind =
 -- the next object and its place
 pub record IsNextObject (volume : Volume) (place begun : ℕ) : Type 0 where
   pub key : ObjectKey
-  pub at : IsAt volume place key
+  pub at : IsObjectAt volume place key
   pub rest : drop begun (by_inode (keys volume.named)) ≡ key ∷ drop (begun + 1) (by_inode (keys volume.named))
 
 pub next_object : (volume : Volume) (place begun : ℕ) → place < length (keys volume.named) → slice_get (keys volume.named) place ≡ slice_get (by_inode (keys volume.named)) begun → IsNextObject volume place begun

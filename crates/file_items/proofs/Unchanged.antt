@@ -14,7 +14,7 @@ use Rattle.reiser_volume.specs.Numbers.{by_inode}
 use Rattle.reiser_volume.specs.Opened.{links_in}
 use Rattle.reiser_volume.specs.Volume.{volume_items}
 use Rattle.reiser_volume.specs.declared.volume.Volume.{Volume}
-use Rattle.reiser_volume.specs.reiser_walk.Items.{Item as ReiserItem}
+use Rattle.reiser_volume.specs.reiser_walk.Items.{ReiserItem}
 use Rattle.unit_plan.specs.declared.piece.Piece.{Piece}
 
 -- the source of a file tree, by the items alone

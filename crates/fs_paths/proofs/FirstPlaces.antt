@@ -9,8 +9,8 @@ use Rattle.std.proofs.lemmas.List.{get_or-map, length-map, get_or_default}
 use Rattle.std.proofs.lemmas.List.Sums.{fails_before_first, passes_at_first}
 use Rattle.std.proofs.lemmas.Map.Keys.{Less-from_sorted}
 use Rattle.fs_rows.specs.Rows.{NameList, path_cmp, is_same_path}
-use Rattle.fs_paths.specs.declared.link.Link.{Link}
-use Rattle.fs_paths.specs.declared.link.PathTo.{PathTo}
+use Rattle.fs_paths.specs.declared.node_link.NodeLink.{NodeLink}
+use Rattle.fs_paths.specs.declared.node_link.PathTo.{PathTo}
 use Rattle.fs_paths.specs.declared.node.NodeId.{NodeId}
 use Rattle.fs_paths.specs.Links.{same_node}
 use Rattle.fs_paths.specs.Paths.{ArePaths, first_path, leads_to}
@@ -60,7 +60,7 @@ neither_above p q one other = by (path_cmp p q) (path_cmp q p) refl refl (path_t
     by Less Greater is also turned low high = absurd (true≢false (sym high))
     by Greater r is also turned low high = absurd (true≢false (sym low))
 
-module _ (links : List Link) (root : NodeId) (list : List PathTo) (are : ArePaths links root list) where
+module _ (links : List NodeLink) (root : NodeId) (list : List PathTo) (are : ArePaths links root list) where
   -- the place of the first path to an object is in the list, and the path there leads to the object
   pub first_within : (p : PathTo) → Contains list p → p.least < length list
   first_within p among = subst (λ (n : ℕ). n < length list) (sym (are.least p among)) (is_first_none (leads_to p.target) list p among (same_node-self p.target))

@@ -5,9 +5,10 @@ ghost use Rattle.host_edge.specs.FileDisk.{Kept, opened_for, length_of, kept_ref
 
 use crate::opened::{FailedWrite, Opened};
 use crate::status_line::StatusLine;
-use crate::trouble::{Call, Cause, Trouble};
+use crate::trouble::{Cause, DiskCall, Trouble};
 use crate::watch::{Task, Watch};
-use crate::{Place, Signature, Use};
+use crate::{FileIdentity, Signature, Use};
+use btrfs_format::block::SUPER_BLOCK;
 use outside::{Access, Block, BlockNo, BlockSource, Disk, Fault, Format, format_of};
 use std::fs::{File, Files, OpenOptions};
 use std::io::ErrorKind;
@@ -39,9 +40,6 @@ pub struct FileDisk<'a, R: Files<File = File> + AllocGlobal + Clock + Clone + Dr
     watch: Watch<'a>,
     is_overwritten: bool,
 }
-
-/// The block of the superblock of both formats that the rest of the program knows.
-const SUPERBLOCK: BlockNo = 16;
 
 impl<'a, R: Files<File = File> + AllocGlobal + Clock + Clone + Drop> FileDisk<'a, R> {
     /// A disk that is not open. It will find its file by these files, and show on this line what it does.
@@ -109,7 +107,7 @@ impl<'a, R: Files<File = File> + AllocGlobal + Clock + Clone + Drop> FileDisk<'a
 
     /// Checks that nobody uses what stands at a path, and that it is not read-only.
     fn check_free(&self, path: &str) -> Result<(), Cause> {
-        let place = Place::new(&self.files, path)?;
+        let place = FileIdentity::new(&self.files, path)?;
         if let Some(found) = Use::of(&self.files, &place)? {
             return Err(Cause::InUse(found));
         }
@@ -120,7 +118,7 @@ impl<'a, R: Files<File = File> + AllocGlobal + Clock + Clone + Drop> FileDisk<'a
     }
 
     /// Counts a failure, and keeps why it came.
-    fn fail(&mut self, call: Call, cause: Cause) -> Fault
+    fn fail(&mut self, call: DiskCall, cause: Cause) -> Fault
         ensures rose { Rose self.old.faults self.new.faults }
         ensures later { self.old.faults ≤ self.new.faults }
         ensures opened { self.new.opened ≡ self.old.opened }
@@ -142,9 +140,9 @@ fn unopened(e: io::Error) -> Cause {
 
 /// Checks that nothing lies on a file but what the rest of the program knows.
 fn check_blank(opened: &Opened) -> Result<(), Cause> {
-    if opened.blocks > SUPERBLOCK {
+    if opened.blocks > SUPER_BLOCK {
         let mut block = Block::zero();
-        opened.read(SUPERBLOCK, &mut block)?;
+        opened.read(SUPER_BLOCK, &mut block)?;
         if format_of(&block) != Format::Neither {
             return Ok(());
         }
@@ -194,7 +192,7 @@ impl<R: Files<File = File> + AllocGlobal + Clock + Clone + Drop> BlockSource for
                 self.watch.look(&self.files);
                 Ok(())
             }
-            Err(cause) => Err(self.fail(Call::Read(n), cause)),
+            Err(cause) => Err(self.fail(DiskCall::Read(n), cause)),
         }
     }
 }
@@ -227,7 +225,7 @@ impl<R: Files<File = File> + AllocGlobal + Clock + Clone + Drop> Disk for FileDi
                 self.watch.begin(&self.files);
                 Ok(())
             }
-            Err(cause) => Err(self.fail(Call::Open, cause)),
+            Err(cause) => Err(self.fail(DiskCall::Open, cause)),
         }
     }
 
@@ -247,7 +245,7 @@ impl<R: Files<File = File> + AllocGlobal + Clock + Clone + Drop> Disk for FileDi
             }
             Err(failed) => {
                 self.watch.fails(failed.is_begun);
-                Err(self.fail(Call::Write(n), failed.cause))
+                Err(self.fail(DiskCall::Write(n), failed.cause))
             }
         }
     }
@@ -259,7 +257,7 @@ impl<R: Files<File = File> + AllocGlobal + Clock + Clone + Drop> Disk for FileDi
         };
         match done {
             Ok(()) => Ok(()),
-            Err(cause) => Err(self.fail(Call::Sync, cause)),
+            Err(cause) => Err(self.fail(DiskCall::Sync, cause)),
         }
     }
 }

@@ -1,6 +1,7 @@
 use crate::pace::{Moment, Pace};
 use crate::status_line::StatusLine;
 use crate::volume_use::VolumeUse;
+use btrfs_format::block::SUPER_BLOCK;
 use outside::{Block, BlockNo};
 use std::alloc::{AllocError, Global};
 use std::time::{Clock, Duration, Instant};
@@ -16,9 +17,6 @@ const KNOWN: u64 = 5000;
 
 /// Blocks of 4 KiB in 1 MiB.
 const BLOCKS_OF_MIB: u64 = 256;
-
-/// The block of the superblock of both formats.
-const SUPERBLOCK: BlockNo = 16;
 
 /// What a command does with a disk, as far as it matters to somebody who waits.
 #[derive(Clone, Copy, Debug, PartialEq, Eq)]
@@ -98,7 +96,7 @@ impl<'a> Watch<'a> {
     /// A block is read. What the first superblock tells is kept.
     pub fn reads(&mut self, n: BlockNo, block: &Block) {
         self.read = self.read.saturating_add(1);
-        if n == SUPERBLOCK && self.volume.is_none() {
+        if n == SUPER_BLOCK && self.volume.is_none() {
             self.volume = VolumeUse::of(block);
         }
     }

@@ -3,7 +3,7 @@ ghost use Rattle.command_answers.specs.outside.Fault.{HasCause, Takes};
 ghost use Rattle.program_words.specs.Lines.{answer_line, answer_status, words_to_end, volume_words, btr_words, feature_number, rule_number, btr_rule_number};
 
 use command_answers::{Answer, BtrRefusal, BtrRule, Fault, Feature, Rule, Sink, VolumeRefusal};
-use sink_text::Piece::{Decimal, Plain};
+use sink_text::TextPart::{Decimal, Plain};
 use sink_text::write_pieces;
 
 /// Writes the line of an answer: what failed, or `refused` with the words of the refusal.

@@ -9,7 +9,7 @@ use Rattle.reiser_volume.specs.fs_rows.declared.row.Kind.{Kind}
 use Rattle.reiser_volume.specs.reiser_items.declared.stat.StatData.{StatData}
 use Rattle.reiser_make.specs.Items.{attributes, user_of, group_of}
 use Rattle.reiser_make.specs.Rows.{seconds, plain_row}
-use Rattle.reiser_make.specs.declared.item.Owner.{Owner}
+use Rattle.reiser_make.specs.declared.sample_item.Owner.{Owner}
 use Rattle.reiser_volume.specs.reiser_volume_objects.declared.stat.ObjectStat.{ObjectStat}
 use Rattle.reiser_volume.specs.fs_rows.Kinds.{is_symlink, is_device}
 use Rattle.reiser_volume.specs.reiser_volume_objects.Kinds.{kind_of_mode}

@@ -7,21 +7,21 @@ use Rattle.reiser_make.specs.Items as laid
 use Rattle.reiser_make.specs.Items.{body_bytes}
 use Rattle.reiser_make.specs.Leaf.{leaves}
 use Rattle.reiser_make.specs.Shape.{Shape, shape}
-use Rattle.reiser_make.specs.declared.item.Item as parts
+use Rattle.reiser_make.specs.declared.sample_item.SampleItem as parts
 use Rattle.reiser_make.proofs.Counting.{leaves_some}
 use Rattle.reiser_make.proofs.Rising.{root_low, nodes_some}
 use Rattle.reiser_volume.specs.reiser_node.declared.head.ItemHead.{ItemHead}
-use Rattle.reiser_volume.specs.reiser_walk.Items.{Item, Event, pointer, item_events, held_by, blocks_named}
+use Rattle.reiser_volume.specs.reiser_walk.Items.{ReiserItem, Event, pointer, item_events, held_by, blocks_named}
 use Rattle.reiser_volume.specs.reiser_walk.Laws.{IsNode, FitsHead}
 use Rattle.reiser_volume.specs.reiser_walk.Tree.{Visit, visits_in}
-use Rattle.reiser_volume.specs.reiser_walk.declared.pointer.Pointer.{Pointer}
+use Rattle.reiser_volume.specs.reiser_walk.declared.block_pointer.BlockPointer.{BlockPointer}
 use Rattle.reiser_volume.proofs.reiser_walk.Events.{visits_in-append}
 use Rattle.reiser_volume.proofs.reiser_walk.Lists.{Each, all_from_each}
 use Rattle.reiser_make_laws.proofs.Held.{leaf_held, many_nodes, HasChildren, has_children}
 use Rattle.reiser_make_laws.proofs.Items.{samples_items}
 use Rattle.reiser_make_laws.proofs.Walked.{names_children, samples_walked}
 use Rattle.reiser_make_laws.proofs.Writable.{AreGood, sample_good}
-use Rattle.reiser_make_laws.specs.Laws.{Fits, made}
+use Rattle.reiser_make_laws.specs.Laws.{FitsSample, made}
 use Rattle.reiser_make_laws.specs.Nodes.{ReadsAs}
 use Rattle.reiser_make_laws.specs.Walk.{leaf_items, laid_events, content, laid_content, SamplesKeepGrammar, SamplesFitTheirHeads}
 
@@ -30,18 +30,18 @@ each_append P [] ys first second = second
 each_append P (x ∷ xs) ys first second = (first.0, each_append P xs ys first.1 second)
 
 -- items and pointers to data are no visits
-no_visits : (ps : List Pointer) → visits_in (map pointer ps) ≡ []
+no_visits : (ps : List BlockPointer) → visits_in (map pointer ps) ≡ []
 no_visits [] = refl
 no_visits (p ∷ ps) = no_visits ps
 
-items_no_visits : (is : List Item) → visits_in (flat_map item_events is) ≡ []
+items_no_visits : (is : List ReiserItem) → visits_in (flat_map item_events is) ≡ []
 items_no_visits [] = refl
 items_no_visits (i ∷ is) =
     visits_in-append (item_events i) (flat_map item_events is)
     ∙ ap (λ z. z ++ visits_in (flat_map item_events is)) (no_visits (held_by i.leaf (blocks_named i.head i.body)))
     ∙ items_no_visits is
 
-module _ (number : ℕ) (old : Bool) (blocks : ℕ) (image : Image) (fits : Fits number old blocks image) where
+module _ (number : ℕ) (old : Bool) (blocks : ℕ) (image : Image) (fits : FitsSample number old blocks image) where
   abbrev s : Shape
   s = shape number old
 
@@ -86,14 +86,14 @@ keeps_grammar number old blocks image fits =
     (all_from_each _ _ (all_on_grammar number old blocks image fits))
 
 -- of a list whose contents are those of another
-pub each_content : (P : ItemHead × List ℕ → Type 0) (is : List Item) → Each P (map content is) → Each (λ i. P (content i)) is
+pub each_content : (P : ItemHead × List ℕ → Type 0) (is : List ReiserItem) → Each P (map content is) → Each (λ i. P (content i)) is
 each_content P [] each = tt
 each_content P (i ∷ is) each = (each.0, each_content P is each.1)
 
 abbrev Fit : ItemHead × List ℕ → Type 0
 Fit c = FitsHead c.0 c.1
 
-good_fit : (s : Shape) (xs : List parts.Item) → AreGood s xs → Each Fit (map (laid_content s) xs)
+good_fit : (s : Shape) (xs : List parts.SampleItem) → AreGood s xs → Each Fit (map (laid_content s) xs)
 good_fit s [] good = tt
 good_fit s (x ∷ xs) good = (good.0.body, good_fit s xs good.1)
 

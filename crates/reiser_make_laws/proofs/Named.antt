@@ -7,7 +7,7 @@ use Rattle.reiser_make.specs.Content.{is_further_name}
 use Rattle.reiser_make.specs.Items.{items}
 use Rattle.reiser_make.specs.Names.{directory_name, file_name}
 use Rattle.reiser_make.specs.Shape.{Shape, directory_count, names_in, object_count, named_by}
-use Rattle.reiser_volume.specs.reiser_walk.Items.{Item}
+use Rattle.reiser_volume.specs.reiser_walk.Items.{ReiserItem}
 use Rattle.reiser_volume.proofs.reiser_walk.Lists.{Each, all_pairs_from_pairs}
 use Rattle.reiser_volume.specs.reiser_volume_objects.declared.key.ObjectKey.{ObjectKey}
 use Rattle.reiser_volume.specs.reiser_volume_objects.declared.naming.Naming.{Naming}
@@ -73,7 +73,7 @@ pub laid_followed : (number : ℕ) (n : Naming) → IsLaid number n → is_follo
 laid_followed number n (in_root k lt dir target name) = not_from_false (same_key root n.dir && is_private_name n.name) (and_right (same_key root n.dir) (is_private_name n.name) (ap is_private_name name ∙ not_private k))
 laid_followed number n (in_directory k i lt few low high dir target name) = ap (λ d. not (same_key root d && is_private_name n.name)) dir
 
-module _ (s : Shape) (few : length s.names ≤ 4000) (found : List Item) (are : map content found ≡ map (laid_content s) (items s)) where
+module _ (s : Shape) (few : length s.names ≤ 4000) (found : List ReiserItem) (are : map content found ≡ map (laid_content s) (items s)) where
   abbrev number : ℕ
   number = length s.names
 

@@ -3,6 +3,7 @@ use Rattle.std.proofs.Common.{◌≡◌, ℕ, ◌+◌, ◌-◌, ◌*◌, ◌/◌
 use Rattle.std.specs.Prelude.{nat_le}
 use Rattle.std.specs.Int.{div_ceil}
 use Rattle.std.specs.List.{range_with_len, flat_map}
+use Rattle.vol_block.specs.declared.mode.TheConstants.{DIRECTORY_MODE}
 use Rattle.reiser_volume.specs.outside.History.{Image, block_at}
 use Rattle.reiser_volume.specs.fs_rows.Rows.{NameList, WholeRow}
 use Rattle.reiser_volume.specs.fs_rows.declared.row.Kind.TheVariants as kinds
@@ -12,11 +13,11 @@ use Rattle.reiser_make.specs.Items.{items, base_time, file_units, first_direct_o
 use Rattle.reiser_make.specs.Names.{directory_name}
 use Rattle.reiser_make.specs.Places.{place}
 use Rattle.reiser_make.specs.Rows.{directory_row, path_of, content_row, sample_rows}
-use Rattle.reiser_make.specs.Shape.{Shape, shape, directory_count, names_in, named_by, name_count, stored_before, stored_of, stored_block, file_bytes}
-use Rattle.reiser_make.specs.declared.content.Content.{Content}
-use Rattle.reiser_make.specs.declared.content.Content.TheVariants.{Name, Symlink, File}
-use Rattle.reiser_make.specs.declared.item.Owner.TheVariants.{System, User}
-use Rattle.reiser_volume.specs.reiser_walk.Items.{Item}
+use Rattle.reiser_make.specs.Shape.{Shape, shape, directory_count, names_in, named_by, name_count, stored_before, stored_of, stored_block, sample_bytes}
+use Rattle.reiser_make.specs.declared.sample_entry.SampleEntry.{SampleEntry}
+use Rattle.reiser_make.specs.declared.sample_entry.SampleEntry.TheVariants.{Name, Symlink, File}
+use Rattle.reiser_make.specs.declared.sample_item.Owner.TheVariants.{System, User}
+use Rattle.reiser_volume.specs.reiser_walk.Items.{ReiserItem}
 use Rattle.reiser_volume.proofs.reiser_walk.Lists.{Each}
 use Rattle.reiser_volume.specs.reiser_volume_objects.declared.key.ObjectKey.{ObjectKey}
 use Rattle.reiser_volume.specs.reiser_volume_objects.declared.naming.Naming.{Naming}
@@ -52,8 +53,8 @@ one_name number j is =
 own_first : (j : ℕ) → is_further_name j ≡ false → named_by j ≡ j
 own_first j own = ap (λ b. cond b (j - 1) j) own
 
-module _ (image : Image) (flags : ℕ) (s : Shape) (shaped : IsSampleShape s) (found : List Item) (are : map content found ≡ map (laid_content s) (items s))
-    (held : (i whole rest : ℕ) (sparse : Bool) → i < length s.names → get_or s.names i Name ≡ File whole rest sparse → (j : ℕ) → j < stored_of whole sparse → block_at image (place (stored_before s.names i + j)) ≡ file_bytes i sparse (4096 * stored_block sparse j) 4096) where
+module _ (image : Image) (flags : ℕ) (s : Shape) (shaped : IsSampleShape s) (found : List ReiserItem) (are : map content found ≡ map (laid_content s) (items s))
+    (held : (i whole rest : ℕ) (sparse : Bool) → i < length s.names → get_or s.names i Name ≡ File whole rest sparse → (j : ℕ) → j < stored_of whole sparse → block_at image (place (stored_before s.names i + j)) ≡ sample_bytes i sparse (4096 * stored_block sparse j) 4096) where
   abbrev number : ℕ
   number = length s.names
 
@@ -78,7 +79,7 @@ module _ (image : Image) (flags : ℕ) (s : Shape) (shaped : IsSampleShape s) (f
           leads = path_leads s shaped.few found are [] root (at_root refl refl);
           stat = stat_by o.stat_is.leaf s.old (read_back s.old (directory_stat (2 + dirs) (2 + dirs)));
           has_stat = o.stat_is.has;
-          fields = has_stat flags o.stat_is.leaf s.old 0x41ED (2 + dirs) size System base_time (div_ceil size 512) no_direct_byte [] kinds.Directory [] 0 [] refl refl (omega arith);
+          fields = has_stat flags o.stat_is.leaf s.old DIRECTORY_MODE (2 + dirs) size System base_time (div_ceil size 512) no_direct_byte [] kinds.Directory [] 0 [] refl refl (omega arith);
           least = root_least s shaped.few found are;
           names = refl;
           bytes = refl;
@@ -95,14 +96,14 @@ module _ (image : Image) (flags : ℕ) (s : Shape) (shaped : IsSampleShape s) (f
           leads = path_leads s shaped.few found are path (directory_key k) (at_directory k lt refl refl);
           stat = stat_by o.stat_is.leaf s.old (read_back s.old (directory_stat 2 (2 + names_in number k)));
           has_stat = o.stat_is.has;
-          fields = has_stat flags o.stat_is.leaf s.old 0x41ED 2 size System base_time (div_ceil size 512) no_direct_byte path kinds.Directory path 0 [] refl refl (omega arith);
+          fields = has_stat flags o.stat_is.leaf s.old DIRECTORY_MODE 2 size System base_time (div_ceil size 512) no_direct_byte path kinds.Directory path 0 [] refl refl (omega arith);
           least = directory_least s shaped.few found are k lt;
           names = refl;
           bytes = refl;
         },
       )
 
-  name_has_by : (i : ℕ) (c : Content) → i < number → get_or s.names (named_by i) Name ≡ c → IsOwn c → IsSmallContent c → HasRow (content_row number i (named_by i) c)
+  name_has_by : (i : ℕ) (c : SampleEntry) → i < number → get_or s.names (named_by i) Name ≡ c → IsOwn c → IsSmallContent c → HasRow (content_row number i (named_by i) c)
   name_has_by i Name lt here own small = absurd own
   name_has_by i Symlink lt here own small =
       let j : ℕ = named_by i in

@@ -17,7 +17,7 @@ use Rattle.std.proofs.lemmas.Map.Made.{AllPairs-from_IsDistinct}
 use Rattle.std.proofs.lemmas.Map.Views.{Contains-keys_from_lookup, IsSome-lookup_from_Contains}
 use Rattle.indexmap.specs.IndexMap.{IndexMap, keys, get, IsUnique}
 use Rattle.indexmap.specs.IndexSet.{IndexSet, contains}
-use Rattle.reiser_volume_objects.specs.reiser_walk.Items.{Item}
+use Rattle.reiser_volume_objects.specs.reiser_walk.Items.{ReiserItem}
 use Rattle.reiser_volume_objects.specs.declared.key.ObjectKey.{ObjectKey}
 use Rattle.reiser_volume_objects.specs.declared.stat.ObjectStat.{ObjectStat}
 use Rattle.reiser_volume_objects.specs.Items.{stat_of_object}
@@ -42,7 +42,7 @@ or_false false = refl
 seen_also : (seen : List ObjectKey) (key q : ObjectKey) (b : Bool) → same_key key q ≡ b → list_any (same_key q) (seen ++ key ∷ []) ≡ (list_any (same_key q) seen || (b || false))
 seen_also seen key q b is = list_any-append (same_key q) seen (key ∷ []) ∙ ap (λ (c : Bool). list_any (same_key q) seen || (c || false)) (flips q key ∙ is)
 
-module _ {S : Type 0} (items : List Item) (table new : IndexMap ObjectKey ObjectStat S) (seen : List ObjectKey) (key : ObjectKey) (has : HasStats items table seen) where
+module _ {S : Type 0} (items : List ReiserItem) (table new : IndexMap ObjectKey ObjectStat S) (seen : List ObjectKey) (key : ObjectKey) (has : HasStats items table seen) where
   -- one more object
   pub stats_more : (stat : ObjectStat) → stat_of_object items key ≡ Some stat → ((q : ObjectKey) → get same_key new q ≡ cond (same_key key q) (Some stat) (get same_key table q)) → HasStats items new (seen ++ key ∷ [])
   stats_more stat there grows q = grows q ∙ by (same_key key q) refl
@@ -97,7 +97,7 @@ object_total = then_total (on_total (λ (k : ObjectKey). k.dir) nat_cmp_total) (
 pub ascending : (ks : List ObjectKey) → IsSorted object_cmp ks → IsDistinct same_key ks → IsStrictlySortedBy object_cmp ks
 ascending ks sorted apart = subst (IsStrictlySortedBy object_cmp) (dedup_distinct ks apart) (IsStrictlySortedBy-dedup object_total object_ties ks sorted)
 
-module _ {S T : Type 0} (items : List Item) (table : IndexMap ObjectKey ObjectStat S) (named : IndexSet ObjectKey T) (has : HasStats items table named.keys) (reach : IsReach items (contains same_key named)) where
+module _ {S T : Type 0} (items : List ReiserItem) (table : IndexMap ObjectKey ObjectStat S) (named : IndexSet ObjectKey T) (has : HasStats items table named.keys) (reach : IsReach items (contains same_key named)) where
   -- what is in the table is named
   found : (key : ObjectKey) → Contains (keys table) key → contains same_key named key ≡ true
   found key among = by (contains same_key named key) refl
@@ -145,7 +145,7 @@ pub take_next : (ks : List ObjectKey) (i : ℕ) (key d : ObjectKey) → i < leng
 take_next ks i key d within is = ap (λ (n : ℕ). take n ks) (add-one i) ∙ (take-suc ks i d within ∙ ap (λ (k : ObjectKey). take i ks ++ k ∷ []) (sym is))
 
 -- the same keys in another order
-pub sorted_reach : {S : Type 0} (items : List Item) (reached named : IndexSet ObjectKey S) → IsReach items (contains same_key reached) → ((q : ObjectKey) → contains same_key named q ≡ contains same_key reached q) → IsReach items (contains same_key named)
+pub sorted_reach : {S : Type 0} (items : List ReiserItem) (reached named : IndexSet ObjectKey S) → IsReach items (contains same_key reached) → ((q : ObjectKey) → contains same_key named q ≡ contains same_key reached q) → IsReach items (contains same_key named)
 sorted_reach items reached named reach same =
     let tests : contains same_key reached ≡ contains same_key named = λ j q. sym (same q) j in
     subst (IsReach items) tests reach

@@ -7,7 +7,7 @@ use crate::sentences::{
 use crate::space::Space;
 use crate::start::Missing;
 use crate::wrong_words::find;
-use host_edge::{Call, Cause, Trouble, Use};
+use host_edge::{Cause, DiskCall, Trouble, Use};
 use std::alloc::{AllocError, Global};
 use std::str;
 
@@ -240,7 +240,7 @@ fn cause(trouble: &Trouble) -> &'static str {
         Cause::ReadOnly => "readonly",
         Cause::Holds(_) => "holds",
         Cause::Kind => "kind",
-        Cause::System(_) | Cause::Closed if trouble.call == Call::Open => "open",
+        Cause::System(_) | Cause::Closed if trouble.call == DiskCall::Open => "open",
         Cause::System(_) | Cause::Closed => "device",
     }
 }

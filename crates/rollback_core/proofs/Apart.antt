@@ -2,6 +2,8 @@
 use Rattle.std.proofs.Common.{◌≡◌, inr, ℕ, ◌/◌, eqb, nat_lt, Bool, true, false, not, ◌&&◌, List, Contains, Option, Some, None, refl, ◌∙◌, ap, subst, if◌then◌else◌}
 use Rattle.std.specs.Option.{option_and_then}
 use Rattle.std.proofs.lemmas.Bool.{and_parts}
+use Rattle.btrfs_format.specs.declared.key.TheConstants.{EXTENT_DATA}
+use Rattle.btrfs_format.specs.declared.object.TheConstants.{FS_TREE}
 use Rattle.reiser_bitmap.specs.outside.History.{Image}
 use Rattle.btr_reader.specs.btr_reader_contents.Extents.{extents_of, is_extent_of}
 use Rattle.btr_reader.specs.btr_keys.FileExtent.{FileExtentValue, file_extent_of}
@@ -43,7 +45,7 @@ module _ (disk : Image) (readable : IsReadable disk SavedImage) where
       let items : List TreeItem = items_at disk s ranges way.number way.q in
       let among : Contains (extents_of items way.ino) has.item = subst (λ (extents : List TreeItem). Contains extents has.item) way.extents has.among in
       let from = from_filter (is_extent_of way.ino) items has.item among in
-      let kind : eqb has.item.key.kind 108 ≡ true = (and_parts (eqb has.item.key.objectid way.ino) (eqb has.item.key.kind 108) from.1).1 in
+      let kind : eqb has.item.key.kind EXTENT_DATA ≡ true = (and_parts (eqb has.item.key.objectid way.ino) (eqb has.item.key.kind EXTENT_DATA) from.1).1 in
       let range : item_range has.item ≡ Some has.range =
       ap (λ (t : Bool). if t then option_and_then (λ x. content_range x.content) (file_extent_of has.item.body) else None) kind
       ∙ (ap (λ (o : Option FileExtentValue). option_and_then (λ x. content_range x.content) o) has.read
@@ -67,7 +69,7 @@ module _ (disk : Image) (readable : IsReadable disk SavedImage) where
       chunks = trees.chunks;
       roots = trees.roots;
       files = trees.files;
-      extents = λ p root. extents (tree_of s 5 p) (file_tree_among disk p root);
+      extents = λ p root. extents (tree_of s FS_TREE p) (file_tree_among disk p root);
       saved = trees.saved;
       blocks = λ f b at is placed. unused at (image_in_use f b at is placed);
     }

@@ -15,9 +15,9 @@ use Rattle.reiser_bitmap.proofs.SystemBlocks.{superblock_in}
 use Rattle.reiser_volume.proofs.Holding.{used_length}
 use Rattle.reiser_volume.specs.Volume.{superblock}
 use Rattle.volume_state.specs.Untouched.{IsUntouched, old_used}
-use Rattle.rollback_core.specs.Prepared.{IsPrepared}
-use Rattle.rollback_core.specs.RolledBack.{IsBack, IsRestored, IsRolledBack, IsStanding, is_wiped, restored_blocks}
-use Rattle.rollback_core.specs.Writing.{AreApart, AreWiped, IsPlace, IsTurned, IsUnturned, IsWiped}
+use Rattle.rollback_core.specs.Prepared.{IsWayBack}
+use Rattle.rollback_core.specs.RolledBack.{IsBack, IsRestored, IsRolledBack, StillStands, is_wiped, restored_blocks}
+use Rattle.rollback_core.specs.Writing.{AreWritesApart, AreWiped, IsSavedPlace, IsTurned, IsUnturned, IsWiped}
 use Rattle.rollback_core.specs.declared.way.Saved.{Saved}
 use Rattle.rollback_core.specs.declared.way.WayBack.{WayBack}
 
@@ -53,7 +53,7 @@ image_in_place : (disk : Image) → IsUntouched disk → (b : ℕ) → IsOld (ol
 image_in_place disk untouched b old =
     image_block disk b (used_below disk untouched b old.marked) ∙ ap (λ (o : Option ℕ). block_or_hole disk o) (untouched.in_place b old)
 
-module _ (disk : Image) (way : WayBack) (p : IsPrepared disk way) where
+module _ (disk : Image) (way : WayBack) (p : IsWayBack disk way) where
   abbrev used : List Bool
   used = old_used disk
 
@@ -61,13 +61,13 @@ module _ (disk : Image) (way : WayBack) (p : IsPrepared disk way) where
   reserved_here b = is_reserved b (length used)
 
   -- a place is one of the restored blocks, and not block 16
-  place_listed : (b : ℕ) → IsPlace way.reserved.items b → Contains (filter other_than (restored_blocks disk)) b
+  place_listed : (b : ℕ) → IsSavedPlace way.reserved.items b → Contains (filter other_than (restored_blocks disk)) b
   place_listed b at =
       let s : Saved = at.1 in
       subst (λ (numbers : List ℕ). Contains numbers b) p.reserved.numbers_are
       (subst (Contains (map (λ (t : Saved). t.at) way.reserved.items)) (sym at.4) (in_map (λ (t : Saved). t.at) way.reserved.items s (at.0, at.2, at.3)))
 
-  pub place_restored : (b : ℕ) → IsPlace way.reserved.items b → IsRestored disk b
+  pub place_restored : (b : ℕ) → IsSavedPlace way.reserved.items b → IsRestored disk b
   place_restored b at =
       let listed = from_filter other_than (restored_blocks disk) b (place_listed b at) in
       let marked = from_filter reserved_here (used_blocks used) b listed.0 in
@@ -82,7 +82,7 @@ module _ (disk : Image) (way : WayBack) (p : IsPrepared disk way) where
       from_map (λ (t : Saved). t.at) way.reserved.items b (subst (λ (numbers : List ℕ). Contains numbers b) (sym p.reserved.numbers_are) listed)
 
   -- before block 16 the Btrfs volume stands
-  pub standing : AreApart way → (other : Image) → IsUnturned way disk other → IsStanding disk other
+  pub standing : AreWritesApart way → (other : Image) → IsUnturned way disk other → StillStands disk other
   standing apart other is = record {
     size = is.size;
     superblock = is.others 16 apart.superblock;
@@ -127,7 +127,7 @@ module _ (disk : Image) (way : WayBack) (p : IsPrepared disk way) where
             subst (λ (n : ℕ). block_at other n ≡ block_at (image_blocks disk) n) found.2 (saved_stands found.0 found.1)
         by_reserved rest false free =
             let old : IsOld used b = record { marked = marked; outside = free } in
-            let outside : ¬ IsPlace way.reserved.items b = λ at. true≢false (sym ((place_restored b at).reserved) ∙ free) in
+            let outside : ¬ IsSavedPlace way.reserved.items b = λ at. true≢false (sym ((place_restored b at).reserved) ∙ free) in
             let same : block_at other b ≡ block_at disk b =
             ⊎_elim (λ kept. kept) (λ wiping. absurd (true≢false (sym marked ∙ free_unused b (wiped_free b wiping.0).1))) (is.others b rest outside) in
             same ∙ sym (image_in_place disk p.untouched b old)
@@ -139,7 +139,7 @@ module _ (disk : Image) (way : WayBack) (p : IsPrepared disk way) where
       used = used_stands;
       others = λ b free.
           let rest : b ≢ 16 = λ first. true≢false (sym superblock_used ∙ (ap (has used) (sym first) ∙ free)) in
-          let outside : ¬ IsPlace way.reserved.items b = λ at. true≢false (sym ((place_restored b at).used) ∙ free) in
+          let outside : ¬ IsSavedPlace way.reserved.items b = λ at. true≢false (sym ((place_restored b at).used) ∙ free) in
           ⊎_elim (λ kept. inl kept) (λ wiping. let of = wiped_free b wiping.0 in inr (of.0, of.1, wiping.1)) (is.others b rest outside);
     }
       where

@@ -6,7 +6,7 @@ use Rattle.convert_steps.specs.command_answers.declared.answer.Answer.TheVariant
 use Rattle.reiser_bitmap.specs.refusals.declared.answer.VolAnswer.{VolAnswer}
 use Rattle.reiser_bitmap.specs.refusals.declared.answer.VolAnswer.TheVariants.{Refused, Fault, Memory}
 use Rattle.btr_reader.specs.Image.{image_refusals, saved_image}
-use Rattle.btr_reader.specs.Opening.{IsOpened, opening_refusals}
+use Rattle.btr_reader.specs.Opening.{IsBtrfsOpened, opening_refusals}
 use Rattle.btr_reader.specs.Parts.{HasBtrfsRows, way_refusals}
 use Rattle.btr_reader.specs.Pieces.{map_place}
 use Rattle.btr_reader.specs.Reading.{ReadsImage}
@@ -23,7 +23,7 @@ use Rattle.volume_state.specs.Moved.{IsOld, TellsMoved}
 use Rattle.volume_state.specs.Saved.{blocks_by_map, image_blocks}
 use Rattle.volume_state.specs.Untouched.{IsUntouched, old_used}
 use Rattle.volume_state.specs.Using.{IsReservedFree}
-use Rattle.rollback_core.specs.RollbackAnswers.{HasImage, HasPlaces, HasVolume, IsReadable, RefusesRollback}
+use Rattle.rollback_core.specs.RollbackAnswers.{HasImage, HasPlaces, HasVolume, IsReadableVolume, RefusesRollback}
 use Rattle.rollback_core.specs.Opened.{IsMapOn}
 use Rattle.rollback_core.specs.Prepared.{by_image}
 use Rattle.rollback_core.proofs.Reading.{way_readable}
@@ -31,7 +31,7 @@ use Rattle.rollback_core.proofs.Reading.{way_readable}
 -- ---- the map
 
 -- the map that was read of an opened volume is that of its saved image
-pub map_on : (disk : Image) (s : Super) (ranges : List MapRange) (opened : IsOpened disk s ranges) (m : ImageMap) → ReadsImage ranges (saved_image disk s ranges) (image_refusals disk s ranges) (Ok (Some m)) → IsReadable disk → IsMapOn disk m
+pub map_on : (disk : Image) (s : Super) (ranges : List MapRange) (opened : IsBtrfsOpened disk s ranges) (m : ImageMap) → ReadsImage ranges (saved_image disk s ranges) (image_refusals disk s ranges) (Ok (Some m)) → IsReadableVolume disk → IsMapOn disk m
 map_on disk s ranges opened m reads readable = record {
   image = record { readable = readable; there = image_there disk s ranges opened m reads };
   places = map_places disk s ranges opened m reads;
@@ -81,7 +81,7 @@ untouched disk has free = record {
 }
 
 -- all is read where nothing is wrong on the way to the image
-pub readable_with : (disk : Image) → format_in disk ≡ Btrfs → HasBtrfsRows disk → opening_refusals disk ≡ [] → way_refusals disk ≡ [] → IsReadable disk
+pub readable_with : (disk : Image) → format_in disk ≡ Btrfs → HasBtrfsRows disk → opening_refusals disk ≡ [] → way_refusals disk ≡ [] → IsReadableVolume disk
 readable_with disk format rows opens way = record { format = format; whole = record { rows = rows; way = way_readable disk opens way } }
 
 -- how many blocks the image has

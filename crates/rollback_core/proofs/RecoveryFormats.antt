@@ -5,6 +5,7 @@ use Rattle.std.specs.List.{starts_with}
 use Rattle.std.proofs.lemmas.Bool.{and_parts, eqb-true}
 use Rattle.std.proofs.lemmas.Bool.Decides.{nat_tests}
 use Rattle.std.proofs.lemmas.List.{get_or-drop}
+use Rattle.btrfs_format.specs.declared.block.TheConstants.{SUPER_BLOCK, SUPER_MAGIC_OFFSET}
 use Rattle.reiser_bitmap.specs.outside.Format.{format_in}
 use Rattle.reiser_bitmap.specs.outside.History.{Image, block_at}
 use Rattle.reiser_bitmap.specs.refusals.declared.refusal.BtrRefusal.{BtrRefusal}
@@ -30,7 +31,7 @@ starts_get (x ∷ xs) (y ∷ ys) zero less is = sym (eqb-true y x (and_parts (na
 starts_get (x ∷ xs) (y ∷ ys) (suc i) less is = starts_get xs ys i (omega (arith, less)) (and_parts (nat_eq y x) (starts_with nat_eq xs ys) is).1
 
 -- where a Btrfs superblock has its magic, a ReiserFS superblock has a tree that is too high
-high : (bytes : List ℕ) → has_bytes_at bytes 64 (codes "_BHRfS_M") ≡ true → 7 < field 2 bytes 68
+high : (bytes : List ℕ) → has_bytes_at bytes SUPER_MAGIC_OFFSET (codes "_BHRfS_M") ≡ true → 7 < field 2 bytes 68
 high bytes is =
     let fifth : get_or (drop 64 bytes) 4 0 ≡ 0x66 = starts_get (drop 64 bytes) (codes "_BHRfS_M") 4 (omega arith) is in
     let low : get_or (drop 68 bytes) 0 0 ≡ 0x66 = get_or-drop 68 bytes 0 0 ∙ (sym (get_or-drop 64 bytes 4 0) ∙ fifth) in
@@ -58,15 +59,15 @@ long_enough n long = grind (arith, nat_tests, long)
 
 reiser_format : (image : Image) → IsFrontAccepted image → format_in image ≡ Reiser
 reiser_format image a =
-    let other : has_bytes_at (block_at image 16) 64 (codes "_BHRfS_M") ≡ false =
-    not_true (has_bytes_at (block_at image 16) 64 (codes "_BHRfS_M")) (λ is. omega (arith, high (block_at image 16) is, a.clean.superblock.bounds.height_high)) in
-    chosen_reiser (nat_le (length image) 16) (has_bytes_at (block_at image 16) 64 (codes "_BHRfS_M")) (has_reiser_magic (block_at image 16)) (long_enough (length image) a.clean.superblock.there) other a.clean.superblock.magic
+    let other : has_bytes_at (block_at image SUPER_BLOCK) SUPER_MAGIC_OFFSET (codes "_BHRfS_M") ≡ false =
+    not_true (has_bytes_at (block_at image SUPER_BLOCK) SUPER_MAGIC_OFFSET (codes "_BHRfS_M")) (λ is. omega (arith, high (block_at image SUPER_BLOCK) is, a.clean.superblock.bounds.height_high)) in
+    chosen_reiser (nat_le (length image) 16) (has_bytes_at (block_at image SUPER_BLOCK) SUPER_MAGIC_OFFSET (codes "_BHRfS_M")) (has_reiser_magic (block_at image SUPER_BLOCK)) (long_enough (length image) a.clean.superblock.there) other a.clean.superblock.magic
 
-btrfs_format : (image : Image) (s : Super) → super_of (block_at image 16) 16 (length image) ≡ Ok s → format_in image ≡ Btrfs
+btrfs_format : (image : Image) (s : Super) → super_of (block_at image SUPER_BLOCK) SUPER_BLOCK (length image) ≡ Ok s → format_in image ≡ Btrfs
 btrfs_format image s read =
-    let parts = and_parts (nat_lt 16 (length image)) (has_bytes_at (block_at image 16) 64 (codes "_BHRfS_M")) (super_magic (block_at image 16) (length image) s read) in
+    let parts = and_parts (nat_lt 16 (length image)) (has_bytes_at (block_at image SUPER_BLOCK) SUPER_MAGIC_OFFSET (codes "_BHRfS_M")) (super_magic (block_at image SUPER_BLOCK) (length image) s read) in
     let long : nat_le (length image) 16 ≡ false = grind (arith, nat_tests, parts.0) in
-    chosen_btrfs (nat_le (length image) 16) (has_bytes_at (block_at image 16) 64 (codes "_BHRfS_M")) (cond (has_reiser_magic (block_at image 16)) Reiser Neither) long parts.1
+    chosen_btrfs (nat_le (length image) 16) (has_bytes_at (block_at image SUPER_BLOCK) SUPER_MAGIC_OFFSET (codes "_BHRfS_M")) (cond (has_reiser_magic (block_at image SUPER_BLOCK)) Reiser Neither) long parts.1
 
 by_front : (image : Image) → IsFrontAccepted image → (format_in image ≡ Reiser) × IsRecoverable image
 by_front image a = (reiser_format image a, subst (λ (f : Format). IsInOrder f image) (sym (reiser_format image a)) a)

@@ -2,6 +2,7 @@
 use Rattle.std.proofs.Common.{◌≡◌, ◌<◌, ◌≤◌, Bool, true, false, cond, List, [], ◌∷◌, length, Result, Err, Contains, inl, refl, sym, ◌∙◌, ap, subst, arith}
 use Rattle.std.specs.Prelude.{nat_le}
 use Rattle.std.proofs.lemmas.Bool.Decides.{nat_tests}
+use Rattle.btrfs_format.specs.declared.block.TheConstants.{SUPER_BLOCK}
 use Rattle.reiser_bitmap.specs.outside.Format.{format_in}
 use Rattle.reiser_bitmap.specs.outside.History.{Image, block_at}
 use Rattle.reiser_bitmap.specs.refusals.declared.refusal.BtrRefusal.{BtrRefusal}
@@ -23,16 +24,16 @@ chosen_short true f is = refl
 chosen_short false f is = absurd cc
 
 -- a disk that has block 16 has the format of that block
-pub format_long : (disk : Image) (f : Format) → 16 < length disk → format (block_at disk 16) ≡ f → format_in disk ≡ f
+pub format_long : (disk : Image) (f : Format) → 16 < length disk → format (block_at disk SUPER_BLOCK) ≡ f → format_in disk ≡ f
 format_long disk f long is =
     let enough : nat_le (length disk) 16 ≡ false = grind (arith, nat_tests, long) in
-    chosen_long (nat_le (length disk) 16) (format (block_at disk 16)) enough ∙ is
+    chosen_long (nat_le (length disk) 16) (format (block_at disk SUPER_BLOCK)) enough ∙ is
 
 -- and a shorter one has none
 pub format_short : (disk : Image) → length disk ≤ 16 → format_in disk ≡ formats.Neither
 format_short disk short =
     let is : nat_le (length disk) 16 ≡ true = grind (arith, nat_tests, short) in
-    chosen_short (nat_le (length disk) 16) (format (block_at disk 16)) is
+    chosen_short (nat_le (length disk) 16) (format (block_at disk SUPER_BLOCK)) is
 
 opening_refused : (disk : Image) (r : BtrRefusal) → super_on disk ≡ Err r → opening_refusals disk ≡ r ∷ []
 unfolding opening_refusals

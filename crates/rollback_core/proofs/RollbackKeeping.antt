@@ -2,6 +2,7 @@
 use Rattle.std.proofs.Common.{◌≡◌, ◌≢◌, inl, inr, ⊎_elim, ℕ, ◌≤◌, eqb, nat_lt, Bool, true, false, not, ◌&&◌, List, length, codes, refl, sym, ◌∙◌, ap, subst, arith, true≢false}
 use Rattle.std.proofs.lemmas.Bool.{and_parts}
 use Rattle.std.proofs.lemmas.Bool.Decides.{nat_tests}
+use Rattle.btrfs_format.specs.declared.block.TheConstants.{SUPER_MAGIC_OFFSET}
 use Rattle.reiser_bitmap.specs.outside.History.{Image, block_at}
 use Rattle.volume_state.specs.Laws.{is_spare}
 use Rattle.volume_state.specs.Saved.{image_blocks}
@@ -16,7 +17,7 @@ use Rattle.reiser_volume.proofs.Unchanged.{same_volume}
 use Rattle.reiser_bitmap.specs.vol_block.Format.{has_bytes_at}
 use Rattle.reiser_bitmap.specs.vol_block.Volume.{is_reserved}
 use Rattle.rollback_core.specs.RollbackLaws.{RollbackGoesOn, RollbackKeeps}
-use Rattle.rollback_core.specs.RolledBack.{IsBack, IsRolledBack, IsStanding, is_wiped}
+use Rattle.rollback_core.specs.RolledBack.{IsBack, IsRolledBack, StillStands, is_wiped}
 use Rattle.rollback_core.proofs.Back.{equal_or}
 
 -- a reserved block other than 16 is a spare one
@@ -24,7 +25,7 @@ spare_so : (t : Bool) (b : ℕ) → t ≡ true → b ≢ 16 → (t && not (eqb b
 spare_so true b is other = grind (arith, nat_tests, other)
 spare_so false b is other = absurd (true≢false (sym is))
 
-outside_spare : (disk other : Image) → IsStanding disk other → IsSameOutside (is_spare disk) disk other
+outside_spare : (disk other : Image) → StillStands disk other → IsSameOutside (is_spare disk) disk other
 outside_spare disk other is = record { size = is.size; others = λ b free. ⊎_elim (λ first. at_superblock b first) (λ rest. elsewhere b free rest) (equal_or b) }
   where
     at_superblock : (b : ℕ) → b ≡ 16 → block_at other b ≡ block_at disk b
@@ -47,7 +48,7 @@ rollback_keeps = record {
     room disk other u is = omega (arith, u.accepted.clean.superblock.fits, is.size, image_short disk)
 
 -- ---- another rollback
-module _ (disk left other : Image) (u : IsUntouched disk) (is : IsStanding disk left) (done : IsRolledBack left other) where
+module _ (disk left other : Image) (u : IsUntouched disk) (is : StillStands disk left) (done : IsRolledBack left other) where
   image_same : image_blocks left ≡ image_blocks disk
   image_same = (spare_blocks_decide_nothing disk left u (outside_spare disk left is)).image
 
@@ -59,7 +60,7 @@ module _ (disk left other : Image) (u : IsUntouched disk) (is : IsStanding disk 
   left_same b free = is.others b (λ restored. true≢false (sym restored.used ∙ free))
 
   abbrev wiped_by : List Bool → List ℕ → ℕ → Bool
-  wiped_by used bytes b = nat_lt b (length used) && (not (has used b) && has_bytes_at bytes 64 (codes "_BHRfS_M"))
+  wiped_by used bytes b = nat_lt b (length used) && (not (has used b) && has_bytes_at bytes SUPER_MAGIC_OFFSET (codes "_BHRfS_M"))
 
   wiped_same : (b : ℕ) → has (old_used disk) b ≡ false → is_wiped left b ≡ is_wiped disk b
   wiped_same b free = ap (λ (used : List Bool). wiped_by used (block_at left b) b) used_same ∙ ap (λ (bytes : List ℕ). wiped_by (old_used disk) bytes b) (left_same b free)

@@ -1,5 +1,6 @@
 -- What was opened on the way to the old volume.
 use Rattle.std.specs.Prelude.{◌≡◌, ◌≤◌, ◌<◌, ℕ, Bool, List, None, length, min}
+use Rattle.btrfs_format.specs.declared.block.TheConstants.{SUPER_BLOCK}
 use Rattle.reiser_bitmap.specs.outside.Format.{format_in}
 use Rattle.reiser_bitmap.specs.outside.History.{Image, block_at}
 use Rattle.reiser_bitmap.specs.vol_block.declared.block.Block.{Block}
@@ -15,9 +16,9 @@ use Rattle.reiser_volume.specs.declared.volume.Volume.{Volume}
 use Rattle.rollback_core.specs.RollbackAnswers.{HasImage, HasVolume}
 
 -- the block is block 16 of a disk with a Btrfs volume
-pub record IsFoundOn (disk : Image) (block : Block) : Type 0 where
+pub record IsBtrfsOn (disk : Image) (block : Block) : Type 0 where
   pub format : format_in disk ≡ Btrfs
-  pub block_is : block.bytes ≡ block_at disk 16
+  pub block_is : block.bytes ≡ block_at disk SUPER_BLOCK
 
 -- the volume was opened on the disk, and has no log tree
 pub record IsOpenedOn (disk : Image) (volume : Opened) : Type 0 where

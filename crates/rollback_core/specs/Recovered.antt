@@ -1,5 +1,6 @@
 -- What `recover` makes of a disk, and what a crash of it leaves.
 use Rattle.std.specs.Prelude.{◌≡◌, ◌⊎◌, ℕ, true, List, [], ◌∷◌, length, filter, Ok}
+use Rattle.btrfs_format.specs.declared.block.TheConstants.{FIRST_MIRROR, SECOND_MIRROR, SUPER_BLOCK}
 use Rattle.reiser_bitmap.specs.outside.Format.{format_in}
 use Rattle.reiser_bitmap.specs.outside.History.{Image, block_at}
 use Rattle.btr_super.specs.Rules.{super_of}
@@ -14,7 +15,7 @@ use Rattle.rollback_core.specs.declared.recovery.RecoverSummary.{RecoverSummary}
 -- What is looked at keeps its rules: superblock, journal and bitmap of a ReiserFS volume, and of a Btrfs volume the superblock.
 abbrev pub IsInOrder : Format → Image → Type 0
 IsInOrder Reiser image = IsFrontAccepted image
-IsInOrder Btrfs image = (s : Super) × (super_of (block_at image 16) 16 (length image) ≡ Ok s)
+IsInOrder Btrfs image = (s : Super) × (super_of (block_at image SUPER_BLOCK) SUPER_BLOCK (length image) ≡ Ok s)
 IsInOrder Neither image = ⊥
 
 abbrev pub IsRecoverable : Image → Type 0
@@ -33,8 +34,8 @@ pub record IsPartly (image other : Image) : Type 0 where
   pub each : (b : ℕ) → (block_at other b ≡ block_at image b) ⊎ (IsMirror b × (block_at other b ≡ mended image b))
 
 -- what a crash at any moment may leave
-abbrev pub IsLeft : Image → Image → Type 0
-IsLeft image other = (other ≡ image) ⊎ (IsRecoverable image × IsPartly image other)
+abbrev pub IsLeftByRecover : Image → Image → Type 0
+IsLeftByRecover image other = (other ≡ image) ⊎ (IsRecoverable image × IsPartly image other)
 
 -- a write that mends the block of a copy, which holds something else
 pub record IsMend (image : Image) (b : ℕ) (bytes : List ℕ) : Type 0 where
@@ -44,12 +45,12 @@ pub record IsMend (image : Image) (b : ℕ) (bytes : List ℕ) : Type 0 where
 
 -- the blocks of the copies
 abbrev pub copy_blocks : List ℕ
-copy_blocks = 16384 ∷ 67108864 ∷ []
+copy_blocks = FIRST_MIRROR ∷ SECOND_MIRROR ∷ []
 
 -- those that are to change
 abbrev pub torn_blocks : Image → List ℕ
 torn_blocks image = filter (is_torn image) copy_blocks
 
 -- the format, and how many blocks are to change
-abbrev pub summary : Image → RecoverSummary
-summary image = record { format = format_in image; mirrors = length (torn_blocks image) }
+abbrev pub recover_summary : Image → RecoverSummary
+recover_summary image = record { format = format_in image; mirrors = length (torn_blocks image) }

@@ -24,13 +24,13 @@ pub data IsReadRefusal (disk : Image) (r : BtrRefusal) : Type 0 where
 
 -- The order of the refusals: each is looked for where those before are not found.
 -- all is read
-pub record IsReadable (disk : Image) : Type 0 where
+pub record IsReadableVolume (disk : Image) : Type 0 where
   pub format : format_in disk ≡ Btrfs
   pub whole : IsReadWhole disk
 
 -- the image is there
 pub record HasImage (disk : Image) : Type 0 where
-  pub readable : IsReadable disk
+  pub readable : IsReadableVolume disk
   pub there : ¬ IsImageMissing disk
 
 -- and it is an accepted volume
@@ -49,7 +49,7 @@ RefusesRollback disk (answer.Volume r) = (format_in disk ≡ Neither) × (r ≡ 
 RefusesRollback disk (answer.Btr r) = (format_in disk ≡ Btrfs) × IsReadRefusal disk r
 RefusesRollback disk (answer.NoSpace needed free run_needed longest) = ⊥
 RefusesRollback disk answer.WrongFormat = format_in disk ≡ Reiser
-RefusesRollback disk answer.ImageMissing = IsReadable disk × IsImageMissing disk
+RefusesRollback disk answer.ImageMissing = IsReadableVolume disk × IsImageMissing disk
 RefusesRollback disk (answer.ImageDamaged r) = HasImage disk × IsRefusal (image_blocks disk) r
 RefusesRollback disk (answer.ImageMoved b) = HasVolume disk × IsMoved (saved_place disk) (old_used disk) b
 RefusesRollback disk (answer.ReservedUsed b) = HasPlaces disk × IsReserved b (superblock (image_blocks disk)).blocks × IsInUse disk b

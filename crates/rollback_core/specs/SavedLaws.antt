@@ -1,11 +1,12 @@
 -- What decides the saved image of a Btrfs volume, the blocks in use, and whether the volume before can be had back.
 use Rattle.std.specs.Prelude.{◌≡◌, ◌↔◌, ℕ, ◌/◌, Bool, false, length}
+use Rattle.btrfs_format.specs.declared.block.TheConstants.{SUPER_BLOCK}
 use Rattle.reiser_bitmap.specs.outside.History.{Image, block_at}
 use Rattle.btr_reader.specs.Parts.{IsReadable, SavedImage, own_super}
 use Rattle.volume_state.specs.Laws.{IsSameUntouched}
-use Rattle.btr_reader.specs.Apart.{IsReservedFree as IsSpareFree, IsSameOutside, IsVolumeApart, differs}
+use Rattle.btr_reader.specs.Apart.{IsSpareFree, IsSameOutside, IsVolumeApart, differs}
 use Rattle.btr_reader.specs.MetadataLaws.{IsSameBtrfs}
-use Rattle.rollback_core.specs.Recovered.{IsLeft}
+use Rattle.rollback_core.specs.Recovered.{IsLeftByRecover}
 use Rattle.volume_state.specs.Saved.{image_blocks}
 use Rattle.volume_state.specs.Untouched.{IsUntouched}
 use Rattle.volume_state.specs.Using.{IsInUse, IsReservedFree}
@@ -13,7 +14,7 @@ use Rattle.volume_state.specs.Using.{IsInUse, IsReservedFree}
 -- The two disks are as long as each other, and have the same in block 16, which is that of the superblock, and in each block in use.
 pub record IsSameInUse (disk other : Image) : Type 0 where
   pub size : length other ≡ length disk
-  pub superblock : block_at other 16 ≡ block_at disk 16
+  pub superblock : block_at other SUPER_BLOCK ≡ block_at disk SUPER_BLOCK
   pub used : (b : ℕ) → IsInUse disk b → block_at other b ≡ block_at disk b
 
 -- The other disk holds the same Btrfs volume with the same saved image and the same blocks in use, and the volume before can be had back
@@ -54,5 +55,5 @@ pub record UnusedBlocksLieApart : Type 0 where
 -- Where none of the reserved blocks of a disk is in use, for a volume of any number of blocks, what a recovery makes of the disk, or a crash
 -- of one leaves, has the same blocks in use, and so none that is reserved.
 pub record RecoveryKeepsUse : Type 0 where
-  pub used : (disk other : Image) (blocks : ℕ) → IsReservedFree disk blocks → IsLeft disk other → (b : ℕ) → IsInUse disk b ↔ IsInUse other b
-  pub reserved : (disk other : Image) (blocks : ℕ) → IsReservedFree disk blocks → IsLeft disk other → IsReservedFree other blocks
+  pub used : (disk other : Image) (blocks : ℕ) → IsReservedFree disk blocks → IsLeftByRecover disk other → (b : ℕ) → IsInUse disk b ↔ IsInUse other b
+  pub reserved : (disk other : Image) (blocks : ℕ) → IsReservedFree disk blocks → IsLeftByRecover disk other → IsReservedFree other blocks

@@ -26,7 +26,6 @@ mod way;
 mod wiping;
 mod writing;
 
-pub use convert_steps::SUPERBLOCK;
 pub use prepared::prepare;
 pub use recovery::{RecoverSummary, recover};
 pub use recovery_laws::{

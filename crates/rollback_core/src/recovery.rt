@@ -4,7 +4,7 @@ ghost use Rattle.std.specs.Result.{MatchResult};
 ghost use Rattle.reiser_bitmap.specs.outside.Fault.{HasCauseOf};
 ghost use Rattle.reiser_bitmap.specs.outside.History.{EachCrash, IsSettled, OverTold, WritesOnly, reads};
 ghost use Rattle.rollback_core.specs.RecoveryAnswers.{IsRecoverAnswer, RefusesRecover};
-ghost use Rattle.rollback_core.specs.Recovered.{IsLeft, IsMend, IsRecovered, summary};
+ghost use Rattle.rollback_core.specs.Recovered.{IsLeftByRecover, IsMend, IsRecovered, recover_summary};
 
 use crate::mending::plan;
 use crate::writing::write_mending;
@@ -31,13 +31,13 @@ pub struct RecoverSummary {
 /// written. Memory is taken for the bitmap alone, so a Btrfs volume needs none.
 pub fn recover<D: Disk>(alloc: Global, disk: &mut D) -> Result<RecoverSummary, Answer>
     requires open { D.opened disk.old ≡ Some Access.Write }
-    ensures crash { EachCrash D.tells (D.history disk.old) (D.history disk.new) (IsLeft (reads (D.history disk.old))) }
+    ensures crash { EachCrash D.tells (D.history disk.old) (D.history disk.new) (IsLeftByRecover (reads (D.history disk.old))) }
     ensures open { D.opened disk.new ≡ D.opened disk.old }
     ensures size { D.size disk.new ≡ D.size disk.old }
     ensures borrow { D.borrow disk.new ≡ D.borrow disk.old }
     ensures only { IsTrue D.tells → WritesOnly (IsMend (reads (D.history disk.old))) (D.history disk.old) (D.history disk.new) }
     ensures recovered { OverTold D.tells (reads (D.history disk.old)) (λ image.
-        MatchResult result (λ told. IsRecovered image (reads (D.history disk.new)) × (told ≡ summary image)) (RefusesRecover image)) }
+        MatchResult result (λ told. IsRecovered image (reads (D.history disk.new)) × (told ≡ recover_summary image)) (RefusesRecover image)) }
     ensures unwritten { IsTrue D.tells → IfOk result (λ told. told.mirrors ≡ 0 → D.history disk.new ≡ D.history disk.old) }
     ensures settled { IsTrue D.tells → IfOk result (λ told. told.mirrors ≢ 0 → IsSettled (D.history disk.new)) }
     ensures refused { IsTrue D.tells → IfErr result (λ e. e ≢ Answer.Fault → D.history disk.new ≡ D.history disk.old) }

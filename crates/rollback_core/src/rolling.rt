@@ -4,9 +4,9 @@ ghost use Rattle.std.specs.Result.{MatchResult};
 ghost use Rattle.reiser_bitmap.specs.outside.Fault.{HasCauseOf};
 ghost use Rattle.reiser_bitmap.specs.outside.History.{EachCrash, IsSettled, OverTold, reads};
 ghost use Rattle.rollback_core.specs.RollbackAnswers.{IsRollbackAnswer, RefusesRollback};
-ghost use Rattle.rollback_core.specs.Prepared.{IsPrepared};
-ghost use Rattle.rollback_core.specs.RolledBack.{IsLeft, IsRolledBack, summary};
-ghost use Rattle.rollback_core.specs.Writing.{AreApart, HasRoom};
+ghost use Rattle.rollback_core.specs.Prepared.{IsWayBack};
+ghost use Rattle.rollback_core.specs.RolledBack.{IsLeftByRollback, IsRolledBack, rollback_summary};
+ghost use Rattle.rollback_core.specs.Writing.{AreWritesApart, HasRoom};
 
 use crate::prepared::prepare;
 use crate::{RollbackSummary, WayBack, write_back};
@@ -27,12 +27,12 @@ const CACHED: usize = 1024;
 /// it can be rolled back again, or the old one.
 pub fn rollback<D: Disk>(alloc: Global, disk: &mut D) -> Result<RollbackSummary, Answer>
     requires open { D.opened disk.old ≡ Some Access.Write }
-    ensures crash { EachCrash D.tells (D.history disk.old) (D.history disk.new) (IsLeft (reads (D.history disk.old))) }
+    ensures crash { EachCrash D.tells (D.history disk.old) (D.history disk.new) (IsLeftByRollback (reads (D.history disk.old))) }
     ensures open { D.opened disk.new ≡ D.opened disk.old }
     ensures size { D.size disk.new ≡ D.size disk.old }
     ensures borrow { D.borrow disk.new ≡ D.borrow disk.old }
     ensures rolled_back { OverTold D.tells (reads (D.history disk.old)) (λ image.
-        MatchResult result (λ told. IsRolledBack image (reads (D.history disk.new)) × (told ≡ summary image)) (RefusesRollback image)) }
+        MatchResult result (λ told. IsRolledBack image (reads (D.history disk.new)) × (told ≡ rollback_summary image)) (RefusesRollback image)) }
     ensures settled { IsTrue D.tells → OnOk result (IsSettled (D.history disk.new)) }
     ensures refused { IsTrue D.tells → IfErr result (λ e. e ≢ Answer.Fault → D.history disk.new ≡ D.history disk.old) }
     ensures cause { HasCauseOf Answer.Fault (D.faults disk.old) (D.faults disk.new) result }
@@ -46,9 +46,9 @@ pub fn rollback<D: Disk>(alloc: Global, disk: &mut D) -> Result<RollbackSummary,
 /// What is to be written, read through a cache.
 fn read_way<D: Disk>(alloc: Global, disk: &mut D) -> Result<WayBack, Answer>
     ensures kept { D.kept disk.old disk.new }
-    ensures prepared { OverTold D.tells (D.blocks disk.old) (λ image. MatchResult result (IsPrepared image) (RefusesRollback image)) }
+    ensures prepared { OverTold D.tells (D.blocks disk.old) (λ image. MatchResult result (IsWayBack image) (RefusesRollback image)) }
     ensures room { IfOk result (HasRoom (D.size disk.old)) }
-    ensures apart { IfOk result AreApart }
+    ensures apart { IfOk result AreWritesApart }
     ensures cause { HasCauseOf Answer.Fault (D.faults disk.old) (D.faults disk.new) result }
     ensures answers { IfErr result IsRollbackAnswer }
 {

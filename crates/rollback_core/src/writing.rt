@@ -3,28 +3,28 @@ ghost use Rattle.std.specs.Prelude.{◌≡◌, ◌≢◌, ◌+◌, ◌<◌, true
 ghost use Rattle.reiser_bitmap.specs.outside.Fault.{HasCause};
 ghost use Rattle.reiser_bitmap.specs.outside.History.{IsSettled, WritesOnly, block_at, reads};
 ghost use Rattle.rollback_core.specs.Mending.{given};
-ghost use Rattle.rollback_core.specs.Planned.{HasRoom, IsGiven, IsGivenAt, Stands, number_of};
+ghost use Rattle.rollback_core.specs.Planned.{HasMendingRoom, IsGiven, IsGivenAt, MendingStands, writes_of};
 
 use crate::mending::Mending;
-use crate::restore::{FIRST_COPY, SECOND_COPY};
+use btrfs_format::block::{FIRST_MIRROR, SECOND_MIRROR};
 use reiser_bitmap::{Access, Block, BlockNo, Disk, Fault};
 
 /// Writes what is to be written, and syncs where that is anything. The number of blocks that were written.
 pub fn write_mending<D: Disk>(disk: &mut D, mending: &Mending) -> Result<u64, Fault>
     requires open { D.opened disk.old ≡ Some Access.Write }
-    requires room { HasRoom (D.size disk.old) mending.now }
+    requires room { HasMendingRoom (D.size disk.old) mending.now }
     ensures open { D.opened disk.new ≡ D.opened disk.old }
     ensures size { D.size disk.new ≡ D.size disk.old }
     ensures borrow { D.borrow disk.new ≡ D.borrow disk.old }
     ensures only { IsTrue D.tells → WritesOnly (IsGiven mending.now) (D.history disk.old) (D.history disk.new) }
-    ensures written { IsTrue D.tells → OnOk result (Stands mending.now (reads (D.history disk.old)) (reads (D.history disk.new))) }
-    ensures count { IfOk result (λ n. n ≡ number_of mending.now.first + number_of mending.now.second) }
+    ensures written { IsTrue D.tells → OnOk result (MendingStands mending.now (reads (D.history disk.old)) (reads (D.history disk.new))) }
+    ensures count { IfOk result (λ n. n ≡ writes_of mending.now.first + writes_of mending.now.second) }
     ensures unwritten { IsTrue D.tells → IfOk result (λ n. n ≡ 0 → D.history disk.new ≡ D.history disk.old) }
     ensures settled { IsTrue D.tells → IfOk result (λ n. n ≢ 0 → IsSettled (D.history disk.new)) }
     ensures cause { HasCause (D.faults disk.old) (D.faults disk.new) result }
 {
-    let first = write_given(disk, FIRST_COPY, &mending.first)?;
-    let second = write_given(disk, SECOND_COPY, &mending.second)?;
+    let first = write_given(disk, FIRST_MIRROR, &mending.first)?;
+    let second = write_given(disk, SECOND_MIRROR, &mending.second)?;
     let written = first + second;
     if written == 0 {
         return Ok(0);
@@ -42,7 +42,7 @@ fn write_given<D: Disk>(disk: &mut D, place: BlockNo, found: &Option<Block>) -> 
     ensures borrow { D.borrow disk.new ≡ D.borrow disk.old }
     ensures only { IsTrue D.tells → WritesOnly (IsGivenAt place found.now) (D.history disk.old) (D.history disk.new) }
     ensures written { IsTrue D.tells → OnOk result (block_at (reads (D.history disk.new)) place ≡ given found.now (block_at (reads (D.history disk.old)) place)) }
-    ensures count { IfOk result (λ n. n ≡ number_of found.now) }
+    ensures count { IfOk result (λ n. n ≡ writes_of found.now) }
     ensures unwritten { IsTrue D.tells → IfOk result (λ n. n ≡ 0 → D.history disk.new ≡ D.history disk.old) }
     ensures cause { HasCause (D.faults disk.old) (D.faults disk.new) result }
 {

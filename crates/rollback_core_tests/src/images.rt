@@ -1,6 +1,7 @@
 // The saved image of a small disk.
-use btr_reader::{Btrfs, ImageMap, Piece};
+use btr_reader::{Btrfs, ImageMap, MappedExtent};
 use btr_reader_walk::MapRange;
+use btrfs_format::block::SUPER_INFO_OFFSET;
 use outside::{Access, BlockSource, Disk};
 use outside_mem::MemDisk;
 use refusals::{BtrAnswer, BtrRefusal, BtrRule};
@@ -27,13 +28,13 @@ fn image(alloc: Global) -> Result<ImageMap, Fail> {
         physical: 4096 * 8,
     })?;
     let mut pieces = Vec::new(alloc);
-    pieces.push(Piece {
+    pieces.push(MappedExtent {
         first: 1,
         count: 2,
         disk: 0x10_0000,
         offset: 3 * 4096,
     })?;
-    pieces.push(Piece {
+    pieces.push(MappedExtent {
         first: 4,
         count: 1,
         disk: 0x10_0000 + 2 * 4096,
@@ -113,13 +114,13 @@ fn kept(alloc: Global) -> Result<ImageMap, Fail> {
         physical: 0x10_0000,
     })?;
     let mut pieces = Vec::new(alloc);
-    pieces.push(Piece {
+    pieces.push(MappedExtent {
         first: 0,
         count: 256,
         disk: 4096 * 1000,
         offset: 0,
     })?;
-    pieces.push(Piece {
+    pieces.push(MappedExtent {
         first: 256,
         count: 200,
         disk: 4096 * 256,
@@ -204,7 +205,7 @@ fn another_device_is_told(rt: HostRuntime) -> Result<(), Fail> {
     let volume = Btrfs::open(rt.alloc(), &mut disk)?;
     let told = reserved_used(rt.alloc(), &volume, &mut device(rt.alloc())?, 8448);
     let size = BtrRefusal::BadBtrfs {
-        address: 65536,
+        address: SUPER_INFO_OFFSET,
         rule: BtrRule::SuperField,
     };
     assert_eq!(rt; told, Err(BtrAnswer::Refused(size)));

@@ -2,6 +2,7 @@
 ghost use Rattle.std.specs.Prelude.{◌≤◌, ◌<◌, ◌^◌, ◌≡◌, IfOk, length, None};
 
 use btr_super::{Super, mirror};
+use btrfs_format::block::{FIRST_MIRROR, SECOND_MIRROR_END, SUPER_INFO_OFFSET};
 use command_answers::Answer;
 use outside::{Access, BlockSource, Disk};
 use outside_mem::MemDisk;
@@ -17,10 +18,10 @@ use volume_samples::Sample;
 /// The blocks of a volume that has one copy of a superblock, and that block.
 const BLOCKS: u64 = 20_000;
 
-const COPY: BlockNo = 16384;
+const COPY: BlockNo = FIRST_MIRROR;
 
 /// The blocks of a volume that has both copies.
-const LARGE: u64 = 67_108_880;
+const LARGE: u64 = SECOND_MIRROR_END;
 
 fn filled(byte: u8) -> Block {
     Block {
@@ -191,7 +192,7 @@ fn what_is_wrong_is_refused(rt: HostRuntime) -> Result<(), Fail> {
         &rt,
         btrfs(rt.alloc(), &torn, &Block::zero())?,
         Answer::Btr(BtrRefusal::BadBtrfs {
-            address: 65536,
+            address: SUPER_INFO_OFFSET,
             rule: BtrRule::SuperCsum,
         }),
     )

@@ -11,6 +11,8 @@ use Rattle.std.proofs.lemmas.Grind.{div_ceil_times}
 use Rattle.std.proofs.lemmas.List.FromFn.{get_or-range_with_len, length-range_with_len}
 use Rattle.std.proofs.lemmas.List.Elements.{All-append, All-cons, All-head, All-nil, All-tail, All-weaker}
 use Rattle.std.proofs.lemmas.List.Kept.{AllPairs-cons}
+use Rattle.btrfs_format.specs.declared.key.TheConstants.{EXTENT_CSUM}
+use Rattle.btrfs_format.specs.declared.object.TheConstants.{EXTENT_CSUM_OBJECTID}
 use Rattle.btr_tree.specs.outside.History.{Image, block_at}
 use Rattle.btr_tree.specs.btr_keys.Key.{IsBefore}
 use Rattle.btr_tree.specs.btr_node.Leaf.{Item}
@@ -19,7 +21,7 @@ use Rattle.btr_tree.specs.csum_kinds.declared.kind.SumKind.{SumKind}
 use Rattle.btr_tree.specs.csum_kinds.declared.kind.SumKind.TheVariants.{Crc32c}
 use Rattle.unit_plan.specs.Chunks.{AreChunks, IsChunk, role_of, usable_end}
 use Rattle.unit_plan.specs.Sums.{sums_in_item}
-use Rattle.unit_plan.specs.declared.chunk.Chunk.{Chunk}
+use Rattle.unit_plan.specs.declared.chunk.PlannedChunk.{PlannedChunk}
 use Rattle.unit_plan.specs.declared.piece.Piece.{Piece}
 use Rattle.unit_plan.specs.declared.plan.Plan.{Plan}
 use Rattle.space_items.specs.Extents.{group_item, node_item, piece_item, used_in, extent_items}
@@ -50,7 +52,7 @@ less_first a b o h = ap (λ (k : Ordering). ordering_then k o) (nat_less a b h)
 
 -- The extent tree.
 
-groups_rise : (plan : Plan) (blocks : ℕ) (chunks : List Chunk) (used : Chunk → ℕ) → AreChunks plan blocks chunks → Rise (map (λ c. group_item (used c) c) chunks)
+groups_rise : (plan : Plan) (blocks : ℕ) (chunks : List PlannedChunk) (used : PlannedChunk → ℕ) → AreChunks plan blocks chunks → Rise (map (λ c. group_item (used c) c) chunks)
 groups_rise plan blocks chunks used are =
     rise_of (λ c. group_item (used c) c) chunks
     (λ i j d l h.
@@ -95,8 +97,8 @@ extent_items_fit plan blocks chunks pieces nodes nodesize are_chunks are_pieces 
 
 -- an item with checksums of blocks from one on to before another
 record IsSumAt (low high : ℕ) (i : Item) : Type 0 where
-  objectid : i.0.objectid ≡ 2 ^ 64 - 10
-  kind : i.0.kind ≡ 128
+  objectid : i.0.objectid ≡ EXTENT_CSUM_OBJECTID
+  kind : i.0.kind ≡ EXTENT_CSUM
   from : low ≤ i.0.offset
   to : i.0.offset < high
 

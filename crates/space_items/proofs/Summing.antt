@@ -12,7 +12,7 @@ use Rattle.btr_tree.specs.csum_kinds.declared.kind.SumKind.{SumKind}
 use Rattle.btr_tree.specs.csum_kinds.declared.kind.SumKind.TheVariants.{Crc32c}
 use Rattle.unit_plan.specs.Sums.{sums_in_item}
 use Rattle.unit_plan.specs.declared.piece.Piece.{Piece}
-use Rattle.space_items.specs.Stream.{IsTaken, behind, left_of, sum_standing, sums_ahead, taken}
+use Rattle.space_items.specs.Stream.{IsPieceTaken, behind, left_of, sum_standing, sums_ahead, blocks_taken}
 use Rattle.space_items.specs.Sums.{run_items, sum_items, sums_item}
 use Rattle.space_items.specs.declared.sum_stream.SumStream.{SumStream}
 use Rattle.space_items.proofs.Nexts.{drop_next}
@@ -184,10 +184,10 @@ sums_next sums image pieces at done m p there inside is = ⊎_elim last more (eq
         ∙ ap (λ (b : Bool). sums_item sums image (p.place + done) m ∷ left_of sums image (cond {A = ℕ × ℕ} b (at + 1, 0) (at, done + m)).1 (drop (cond {A = ℕ × ℕ} b (at + 1, 0) (at, done + m)).0 pieces)) (sym test))))
 
 -- a stream that took an item
-pub taken_next : (old new : SumStream) (image : Image) (pieces : List Piece) (p : Piece) → slice_get pieces old.piece ≡ Some p → old.done < p.count → IsTaken old new p → sum_standing new ≡ sums_item old.sums image (p.place + old.done) (taken old p)
+pub taken_next : (old new : SumStream) (image : Image) (pieces : List Piece) (p : Piece) → slice_get pieces old.piece ≡ Some p → old.done < p.count → IsPieceTaken old new p → sum_standing new ≡ sums_item old.sums image (p.place + old.done) (blocks_taken old p)
     → sums_ahead old pieces image ≡ sum_standing new ∷ sums_ahead new pieces image
 taken_next old new image pieces p there inside is stands =
-    sums_next old.sums image pieces old.piece old.done (taken old p) p there inside refl
+    sums_next old.sums image pieces old.piece old.done (blocks_taken old p) p there inside refl
     ∙ (ap (λ (i : Item). i ∷ left_of old.sums image (behind old p).1 (drop (behind old p).0 pieces)) (sym stands)
     ∙ (ap (λ (t : ℕ × ℕ). sum_standing new ∷ left_of old.sums image t.1 (drop t.0 pieces)) (sym is.at)
     ∙ ap (λ (s : SumKind). sum_standing new ∷ left_of s image new.done (drop new.piece pieces)) (sym is.sums)))

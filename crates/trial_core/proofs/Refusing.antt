@@ -22,7 +22,7 @@ use Rattle.rollback_core.specs.RecoveryLaws.{InOrderHasFormat}
 use Rattle.rollback_core.specs.RollbackAnswers.{IsRollbackAnswer, RefusesRollback}
 use Rattle.rollback_core.specs.RollbackLaws.{RefusalsAreOfTouched}
 use Rattle.rollback_core.specs.volume_state.Untouched.{IsUntouched}
-use Rattle.trial_core.specs.Answers.{IsReadAnswer, IsStop, LeavesRound, RefusesRound, StopsUnless, by_step}
+use Rattle.trial_core.specs.Answers.{IsTrialReadAnswer, IsStop, LeavesRound, RefusesRound, StopsUnless, by_step}
 use Rattle.trial_core.specs.Round.{FreeAreBytes, plain}
 
 -- ---- of a conversion
@@ -49,7 +49,7 @@ rollback_refused touched disk answer.Fault refused = inl (inl refl)
 rollback_refused touched disk answer.Memory refused = inl (inr refl)
 rollback_refused touched disk e refused = inr (refl, touched disk e refused (λ is. absurd (cc is)) (λ is. absurd (cc is)))
 
-pub rollback_known : (e : Answer) → IsRollbackAnswer e → IsReadAnswer (by_step e)
+pub rollback_known : (e : Answer) → IsRollbackAnswer e → IsTrialReadAnswer (by_step e)
 rollback_known (answer.NoSpace needed free run_needed longest) known = absurd known
 rollback_known answer.Fault known = inl (inl refl)
 rollback_known answer.Memory known = inl (inr refl)
@@ -93,7 +93,7 @@ pub unless_refuses : {H : Type 0} (image : Image) (e : Answer) → StopsUnless H
 unless_refuses image e (inl stop) holds = stop_refuses image e stop
 unless_refuses image e (inr both) holds = subst (RefusesRound image) (sym both.0) (refl, λ free. both.1 (holds free))
 
-pub read_leaves : (old new : History) (e : Answer) → IsReadAnswer e → LeavesRound old new e
+pub read_leaves : (old new : History) (e : Answer) → IsTrialReadAnswer e → LeavesRound old new e
 read_leaves old new e (inl (inl is)) = subst (LeavesRound old new) (sym is) tt
 read_leaves old new e (inl (inr is)) = subst (LeavesRound old new) (sym is) tt
 read_leaves old new e (inr is) = subst (LeavesRound old new) (sym is) tt

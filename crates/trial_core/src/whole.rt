@@ -3,7 +3,7 @@ ghost use Rattle.std.specs.Result.{MatchResult};
 ghost use Rattle.reiser_bitmap.specs.outside.Fault.{HasCauseOf};
 ghost use Rattle.reiser_bitmap.specs.outside.History.{IsSettled, OverTold, reads};
 ghost use Rattle.trial_core.specs.Answers.{IsTrialAnswer, LeavesRefused, RefusesTrial};
-ghost use Rattle.trial_core.specs.Trial.{IsTried, summary};
+ghost use Rattle.trial_core.specs.Trial.{IsTried, trial_summary};
 
 use crate::TrialSummary;
 use crate::making::make_sample;
@@ -36,7 +36,7 @@ pub fn trial<D: Disk>(
     ensures open { D.opened disk.new ≡ D.opened disk.old }
     ensures size { D.size disk.new ≡ D.size disk.old }
     ensures tried { OverTold D.tells (reads (D.history disk.old)) (λ image.
-        MatchResult result (λ told. IsTried number ids.now now image (reads (D.history disk.new)) × (told ≡ summary number)) (RefusesTrial number image)) }
+        MatchResult result (λ told. IsTried number ids.now now image (reads (D.history disk.new)) × (told ≡ trial_summary number)) (RefusesTrial number image)) }
     ensures settled { IsTrue D.tells → OnOk result (IsSettled (D.history disk.new)) }
     ensures leaves { IsTrue D.tells → IfErr result (LeavesRefused number (D.history disk.old) (D.history disk.new)) }
     ensures cause { HasCauseOf Answer.Fault (D.faults disk.old) (D.faults disk.new) result }

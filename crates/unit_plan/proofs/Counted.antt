@@ -6,14 +6,14 @@ use Rattle.std.proofs.lemmas.Bool.{cases_Bool, cases_lt, cases_eq, and_parts, an
 use Rattle.reiser_bitmap.specs.Runs.{free_runs}
 use Rattle.reiser_bitmap.specs.Units.{is_free_unit}
 use Rattle.reiser_bitmap.proofs.FreeUnits.{decides_free_unit}
-use Rattle.unit_plan.specs.declared.chunk.Chunk.{Chunk}
+use Rattle.unit_plan.specs.declared.chunk.PlannedChunk.{PlannedChunk}
 use Rattle.unit_plan.specs.declared.chunk.Role.{Role}
 use Rattle.unit_plan.specs.declared.chunk.Role.TheVariants.{System, Metadata, Data}
 use Rattle.unit_plan.specs.declared.plan.Plan.{Plan}
 use Rattle.unit_plan.specs.declared.need.Need.{Need}
 use Rattle.unit_plan.specs.Choice.{is_among, holds_data, lowest_long, others, volume_units}
 use Rattle.unit_plan.specs.Chunks.{role_of, has_role, role_by, use_of, usable_end, IsChunk, ChunksAreFew}
-use Rattle.unit_plan.specs.Laws.{AreApart, AreFreeUnits, IsSoundPlan}
+use Rattle.unit_plan.specs.Laws.{AreUnitsApart, AreFreeUnits, IsSoundPlan}
 use Rattle.unit_plan.proofs.Enough.{IsLowest, lowest_is}
 use Rattle.unit_plan.proofs.Sound.{plans_sound}
 use Rattle.unit_plan.proofs.Starts.{among_contains, free_no_data}
@@ -22,7 +22,7 @@ use Rattle.unit_plan.proofs.Uses.{free_of, role_is, bools_agree}
 use Rattle.unit_plan.proofs.ChunkCount.{role, one_role, begins, reason, single, is_1, why, reasons_few}
 
 -- a chunk begins at a unit of a range that passes
-record Starts (p : ℕ → Bool) (low high : ℕ) (c : Chunk) : Type 0 where
+record Starts (p : ℕ → Bool) (low high : ℕ) (c : PlannedChunk) : Type 0 where
   first : ℕ
   is : c.start ≡ 256 * first
   some : 1 ≤ c.length
@@ -30,12 +30,12 @@ record Starts (p : ℕ → Bool) (low high : ℕ) (c : Chunk) : Type 0 where
   below : first < high
   passes : p first ≡ true
 
-start_low : (c : Chunk) (cs : List Chunk) → AllPairs (λ c d. c.start + c.length ≤ d.start) (c ∷ cs) → (k : ℕ) (d : Chunk) → k < length (c ∷ cs) → c.start ≤ (get_or (c ∷ cs) k d).start
+start_low : (c : PlannedChunk) (cs : List PlannedChunk) → AllPairs (λ c d. c.start + c.length ≤ d.start) (c ∷ cs) → (k : ℕ) (d : PlannedChunk) → k < length (c ∷ cs) → c.start ≤ (get_or (c ∷ cs) k d).start
 start_low c cs ascend zero d h = omega arith
 start_low c cs ascend (suc k) d h = let apart : c.start + c.length ≤ (get_or (c ∷ cs) (suc k) d).start = ascend 0 (suc k) d (omega arith) h in omega (arith, apart)
 
 -- there are no more such chunks than units that pass, where they ascend
-few : (p : ℕ → Bool) (a m : ℕ) (cs : List Chunk) → ((k : ℕ) (d : Chunk) → k < length cs → Starts p a (a + m) (get_or cs k d)) → AllPairs (λ c d. c.start + c.length ≤ d.start) cs → length cs ≤ tally p a m
+few : (p : ℕ → Bool) (a m : ℕ) (cs : List PlannedChunk) → ((k : ℕ) (d : PlannedChunk) → k < length cs → Starts p a (a + m) (get_or cs k d)) → AllPairs (λ c d. c.start + c.length ≤ d.start) cs → length cs ≤ tally p a m
 few p a m [] all ascend = omega arith
 few p a zero (c ∷ cs) all ascend = let s = all 0 c (omega arith) in absurd (omega (arith, s.above, s.below))
 few p a (suc m) (c ∷ cs) all ascend =
@@ -77,11 +77,11 @@ module _ (used : List Bool) (need : Need) (plan : Plan) (sound : IsSoundPlan use
   no_data : (k : ℕ) (units : List ℕ) (u : ℕ) → AreFreeUnits used k units → is_among units u ≡ true → holds_data used u ≡ false
   no_data k units u are t = free_no_data used u ((decides_free_unit used u).1 (free_of used k units u are t))
 
-  off : (xs ys : List ℕ) (u : ℕ) → AreApart xs ys → is_among xs u ≡ true → is_among ys u ≡ false
+  off : (xs ys : List ℕ) (u : ℕ) → AreUnitsApart xs ys → is_among xs u ≡ true → is_among ys u ≡ false
   off xs ys u apart t =
       ⊎_elim (λ (on : is_among ys u ≡ true). absurd (apart u (among_contains xs u t) (among_contains ys u on))) (λ (none : is_among ys u ≡ false). none) (cases_Bool (is_among ys u))
 
-  swap : (xs ys : List ℕ) → AreApart xs ys → AreApart ys xs
+  swap : (xs ys : List ℕ) → AreUnitsApart xs ys → AreUnitsApart ys xs
   swap xs ys apart = λ u a b. apart u b a
 
   as_system : (u : ℕ) → is_among sys u ≡ true → use_of used plan u ≡ Some System
@@ -141,7 +141,7 @@ chunks_few = λ used need plan chunks enough is are.
     let sound : IsSoundPlan used need plan = plans_sound used need plan enough is in
     let at : ℕ = get_or (others used first n) need.metadata 0 in
     let p : ℕ → Bool = reason used first n at in
-    let why_at : (c : Chunk) → IsChunk (role_of plan (length used)) (usable_end (length used)) c → Starts p 1 (1 + (volume_units used - 1)) c = λ c chunk.
+    let why_at : (c : PlannedChunk) → IsChunk (role_of plan (length used)) (usable_end (length used)) c → Starts p 1 (1 + (volume_units used - 1)) c = λ c chunk.
     let role_at : role_of plan (length used) chunk.first ≡ Some c.role = chunk.one_role chunk.first (omega arith) chunk.some in
     let low = inside_of plan (length used) chunk.first (role_low plan (length used) chunk.first c.role role_at) in
     record {

@@ -14,7 +14,7 @@ use Rattle.reiser_bitmap.proofs.FreeUnits.{decides_free_unit}
 use Rattle.reiser_bitmap.proofs.MaximalRuns.{runs_are_maximal}
 use Rattle.reiser_bitmap.proofs.Ranges.{range_cut, range_contains, all_from_contains, filter_range_same, filter_range_none}
 use Rattle.unit_plan.specs.Choice.{is_in, is_other, others, lowest_long, is_unallocated, unallocated_runs, volume_units}
-use Rattle.unit_plan.specs.Laws.{AreFreeUnits, AreApart, PlansAreSound}
+use Rattle.unit_plan.specs.Laws.{AreFreeUnits, AreUnitsApart, PlansAreSound}
 use Rattle.unit_plan.proofs.Enough.{IsLowest, lowest_is, part_of, other_is}
 
 range_ascends : (a n : ℕ) → AllPairs (λ u v. u < v) (range_with_len a n)
@@ -100,7 +100,7 @@ part_free used first n skip wanted enough = record {
       (λ u h. let other = other_is used first n u (part_of skip wanted (others used first n) u h) in (decides_free_unit used u).0 (and_parts (is_free_unit used u) (not (is_in first n u)) other.passes).0);
 }
 
-system_apart : (used : List Bool) (first n skip wanted : ℕ) → AreApart (range_with_len first n) (take wanted (drop skip (others used first n)))
+system_apart : (used : List Bool) (first n skip wanted : ℕ) → AreUnitsApart (range_with_len first n) (take wanted (drop skip (others used first n)))
 system_apart used first n skip wanted = λ u a b.
     let other = other_is used first n u (part_of skip wanted (others used first n) u b) in
     let inside = range_contains first n u a in
@@ -108,7 +108,7 @@ system_apart used first n skip wanted = λ u a b.
     both_ways (is_in first n u) off (and_from (leb first u) (ltb u (first + n)) (le-leb first u inside.0) (lt-ltb u (first + n) inside.1))
 
 -- two parts of one ascending list, one behind the other
-parts_apart : (xs : List ℕ) (m r : ℕ) → AllPairs (λ u v. u < v) xs → AreApart (take m xs) (take r (drop m xs))
+parts_apart : (xs : List ℕ) (m r : ℕ) → AllPairs (λ u v. u < v) xs → AreUnitsApart (take m xs) (take r (drop m xs))
 parts_apart xs m r all = λ u a b.
     let i : ℕ = a.0 in
     let j : ℕ = b.0 in

@@ -92,7 +92,7 @@ IsAnswer used need (NoSpace needed free run_needed longest) = TellsSpace used ne
 IsAnswer used need Memory = Unit {0}
 
 -- numbers of units that can be added
-pub record IsSmall (need : Need) : Type 0 where
+pub record IsSmallNeed (need : Need) : Type 0 where
   pub system : need.system < 2 ^ 60
   pub metadata : need.metadata < 2 ^ 60
   pub data_ : need.data_ < 2 ^ 60

@@ -3,7 +3,7 @@ use Rattle.std.specs.Prelude.{◌≡◌, ◌≢◌, ◌⊎◌, ℕ, ◌+◌, ◌
 use Rattle.std.specs.List.{list_any}
 use Rattle.reiser_bitmap.specs.Runs.{free_runs}
 use Rattle.reiser_bitmap.specs.declared.runs.Run.{Run}
-use Rattle.unit_plan.specs.declared.chunk.Chunk.{Chunk}
+use Rattle.unit_plan.specs.declared.chunk.PlannedChunk.{PlannedChunk}
 use Rattle.unit_plan.specs.declared.chunk.Role.{Role}
 use Rattle.unit_plan.specs.declared.chunk.Role.TheVariants.{System, Metadata, Data}
 use Rattle.unit_plan.specs.declared.need.Need.{Need}
@@ -32,7 +32,7 @@ role_of plan blocks u = role_by (has_role plan blocks u) (is_among plan.system u
 
 -- A chunk: units from a first one to before an end, all of one role. It begins at a multiple of 1024 units or behind a unit
 -- of another role, and ends before one; where the usable blocks end within its last unit, it ends with them.
-pub record IsChunk (role : ℕ → Option Role) (usable : ℕ) (c : Chunk) : Type 0 where
+pub record IsChunk (role : ℕ → Option Role) (usable : ℕ) (c : PlannedChunk) : Type 0 where
   pub first : ℕ
   pub end : ℕ
   pub some : first < end
@@ -45,17 +45,17 @@ pub record IsChunk (role : ℕ → Option Role) (usable : ℕ) (c : Chunk) : Typ
   pub behind : (end % 1024 ≡ 0) ⊎ (role end ≢ Some c.role)
 
 -- the unit's first block lies in the chunk
-pub record HoldsUnit (c : Chunk) (u : ℕ) : Type 0 where
+pub record HoldsUnit (c : PlannedChunk) (u : ℕ) : Type 0 where
   pub low : c.start ≤ 256 * u
   pub high : 256 * u < c.start + c.length
 
 -- Chunks ascend and do not overlap, and each unit that has a role lies in one.
-pub record AreChunksBy (role : ℕ → Option Role) (usable : ℕ) (chunks : List Chunk) : Type 0 where
+pub record AreChunksBy (role : ℕ → Option Role) (usable : ℕ) (chunks : List PlannedChunk) : Type 0 where
   pub each : All (IsChunk role usable) chunks
   pub ascending : AllPairs (λ c d. c.start + c.length ≤ d.start) chunks
   pub whole : (u : ℕ) (r : Role) → role u ≡ Some r → Any (λ c. HoldsUnit c u) chunks
 
-abbrev pub AreChunks : Plan → ℕ → List Chunk → Type 0
+abbrev pub AreChunks : Plan → ℕ → List PlannedChunk → Type 0
 AreChunks plan blocks = AreChunksBy (role_of plan blocks) (usable_end blocks)
 
 -- the units of a plan begin on a volume of so many blocks
@@ -82,7 +82,7 @@ RolesAreUses =
 -- there are no more chunks than the bound has that the needed space was counted with
 abbrev pub ChunksAreFew : Type 0
 ChunksAreFew =
-    (used : List Bool) (need : Need) (plan : Plan) (chunks : List Chunk) → HasEnoughSpace used need → IsPlan used need plan
+    (used : List Bool) (need : Need) (plan : Plan) (chunks : List PlannedChunk) → HasEnoughSpace used need → IsPlan used need plan
     → AreChunks plan (length used) chunks → length chunks ≤ chunk_bound (length (free_runs used)) (length used)
 
 -- the units of a plan lie on its volume

@@ -13,16 +13,16 @@ pub record AreFreeUnits (used : List Bool) (count : ℕ) (units : List ℕ) : Ty
   pub free : All (IsFreeUnit used) units
 
 -- no unit is in both
-abbrev pub AreApart : List ℕ → List ℕ → Type 0
-AreApart xs ys = (u : ℕ) → Contains xs u → Contains ys u → ⊥
+abbrev pub AreUnitsApart : List ℕ → List ℕ → Type 0
+AreUnitsApart xs ys = (u : ℕ) → Contains xs u → Contains ys u → ⊥
 
 pub record IsSoundPlan (used : List Bool) (need : Need) (plan : Plan) : Type 0 where
   pub system : AreFreeUnits used need.system plan.system
   pub metadata : AreFreeUnits used need.metadata plan.metadata
   pub data_ : AreFreeUnits used need.data_ plan.data_
-  pub system_metadata : AreApart plan.system plan.metadata
-  pub system_data : AreApart plan.system plan.data_
-  pub metadata_data : AreApart plan.metadata plan.data_
+  pub system_metadata : AreUnitsApart plan.system plan.metadata
+  pub system_data : AreUnitsApart plan.system plan.data_
+  pub metadata_data : AreUnitsApart plan.metadata plan.data_
   pub unallocated : AreMaximalRuns (is_unallocated used plan.system plan.metadata plan.data_) plan.unallocated
 
 -- a plan has as many free units as are needed, and no unit twice

@@ -9,6 +9,7 @@ mod choice;
 mod chunk;
 mod counts;
 mod division;
+pub mod item_bytes;
 mod laws;
 mod need;
 mod piece;
@@ -21,7 +22,7 @@ mod unused;
 
 pub use btr_tree::{DirEntry, Extref, Inode, InodeRef, Key};
 pub use choice::choose;
-pub use chunk::{Chunk, Chunks, Role};
+pub use chunk::{Chunks, PlannedChunk, Role};
 pub use counts::Counts;
 pub use division::chunks_of;
 pub use laws::{chunks_are_few, places_serve, plans_are_sound, plans_fit, roles_are_uses};

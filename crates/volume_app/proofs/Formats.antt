@@ -2,6 +2,7 @@
 use Rattle.std.proofs.Common.{◌≡◌, ◌<◌, ◌≤◌, Bool, true, false, cond, length, refl, ◌∙◌, arith}
 use Rattle.std.specs.Prelude.{◌≢◌, nat_le}
 use Rattle.std.proofs.lemmas.Bool.Decides.{nat_tests}
+use Rattle.btrfs_format.specs.declared.block.TheConstants.{SUPER_BLOCK}
 use Rattle.reiser_volume.specs.vol_block.declared.format.Format.{Format}
 use Rattle.reiser_volume.specs.vol_block.declared.format.Format.TheVariants as formats
 use Rattle.reiser_volume.specs.vol_block.Format.{format, has_reiser_magic}
@@ -24,19 +25,19 @@ by_length true f is = refl
 by_length false f is = cc
 
 -- a disk that has block 16 has the format of that block
-pub format_long : (disk : Image) → 16 < length disk → format_in disk ≡ format (block_at disk 16)
+pub format_long : (disk : Image) → 16 < length disk → format_in disk ≡ format (block_at disk SUPER_BLOCK)
 format_long disk long =
     let no : nat_le (length disk) 16 ≡ false = grind (arith, nat_tests) in
-    by_block (nat_le (length disk) 16) (format (block_at disk 16)) no
+    by_block (nat_le (length disk) 16) (format (block_at disk SUPER_BLOCK)) no
 
 -- and a shorter one has none
 pub format_short : (disk : Image) → length disk ≤ 16 → format_in disk ≡ formats.Neither
 format_short disk short =
     let yes : nat_le (length disk) 16 ≡ true = grind (arith, nat_tests) in
-    by_length (nat_le (length disk) 16) (format (block_at disk 16)) yes
+    by_length (nat_le (length disk) 16) (format (block_at disk SUPER_BLOCK)) yes
 
 -- an accepted volume that is not one of Btrfs has the format of ReiserFS
 pub reiser_found : (disk : Image) → IsAccepted disk → format_in disk ≢ formats.Btrfs → format_in disk ≡ formats.Reiser
 reiser_found disk accepted other =
     let long = format_long disk accepted.clean.superblock.there in
-    long ∙ format_cases _ (has_reiser_magic (block_at disk 16)) (λ is. other (long ∙ is)) accepted.clean.superblock.magic
+    long ∙ format_cases _ (has_reiser_magic (block_at disk SUPER_BLOCK)) (λ is. other (long ∙ is)) accepted.clean.superblock.magic

@@ -90,7 +90,7 @@ Reports line faults_old faults_new old new =
 
 -- The status is that of an ending that the command knows, with its line on the error sink. Where the disk tells its blocks, or the
 -- command asks it nothing, the ending is right for it, and the output sink gained its text.
-pub record Runs (m : Meaning) (tells : Type 0) (disk : Image) (answer : ℕ) (out_tells : Type 0) (out_old out_new : List ℕ) (err_tells : Type 0) (faults_old faults_new : ℕ) (err_old err_new : List ℕ) : Type 0 where
+pub record RunsCommand (m : Meaning) (tells : Type 0) (disk : Image) (answer : ℕ) (out_tells : Type 0) (out_old out_new : List ℕ) (err_tells : Type 0) (faults_old faults_new : ℕ) (err_old err_new : List ℕ) : Type 0 where
   pub ending : Ending
   pub answers : answer ≡ status ending
   pub known : Knows m ending

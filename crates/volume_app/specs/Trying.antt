@@ -6,7 +6,7 @@ use Rattle.convert_core.specs.convert_trees_laws.Rows.{HasBytes}
 use Rattle.trial_core.specs.Answers.{IsTrialAnswer, RefusesTrial}
 use Rattle.trial_core.specs.Laws.{IsSampleAgain}
 use Rattle.trial_core.specs.Round.{plain}
-use Rattle.trial_core.specs.Trial.{IsScratch, IsTried, needed_by, sample_on, summary}
+use Rattle.trial_core.specs.Trial.{IsScratch, IsTried, needed_by, sample_on, trial_summary}
 use Rattle.trial_core.specs.declared.summary.TrialSummary.{TrialSummary}
 use Rattle.reiser_volume.specs.vol_block.declared.ids.Ids.{Ids}
 use Rattle.volume_app.specs.Meaning.{Meaning}
@@ -28,7 +28,7 @@ trial_text number told = text_of_lines (trial_lines number told)
 
 -- the text for a number, whatever the disk: how many rows the sample has, and the bytes of its files
 abbrev pub IsTrialText : ℕ → Image → List ℕ → Type 0
-IsTrialText number disk text = text ≡ trial_text number (summary number)
+IsTrialText number disk text = text ≡ trial_text number (trial_summary number)
 
 -- The disk has no volume and blocks enough, and the sample has room in the volume and leaves the space for a conversion.
 pub record IsTriable (number : ℕ) (disk : Image) : Type 0 where

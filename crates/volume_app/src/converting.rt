@@ -18,7 +18,7 @@ use convert_core_laws::{
 };
 use convert_options::{Options, UuidChoice};
 use reiser_volume::{Access, Disk, Fault, Ids, Sink, used_blocks_decide};
-use sink_text::Piece::{Decimal, Plain};
+use sink_text::TextPart::{Decimal, Plain};
 use sink_text::write_pieces;
 use std::alloc::Global;
 

@@ -3,7 +3,7 @@ ghost use Rattle.reiser_volume.specs.outside.Fault.{Rose};
 ghost use Rattle.reiser_volume.specs.outside.History.{EachCrash, IsSettled, LeftSince, clock, reads};
 ghost use Rattle.volume_app.specs.Command.{command, opens};
 ghost use Rattle.volume_app.specs.Headline.{KeepsPromise};
-ghost use Rattle.volume_app.specs.Outcome.{Performs, Runs, meant};
+ghost use Rattle.volume_app.specs.Outcome.{Performs, RunsCommand, meant};
 ghost use Rattle.volume_app.specs.Trees.{AreBlocks};
 
 use crate::command::{Command, read_command};
@@ -57,7 +57,7 @@ pub fn run<D: Disk, O: Sink, E: Sink>(
     ensures settled { IsTrue D.tells → IsSettled (D.history disk.old) → (result ≡ 0) ⊎ (result ≡ 5) → IsSettled (D.history disk.new) }
     // A crash at any moment leaves what the command may leave: the disk as it was, where it only reads. Of a trial nothing is said.
     ensures crash { EachCrash D.tells (D.history disk.old) (D.history disk.new) ((meant ids now (map string_bytes words.now)).leaves (reads (D.history disk.old))) }
-    ensures ends { Runs (meant ids now (map string_bytes words.now)) (IsTrue D.tells) (reads (D.history disk.old)) result
+    ensures ends { RunsCommand (meant ids now (map string_bytes words.now)) (IsTrue D.tells) (reads (D.history disk.old)) result
         (IsTrue O.tells) (O.taken out.old) (O.taken out.new) (IsTrue E.tells) (E.faults err.old) (E.faults err.new) (E.taken err.old) (E.taken err.new) }
     // Also over a disk that tells nothing, a run that isn't done prints nothing.
     ensures quiet { IsTrue O.tells → result ≢ 0 → result ≢ 5 → O.taken out.new ≡ O.taken out.old }

@@ -3,6 +3,8 @@ use Rattle.std.proofs.Common.{◌≡◌, ℕ, ◌+◌, ◌*◌, ◌/◌, ◌<◌
 use Rattle.std.specs.Option.{option_and_then}
 use Rattle.std.proofs.lemmas.Bool.{and_parts}
 use Rattle.std.proofs.lemmas.List.{get_or_default}
+use Rattle.btrfs_format.specs.declared.key.TheConstants.{EXTENT_DATA}
+use Rattle.btrfs_format.specs.declared.object.TheConstants.{FS_TREE}
 use Rattle.reiser_bitmap.specs.outside.History.{Image}
 use Rattle.btr_reader_contents.specs.Extents.{is_extent_of}
 use Rattle.btr_node.specs.btr_keys.FileExtent.{ContentValue, FileExtentValue, Inline, Prealloc, Regular, file_extent_of}
@@ -13,7 +15,7 @@ use Rattle.btr_reader_walk.specs.Events.{TreeItem, nodes_in}
 use Rattle.btr_reader_walk.specs.Map.{place}
 use Rattle.btr_reader_walk.specs.Walks.{met}
 use Rattle.btr_reader_walk.specs.declared.map.MapRange.{MapRange}
-use Rattle.btr_reader_walk.specs.declared.tree.Pointer.{Pointer}
+use Rattle.btr_reader_walk.specs.declared.tree.NodePointer.{NodePointer}
 use Rattle.btr_reader_walk.specs.declared.tree.Tree.{Tree}
 use Rattle.btr_reader.specs.Apart.{AreExtentsApart, AreNodesApart, IsApart, IsContentApart, root_of, saved_tree}
 use Rattle.reiser_volume.proofs.fs_paths.Lists.{from_filter}
@@ -47,7 +49,7 @@ module _ (test : ℕ → Bool) (ranges : List MapRange) where
   pub extents_apart : (items : List TreeItem) → ((b : ℕ) → HoldsExtent items ranges b → test b ≡ false) → AreExtentsApart test ranges items
   extents_apart items outside ino i e among read =
       let from = from_filter (is_extent_of ino) items i among in
-      let kind : eqb i.key.kind 108 ≡ true = (and_parts (eqb i.key.objectid ino) (eqb i.key.kind 108) from.1).1 in
+      let kind : eqb i.key.kind EXTENT_DATA ≡ true = (and_parts (eqb i.key.objectid ino) (eqb i.key.kind EXTENT_DATA) from.1).1 in
       let range : item_range i ≡ content_range e.content =
       ap (λ (t : Bool). if t then option_and_then (λ x. content_range x.content) (file_extent_of i.body) else None) kind ∙ ap (λ (o : Option FileExtentValue). option_and_then (λ x. content_range x.content) o) read in
       content_apart items outside i from.0 e.content range
@@ -60,13 +62,13 @@ module _ (disk : Image) where
   ranges = own_map disk
 
   -- the file tree is one of them, and that of the saved image is the other
-  pub file_tree_among : (p : Pointer) → root_of disk 5 ≡ Some p → Contains (file_trees disk s ranges) (tree_of s 5 p)
+  pub file_tree_among : (p : NodePointer) → root_of disk FS_TREE ≡ Some p → Contains (file_trees disk s ranges) (tree_of s FS_TREE p)
   file_tree_among p is =
-      subst (λ (o : Option Pointer). Contains (tree_if s 5 o ++ named_by disk s ranges o) (tree_of s 5 p)) (sym is) (0, omega arith, refl)
+      subst (λ (o : Option NodePointer). Contains (tree_if s FS_TREE o ++ named_by disk s ranges o) (tree_of s FS_TREE p)) (sym is) (0, omega arith, refl)
 
-  pub saved_tree_among : (p : Pointer) (number : ℕ) (q : Pointer) → root_of disk 5 ≡ Some p → saved_tree disk p ≡ Some number → root_of disk number ≡ Some q
+  pub saved_tree_among : (p : NodePointer) (number : ℕ) (q : NodePointer) → root_of disk FS_TREE ≡ Some p → saved_tree disk p ≡ Some number → root_of disk number ≡ Some q
       → Contains (file_trees disk s ranges) (tree_of s number q)
   saved_tree_among p number q root saved at =
-      subst (λ (o : Option Pointer). Contains (tree_if s 5 o ++ named_by disk s ranges o) (tree_of s number q)) (sym root)
-      (subst (λ (o : Option ℕ). Contains (tree_of s 5 p ∷ numbered disk s ranges o) (tree_of s number q)) (sym saved)
-      (subst (λ (o : Option Pointer). Contains (tree_of s 5 p ∷ tree_if s number o) (tree_of s number q)) (sym at) (1, omega arith, refl)))
+      subst (λ (o : Option NodePointer). Contains (tree_if s FS_TREE o ++ named_by disk s ranges o) (tree_of s number q)) (sym root)
+      (subst (λ (o : Option ℕ). Contains (tree_of s FS_TREE p ∷ numbered disk s ranges o) (tree_of s number q)) (sym saved)
+      (subst (λ (o : Option NodePointer). Contains (tree_of s FS_TREE p ∷ tree_if s number o) (tree_of s number q)) (sym at) (1, omega arith, refl)))

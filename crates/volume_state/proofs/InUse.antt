@@ -1,6 +1,7 @@
 -- What is told of the blocks that a volume uses, from its trees to the whole.
 use Rattle.std.proofs.Common.{◌≡◌, ◌≢◌, inr, ℕ, List, [], ◌∷◌, ◌++◌, length, Contains, Option, Some, None, refl, sym, ◌∙◌, subst, arith}
 use Rattle.std.proofs.lemmas.List.Elements.{All-cons, All-head, All-nil, All-tail}
+use Rattle.btrfs_format.specs.declared.block.TheConstants.{SUPER_BLOCK}
 use Rattle.reiser_bitmap.specs.outside.History.{Image, block_at}
 use Rattle.reiser_bitmap.specs.refusals.declared.answer.BtrAnswer.{BtrAnswer}
 use Rattle.reiser_bitmap.specs.refusals.declared.answer.BtrAnswer.TheVariants.{Refused, Fault, Memory}
@@ -14,7 +15,7 @@ use Rattle.btr_reader.proofs.Opens.{opening_is}
 use Rattle.btr_reader.proofs.PartsRead.{no_log, of_disk, of_volume, one_log, opened_super}
 use Rattle.btr_reader.proofs.Supers.{in_bounds}
 use Rattle.btr_reader.specs.Chunks.{items_refusals}
-use Rattle.btr_reader.specs.Opening.{IsInBounds, IsOpened, boot_chunks, boot_list, boot_refusals, chunk_tree, map_from, or_later, root_tree, trees_refusals}
+use Rattle.btr_reader.specs.Opening.{IsSuperInBounds, IsBtrfsOpened, boot_chunks, boot_list, boot_refusals, chunk_tree, map_from, or_later, root_tree, trees_refusals}
 use Rattle.btr_reader.specs.Parts.{way_refusals}
 use Rattle.btr_reader.specs.declared.chunk.ChunkAt.{ChunkAt}
 use Rattle.btr_super.specs.declared.superblock.Super.{Super}
@@ -33,12 +34,12 @@ early_blocks : (early late : List MapRange) → AreInBlocks (early ++ late) → 
 early_blocks [] late all = All-nil IsInBlocks
 early_blocks (r ∷ early) late all = All-cons IsInBlocks r early (All-head IsInBlocks r (early ++ late) all) (early_blocks early late (All-tail IsInBlocks r (early ++ late) all))
 
-module _ (image : Image) (s : Super) (ranges : List MapRange) (opened : IsOpened image s ranges) where
+module _ (image : Image) (s : Super) (ranges : List MapRange) (opened : IsBtrfsOpened image s ranges) where
   abbrev boot : List ChunkAt
   boot = boot_list (boot_chunks s)
 
-  pub bounds : IsInBounds s
-  bounds = in_bounds (block_at image 16) (length image) s opened.super
+  pub bounds : IsSuperInBounds s
+  bounds = in_bounds (block_at image SUPER_BLOCK) (length image) s opened.super
 
   -- nothing is wrong with the chunk tree and the root tree
   trees_sound : trees_refusals image s boot ≡ []

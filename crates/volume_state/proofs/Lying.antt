@@ -5,6 +5,7 @@ use Rattle.std.proofs.lemmas.Bool.{cases_lt}
 use Rattle.std.proofs.lemmas.List.{take_all}
 use Rattle.std.proofs.lemmas.List.Elements.{All-more}
 use Rattle.std.proofs.lemmas.Bool.Decides.{nat_tests}
+use Rattle.btrfs_format.specs.declared.block.TheConstants.{FIRST_MIRROR, FIRST_MIRROR_END, SECOND_MIRROR, SECOND_MIRROR_END}
 use Rattle.reiser_bitmap.specs.vol_block.Volume.{IsReserved}
 use Rattle.btr_reader_walk.specs.Map.{holds, place}
 use Rattle.btr_reader_walk.specs.declared.map.MapRange.{MapRange}
@@ -16,8 +17,8 @@ use Rattle.volume_state.proofs.Placed.{no_some, some_is}
 -- ---- reserved blocks between two
 pub in_one : (first end blocks : ℕ) (o : Option ℕ)
     → TellsBetween (λ b. (0 ≤ b) × (b < 256)) first end None
-    → TellsBetween (λ b. (16384 ≤ b) × (b < 16400)) first end None
-    → TellsBetween (λ b. (67108864 ≤ b) × (b < 67108880)) first end None
+    → TellsBetween (λ b. (FIRST_MIRROR ≤ b) × (b < FIRST_MIRROR_END)) first end None
+    → TellsBetween (λ b. (SECOND_MIRROR ≤ b) × (b < SECOND_MIRROR_END)) first end None
     → TellsBetween (λ b. (16 * (blocks / 16) ≤ b) × (b < blocks)) first end o
     → TellsBetween (λ b. IsReserved b blocks) first end o
 in_one first end blocks None one two three four = λ b between reserved.

@@ -5,7 +5,7 @@ use Rattle.reiser_bitmap.specs.refusals.declared.answer.BtrAnswer.{BtrAnswer}
 use Rattle.reiser_bitmap.specs.refusals.declared.refusal.BtrRefusal.{BtrRefusal}
 use Rattle.btr_reader.proofs.PartsRead.{of_disk}
 use Rattle.btr_reader.specs.Image.{ImageFile, image_refusals, saved_image}
-use Rattle.btr_reader.specs.Opening.{IsOpened, opening_refusals}
+use Rattle.btr_reader.specs.Opening.{IsBtrfsOpened, opening_refusals}
 use Rattle.btr_reader.specs.Parts.{IsBtrfsRefusal, SavedImage, own_map, way_refusals}
 use Rattle.btr_reader.specs.Pieces.{MapsImage, map_place}
 use Rattle.btr_reader.specs.Reading.{ReadsImage}
@@ -37,7 +37,7 @@ nothing_in : (refusals : List BtrRefusal) (r : BtrRefusal) → refusals ≡ [] �
 nothing_in refusals r none among = omega (arith, (subst (λ (rs : List BtrRefusal). Contains rs r) none among).1)
 
 -- ---- what was read of an opened volume
-module _ (disk : Image) (s : Super) (ranges : List MapRange) (opened : IsOpened disk s ranges) where
+module _ (disk : Image) (s : Super) (ranges : List MapRange) (opened : IsBtrfsOpened disk s ranges) where
   -- what is read on the way to the image, by the superblock and the map of the disk
   pub read_of_disk : (told : Result (Option ImageMap) BtrAnswer) → ReadsImage ranges (saved_image disk s ranges) (image_refusals disk s ranges) told → ReadsImage (own_map disk) (saved_file disk) (way_refusals disk) told
   read_of_disk told reads = of_disk disk s ranges (λ t m. ReadsImage m (saved_image disk t m) (image_refusals disk t m) told) opened reads

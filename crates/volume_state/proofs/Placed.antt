@@ -7,7 +7,7 @@ use Rattle.btr_reader_contents.specs.Extents.{covered_after, covers, end_after, 
 use Rattle.btr_reader_contents.proofs.ExtentLists.{aligned_of, form_of_sound}
 use Rattle.btr_node.specs.btr_keys.FileExtent.{ContentValue, FileExtentValue, Inline, Prealloc, Regular, file_extent_of}
 use Rattle.btr_node.specs.btr_keys.declared.file_extent.DiskRange.{DiskRange}
-use Rattle.btr_reader.specs.Image.{block_from, content_block, file_block}
+use Rattle.btr_reader.specs.Image.{block_by_extent, content_block, file_block}
 use Rattle.btr_reader_walk.specs.Events.{TreeItem}
 use Rattle.btr_reader_walk.specs.Map.{place}
 use Rattle.btr_reader_walk.specs.declared.map.MapRange.{MapRange}
@@ -105,7 +105,7 @@ by_covers ranges i extents x b at false over read aligned rest is = later ranges
 
 -- ---- all of them
 by_extent : (ranges : List MapRange) (i : TreeItem) (extents : List TreeItem) (e c b at : ℕ) (o : Option FileExtentValue) → file_extent_of i.body ≡ o → refusals_at ranges e c i o ≡ []
-    → (file_block ranges extents b ≡ Some at → HasBlock ranges extents b at) → block_from ranges i o b (file_block ranges extents b) ≡ Some at → HasBlock ranges (i ∷ extents) b at
+    → (file_block ranges extents b ≡ Some at → HasBlock ranges extents b at) → block_by_extent ranges i o b (file_block ranges extents b) ≡ Some at → HasBlock ranges (i ∷ extents) b at
 by_extent ranges i extents e c b at None read sound rest there = later ranges i extents b at (rest there)
 by_extent ranges i extents e c b at (Some x) read sound rest there =
     by_covers ranges i extents x b at (covers i.key.offset x.content (4096 * b)) refl read (aligned_range ranges e c i x sound) rest there

@@ -3,6 +3,8 @@ use Rattle.std.proofs.Common.{◌≡◌, inl, inr, ℕ, ◌+◌, ◌*◌, ◌/�
 use Rattle.std.specs.Option.{option_and_then}
 use Rattle.std.proofs.lemmas.Bool.{and_parts}
 use Rattle.std.proofs.lemmas.List.{get_or_default}
+use Rattle.btrfs_format.specs.declared.key.TheConstants.{EXTENT_DATA}
+use Rattle.btrfs_format.specs.declared.object.TheConstants.{FS_TREE}
 use Rattle.reiser_bitmap.specs.outside.History.{Image}
 use Rattle.reiser_bitmap.specs.vol_block.Volume.{is_reserved}
 use Rattle.reiser_bitmap.proofs.vol_block.Reserved.{decides_reserved}
@@ -16,7 +18,7 @@ use Rattle.btr_reader_walk.specs.Events.{TreeItem, nodes_in}
 use Rattle.btr_reader_walk.specs.Map.{place}
 use Rattle.btr_reader_walk.specs.Walks.{found, met}
 use Rattle.btr_reader_walk.specs.declared.map.MapRange.{MapRange}
-use Rattle.btr_reader_walk.specs.declared.tree.Pointer.{Pointer}
+use Rattle.btr_reader_walk.specs.declared.tree.NodePointer.{NodePointer}
 use Rattle.btr_reader_walk.specs.declared.tree.Tree.{Tree}
 use Rattle.btr_reader.specs.Apart.{AreExtentsApart, AreNodesApart, IsApart, IsContentApart, IsVolumeApart, boot_map, root_of, saved_tree}
 use Rattle.reiser_volume.proofs.fs_paths.Lists.{from_filter}
@@ -83,7 +85,7 @@ module _ (disk : Image) (u : IsUntouched disk) where
       let items : List TreeItem = items_at disk s ranges way.number way.q in
       let among : Contains (extents_of items way.ino) has.item = subst (λ (extents : List TreeItem). Contains extents has.item) way.extents has.among in
       let from = from_filter (is_extent_of way.ino) items has.item among in
-      let kind : eqb has.item.key.kind 108 ≡ true = (and_parts (eqb has.item.key.objectid way.ino) (eqb has.item.key.kind 108) from.1).1 in
+      let kind : eqb has.item.key.kind EXTENT_DATA ≡ true = (and_parts (eqb has.item.key.objectid way.ino) (eqb has.item.key.kind EXTENT_DATA) from.1).1 in
       let range : item_range has.item ≡ Some has.range =
       ap (λ (t : Bool). if t then option_and_then (λ x. content_range x.content) (file_extent_of has.item.body) else None) kind
       ∙ (ap (λ (o : Option FileExtentValue). option_and_then (λ x. content_range x.content) o) has.read
@@ -100,8 +102,8 @@ module _ (disk : Image) (u : IsUntouched disk) where
     superblock = superblock_apart;
     chunks = chunks_apart;
     roots = roots_apart;
-    files = λ p root. file_nodes_apart (tree_of s 5 p) (file_tree_among disk p root);
-    extents = λ p root. file_extents_apart (tree_of s 5 p) (file_tree_among disk p root);
+    files = λ p root. file_nodes_apart (tree_of s FS_TREE p) (file_tree_among disk p root);
+    extents = λ p root. file_extents_apart (tree_of s FS_TREE p) (file_tree_among disk p root);
     saved = λ p number q root saved at. file_nodes_apart (tree_of s number q) (saved_tree_among disk p number q root saved at);
     blocks = λ f b at is placed. in_use_apart at (image_in_use f b at is placed);
   }

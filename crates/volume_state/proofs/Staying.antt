@@ -2,16 +2,17 @@
 use Rattle.std.proofs.Common.{◌≡◌, ⊎_elim, inl, inr, ℕ, ◌<◌, min, List, [], ◌++◌, length, Contains, Option, Some, None, refl, sym, ◌∙◌, ap, subst, arith}
 use Rattle.std.specs.Option.{option_and_then}
 use Rattle.std.proofs.lemmas.List.{ext_get_or}
+use Rattle.btrfs_format.specs.declared.object.TheConstants.{FS_TREE}
 use Rattle.reiser_bitmap.specs.outside.History.{Image, block_at}
-use Rattle.btr_reader.specs.Image.{ImageFile, items_at, pointer_in, saved_entry, tree_number}
+use Rattle.btr_reader.specs.Image.{ImageFile, items_at, pointer_in, saved_location, tree_number}
 use Rattle.btr_reader.specs.Opening.{chunk_tree, root_tree}
 use Rattle.btr_reader.specs.Parts.{SavedImage, own_map, own_super}
 use Rattle.btr_reader.specs.Parts as part
 use Rattle.btr_reader.specs.Roots.{root_item}
 use Rattle.btr_super.specs.declared.superblock.Super.{Super}
-use Rattle.btr_reader_walk.specs.Events.{Event, TreeItem, nodes_in}
+use Rattle.btr_reader_walk.specs.Events.{TreeEvent, TreeItem, nodes_in}
 use Rattle.btr_reader_walk.specs.declared.map.MapRange.{MapRange}
-use Rattle.btr_reader_walk.specs.declared.tree.Pointer.{Pointer}
+use Rattle.btr_reader_walk.specs.declared.tree.NodePointer.{NodePointer}
 use Rattle.btr_reader_walk.specs.declared.tree.Tree.{Tree}
 use Rattle.btr_reader.specs.Apart.{AreNodesApart, IsSameOutside, boot_map, root_of}
 use Rattle.btr_reader.specs.MetadataLaws.{IsDecided, IsSameBtrfs}
@@ -78,28 +79,28 @@ module _ (disk other : Image) (u : IsUntouched disk) (same : IsSameOutside (is_s
   -- ---- the blocks in use
   nodes_of : (m : List MapRange) (t : Tree) → AreNodesApart (is_spare disk) disk m t → (b : ℕ) → HoldsNodeOf other m t b → HoldsNodeOf disk m t b
   nodes_of m t apart b holds =
-      subst (λ (events : List Event). HoldsNode (nodes_in events) m t.form.nodesize b) (met_same (is_spare disk) disk other same m t apart) holds
+      subst (λ (events : List TreeEvent). HoldsNode (nodes_in events) m t.form.nodesize b) (met_same (is_spare disk) disk other same m t apart) holds
 
   pointer_same : file_pointer other s ranges ≡ file_pointer disk s ranges
-  pointer_same = ap (λ (items : List TreeItem). pointer_in (root_item 5 items)) (roots_same (is_spare disk) disk other (untouched_apart disk u) same)
+  pointer_same = ap (λ (items : List TreeItem). pointer_in (root_item FS_TREE items)) (roots_same (is_spare disk) disk other (untouched_apart disk u) same)
 
   numbered_same : (o : Option ℕ) → numbered other s ranges o ≡ numbered disk s ranges o
   numbered_same None = refl
   numbered_same (Some number) =
       ap (λ (items : List TreeItem). tree_if s number (pointer_in (root_item number items))) (roots_same (is_spare disk) disk other (untouched_apart disk u) same)
 
-  named_same : (o : Option Pointer) → root_of disk 5 ≡ o → named_by other s ranges o ≡ named_by disk s ranges o
+  named_same : (o : Option NodePointer) → root_of disk FS_TREE ≡ o → named_by other s ranges o ≡ named_by disk s ranges o
   named_same None is = refl
   named_same (Some p) is =
       let apart = untouched_apart disk u in
-      numbered_same (option_and_then tree_number (saved_entry (items_at other s ranges 5 p)))
-      ∙ ap (λ (items : List TreeItem). numbered disk s ranges (option_and_then tree_number (saved_entry items))) (items_same (is_spare disk) disk other apart same 5 p (apart.files p is))
+      numbered_same (option_and_then tree_number (saved_location (items_at other s ranges FS_TREE p)))
+      ∙ ap (λ (items : List TreeItem). numbered disk s ranges (option_and_then tree_number (saved_location items))) (items_same (is_spare disk) disk other apart same 5 p (apart.files p is))
 
   trees_same : file_trees other (own_super other) (own_map other) ≡ file_trees disk s ranges
   trees_same =
       both (is_spare disk) disk other (untouched_apart disk u) same (λ t m. file_trees other t m)
-      ∙ (ap (λ (o : Option Pointer). tree_if s 5 o ++ named_by other s ranges o) pointer_same
-      ∙ ap (λ (more : List Tree). tree_if s 5 (file_pointer disk s ranges) ++ more) (named_same (file_pointer disk s ranges) refl))
+      ∙ (ap (λ (o : Option NodePointer). tree_if s FS_TREE o ++ named_by other s ranges o) pointer_same
+      ∙ ap (λ (more : List Tree). tree_if s FS_TREE (file_pointer disk s ranges) ++ more) (named_same (file_pointer disk s ranges) refl))
 
   in_use_same : (b : ℕ) → IsInUse other b → IsInUse disk b
   in_use_same b (chunk_node holds) =

@@ -1,6 +1,6 @@
 -- Reserved blocks in which bytes lie.
 use Rattle.std.specs.Prelude.{◌≡◌, ◌≤◌, ◌<◌, ℕ, ◌+◌, ◌-◌, ◌/◌, List, AllPairs, Option, Some, None}
-use Rattle.btr_reader.specs.Laws.{AreApart}
+use Rattle.btr_reader.specs.Laws.{AreRangesApart}
 use Rattle.btr_reader_walk.specs.declared.map.MapRange.{MapRange}
 
 -- from the first block to before the end
@@ -23,4 +23,4 @@ pub record LieInRange (r : MapRange) (address count b : ℕ) : Type 0 where
 
 -- no address lies in two ranges, as in the map of an opened volume
 abbrev pub IsMapApart : List MapRange → Type 0
-IsMapApart ranges = AllPairs AreApart ranges
+IsMapApart ranges = AllPairs AreRangesApart ranges

@@ -1,6 +1,8 @@
 -- Which blocks of a disk are in use by what is read of its Btrfs volume.
 use Rattle.std.specs.Prelude.{◌≡◌, ◌⊎◌, ◌<◌, ℕ, ◌+◌, ◌/◌, ◌==◌, if◌then◌else◌, List, [], ◌∷◌, ◌++◌, Option, Some, None, Contains}
 use Rattle.std.specs.Option.{option_and_then}
+use Rattle.btrfs_format.specs.declared.key.TheConstants.{EXTENT_DATA}
+use Rattle.btrfs_format.specs.declared.object.TheConstants.{FS_TREE}
 use Rattle.reiser_bitmap.specs.outside.History.{Image}
 use Rattle.reiser_bitmap.specs.refusals.declared.answer.BtrAnswer.{BtrAnswer}
 use Rattle.reiser_bitmap.specs.refusals.declared.answer.BtrAnswer.TheVariants.{Refused, Fault, Memory}
@@ -10,7 +12,7 @@ use Rattle.reiser_bitmap.specs.vol_block.Volume.{IsReserved}
 use Rattle.btr_reader_contents.specs.Extents.{is_hole}
 use Rattle.btr_node.specs.btr_keys.FileExtent.{ContentValue, Inline, Regular, Prealloc, file_extent_of}
 use Rattle.btr_node.specs.btr_keys.declared.file_extent.DiskRange.{DiskRange}
-use Rattle.btr_reader.specs.Image.{items_at, pointer_in, saved_entry, tree_number}
+use Rattle.btr_reader.specs.Image.{items_at, pointer_in, saved_location, tree_number}
 use Rattle.btr_reader.specs.Opening.{chunk_tree, root_tree, tree_of}
 use Rattle.btr_reader.specs.Parts.{IsBtrfsRefusal, SavedImage, log_tree, own_map, own_super}
 use Rattle.btr_reader.specs.Roots.{root_item}
@@ -20,7 +22,7 @@ use Rattle.btr_reader_walk.specs.Events.{TreeItem, nodes_in}
 use Rattle.btr_reader_walk.specs.Map.{place}
 use Rattle.btr_reader_walk.specs.Walks.{found, met}
 use Rattle.btr_reader_walk.specs.declared.map.MapRange.{MapRange}
-use Rattle.btr_reader_walk.specs.declared.tree.Pointer.{Pointer}
+use Rattle.btr_reader_walk.specs.declared.tree.NodePointer.{NodePointer}
 use Rattle.btr_reader_walk.specs.declared.tree.Tree.{Tree}
 use Rattle.btr_reader.specs.Apart.{boot_map}
 
@@ -35,8 +37,8 @@ pub record LieIn (ranges : List MapRange) (address count b : ℕ) : Type 0 where
   pub block : at / 4096 ≡ b
 
 -- One of these nodes does, each of so many bytes.
-pub record HoldsNode (nodes : List Pointer) (ranges : List MapRange) (nodesize b : ℕ) : Type 0 where
-  pub node : Pointer
+pub record HoldsNode (nodes : List NodePointer) (ranges : List MapRange) (nodesize b : ℕ) : Type 0 where
+  pub node : NodePointer
   pub among : Contains nodes node
   pub lies : LieIn ranges node.address nodesize b
 
@@ -51,7 +53,7 @@ content_range (Prealloc r) = range_unless_hole r
 
 -- the same of an item: one that is no file extent, or is off the grammar, has none
 abbrev pub item_range : TreeItem → Option DiskRange
-item_range i = if i.key.kind == 108 then option_and_then (λ e. content_range e.content) (file_extent_of i.body) else None
+item_range i = if i.key.kind == EXTENT_DATA then option_and_then (λ e. content_range e.content) (file_extent_of i.body) else None
 
 -- A file extent of these items does.
 pub record HoldsExtent (items : List TreeItem) (ranges : List MapRange) (b : ℕ) : Type 0 where
@@ -72,7 +74,7 @@ HoldsPartOf disk ranges t b = HoldsNodeOf disk ranges t b ⊎ HoldsExtent (found
 -- ---- the trees that are read
 
 -- the tree of a pointer, if there is one
-abbrev pub tree_if : Super → ℕ → Option Pointer → List Tree
+abbrev pub tree_if : Super → ℕ → Option NodePointer → List Tree
 tree_if s number None = []
 tree_if s number (Some p) = tree_of s number p ∷ []
 
@@ -82,16 +84,16 @@ numbered disk s ranges None = []
 numbered disk s ranges (Some number) = tree_if s number (pointer_in (root_item number (roots_on disk s ranges)))
 
 -- the tree that the file tree with this root names as that of the saved image
-abbrev pub named_by : Image → Super → List MapRange → Option Pointer → List Tree
+abbrev pub named_by : Image → Super → List MapRange → Option NodePointer → List Tree
 named_by disk s ranges None = []
-named_by disk s ranges (Some p) = numbered disk s ranges (option_and_then tree_number (saved_entry (items_at disk s ranges 5 p)))
+named_by disk s ranges (Some p) = numbered disk s ranges (option_and_then tree_number (saved_location (items_at disk s ranges FS_TREE p)))
 
-abbrev pub file_pointer : Image → Super → List MapRange → Option Pointer
-file_pointer disk s ranges = pointer_in (root_item 5 (roots_on disk s ranges))
+abbrev pub file_pointer : Image → Super → List MapRange → Option NodePointer
+file_pointer disk s ranges = pointer_in (root_item FS_TREE (roots_on disk s ranges))
 
 -- The file tree, and the tree of the saved image; those of the two that are there.
 abbrev pub file_trees : Image → Super → List MapRange → List Tree
-file_trees disk s ranges = tree_if s 5 (file_pointer disk s ranges) ++ named_by disk s ranges (file_pointer disk s ranges)
+file_trees disk s ranges = tree_if s FS_TREE (file_pointer disk s ranges) ++ named_by disk s ranges (file_pointer disk s ranges)
 
 -- ---- blocks in use
 

@@ -15,11 +15,9 @@ use crate::reserved::reserved_in;
 use btr_node::{DiskRange, ExtentContent, FileExtent, Key};
 use btr_reader_contents::is_hole;
 use btr_reader_walk::{MapRange, Notes, Tree, note_items};
+use btrfs_format::key::EXTENT_DATA;
 use reiser_bitmap::{BlockNo, BlockSource, BtrAnswer, Memory};
 use std::alloc::Global;
-
-/// The kind in the key of a file extent.
-const EXTENT_KIND: u8 = 108;
 
 /// The range on the device, unless it is a hole.
 fn unless_hole(range: DiskRange) -> Option<DiskRange>
@@ -43,7 +41,7 @@ fn content_range(content: &ExtentContent<'_>) -> Option<DiskRange>
 fn item_range(key: &Key, body: &[u8]) -> Option<DiskRange>
     ensures { (i : TreeItem) → i.key ≡ key.now → i.body ≡ body.now → result ≡ item_range i }
 {
-    if key.kind != EXTENT_KIND {
+    if key.kind != EXTENT_DATA {
         return None;
     }
     match FileExtent::read(body) {

@@ -5,6 +5,7 @@ ghost use Rattle.volume_state.specs.Reserved.{IsMapApart, LieInRange, TellsBetwe
 ghost use Rattle.volume_state.specs.Using.{LieIn, TellsReserved};
 
 use btr_reader_walk::MapRange;
+use btrfs_format::block::{FIRST_MIRROR, FIRST_MIRROR_END, SECOND_MIRROR, SECOND_MIRROR_END};
 use reiser_bitmap::{BlockNo, usable_end};
 
 /// The first block from `first` to before `end` that is also one from `from` to before `to`.
@@ -26,10 +27,10 @@ pub fn reserved_between(first: BlockNo, end: BlockNo, blocks: u64) -> Option<Blo
     if let Some(block) = first_in(first, end, 0, 256) {
         return Some(block);
     }
-    if let Some(block) = first_in(first, end, 16384, 16400) {
+    if let Some(block) = first_in(first, end, FIRST_MIRROR, FIRST_MIRROR_END) {
         return Some(block);
     }
-    if let Some(block) = first_in(first, end, 67_108_864, 67_108_880) {
+    if let Some(block) = first_in(first, end, SECOND_MIRROR, SECOND_MIRROR_END) {
         return Some(block);
     }
     first_in(first, end, usable_end(blocks), blocks)

@@ -16,7 +16,7 @@ use Rattle.convert_core_laws.specs.reading.Laws.{ChunksMap, ConvertedIsReadable,
 use Rattle.convert_core_laws.specs.reading.Opened.{IsNewVolume}
 use Rattle.convert_core.proofs.extent_pieces.Covering.{used_inside}
 use Rattle.convert_trees_laws.specs.Entries.{EntriesAreThere}
-use Rattle.btr_reader.specs.Apart.{IsReservedFree as IsSpareFree}
+use Rattle.btr_reader.specs.Apart.{IsSpareFree}
 use Rattle.reiser_volume.specs.reiser_volume_contents.Laws.{SameUsed}
 use Rattle.convert_core_laws.specs.opening.Opens.{ConvertedVolumesOpen, OpensAsBefore}
 use Rattle.reiser_volume.specs.reiser_bitmap.Bits.{has}

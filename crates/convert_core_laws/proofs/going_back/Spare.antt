@@ -4,6 +4,7 @@ use Rattle.std.specs.Prelude.{Contains, if◌then◌else◌}
 use Rattle.std.specs.Option.{option_and_then}
 use Rattle.std.proofs.lemmas.Bool.{and_parts}
 use Rattle.std.proofs.lemmas.List.{get_or_default}
+use Rattle.btrfs_format.specs.declared.object.TheConstants.{FS_TREE}
 use Rattle.reiser_volume.proofs.fs_paths.Lists.{from_filter}
 use Rattle.reiser_volume.specs.outside.History.{Image}
 use Rattle.reiser_volume.specs.vol_block.Volume.{IsReserved, is_reserved}
@@ -18,7 +19,7 @@ use Rattle.btr_reader.specs.btr_reader_walk.Events.{TreeItem, nodes_in}
 use Rattle.btr_reader.specs.btr_reader_walk.Map.{place}
 use Rattle.btr_reader.specs.btr_reader_walk.Walks.{found, met}
 use Rattle.btr_reader.specs.btr_reader_walk.declared.map.MapRange.{MapRange}
-use Rattle.btr_reader.specs.btr_reader_walk.declared.tree.Pointer.{Pointer}
+use Rattle.btr_reader.specs.btr_reader_walk.declared.tree.NodePointer.{NodePointer}
 use Rattle.btr_reader.specs.btr_reader_walk.declared.tree.Tree.{Tree}
 use Rattle.btr_reader.specs.Apart.{AreExtentsApart, AreNodesApart, IsApart, IsContentApart, IsVolumeApart, boot_map, is_spare, is_spare_in, root_of, saved_tree}
 use Rattle.volume_state.proofs.Apart.{extents_apart, file_tree_among, nodes_apart, saved_tree_among}
@@ -62,8 +63,8 @@ module _ (disk : Image) (blocks : ℕ) (total : (own_super disk).total_bytes / 4
     superblock = refl;
     chunks = nodes_apart (is_spare_in disk) (boot_map s) disk (chunk_tree s) (λ b holds. in_use_apart b (chunk_node holds));
     roots = nodes_apart (is_spare_in disk) ranges disk (root_tree s) (λ b holds. in_use_apart b (root_node holds));
-    files = λ p root. file_nodes_apart (tree_of s 5 p) (file_tree_among disk p root);
-    extents = λ p root. file_extents_apart (tree_of s 5 p) (file_tree_among disk p root);
+    files = λ p root. file_nodes_apart (tree_of s FS_TREE p) (file_tree_among disk p root);
+    extents = λ p root. file_extents_apart (tree_of s FS_TREE p) (file_tree_among disk p root);
     saved = λ p number q root saved at. file_nodes_apart (tree_of s number q) (saved_tree_among disk p number q root saved at);
     blocks = λ f b at is placed. unreserved at (image_free f b at is placed);
   }

@@ -1,6 +1,7 @@
 -- The identifiers of a converted volume have their bytes.
 use Rattle.std.proofs.Common.{◌≡◌, ◌≤◌, ℕ, Bool, true, false, if◌then◌else◌, List, length, drop, take, ap, ◌∙◌, arith, length-drop}
 use Rattle.std.proofs.lemmas.List.{length-take}
+use Rattle.btrfs_format.specs.declared.block.TheConstants.{SUPER_BLOCK}
 use Rattle.reiser_volume.specs.outside.History.{Image, block_at}
 use Rattle.reiser_volume.specs.vol_block.declared.ids.Ids.{Ids}
 use Rattle.convert_core.specs.convert_steps.Making.{fsid_by}
@@ -20,9 +21,9 @@ either_long : (nil : Bool) (new old : List ℕ) → length new ≡ 16 → length
 either_long true new old n o = n
 either_long false new old n o = o
 
-fsid_long : (image : Image) (ids : Ids) (sup : Super) (choice : UuidChoice) → AreIds ids → sup.uuid ≡ take 16 (drop 84 (block_at image 16)) → HasFsid image choice → length (fsid_by ids sup choice) ≡ 16
+fsid_long : (image : Image) (ids : Ids) (sup : Super) (choice : UuidChoice) → AreIds ids → sup.uuid ≡ take 16 (drop 84 (block_at image SUPER_BLOCK)) → HasFsid image choice → length (fsid_by ids sup choice) ≡ 16
 fsid_long image ids sup New are is has = are.fsid
-fsid_long image ids sup Copy are is has = either_long (is_nil sup.uuid) ids.fsid sup.uuid are.fsid (ap (λ (l : List ℕ). length l) is ∙ own_long (block_at image 16) has)
+fsid_long image ids sup Copy are is has = either_long (is_nil sup.uuid) ids.fsid sup.uuid are.fsid (ap (λ (l : List ℕ). length l) is ∙ own_long (block_at image SUPER_BLOCK) has)
 fsid_long image ids sup (Given id) are is has = has
 
 pub new_ids_fit : NewIdsFit

@@ -19,7 +19,7 @@ use Rattle.convert_core.specs.unit_plan.Choice.{holds_data, is_among, is_data}
 use Rattle.convert_core.specs.unit_plan.Chunks.{AreChunks, HoldsUnit, IsChunk, is_data_unit, role_of, usable_end, use_of}
 use Rattle.convert_core.specs.unit_plan.Needed.{need}
 use Rattle.convert_core.specs.unit_plan.Laws.{IsSoundPlan}
-use Rattle.convert_core.specs.unit_plan.declared.chunk.Chunk.{Chunk}
+use Rattle.convert_core.specs.unit_plan.declared.chunk.PlannedChunk.{PlannedChunk}
 use Rattle.convert_core.specs.unit_plan.declared.chunk.Role.{Role}
 use Rattle.convert_core.specs.unit_plan.declared.chunk.Role.TheVariants.{System, Metadata, Data}
 use Rattle.convert_core.specs.unit_plan.declared.piece.Piece.{Piece}
@@ -34,14 +34,14 @@ use Rattle.convert_core.proofs.Slots.{slot_unit}
 use Rattle.convert_trees_laws.proofs.Booting.{chunks_of}
 
 -- a chunk holds the block
-pub record HasBlock (chunks : List Chunk) (b : ℕ) : Type 0 where
-  pub chunk : Chunk
+pub record HasBlock (chunks : List PlannedChunk) (b : ℕ) : Type 0 where
+  pub chunk : PlannedChunk
   pub among : Contains chunks chunk
   pub low : chunk.start ≤ b
   pub high : b < chunk.start + chunk.length
 
 -- and has this role
-pub record HasBlockOf (role : Role) (chunks : List Chunk) (b : ℕ) : Type 0 where
+pub record HasBlockOf (role : Role) (chunks : List PlannedChunk) (b : ℕ) : Type 0 where
   pub has : HasBlock chunks b
   pub role_is : has.chunk.role ≡ role
 
@@ -80,7 +80,7 @@ module _ (image : Image) (m : Making) (made : IsMaking image m) where
   in_role role b is inside =
       let are : AreChunks m.plan n m.chunks = chunks_of image m made in
       let at = are.whole (b / 256) role is in
-      let c : Chunk = at.1 in
+      let c : PlannedChunk = at.1 in
       let among : Contains m.chunks c = (at.0, at.2, at.3) in
       let holds : HoldsUnit c (b / 256) = at.4 in
       let chunk : IsChunk (role_of m.plan n) (usable_end n) c = all_at (IsChunk (role_of m.plan n) (usable_end n)) m.chunks c are.each among in

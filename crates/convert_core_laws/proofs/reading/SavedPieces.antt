@@ -9,6 +9,7 @@ use Rattle.std.specs.declared.cmp.Ordering.TheVariants.{Less, Equal, Greater}
 use Rattle.std.proofs.lemmas.List.Elements.{All-contains_itself, All-drop, All-take, Contains-append_cases, Contains-append_left, Contains-append_right}
 use Rattle.std.proofs.lemmas.List.{get_or_default, take-append-drop}
 use Rattle.std.proofs.lemmas.List.Sorted.{Contains-permutation, IsPermutation-sym}
+use Rattle.btrfs_format.specs.declared.key.TheConstants.{EXTENT_DATA}
 use Rattle.reiser_volume.proofs.fs_paths.Lists.{from_filter, in_filter}
 use Rattle.reiser_volume.specs.outside.History.{Image}
 use Rattle.reiser_volume.specs.reiser_bitmap.Bits.{has}
@@ -69,7 +70,7 @@ six_behind a b c d e f items t =
 ascends_first : (k next : Key) (ks : List Key) → ascends (k ∷ (next ∷ ks)) ≡ true → is_before k next ≡ true
 ascends_first k next ks t = (and_parts (is_before k next) (ascends (next ∷ ks)) t).0
 
-source_less : (a b : ℕ) → is_before (make_key 257 108 (4096 * a)) (make_key 257 108 (4096 * b)) ≡ true → a < b
+source_less : (a b : ℕ) → is_before (make_key 257 EXTENT_DATA (4096 * a)) (make_key 257 EXTENT_DATA (4096 * b)) ≡ true → a < b
 source_less a b t = let less = less_of (4096 * a) (4096 * b) t in omega (arith, less)
 
 -- a piece of the list, of which something is known
@@ -87,11 +88,11 @@ module _ (ranges : List MapRange) where
       → ((x y : Piece) → Contains (p ∷ ps) x → Contains (p ∷ ps) y → source_block x < source_block y → source_block x + x.count ≤ source_block y) → AreSources ranges low (p ∷ ps)
   sources_are low p [] all up above apart = (all.0, above, tt)
   sources_are low p (q ∷ ps) all up above apart =
-      let less : source_block p < source_block q = source_less (source_block p) (source_block q) (ascends_first (make_key 257 108 (4096 * source_block p)) (make_key 257 108 (4096 * source_block q)) (keys_of (extents_at 257 source_block ps)) up) in
+      let less : source_block p < source_block q = source_less (source_block p) (source_block q) (ascends_first (make_key 257 EXTENT_DATA (4096 * source_block p)) (make_key 257 EXTENT_DATA (4096 * source_block q)) (keys_of (extents_at 257 source_block ps)) up) in
       let next : source_block p + p.count ≤ source_block q = apart p q (contains_head p (q ∷ ps)) (contains_tail q p (q ∷ ps) (contains_head q ps)) less in (
         all.0,
         above,
-        sources_are (source_block p + p.count) q ps all.1 (ascends_tail (make_key 257 108 (4096 * source_block p)) (keys_of (extents_at 257 source_block (q ∷ ps))) up) next
+        sources_are (source_block p + p.count) q ps all.1 (ascends_tail (make_key 257 EXTENT_DATA (4096 * source_block p)) (keys_of (extents_at 257 source_block (q ∷ ps))) up) next
             (λ x y h k. apart x y (contains_tail x p (q ∷ ps) h) (contains_tail y p (q ∷ ps) k)),
       )
 

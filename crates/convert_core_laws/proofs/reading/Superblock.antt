@@ -1,10 +1,12 @@
 -- The superblock of a converted volume reads back.
-use Rattle.std.proofs.Common.{◌≡◌, ◌≤◌, ◌<◌, ℕ, ◌-◌, ◌*◌, ◌%◌, ◌^◌, ◌++◌, ◌&&◌, eqb, Bool, true, false, List, [], ◌∷◌, length, take, drop, replicate, Some, None, Ok, refl, sym, ap, subst, ◌∙◌, ⊎_elim, arith, length-append, length-drop}
+use Rattle.std.proofs.Common.{◌≡◌, ◌≤◌, ◌<◌, ℕ, ◌-◌, ◌*◌, ◌%◌, ◌^◌, ◌++◌, ◌&&◌, eqb, Bool, true, false, List, [], ◌∷◌, length, take, drop, replicate, Some, None, Ok, refl, sym, ap, subst, ◌∙◌, ⊎_elim, arith, length-append, length-drop, ◌+◌}
 use Rattle.std.specs.Prelude.{if◌then◌else◌}
 use Rattle.std.specs.List.{sum_by}
 use Rattle.std.proofs.lemmas.Bool.{eq-eqb, le-leb}
 use Rattle.std.proofs.lemmas.List.{length-replicate, length-take}
 use Rattle.std.proofs.lemmas.List.Elements.{All-drop, All-take}
+use Rattle.btrfs_format.specs.declared.block.TheConstants.{SUPER_BLOCK}
+use Rattle.btrfs_format.specs.declared.feature.TheConstants.{BIG_METADATA, EXTENDED_IREF, MIXED_BACKREF, NO_HOLES, SKINNY_METADATA}
 use Rattle.reiser_volume.specs.outside.History.{Image}
 use Rattle.reiser_volume.specs.refusals.declared.refusal.BtrRefusal.{BtrRefusal}
 use Rattle.reiser_volume.specs.refusals.declared.refusal.BtrRefusal.TheVariants.{Unsupported}
@@ -32,7 +34,7 @@ use Rattle.convert_core.specs.space_items.Laws.{AreIds}
 use Rattle.convert_core.specs.space_items.declared.node.TreeNode.{TreeNode}
 use Rattle.convert_core.proofs.space_items.ChunkLists.{chunk_blocks_fit}
 use Rattle.convert_trees_laws.proofs.Booting.{boot_fits}
-use Rattle.convert_core.specs.unit_plan.declared.chunk.Chunk.{Chunk}
+use Rattle.convert_core.specs.unit_plan.declared.chunk.PlannedChunk.{PlannedChunk}
 use Rattle.convert_core.specs.convert_options.declared.options.Options.{Options}
 use Rattle.convert_core_laws.specs.reading.Laws.{ReadsSuperblock, SuperblockReads}
 use Rattle.convert_core_laws.specs.reading.Opened.{IsNewVolume, super_for}
@@ -46,13 +48,13 @@ label_long bytes =
     omega (arith, length-take 256 (bytes ++ replicate 256 0), length-append bytes (replicate 256 0), length-replicate {A = ℕ} 256 0)
 
 -- the device's numbers fit
-device_fits : (ids : Ids) (blocks : ℕ) (chunks : List Chunk) → AreIds ids → blocks ≤ 2 ^ 29 → sum_by (λ c. c.length) chunks ≤ blocks → device_layout.fits (device_body ids blocks chunks)
+device_fits : (ids : Ids) (blocks : ℕ) (chunks : List PlannedChunk) → AreIds ids → blocks ≤ 2 ^ 29 → sum_by (λ c. c.length) chunks ≤ blocks → device_layout.fits (device_body ids blocks chunks)
 unfolding device_layout
 device_fits ids blocks chunks are few fit =
     ((((((((((((((tt, omega arith), omega (arith, few)), omega (arith, few, fit)), omega arith), omega arith), omega arith), omega arith), omega arith), omega arith), omega arith), omega arith), omega arith), are.device), are.fsid)
 
 -- what is asked of the numbers
-record HasRoom (ids : Ids) (blocks nodesize : ℕ) (label : List ℕ) (chunks : List Chunk) (roots : NewRoots) : Type 0 where
+record HasRoom (ids : Ids) (blocks nodesize : ℕ) (label : List ℕ) (chunks : List PlannedChunk) (roots : NewRoots) : Type 0 where
   ids_ : AreIds ids
   small : blocks ≤ 2 ^ 29
   size : IsNodeSize nodesize
@@ -68,7 +70,7 @@ record HasRoom (ids : Ids) (blocks nodesize : ℕ) (label : List ℕ) (chunks : 
 features_read : (nodesize : ℕ) → (unread_bits (features nodesize) ≡ 0) × (features nodesize < 2 ^ 64)
 features_read nodesize = by (eqb nodesize 4096)
   where
-    by : (b : Bool) → (unread_bits (if b then 0x341 else 0x361) ≡ 0) × ((if b then 0x341 else 0x361) < 2 ^ 64)
+    by : (b : Bool) → (unread_bits (if b then MIXED_BACKREF + EXTENDED_IREF + SKINNY_METADATA + NO_HOLES else MIXED_BACKREF + EXTENDED_IREF + SKINNY_METADATA + NO_HOLES + BIG_METADATA) ≡ 0) × ((if b then MIXED_BACKREF + EXTENDED_IREF + SKINNY_METADATA + NO_HOLES else MIXED_BACKREF + EXTENDED_IREF + SKINNY_METADATA + NO_HOLES + BIG_METADATA) < 2 ^ 64)
     by true = (refl, omega arith)
     by false = (refl, omega arith)
 
@@ -79,7 +81,7 @@ sized n size =
     at : (k : ℕ) → n ≡ k → is_node_size k ≡ true → is_node_size n ≡ true
     at k e is = subst (λ (j : ℕ). is_node_size j ≡ true) (sym e) is
 
-module _ (ids : Ids) (blocks nodesize : ℕ) (label : List ℕ) (chunks : List Chunk) (roots : NewRoots) (room : HasRoom ids blocks nodesize label chunks roots) where
+module _ (ids : Ids) (blocks nodesize : ℕ) (label : List ℕ) (chunks : List PlannedChunk) (roots : NewRoots) (room : HasRoom ids blocks nodesize label chunks roots) where
   array_long : length (boot_bytes ids chunks ++ replicate (2048 - length (boot_bytes ids chunks)) 0) ≡ 2048
   array_long = omega (arith, length-append (boot_bytes ids chunks) (replicate (2048 - length (boot_bytes ids chunks)) 0), length-replicate {A = ℕ} (2048 - length (boot_bytes ids chunks)) 0, room.boot)
 
@@ -147,13 +149,13 @@ module _ (ids : Ids) (blocks nodesize : ℕ) (label : List ℕ) (chunks : List C
   eight_hold : (a b c d e f g h : Bool) → a ≡ true → b ≡ true → c ≡ true → d ≡ true → e ≡ true → f ≡ true → g ≡ true → h ≡ true → (a && (b && (c && (d && (e && (f && (g && h))))))) ≡ true
   eight_hold a b c d e f g h i j k l m n o p = rw (i, j, k, l, m, n, o, p) refl
 
-  fields_hold : (device : ℕ) → blocks ≤ device → has_fields (new_super ids blocks nodesize label chunks roots) 16 device ≡ true
+  fields_hold : (device : ℕ) → blocks ≤ device → has_fields (new_super ids blocks nodesize label chunks roots) SUPER_BLOCK device ≡ true
   unfolding new_super
   fields_hold device inside =
       eight_hold _ _ _ _ _ _ _ _ refl (le-leb roots.root.level 7 room.root_low) (le-leb roots.chunk.level 7 room.chunk_low) refl (le-leb (length (boot_bytes ids chunks)) 2048 room.boot)
       (le-leb (4096 * blocks) (4096 * device) (omega (arith, inside))) (le-leb (4096 * blocks) (2 ^ 48) (omega (arith, room.small))) (eq-eqb ((4096 * blocks) % 4096) 0 (omega arith))
 
-  rules_hold : (device : ℕ) → blocks ≤ device → failing (field_rules (new_super ids blocks nodesize label chunks roots) 16 device) ≡ []
+  rules_hold : (device : ℕ) → blocks ≤ device → failing (field_rules (new_super ids blocks nodesize label chunks roots) SUPER_BLOCK device) ≡ []
   unfolding new_super
   rules_hold device inside =
       five_hold _ _ _ _ _ bad_field (Unsupported Incompat (unread_bits (features nodesize))) (Unsupported SectorSize 4096) (Unsupported NodeSize nodesize) (Unsupported DeviceCount 1) (fields_hold device inside) (eq-eqb (unread_bits (features nodesize)) 0 (features_read nodesize).0) refl (sized nodesize room.size) refl
@@ -166,7 +168,7 @@ module _ (ids : Ids) (blocks nodesize : ℕ) (label : List ℕ) (chunks : List C
   unfolding new_super
   log_is = refl
 
-  reads_back : (device : ℕ) → 16 < device → blocks ≤ device → super_of (super_bytes (new_super ids blocks nodesize label chunks roots)) 16 device ≡ Ok (new_super ids blocks nodesize label chunks roots)
+  reads_back : (device : ℕ) → 16 < device → blocks ≤ device → super_of (super_bytes (new_super ids blocks nodesize label chunks roots)) SUPER_BLOCK device ≡ Ok (new_super ids blocks nodesize label chunks roots)
   reads_back device there inside =
       supers_read_back (new_super ids blocks nodesize label chunks roots) Crc32c 16 device fits known there (rules_hold device inside)
     where
@@ -222,7 +224,7 @@ module _ (o : Options) (ids : Ids) (now : ℕ) (image other : Image) (m : Making
       let whole = v.new.stands.size in
       let inside = blocks_inside m.volume image m.options m.plan m.pieces making.has_pieces in
       let some = blocks_some m.volume image m.options m.plan m.pieces making.has_pieces in
-      ap (λ (block : List ℕ). super_of block 16 (length other)) v.new.superblock
+      ap (λ (block : List ℕ). super_of block SUPER_BLOCK (length other)) v.new.superblock
       ∙ reads_back (new_ids m) m.volume.sup.blocks m.options.nodesize (label_field (label_by m.volume.sup m.options.label)) m.chunks (record { chunk = r.chunk; root = r.root; used = used_bytes m nodes }) room (length other) (omega (arith, whole, inside, some)) (omega (arith, whole, inside))
 
   pub reads : ReadsSuperblock other m r nodes

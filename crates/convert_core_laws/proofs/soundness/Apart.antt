@@ -4,15 +4,16 @@ use Rattle.std.specs.Prelude.{All, AllPairs, Contains}
 use Rattle.std.specs.List.{flat_map, sum_by}
 use Rattle.std.proofs.lemmas.Bool.{cases_eq, cases_lt, eq-eqb, ne_eqb}
 use Rattle.std.proofs.lemmas.List.Sums.{sum_by-cons}
+use Rattle.btrfs_format.specs.declared.object.TheConstants.{CHUNK_TREE, EXTENT_TREE}
 use Rattle.reiser_volume.specs.outside.History.{Image}
 use Rattle.reiser_volume.specs.vol_block.declared.ids.Ids.{Ids}
 use Rattle.btr_reader.specs.btr_node.NodeSize.{IsNodeSize}
 use Rattle.btr_check_rules.specs.Places.{EndsBefore, IsExtent, a_node, node_kind, some_data}
 use Rattle.btr_check_rules.specs.Recount.{Recount, Span, TreeOn, all_trees}
 use Rattle.convert_core.specs.btr_tree.Writing.{IsInSlots}
-use Rattle.btr_reader.specs.btr_reader_walk.declared.tree.Pointer.{Pointer}
+use Rattle.btr_reader.specs.btr_reader_walk.declared.tree.NodePointer.{NodePointer}
 use Rattle.convert_core.specs.convert_steps.Making.{IsMaking, Making, chunk_slots, new_ids, slots}
-use Rattle.convert_core.specs.convert_steps.Standing.{HasTrees, extents_from, other_nodes}
+use Rattle.convert_core.specs.convert_steps.Standing.{HasTrees, extents_from, nodes_of_others}
 use Rattle.convert_core.specs.convert_steps.declared.trees.VolumeTrees.{VolumeTrees}
 use Rattle.convert_core.proofs.Moving.{piece_not_metadata, piece_not_system, sound, well}
 use Rattle.convert_core.proofs.Slots.{slot_unit}
@@ -151,12 +152,12 @@ module _ (o : Options) (ids : Ids) (now : ℕ) (image other : Image) (m : Making
       let first : AreNodes (row o ids now image other m r nodes v) = nodes_at_slots (row o ids now image other m r nodes v) (slots m) (extents_from r) (row_ends o ids now image other m r nodes v) all (omega (arith, few)) in
       let second : AreNodes (chunked o ids now image other m r nodes v) =
       nodes_at_slots (chunked o ids now image other m r nodes v) (chunk_slots m) (tree_nodes n (lengths_of (chunk_items (new_ids m) m.volume.sup.blocks m.chunks)))
-      (tree_at 3 n (lengths_of (chunk_items (new_ids m) m.volume.sup.blocks m.chunks)) (chunk_slots m)) chunk_slots_ascend (omega (arith, chunk_few)) in
+      (tree_at CHUNK_TREE n (lengths_of (chunk_items (new_ids m) m.volume.sup.blocks m.chunks)) (chunk_slots m)) chunk_slots_ascend (omega (arith, chunk_few)) in
       let third : AreNodes (extended o ids now image other m r nodes v) =
       nodes_at_slots (extended o ids now image other m r nodes v) rest (tree_nodes n (lengths_of (extent_items m.chunks m.pieces nodes n)))
-      (tree_at 2 n (lengths_of (extent_items m.chunks m.pieces nodes n)) rest) (left_pairs (extents_from r) (slots m) all) (shorter few) in
+      (tree_at EXTENT_TREE n (lengths_of (extent_items m.chunks m.pieces nodes n)) rest) (left_pairs (extents_from r) (slots m) all) (shorter few) in
       subst (AllPairs (λ (t u : TreeNode). t.address < u.address)) (sym stand.nodes_are.is)
-      (merged_ascend (other_nodes image other m r) (extended o ids now image other m r nodes v)
+      (merged_ascend (nodes_of_others image other m r) (extended o ids now image other m r nodes v)
       (merged_ascend (row o ids now image other m r nodes v) (chunked o ids now image other m r nodes v) first.ascending second.ascending) third.ascending)
     where
       shorter : length (slots m) ≤ 2 ^ 37 → length (drop (extents_from r) (slots m)) < 2 ^ 44
@@ -164,9 +165,9 @@ module _ (o : Options) (ids : Ids) (now : ℕ) (image other : Image) (m : Making
 
   pub once : AllPairs (λ p q. p.address ≢ q.address) (flat_map (λ (t : TreeOn). t.nodes) (all_trees k))
   once = λ i j d l h e.
-      let all : List Pointer = flat_map (λ (t : TreeOn). t.nodes) (all_trees k) in
+      let all : List NodePointer = flat_map (λ (t : TreeOn). t.nodes) (all_trees k) in
       let x : ℕ = (get_or all i d).address in
-      let both = sum_two (λ (p : Pointer). hits x p.address) all i j d l h in
+      let both = sum_two (λ (p : NodePointer). hits x p.address) all i j d l h in
       let told = nodes_sum o ids now image other m r nodes v (hits x) in
       let most = one_hit x nodes nodes_ascend in
       let first : hits x (get_or all i d).address ≡ 1 = ap (λ (b : Bool). cond b 1 0) (eq-eqb (get_or all i d).address x refl) in

@@ -2,6 +2,8 @@
 use Rattle.std.proofs.Common.{◌≡◌, ◌≢◌, ◌≤◌, ◌<◌, ℕ, ◌+◌, ◌*◌, ◌/◌, ◌%◌, ◌^◌, Bool, true, false, List, [], map, Option, Some, None, refl, sym, ap, subst, ◌∙◌, ⊎_elim, true≢false, arith}
 use Rattle.std.specs.Prelude.{All, AllPairs, Contains, if◌then◌else◌, is_some, ◌↔◌}
 use Rattle.std.proofs.lemmas.List.{append-nil}
+use Rattle.btrfs_format.specs.declared.key.TheConstants.{INODE_ITEM}
+use Rattle.btrfs_format.specs.declared.object.TheConstants.{CONV_IMAGE_SUBVOL, CSUM_TREE, FS_TREE}
 use Rattle.reiser_volume.proofs.fs_paths.Lists.{from_flat_map, in_flat_map}
 use Rattle.reiser_volume.specs.outside.History.{Image}
 use Rattle.reiser_volume.specs.vol_block.declared.ids.Ids.{Ids}
@@ -14,8 +16,8 @@ use Rattle.btr_reader.specs.Chunks.{data_kind, range_of}
 use Rattle.btr_reader.specs.Opening.{form_of}
 use Rattle.btr_check_rules.specs.Names.{has_no_sums}
 use Rattle.btr_check_rules.specs.Places.{IsExtent, some_data}
-use Rattle.btr_check_rules.specs.Recount.{DataUse, Recount, TreeOn, all_trees, data_uses, items_of_tree, uses_in}
-use Rattle.btr_check_rules.specs.Sums.{AreSums, HasSum, IsRight, IsSumItem, WantsSum, sum_count}
+use Rattle.btr_check_rules.specs.Recount.{DataUse, Recount, TreeOn, all_trees, data_uses, recounted_items, uses_in}
+use Rattle.btr_check_rules.specs.Sums.{AreSums, HasBlockSum, AreSumsRight, IsSumItem, WantsSum, sum_count}
 use Rattle.btr_reader.specs.btr_reader_walk.Map.{place}
 use Rattle.btr_reader.specs.btr_reader_walk.declared.tree.Form.{Form}
 use Rattle.convert_core.specs.convert_steps.Making.{IsMaking, Making}
@@ -31,7 +33,7 @@ use Rattle.convert_core_laws.proofs.reading.SavedPieces.{are_sources}
 use Rattle.btr_reader.specs.csum_kinds.declared.kind.SumKind.{SumKind}
 use Rattle.convert_core.proofs.extent_pieces.Owning.{two_cases}
 use Rattle.convert_core.specs.file_items.Extents.{piece_bytes, pieces_of_volume, source_block}
-use Rattle.convert_core.specs.file_items.Tree.{Source, inode_in, kind_in, number_of}
+use Rattle.convert_core.specs.file_items.Tree.{Source, inode_in, kind_in, ino_of}
 use Rattle.convert_trees_laws.specs.Held.{FilesAreHeld}
 use Rattle.convert_trees_laws.specs.Inodes.{InodesAreThere}
 use Rattle.convert_trees_laws.specs.Keys.{ImageKeysAscend}
@@ -81,15 +83,15 @@ module _ (o : Options) (ids : Ids) (now : ℕ) (image other : Image) (m : Making
   items = sum_tree_items other m
 
   abbrev files : TreeOn
-  files = tree_for other (super_for m r nodes) 5 r.files (file_tree_items image m)
+  files = tree_for other (super_for m r nodes) FS_TREE r.files (file_tree_items image m)
 
   abbrev saved : TreeOn
-  saved = tree_for other (super_for m r nodes) 256 r.image (image_tree_items m)
+  saved = tree_for other (super_for m r nodes) CONV_IMAGE_SUBVOL r.image (image_tree_items m)
 
   kind_is : (form_of k.super).sums ≡ sums
   kind_is = ap (λ (f : Form). f.sums) (form_is m r nodes)
 
-  items_are : items_of_tree k 7 ≡ items
+  items_are : recounted_items k CSUM_TREE ≡ items
   items_are = append-nil items
 
   -- ---- the items are those of the pieces, where data has checksums
@@ -135,7 +137,7 @@ module _ (o : Options) (ids : Ids) (now : ℕ) (image other : Image) (m : Making
       let extent : IsExtent k (span_of p) data_kind = some_data (is_data image m making fit held other r nodes p h) refl in
       means_itself o ids now image other m r nodes v a (good o ids now image other m r nodes v (span_of p) data_kind a extent low high).has
 
-  item_right : (p : Piece) (at long : ℕ) → Contains m.pieces p → p.place ≤ at → at + long ≤ p.place + p.count → IsRight other k sums (sums_item sums other at long)
+  item_right : (p : Piece) (at long : ℕ) → Contains m.pieces p → p.place ≤ at → at + long ≤ p.place + p.count → AreSumsRight other k sums (sums_item sums other at long)
   item_right p at long h low high = λ j q inside found.
       let count = count_of sums other at long in
       let less : j < long = omega (arith, inside, count) in
@@ -145,11 +147,11 @@ module _ (o : Options) (ids : Ids) (now : ℕ) (image other : Image) (m : Making
       let block : at + j ≡ q / 4096 = omega (arith, same) in
       sum_of sums other at long j less ∙ ap (block_sum sums other) block
 
-  rights : All (IsRight other k sums) items
+  rights : All (AreSumsRight other k sums) items
   rights =
-      all_from_contains (IsRight other k sums) items (λ i h.
+      all_from_contains (AreSumsRight other k sums) items (λ i h.
       let is : OfPiece i = piece_of_item i h in
-      subst (IsRight other k sums) (sym is.part.is) (item_right is.piece is.part.at is.part.long is.among is.part.low is.part.high))
+      subst (AreSumsRight other k sums) (sym is.part.is) (item_right is.piece is.part.at is.part.long is.among is.part.low is.part.high))
 
   -- ---- the trees that use data
 
@@ -200,7 +202,7 @@ module _ (o : Options) (ids : Ids) (now : ℕ) (image other : Image) (m : Making
   record HasFile (inode : ℕ) : Type 0 where
     key : ObjectKey
     among : Contains s.keys key
-    number_is : number_of s key ≡ inode
+    number_is : ino_of s key ≡ inode
     file : kind_in s key ≡ File
 
   file_of : (p : Piece) (inode block : ℕ) → Contains m.pieces p → p.owner ≡ Some (inode, block) → HasFile inode
@@ -211,8 +213,8 @@ module _ (o : Options) (ids : Ids) (now : ℕ) (image other : Image) (m : Making
   file_reads : (key : ObjectKey) → Contains s.keys key → inode_of (inode_bytes (inode_in s key)) ≡ Some (inode_in s key)
   file_reads key among = inode_reads are_there m.volume image m.options m.plan m.pieces of bytes key among
 
-  file_item : (inode : ℕ) (f : HasFile inode) → Contains (file_tree_items image m) (make_key inode 1 0, inode_bytes (inode_in s f.key))
-  file_item inode f = subst (λ (n : ℕ). Contains (file_tree_items image m) (make_key n 1 0, inode_bytes (inode_in s f.key))) f.number_is (inode_there s f.key f.among)
+  file_item : (inode : ℕ) (f : HasFile inode) → Contains (file_tree_items image m) (make_key inode INODE_ITEM 0, inode_bytes (inode_in s f.key))
+  file_item inode f = subst (λ (n : ℕ). Contains (file_tree_items image m) (make_key n INODE_ITEM 0, inode_bytes (inode_in s f.key))) f.number_is (inode_there s f.key f.among)
 
   -- ---- a block with a checksum wants one
 
@@ -222,11 +224,11 @@ module _ (o : Options) (ids : Ids) (now : ℕ) (image other : Image) (m : Making
       by : (w : Option ℕ) → p.from ≡ w → WantsSum k a
       by (Some b) from = record {
         tree = saved;
-        is_use = use_at 256 257 (source_block p) p;
+        is_use = use_at CONV_IMAGE_SUBVOL 257 (source_block p) p;
         inode = own_image;
         body = inode_bytes own_image;
         among = saved_there;
-        used = used_by (use_at 256 257 (source_block p) p) saved saved_there refl (saved_use image m making fit held other r nodes p h (ap is_some from));
+        used = used_by (use_at CONV_IMAGE_SUBVOL 257 (source_block p) p) saved saved_there refl (saved_use image m making fit held other r nodes p h (ap is_some from));
         item = image_inode_there m.volume.sup.blocks m.pieces m.options.datasum m.now;
         inode_is = image_reads;
         with_sums = image_sums on;
@@ -238,11 +240,11 @@ module _ (o : Options) (ids : Ids) (now : ℕ) (image other : Image) (m : Making
           let f : HasFile own.0 = file_of p own.0 own.1 h own.2 in
           record {
             tree = files;
-            is_use = use_at 5 own.0 own.1 p;
+            is_use = use_at FS_TREE own.0 own.1 p;
             inode = inode_in s f.key;
             body = inode_bytes (inode_in s f.key);
             among = files_there;
-            used = used_by (use_at 5 own.0 own.1 p) files files_there refl (file_use image m making fit held other r nodes p own.0 own.1 h own.2);
+            used = used_by (use_at FS_TREE own.0 own.1 p) files files_there refl (file_use image m making fit held other r nodes p own.0 own.1 h own.2);
             item = file_item own.0 f;
             inode_is = file_reads f.key f.among;
             with_sums = file_sums s f.key on;
@@ -258,19 +260,19 @@ module _ (o : Options) (ids : Ids) (now : ℕ) (image other : Image) (m : Making
       let f : HasFile inode = file_of p inode block h own in
       let tree : w.tree ≡ files = tree_there w.tree w.among files files_there (sym (uses_tree w.tree w.is_use w.used) ∙ ap (λ (u : DataUse). u.tree) e) in
       let number : w.is_use.inode ≡ inode = ap (λ (u : DataUse). u.inode) e in
-      let item : Contains (file_tree_items image m) (make_key inode 1 0, w.body) =
-      subst (λ (n : ℕ). Contains (file_tree_items image m) (make_key n 1 0, w.body)) number (subst (λ (t : TreeOn). Contains t.items (make_key w.is_use.inode 1 0, w.body)) tree w.item) in
-      let one : (make_key inode 1 0, inode_bytes (inode_in s f.key)) ≡ (make_key inode 1 0, w.body) =
-      same_item (file_tree_items image m) (make_key inode 1 0, inode_bytes (inode_in s f.key)) (make_key inode 1 0, w.body) (files_rise image m making fit) (file_item inode f) item refl in
+      let item : Contains (file_tree_items image m) (make_key inode INODE_ITEM 0, w.body) =
+      subst (λ (n : ℕ). Contains (file_tree_items image m) (make_key n INODE_ITEM 0, w.body)) number (subst (λ (t : TreeOn). Contains t.items (make_key w.is_use.inode INODE_ITEM 0, w.body)) tree w.item) in
+      let one : (make_key inode INODE_ITEM 0, inode_bytes (inode_in s f.key)) ≡ (make_key inode INODE_ITEM 0, w.body) =
+      same_item (file_tree_items image m) (make_key inode INODE_ITEM 0, inode_bytes (inode_in s f.key)) (make_key inode INODE_ITEM 0, w.body) (files_rise image m making fit) (file_item inode f) item refl in
       let same : inode_in s f.key ≡ w.inode = some_same (inode_in s f.key) w.inode (sym (file_reads f.key f.among) ∙ (ap (λ (i : Item). inode_of i.1) one ∙ w.inode_is)) in
       true≢false (sym (file_no_sums s f.key off f.file) ∙ (ap has_no_sums same ∙ w.with_sums))
   wants_on a w (by_image p block h from e) off =
       let tree : w.tree ≡ saved = tree_there w.tree w.among saved saved_there (sym (uses_tree w.tree w.is_use w.used) ∙ ap (λ (u : DataUse). u.tree) e) in
       let number : w.is_use.inode ≡ 257 = ap (λ (u : DataUse). u.inode) e in
-      let item : Contains (image_tree_items m) (make_key 257 1 0, w.body) =
-      subst (λ (n : ℕ). Contains (image_tree_items m) (make_key n 1 0, w.body)) number (subst (λ (t : TreeOn). Contains t.items (make_key w.is_use.inode 1 0, w.body)) tree w.item) in
-      let one : (make_key 257 1 0, inode_bytes own_image) ≡ (make_key 257 1 0, w.body) =
-      same_item (image_tree_items m) (make_key 257 1 0, inode_bytes own_image) (make_key 257 1 0, w.body) (saved_rise image m making fit rising) (image_inode_there m.volume.sup.blocks m.pieces m.options.datasum m.now) item refl in
+      let item : Contains (image_tree_items m) (make_key 257 INODE_ITEM 0, w.body) =
+      subst (λ (n : ℕ). Contains (image_tree_items m) (make_key n INODE_ITEM 0, w.body)) number (subst (λ (t : TreeOn). Contains t.items (make_key w.is_use.inode INODE_ITEM 0, w.body)) tree w.item) in
+      let one : (make_key 257 INODE_ITEM 0, inode_bytes own_image) ≡ (make_key 257 INODE_ITEM 0, w.body) =
+      same_item (image_tree_items m) (make_key 257 INODE_ITEM 0, inode_bytes own_image) (make_key 257 INODE_ITEM 0, w.body) (saved_rise image m making fit rising) (image_inode_there m.volume.sup.blocks m.pieces m.options.datasum m.now) item refl in
       let same : own_image ≡ w.inode = some_same own_image w.inode (sym image_reads ∙ (ap (λ (i : Item). inode_of i.1) one ∙ w.inode_is)) in
       true≢false (sym (image_no_sums off) ∙ (ap has_no_sums same ∙ w.with_sums))
 
@@ -305,7 +307,7 @@ module _ (o : Options) (ids : Ids) (now : ℕ) (image other : Image) (m : Making
       by true is = refl
       by false is = absurd (wants_on a w (wanted_use a w) is)
 
-  has_sum : (a : ℕ) → a % 4096 ≡ 0 → WantsSum k a → HasSum k sums a
+  has_sum : (a : ℕ) → a % 4096 ≡ 0 → WantsSum k a → HasBlockSum k sums a
   has_sum a aligned w =
       let on : m.options.datasum ≡ true = wants_sums a w in
       let is : InPiece a = wants_piece a w (wanted_use a w) in
@@ -323,7 +325,7 @@ module _ (o : Options) (ids : Ids) (now : ℕ) (image other : Image) (m : Making
         high = omega (arith, to, count, aligned);
       }
 
-  wants_sum : (a : ℕ) → HasSum k sums a → WantsSum k a
+  wants_sum : (a : ℕ) → HasBlockSum k sums a → WantsSum k a
   wants_sum a h =
       let there : Contains items h.item = subst (λ (l : List Item). Contains l h.item) items_are h.there in
       let is : OfPiece h.item = piece_of_item h.item there in
@@ -335,15 +337,15 @@ module _ (o : Options) (ids : Ids) (now : ℕ) (image other : Image) (m : Making
       let to = is.part.high in
       piece_wants is.piece a (from_items h.item there).on is.among (omega (arith, low, offset, from)) (omega (arith, high, offset, count, to))
 
-  exact : (a : ℕ) → a % 4096 ≡ 0 → HasSum k sums a ↔ WantsSum k a
+  exact : (a : ℕ) → a % 4096 ≡ 0 → HasBlockSum k sums a ↔ WantsSum k a
   exact a aligned = (λ h. wants_sum a h, λ w. has_sum a aligned w)
 
   pub checksums : AreSums other k
   checksums = record {
-    forms = subst (λ (x : SumKind). All (IsSumItem x) (items_of_tree k 7)) (sym kind_is) (subst (All (IsSumItem sums)) (sym items_are) forms);
-    once = subst (λ (x : SumKind). AllPairs (EndsFirst x) (items_of_tree k 7)) (sym kind_is) (subst (AllPairs (EndsFirst sums)) (sym items_are) once);
-    exactly = subst (λ (x : SumKind). (a : ℕ) → a % 4096 ≡ 0 → HasSum k x a ↔ WantsSum k a) (sym kind_is) exact;
-    right = subst (λ (x : SumKind). All (IsRight other k x) (items_of_tree k 7)) (sym kind_is) (subst (All (IsRight other k sums)) (sym items_are) rights);
+    forms = subst (λ (x : SumKind). All (IsSumItem x) (recounted_items k CSUM_TREE)) (sym kind_is) (subst (All (IsSumItem sums)) (sym items_are) forms);
+    once = subst (λ (x : SumKind). AllPairs (EndsFirst x) (recounted_items k CSUM_TREE)) (sym kind_is) (subst (AllPairs (EndsFirst sums)) (sym items_are) once);
+    exactly = subst (λ (x : SumKind). (a : ℕ) → a % 4096 ≡ 0 → HasBlockSum k x a ↔ WantsSum k a) (sym kind_is) exact;
+    right = subst (λ (x : SumKind). All (AreSumsRight other k x) (recounted_items k CSUM_TREE)) (sym kind_is) (subst (All (AreSumsRight other k sums)) (sym items_are) rights);
   }
 
 pub converted_checksums_are_sound : NewIdsFit → FilesAreHeld → ImageKeysAscend → InodesAreThere → ConvertedChecksumsAreSound

@@ -4,10 +4,11 @@ use Rattle.std.specs.Prelude.{is_some}
 use Rattle.std.specs.List.{AllByRecursion}
 use Rattle.std.proofs.lemmas.List.Elements.{All-cons, All-nil}
 use Rattle.std.proofs.lemmas.List.Sorted.{Contains-permutation}
+use Rattle.btrfs_format.specs.declared.object.TheConstants.{CONV_IMAGE_SUBVOL, DATA_RELOC_TREE, FS_TREE}
 use Rattle.reiser_volume.specs.outside.History.{Image}
 use Rattle.reiser_volume.specs.vol_block.declared.ids.Ids.{Ids}
 use Rattle.btr_reader.specs.btr_node.NodeSize.{IsNodeSize}
-use Rattle.btr_check_rules.specs.Names.{AreNames, HaveNames}
+use Rattle.btr_check_rules.specs.Names.{AreTreeNames, HaveNames}
 use Rattle.btr_check_rules.specs.Recount.{Recount, TreeOn}
 use Rattle.convert_core.specs.convert_steps.Making.{IsMaking, Making}
 use Rattle.convert_core.specs.convert_steps.Source.{HasPieces}
@@ -78,16 +79,16 @@ module _ (o : Options) (ids : Ids) (now : ℕ) (image other : Image) (m : Making
   -- ---- the file trees
 
   abbrev roots : TreeOn → Type 0
-  roots = AreNames (root_tree_items m r)
+  roots = AreTreeNames (root_tree_items m r)
 
   abbrev files : TreeOn
-  files = tree_for other (super_for m r nodes) 5 r.files (file_tree_items image m)
+  files = tree_for other (super_for m r nodes) FS_TREE r.files (file_tree_items image m)
 
   abbrev saved : TreeOn
-  saved = tree_for other (super_for m r nodes) 256 r.image (image_tree_items m)
+  saved = tree_for other (super_for m r nodes) CONV_IMAGE_SUBVOL r.image (image_tree_items m)
 
   abbrev relocation : TreeOn
-  relocation = tree_for other (super_for m r nodes) (2 ^ 64 - 9) r.relocation (relocation_items m.now)
+  relocation = tree_for other (super_for m r nodes) DATA_RELOC_TREE r.relocation (relocation_items m.now)
 
   pub have_names : HaveNames k
   have_names =

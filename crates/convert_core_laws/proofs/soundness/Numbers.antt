@@ -9,13 +9,13 @@ use Rattle.std.proofs.lemmas.List.Sums.{count_by-le-length}
 use Rattle.btr_reader.specs.btr_keys.Key.{key_cmp}
 use Rattle.btr_reader.specs.btr_keys.declared.key.Key.{Key}
 use Rattle.reiser_volume.specs.reiser_volume_names.Links.{object_cmp}
-use Rattle.reiser_volume.specs.reiser_volume_names.Names.{inode_of}
+use Rattle.reiser_volume.specs.reiser_volume_names.Names.{ino_of_key}
 use Rattle.reiser_volume.specs.reiser_volume_objects.Keys.{root, same_key}
 use Rattle.reiser_volume.specs.reiser_volume_objects.declared.key.ObjectKey.{ObjectKey}
 use Rattle.convert_core_laws.proofs.soundness.Row.{differ}
 
 -- numbers of inodes fit
-pub inode_low : (all : List ObjectKey) (key : ObjectKey) → length all ≤ 2 ^ 37 → inode_of all key < 2 ^ 64
+pub inode_low : (all : List ObjectKey) (key : ObjectKey) → length all ≤ 2 ^ 37 → ino_of_key all key < 2 ^ 64
 inode_low all key few = by (same_key key root)
   where
     by : (b : Bool) → (if b then 256 else 257 + count_by (λ k. is_lt (object_cmp k key) && not (same_key k root)) all) < 2 ^ 64

@@ -17,7 +17,7 @@ use Rattle.btr_reader.specs.btr_node.NodeSize.{IsNodeSize}
 use Rattle.convert_core.specs.space_items.Chunks.{device_body}
 use Rattle.convert_core.specs.space_items.Laws.{AreIds}
 use Rattle.convert_core.specs.space_items.declared.node.TreeNode.{TreeNode}
-use Rattle.convert_core.specs.unit_plan.declared.chunk.Chunk.{Chunk}
+use Rattle.convert_core.specs.unit_plan.declared.chunk.PlannedChunk.{PlannedChunk}
 use Rattle.convert_core.specs.convert_options.declared.options.Options.{Options}
 
 -- a volume of the premises is one that opens
@@ -53,5 +53,5 @@ module _ (m : Making) (r : VolumeTrees) (nodes : List TreeNode) where
   form_is = ap (λ (kind : SumKind). let f : Form = record { fsid = (new_ids m).fsid; nodesize = m.options.nodesize; sums = kind } in f) (only_kind m.options.sums)
 
 -- the chunks that are read are those of the plan
-abbrev pub in_parts : List Chunk → List Chunk
+abbrev pub in_parts : List PlannedChunk → List PlannedChunk
 in_parts chunks = boot_part chunks ++ other_part chunks

@@ -12,7 +12,7 @@ use Rattle.btr_check_rules.specs.Recount.{Recount, Span}
 use Rattle.convert_core.specs.btr_tree.Writing.{IsInNode, IsInSlots}
 use Rattle.btr_reader.specs.btr_reader_walk.Map.{place}
 use Rattle.btr_reader.specs.btr_reader_walk.declared.map.MapRange.{MapRange}
-use Rattle.btr_reader.specs.btr_reader_walk.declared.tree.Pointer.{Pointer}
+use Rattle.btr_reader.specs.btr_reader_walk.declared.tree.NodePointer.{NodePointer}
 use Rattle.convert_core.specs.convert_steps.Making.{IsMaking, Making, chunk_slots, new_ids, slots}
 use Rattle.convert_core.specs.convert_steps.declared.trees.VolumeTrees.{VolumeTrees}
 use Rattle.convert_core.proofs.Moving.{metadata_free, system_free}
@@ -123,7 +123,7 @@ module _ (o : Options) (ids : Ids) (now : ℕ) (image other : Image) (m : Making
 
   pub good : (span : Span) (kind a : ℕ) → IsExtent k span kind → span.start ≤ a → a < span.start + span.length → IsGood (a / 4096)
   good span kind a (a_node t h node is) low high =
-      let p : Pointer = node.0 in
+      let p : NodePointer = node.0 in
       let e : span ≡ record { start = p.address; length = k.super.nodesize } = node.2 in
       let start : span.start ≡ p.address = ap (λ (x : Span). x.start) e in
       let long : span.length ≡ m.options.nodesize = ap (λ (x : Span). x.length) e ∙ nodesize_is m r nodes in

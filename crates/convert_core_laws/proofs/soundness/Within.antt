@@ -13,7 +13,7 @@ use Rattle.reiser_volume.specs.outside.History.{Image}
 use Rattle.reiser_volume.specs.vol_block.declared.ids.Ids.{Ids}
 use Rattle.btr_reader.specs.btr_node.NodeSize.{IsNodeSize}
 use Rattle.btr_reader.specs.declared.chunk.ChunkAt.{ChunkAt}
-use Rattle.btr_check_rules.specs.Places.{AreApart, IsExtent, LiesIn}
+use Rattle.btr_check_rules.specs.Places.{ArePlacesApart, IsExtent, LiesIn}
 use Rattle.btr_check_rules.specs.Recount.{Recount, Span}
 use Rattle.convert_core.specs.convert_steps.Making.{IsMaking, Making, new_ids}
 use Rattle.convert_core.specs.convert_steps.Source.{HasPieces}
@@ -43,7 +43,7 @@ use Rattle.convert_core.specs.unit_plan.Chunks.{AreChunks, HoldsUnit, IsChunk, i
 use Rattle.convert_core.specs.unit_plan.Laws.{IsSoundPlan}
 use Rattle.convert_core.specs.unit_plan.Needed.{need}
 use Rattle.convert_core.specs.unit_plan.Places.{node_places}
-use Rattle.convert_core.specs.unit_plan.declared.chunk.Chunk.{Chunk}
+use Rattle.convert_core.specs.unit_plan.declared.chunk.PlannedChunk.{PlannedChunk}
 use Rattle.convert_core.specs.unit_plan.declared.chunk.Role.{Role}
 use Rattle.convert_core.specs.unit_plan.declared.chunk.Role.TheVariants.{System, Metadata, Data}
 use Rattle.convert_core.specs.convert_options.declared.options.Options.{Options}
@@ -111,7 +111,7 @@ module _ (o : Options) (ids : Ids) (now : ℕ) (image other : Image) (m : Making
 
   -- the chunk of a unit that has a role
   record HasChunk (role : Role) (u : ℕ) : Type 0 where
-    chunk : Chunk
+    chunk : PlannedChunk
     among : Contains m.chunks chunk
     role_is_ : chunk.role ≡ role
     holds : HoldsUnit chunk u
@@ -123,7 +123,7 @@ module _ (o : Options) (ids : Ids) (now : ℕ) (image other : Image) (m : Making
   unit_chunk role u is =
       let are : AreChunks m.plan whole m.chunks = chunks_of image m making in
       let at = are.whole u role is in
-      let c : Chunk = at.1 in
+      let c : PlannedChunk = at.1 in
       let among : Contains m.chunks c = (at.0, at.2, at.3) in
       let holds : HoldsUnit c u = at.4 in
       let chunk : IsChunk (role_of m.plan whole) (usable_end whole) c = all_at (IsChunk (role_of m.plan whole) (usable_end whole)) m.chunks c are.each among in
@@ -316,7 +316,7 @@ module _ (o : Options) (ids : Ids) (now : ℕ) (image other : Image) (m : Making
       by (in_slots a h e kind_is) = node_inside m.plan.metadata a span kind Metadata h e kind_is metadata_role (λ u l. all_at (IsFreeUnit used) m.plan.metadata u plan_sound.metadata.free l)
       by (a_piece p h e kind_is) = any_piece p span kind h e kind_is
 
-  pub placement : AreApart k
+  pub placement : ArePlacesApart k
   placement = record { apart = apart o ids now image other m r nodes v; nodes = once o ids now image other m r nodes v; within = within }
 
 pub converted_placement_is_sound : NewIdsFit → ConvertedPlacementIsSound

@@ -1,5 +1,6 @@
 use Rattle.std.proofs.lemmas.List.{take_rest}
+use Rattle.btrfs_format.specs.declared.size.TheConstants.{HEADER_SIZE}
 use Rattle.btr_node.proofs.head.behind_head.Goals as goal
 
 pub returns : goal.returns
-returns c = take_rest c.args.bytes.now 101
+returns c = take_rest c.args.bytes.now HEADER_SIZE

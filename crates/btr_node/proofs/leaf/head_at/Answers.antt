@@ -1,4 +1,5 @@
 use Rattle.std.proofs.Common.{◌*◌, drop, ap, ◌∙◌}
+use Rattle.btrfs_format.specs.declared.size.TheConstants.{ITEM_SIZE}
 use Rattle.btr_node.specs.Leaf.{item_layout}
 use Rattle.btr_node.proofs.Leaves.{head_there}
 use Rattle.btr_node.proofs.leaf.head_at.Goals as goal
@@ -7,4 +8,4 @@ pub at-requires : goal.at-requires
 at-requires c = rw c.behind_head.ensures (head_there c.args.bytes.now c.requires.layout c.args.i c.requires.within)
 
 pub returns : goal.returns
-returns c = c.at.ensures ∙ ap (λ s. item_layout.read (drop (25 * c.args.i) s)) c.behind_head.ensures
+returns c = c.at.ensures ∙ ap (λ s. item_layout.read (drop (ITEM_SIZE * c.args.i) s)) c.behind_head.ensures

@@ -2,7 +2,7 @@ use Rattle.std.proofs.Common.{◌≡◌, ◌<◌, ◌≤◌, ◌∙◌, false, L
 use Rattle.std.proofs.lemmas.List.{get_or_default}
 use Rattle.std.proofs.lemmas.Result.{err_from_is_err_and}
 use Rattle.btr_reader_walk.specs.refusals.declared.refusal.BtrRefusal.{BtrRefusal}
-use Rattle.btr_reader_names.specs.declared.naming.OffForm.{OffForm}
+use Rattle.btr_reader_names.specs.declared.dir_index.OffForm.{OffForm}
 use Rattle.indexmap.specs.IndexSet.{contains}
 use Rattle.fs_paths.specs.Links.{same_node}
 use Rattle.btr_reader_names.specs.Passes.{BlamesForm}

@@ -1,5 +1,5 @@
 use Rattle.std.proofs.Common.{ℕ, ◌<◌, get_or, ◌≡◌, false}
-use Rattle.btr_reader_names.specs.declared.naming.OffForm.{OffForm}
+use Rattle.btr_reader_names.specs.declared.dir_index.OffForm.{OffForm}
 use Rattle.indexmap.specs.IndexSet.{contains}
 use Rattle.fs_paths.specs.Links.{same_node}
 use Rattle.btr_reader_names.specs.Steps.{is_open}

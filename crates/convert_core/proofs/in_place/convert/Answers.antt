@@ -6,7 +6,7 @@ use Rattle.reiser_volume.specs.outside.Format.{format_in}
 use Rattle.reiser_volume.specs.outside.History.{History, reads}
 use Rattle.reiser_volume.proofs.outside.Crash.{reads_only}
 use Rattle.reiser_volume.proofs.outside.Phases.{left_unwritten}
-use Rattle.convert_steps.specs.Switch.{IsPart}
+use Rattle.convert_steps.specs.Switch.{IsSwitchPart}
 use Rattle.convert_core.specs.Answers.{RefusesConvert}
 use Rattle.convert_core.proofs.Crashing.{MayWrite, behind_for, converted, early_crash, keeps_behind, may_keep, switch_crash}
 use Rattle.convert_core.proofs.Ending.{refuses}
@@ -68,7 +68,7 @@ returns-clause-converted g c = λ tells image is.
     let may = subst (λ (h : History). MayWrite c.args.options.now h (g.D.Disk.history c.write_volume.new.disk)) same (c.write_volume.ensures.only tells _ refl) in
     let behind =
     keeps_behind c.args.options.now c.args.ids.now c.args.now _ _ may _ (c.in_ok-written.ensures.written tells _ (ap reads same)) c.in_ok-written.ensures.room.0 _
-    (reads_only (IsPart _ _) _ _ (c.switch_to.ensures.only tells)) in
+    (reads_only (IsSwitchPart _ _) _ _ (c.switch_to.ensures.only tells)) in
     let down = c.in_ok-written.ensures.written tells image (ap reads same ∙ is) in
     (converted c.args.options.now c.args.ids.now c.args.now image _ _ down c.requires.size _ (c.in_ok-switch_to.ensures.written tells) (behind_for image _ _ is behind) (c.in_ok-switch_to.ensures.copies tells), down.summary)
 

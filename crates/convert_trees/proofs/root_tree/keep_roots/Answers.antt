@@ -1,6 +1,7 @@
 use Rattle.std.proofs.Common.{◌≡◌, ◌∙◌, ℕ, ◌+◌, ◌-◌, ◌≤◌, ◌++◌, List, length, take, drop, refl, sym, ap, subst, arith}
 use Rattle.std.specs.List.{All}
 use Rattle.std.proofs.lemmas.List.{length-drop, length-take}
+use Rattle.btrfs_format.specs.declared.object.TheConstants.{ROOT_TREE}
 use Rattle.btr_tree.specs.btr_node.Leaf.{Item}
 use Rattle.btr_tree.specs.btr_node.NodeSize.{IsNodeSize}
 use Rattle.btr_tree.specs.Counting.{tree_nodes}
@@ -48,8 +49,8 @@ returns-clause-nodes g c = λ extents.
     let row = c.args.row.now in
     let lens = ap lengths_of c.in_ok-list.ensures ∙ root_lengths c.args.index form.ids c.args.w.now.time form.nodesize c.args.first _ extents in
     let more = c.in_ok-take.ensures.taken (lengths_of c.in_ok-list.list) c.counted.ensures.counted in
-    subst (λ (ls : List ℕ). c.take.new.self.nodes ≡ row.nodes ++ nodes_of_tree 1 form.nodesize ls (drop row.taken row.slots)) lens
-    (subst (λ (f : NodeForm). c.take.new.self.nodes ≡ row.nodes ++ nodes_of_tree 1 f.nodesize (lengths_of c.in_ok-list.list) (drop row.taken row.slots)) c.requires.form more.1)
+    subst (λ (ls : List ℕ). c.take.new.self.nodes ≡ row.nodes ++ nodes_of_tree ROOT_TREE form.nodesize ls (drop row.taken row.slots)) lens
+    (subst (λ (f : NodeForm). c.take.new.self.nodes ≡ row.nodes ++ nodes_of_tree ROOT_TREE f.nodesize (lengths_of c.in_ok-list.list) (drop row.taken row.slots)) c.requires.form more.1)
 
 pub returns-clause-slots : goal.returns-clause-slots
 returns-clause-slots g c = λ extents.

@@ -3,7 +3,7 @@ use Rattle.std.proofs.lemmas.List.{take_all}
 use Rattle.std.proofs.lemmas.Option.{slice_get_read}
 use Rattle.std.proofs.lemmas.Result.{err_from_is_err_and}
 use Rattle.fs_rows.specs.Rows.{row_of}
-use Rattle.fs_paths.specs.declared.link.PathTo.{PathTo}
+use Rattle.fs_paths.specs.declared.node_link.PathTo.{PathTo}
 use Rattle.reiser_volume_contents.specs.Answers.{IsFaultOrMemory}
 use Rattle.reiser_volume.specs.Made.{whole_row}
 use Rattle.reiser_volume.proofs.Rowed.{rows_more}

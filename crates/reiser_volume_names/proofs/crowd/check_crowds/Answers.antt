@@ -4,7 +4,7 @@ use Rattle.reiser_volume_objects.specs.refusals.declared.answer.VolAnswer.{VolAn
 use Rattle.indexmap.specs.IndexSet.{contains}
 use Rattle.reiser_volume_objects.specs.declared.naming.Naming.{Naming}
 use Rattle.reiser_volume_objects.specs.Keys.{same_key}
-use Rattle.reiser_volume_names.specs.Crowds.{Counts, BlamesCrowd}
+use Rattle.reiser_volume_names.specs.Crowds.{CrowdCounts, BlamesCrowd}
 use Rattle.reiser_volume_names.specs.Passes.{is_link, link_list}
 use Rattle.reiser_volume_names.proofs.Crowding.{blamed_of_part}
 use Rattle.reiser_volume_names.proofs.Lists.{kept_step, kept_split}
@@ -14,7 +14,7 @@ pub loop-naming-preserved : goal.loop-naming-preserved
 loop-naming-preserved c =
     let within : c.loop-naming.naming-index < length c.args.objects.now.namings.items = omega (arith, c.loop-naming-test.true, ap length c.deref-naming-items.ensures.value) in
     let at = c.naming-item.is ∙ ap (λ (l : List Naming). get_or l c.loop-naming.naming-index c.naming-item.result) c.deref-naming-items.ensures.value in
-    subst (λ (l : List Naming). Counts c.join_link.new.sums l) (sym (kept_step (is_link (contains same_key c.args.named.now)) c.args.objects.now.namings.items c.loop-naming.naming-index c.naming-item.result within at))
+    subst (λ (l : List Naming). CrowdCounts c.join_link.new.sums l) (sym (kept_step (is_link (contains same_key c.args.named.now)) c.args.objects.now.namings.items c.loop-naming.naming-index c.naming-item.result within at))
     (c.in_ok-join_link.ensures _ c.loop-naming.invariant)
 
 pub returns-in_err-join_link-clause-blamed : goal.returns-in_err-join_link-clause-blamed

@@ -5,7 +5,7 @@ use Rattle.convert_steps.specs.command_answers.declared.answer.Answer.{Answer}
 use Rattle.reiser_bitmap.proofs.outside.Crash.{writes_none}
 use Rattle.reiser_bitmap.proofs.outside.Phases.{left_unwritten}
 use Rattle.rollback_core.specs.RecoveryAnswers.{RefusesRecover}
-use Rattle.rollback_core.specs.Planned.{IsGiven, Stands}
+use Rattle.rollback_core.specs.Planned.{IsGiven, MendingStands}
 use Rattle.rollback_core.specs.Recovered.{IsMend}
 use Rattle.rollback_core.proofs.Standing.{crash_partly, mends_only, recovers, summary_is}
 use Rattle.rollback_core.proofs.recovery.recover.Goals as goal
@@ -39,7 +39,7 @@ returns-clause-recovered g c = λ tells image is.
     let same : g.D.Disk.history c.plan.new.src ≡ g.D.Disk.history c.args.disk.now = g.met.D.Disk.kept_history _ _ tells c.plan.ensures.kept in
     let planned = c.in_ok-mending.ensures.planned tells image (g.met.D.Disk.open_blocks c.args.disk.now _ tells c.requires.«open» ∙ is) in
     let only = subst (λ (h : History). WritesOnly (IsGiven c.in_ok-mending.mending) h (g.D.Disk.history c.write_mending.new.disk)) same (c.write_mending.ensures.only tells) in
-    let stands = subst (λ (h : History). Stands c.in_ok-mending.mending (reads h) (reads (g.D.Disk.history c.write_mending.new.disk))) same (c.in_ok-mirrors.ensures.written tells) in (
+    let stands = subst (λ (h : History). MendingStands c.in_ok-mending.mending (reads h) (reads (g.D.Disk.history c.write_mending.new.disk))) same (c.in_ok-mirrors.ensures.written tells) in (
       recovers image c.in_ok-mending.mending planned (g.D.Disk.history c.args.disk.now) (g.D.Disk.history c.write_mending.new.disk) is only stands,
       summary_is image c.in_ok-mending.mending planned c.in_ok-mirrors.mirrors c.in_ok-mirrors.ensures.count,
     )

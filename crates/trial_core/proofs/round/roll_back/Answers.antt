@@ -1,7 +1,7 @@
 use Rattle.std.proofs.Common.{sym, subst}
 use Rattle.convert_core.specs.command_answers.declared.answer.Answer.{Answer}
 use Rattle.rollback_core.specs.volume_state.Untouched.{IsUntouched}
-use Rattle.trial_core.specs.Answers.{IsReadAnswer, StopsUnless}
+use Rattle.trial_core.specs.Answers.{IsTrialReadAnswer, StopsUnless}
 use Rattle.trial_core.proofs.Refusing.{rollback_known, rollback_refused}
 use Rattle.trial_core.proofs.round.roll_back.Goals as goal
 
@@ -14,4 +14,4 @@ returns-in-Err-clause-told g c = λ tells image is.
     (rollback_refused c.refusals_are_of_touched.ensures image c.in-Err.answer (c.in-Err.ensures.rolled_back tells image is))
 
 pub returns-in-Err-clause-answers : goal.returns-in-Err-clause-answers
-returns-in-Err-clause-answers g c = subst IsReadAnswer (sym c.step_answer.ensures) (rollback_known c.in-Err.answer c.in-Err.ensures.answers)
+returns-in-Err-clause-answers g c = subst IsTrialReadAnswer (sym c.step_answer.ensures) (rollback_known c.in-Err.answer c.in-Err.ensures.answers)

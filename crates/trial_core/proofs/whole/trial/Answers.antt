@@ -4,7 +4,7 @@ use Rattle.std.proofs.lemmas.Result.{err_from_is_err_and}
 use Rattle.reiser_bitmap.specs.outside.History.{History, Image, reads}
 use Rattle.convert_core.specs.command_answers.declared.answer.Answer.{Answer}
 use Rattle.trial_core.specs.Answers.{RefusesTrial}
-use Rattle.trial_core.specs.Trial.{IsMade, IsTried, summary}
+use Rattle.trial_core.specs.Trial.{IsSampleMade, IsTried, trial_summary}
 use Rattle.trial_core.proofs.Tried.{leaves_result, make_refuses, scratch_refuses, tried_result}
 use Rattle.trial_core.proofs.whole.trial.Goals as goal
 
@@ -28,8 +28,8 @@ returns-clause-tried g c = λ tells image is.
     let new : History = g.D.Disk.history c.go_round.new.disk in
     let same : g.D.Disk.history c.check_scratch.new.src ≡ old = g.met.D.Disk.kept_history _ _ tells c.check_scratch.ensures.kept in
     let scratch = c.in_ok-check_scratch.ensures.found tells (reads old) (g.met.D.Disk.open_blocks c.args.disk.now _ tells c.requires.«open») in
-    let made = subst (λ (h : History). IsMade c.args.number h mid) same (c.in_ok-make_sample.ensures.made tells) in
-    subst (λ (disk : Image). MatchResult c.go_round.result (λ told. IsTried c.args.number c.args.ids.now c.args.now disk (reads new) × (told ≡ summary c.args.number)) (RefusesTrial c.args.number disk)) is
+    let made = subst (λ (h : History). IsSampleMade c.args.number h mid) same (c.in_ok-make_sample.ensures.made tells) in
+    subst (λ (disk : Image). MatchResult c.go_round.result (λ told. IsTried c.args.number c.args.ids.now c.args.now disk (reads new) × (told ≡ trial_summary c.args.number)) (RefusesTrial c.args.number disk)) is
     (tried_result c.args.number c.args.ids.now c.args.now old mid new scratch c.in_ok-make_sample.ensures.enough made c.rows_are_one.ensures c.go_round.result
     (c.go_round.ensures.told tells (reads mid) refl made.described.accepted))
 
@@ -40,6 +40,6 @@ returns-clause-leaves g c = λ tells.
     let new : History = g.D.Disk.history c.go_round.new.disk in
     let same : g.D.Disk.history c.check_scratch.new.src ≡ old = g.met.D.Disk.kept_history _ _ tells c.check_scratch.ensures.kept in
     let scratch = c.in_ok-check_scratch.ensures.found tells (reads old) (g.met.D.Disk.open_blocks c.args.disk.now _ tells c.requires.«open») in
-    let made = subst (λ (h : History). IsMade c.args.number h mid) same (c.in_ok-make_sample.ensures.made tells) in
+    let made = subst (λ (h : History). IsSampleMade c.args.number h mid) same (c.in_ok-make_sample.ensures.made tells) in
     leaves_result c.args.number c.args.ids.now c.args.now old mid new scratch c.in_ok-make_sample.ensures.enough made c.go_round.result
     (c.go_round.ensures.told tells (reads mid) refl made.described.accepted) (c.go_round.ensures.leaves tells)

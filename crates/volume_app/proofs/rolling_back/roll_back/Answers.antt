@@ -1,7 +1,7 @@
 use Rattle.std.proofs.Common.{ap, inl, subst}
 use Rattle.reiser_volume.specs.outside.History.{History, IsSettled, LeftSince, clock, reads}
 use Rattle.reiser_volume.proofs.outside.Phases.{left_unwritten}
-use Rattle.rollback_core.specs.RolledBack.{IsLeft}
+use Rattle.rollback_core.specs.RolledBack.{IsLeftByRollback}
 use Rattle.volume_app.proofs.rolling_back.roll_back.Goals as goal
 
 pub returns-clause-right : goal.returns-clause-right
@@ -9,7 +9,7 @@ returns-clause-right g c = λ tells. c.rollback.ensures.rolled_back tells (reads
 
 pub returns-clause-crash : goal.returns-clause-crash
 returns-clause-crash g c = λ tells settled image left.
-    subst (λ (h : History). IsSettled h → LeftSince (clock h) (g.D.Disk.history c.rollback.new.disk) image → IsLeft (reads h) image)
+    subst (λ (h : History). IsSettled h → LeftSince (clock h) (g.D.Disk.history c.rollback.new.disk) image → IsLeftByRollback (reads h) image)
     (c.open.ensures.unchanged tells) (λ settled left. c.rollback.ensures.crash tells settled image left) settled left
 
 pub returns-in_err-open-clause-crash : goal.returns-in_err-open-clause-crash

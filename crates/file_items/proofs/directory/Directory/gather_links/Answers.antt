@@ -13,7 +13,7 @@ use Rattle.reiser_volume.specs.Made.{stat_at, kind_by}
 use Rattle.reiser_volume.specs.Opened.{links_in}
 use Rattle.reiser_volume.specs.Volume.{volume_items}
 use Rattle.file_items.specs.Gathered.{HasEntry, HasEntries}
-use Rattle.file_items.specs.Names.{Entry, indexed, entries, names_in}
+use Rattle.file_items.specs.Names.{IndexedLink, indexed, indexed_links, names_in}
 use Rattle.file_items.proofs.Linked.{entry_at}
 use Rattle.file_items.proofs.Named.{entries_of_dir, told_here, index_is, entries_more, dir_of}
 use Rattle.file_items.proofs.directory.Directory.gather_links.Goals as goal
@@ -23,7 +23,7 @@ loop-i-preserved c = λ image known key at.
     let all : List ObjectKey = keys c.args.volume.now.named in
     let links : List Naming = links_in c.args.volume.now in
     let spots : List Spot = c.names_in-spots.result.now in
-    let es : List Entry = names_in links key in
+    let es : List IndexedLink = names_in links key in
     let kind : ObjectKey → Kind = λ (k : ObjectKey). kind_by (stat_at (volume_items image) k) in
     let spot : Spot = get_or spots c.loop-i.i (record { of = 0; number = 0 }) in
     let within : c.loop-i.i < length spots = omega arith in
@@ -40,6 +40,6 @@ returns c = λ image known key at.
     let all : List ObjectKey = keys c.args.volume.now.named in
     let links : List Naming = links_in c.args.volume.now in
     let spots : List Spot = c.names_in-spots.result.now in
-    let es : List Entry = names_in links key in
-    let long = told_long (λ (s : Spot). slice_get (entries links) s.number) spots es (entries_of_dir c.args.volume.now c.args.links.now c.args.numbers image known c.args.place key at spots c.names_in-spots.ensures.spots) in
-    subst (λ (l : List Entry). HasEntries c.args.ino (map (indexed (λ k. kind_by (stat_at (volume_items image) k)) all) l) c.loop-i.self) (take_all c.loop-i.i es (omega (arith, long, c.loop-i-test.false))) (c.loop-i.invariant image known key at)
+    let es : List IndexedLink = names_in links key in
+    let long = told_long (λ (s : Spot). slice_get (indexed_links links) s.number) spots es (entries_of_dir c.args.volume.now c.args.links.now c.args.numbers image known c.args.place key at spots c.names_in-spots.ensures.spots) in
+    subst (λ (l : List IndexedLink). HasEntries c.args.ino (map (indexed (λ k. kind_by (stat_at (volume_items image) k)) all) l) c.loop-i.self) (take_all c.loop-i.i es (omega (arith, long, c.loop-i-test.false))) (c.loop-i.invariant image known key at)

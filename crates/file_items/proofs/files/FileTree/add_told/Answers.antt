@@ -23,7 +23,7 @@ use Rattle.file_items.specs.Gathered.{HasEntries}
 use Rattle.file_items.specs.Inodes.{inode_from}
 use Rattle.file_items.specs.Known.{IsKnown}
 use Rattle.file_items.specs.Names.{indexed_in, letters}
-use Rattle.file_items.specs.Tree.{Source, source_of, kind_in, size_in, number_of}
+use Rattle.file_items.specs.Tree.{Source, source_of, kind_in, size_in, ino_of}
 use Rattle.file_items.specs.declared.files.Basis.{Basis}
 use Rattle.file_items.proofs.Beginning.{begins, bytes_held, inode_of_object, letters_small, links_count, links_small}
 use Rattle.file_items.proofs.Held.{stat_is}
@@ -42,7 +42,7 @@ returns-clause-next g c = λ image known placed key at kind_is holds.
     let ino : ℕ = c.inode-ino.result in
     let stat : ObjectStat = c.stat-stat.result.now in
     let same = c.take_entries.ensures.basis in
-    let ino_is : ino ≡ number_of s key = c.inode-ino.ensures (keys volume.named) key known.numbers_are at in
+    let ino_is : ino ≡ ino_of s key = c.inode-ino.ensures (keys volume.named) key known.numbers_are at in
     let own = stat_is volume image place key stat known.opened at (c.stat-stat.ensures key at) in
     let entries : kind ≡ Directory → HasEntries ino (indexed_in (kind_in s) s.keys s.links key) c.take_entries.new.self.directory = λ is. c.in_ok-take_entries.ensures.entries image known key at is in
     let few : letters (indexed_in (kind_in s) s.keys s.links key) < 2 ^ 62 = letters_small volume basis.links basis.numbers image known place key at (kind_in s) (keys volume.named) key in
