@@ -73,9 +73,10 @@ fn has_items<S: BlockSource>(
     if root.level > 7 {
         return Ok(false);
     }
+    let fsid = FORM.ids.fsid;
     let tree = Tree {
         form: Form {
-            fsid: FORM.ids.fsid,
+            fsid,
             nodesize: FORM.nodesize,
             sums: FORM.sums,
         },
