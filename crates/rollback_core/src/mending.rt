@@ -11,7 +11,7 @@ ghost use Rattle.rollback_core.specs.Mending.{Gives, copied, wiped};
 ghost use Rattle.rollback_core.specs.Planned.{HasMendingRoom, IsPlanned};
 
 use btr_super::{Super, mirror};
-use btrfs_format::block::{FIRST_MIRROR, SECOND_MIRROR, SUPER_BLOCK, SUPER_BLOCK};
+use btrfs_format::block::{FIRST_MIRROR, SECOND_MIRROR, SUPER_BLOCK};
 use convert_steps::{Answer, FormatFound, find_format};
 use reiser_bitmap::{Block, BlockNo, BlockSource, Fault, Format, VolumeRefusal, has_magic};
 use reiser_volume::Front;
