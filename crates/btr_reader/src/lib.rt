@@ -37,5 +37,4 @@ pub use mapped_extent::MappedExtent;
 pub use metadata_laws::{metadata_decides, reserved_blocks_are_spare, same_parts_decide};
 pub use refusal::refused;
 pub use roots::{RootFound, RootItems};
-pub use trees::FILE_TREE;
 pub use volume::Btrfs;

@@ -15,9 +15,10 @@ ghost use Rattle.volume_state.specs.Using.{HoldsPartOf, IsInFiles, IsInUse, Refu
 
 use crate::extents::reserved_extent;
 use crate::nodes::reserved_node;
-use btr_reader::{Btrfs, FILE_TREE, refused};
+use btr_reader::{Btrfs, refused};
 use btr_reader_walk::{MapRange, Tree};
 use btrfs_format::block::SUPER_INFO_OFFSET;
+use btrfs_format::object::FS_TREE;
 use reiser_bitmap::{BlockNo, BlockSource, BtrAnswer, BtrRefusal, BtrRule};
 use std::alloc::Global;
 
@@ -74,7 +75,7 @@ fn reserved_file<S: BlockSource>(
     ensures told { OverTold S.tells (S.blocks src.old) (λ image. IsVolumeOn image volume.now → IsMapApart volume.now.ranges.items →
         MatchResult result (TellsReserved (IsInFiles image) blocks) (IsAmong (way_refusals image))) }
 {
-    let file = match volume.find_tree(FILE_TREE)? {
+    let file = match volume.find_tree(FS_TREE)? {
         Some(tree) => tree,
         None => return Ok(None),
     };
