@@ -32,7 +32,7 @@ pub use recovery_laws::{
     in_order_has_format, recovers_what_is_in_order, recovery_counts, recovery_keeps,
     recovery_mends, recovery_opens, recovery_stays,
 };
-pub use restore::{FIRST_COPY, SECOND_COPY, write_back};
+pub use restore::write_back;
 pub use rollback_laws::{
     refusals_are_of_touched, rollback_goes_on, rollback_keeps, writing_rolls_back,
 };
