@@ -109,7 +109,7 @@ impl SumStream {
         ensures kept { S.kept src.old src.new }
         ensures cause { HasCause (S.faults src.old) (S.faults src.new) result }
         ensures spent { self.new.spent ≡ self.old.spent }
-        ensures blocks_taken { OnOk result (IsPieceTaken self.old self.new piece) }
+        ensures taken { OnOk result (IsPieceTaken self.old self.new piece) }
         ensures stands { OverTold S.tells (S.blocks src.old) (λ image. OnOk result (sum_standing self.new ≡ sums_item self.old.sums image (piece.place + self.old.done) (blocks_taken self.old piece))) }
     {
         let first = piece.place + self.done;
