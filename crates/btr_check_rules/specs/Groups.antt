@@ -1,15 +1,18 @@
 -- Parts 6, 7 and 9: block groups and device extents are the chunks, and the sums are right.
 use Rattle.std.specs.Option.{option_map_or}
-use Rattle.std.specs.Prelude.{◌≡◌, ◌≤◌, ℕ, ◌+◌, ◌==◌, List, [], ◌∷◌, filter, Some, All, AllPairs, Contains, ◌↔◌, ◌⊎◌}
+use Rattle.std.specs.Prelude.{◌≡◌, ◌≢◌, ◌≤◌, ℕ, ◌+◌, ◌%◌, ◌==◌, List, [], ◌∷◌, filter, Some, All, AllPairs, Contains, ◌↔◌, ◌⊎◌}
 use Rattle.std.specs.List.{sum_by, flat_map}
 use Rattle.btrfs_format.specs.declared.key.TheConstants.{BLOCK_GROUP_ITEM, DEV_EXTENT, DEV_ITEM}
-use Rattle.btrfs_format.specs.declared.object.TheConstants.{CHUNK_TREE, DEV_TREE, EXTENT_TREE, FIRST_CHUNK_TREE_OBJECTID}
+use Rattle.btrfs_format.specs.declared.object.TheConstants.{CHUNK_TREE, DEV_ITEMS_OBJECTID, DEV_TREE, EXTENT_TREE, FIRST_CHUNK_TREE_OBJECTID}
 use Rattle.btr_reader.specs.btr_node.Leaf.{Item}
 use Rattle.btr_reader.specs.btr_space_items.BlockGroup.{block_group_of}
 use Rattle.btr_reader.specs.btr_space_items.DevExtent.{dev_extent_of}
 use Rattle.btr_reader.specs.btr_space_items.Device.{device_of}
 use Rattle.btr_reader.specs.btr_space_items.declared.dev_extent.DevExtent.{DevExtent}
 use Rattle.btr_reader.specs.btr_space_items.declared.device.Device.{Device}
+use Rattle.btr_reader.specs.btr_space_items.declared.stripe.Stripe.{Stripe}
+use Rattle.btr_reader.specs.btr_super.declared.superblock.Super.{Super}
+use Rattle.btr_reader.specs.Opening.{form_of}
 use Rattle.btr_reader.specs.declared.chunk.ChunkAt.{ChunkAt}
 use Rattle.btr_check_rules.specs.Recount.{Recount, DataUse, Span, all_trees, data_uses, recounted_items, is_within}
 
@@ -61,15 +64,35 @@ dev_extents r = filter (λ i. i.0.kind == DEV_EXTENT) (recounted_items r DEV_TRE
 abbrev pub Apart : ℕ → ℕ → ℕ → ℕ → Type 0
 Apart a m b n = (a + m ≤ b) ⊎ (b + n ≤ a)
 
--- Part 7: chunks overlap neither by their addresses nor on the device, and device extents are their stripes.
+-- a stripe of so many bytes lies on the volume's device, and within its bytes (read_one_chunk,
+-- btrfs_verify_dev_extents)
+pub record IsStripe (s : Super) (length : ℕ) (stripe : Stripe) : Type 0 where
+  pub device : (stripe.devid ≡ s.dev_item.devid) × (stripe.device_uuid ≡ s.dev_item.uuid)
+  pub start : stripe.offset % 4096 ≡ 0
+  pub inside : stripe.offset + length ≤ s.total_bytes
+
+-- A chunk, as the tree-checker wants it (btrfs_check_chunk_valid).
+pub record IsChunkOn (s : Super) (c : ChunkAt) : Type 0 where
+  pub sectors : c.chunk.sector_size ≡ 4096
+  pub stripes : c.chunk.stripe_len ≡ 65536
+  pub some : c.chunk.length ≢ 0
+  pub whole : (c.logical % 4096 ≡ 0) × (c.chunk.length % 4096 ≡ 0)
+  pub stripe : IsStripe s c.chunk.length c.chunk.stripe
+  pub mirror : (stripe : Stripe) → c.mirror ≡ Some stripe → IsStripe s c.chunk.length stripe
+
+-- Part 7: each chunk is valid, chunks overlap neither by their addresses nor on the device, and device extents are
+-- their stripes.
 pub record AreStripes (r : Recount) : Type 0 where
+  pub valid : All (IsChunkOn r.super) r.chunks
   pub logical : AllPairs (λ c d. Apart c.logical c.chunk.length d.logical d.chunk.length) r.chunks
   pub physical : AllPairs (λ c d. Apart c.chunk.stripe.offset c.chunk.length d.chunk.stripe.offset d.chunk.length) r.chunks
   pub each : All (λ i. (c : ChunkAt) × Contains r.chunks c × IsExtentOf c i) (dev_extents r)
   pub whole : All (λ c. (i : Item) × Contains (dev_extents r) i × IsExtentOf c i) r.chunks
 
--- the device's item tells the length of the volume, and the bytes of all chunks
+-- the device's item tells the volume that nodes name, its length, and the bytes of all chunks (btrfs_validate_super,
+-- check_device_used)
 pub record TellsDevice (r : Recount) (d : Device) : Type 0 where
+  pub fsid : d.fsid ≡ (form_of r.super).fsid
   pub total : d.total_bytes ≡ r.super.total_bytes
   pub used : d.bytes_used ≡ sum_by (λ c. c.chunk.length) r.chunks
 
@@ -79,8 +102,13 @@ dev_items r = filter (λ i. i.0.kind == DEV_ITEM) r.chunk_tree.items
 abbrev pub group_used : Item → ℕ
 group_used i = option_map_or (λ g. g.used) (block_group_of i.1) 0
 
+-- an item is the device's, under its number (check_dev_item), and the same as in the superblock (read_one_dev)
+pub record IsDeviceItem (s : Super) (i : Item) : Type 0 where
+  pub key : i.0 ≡ record { objectid = DEV_ITEMS_OBJECTID; kind = DEV_ITEM; offset = s.dev_item.devid }
+  pub body : device_of i.1 ≡ Some s.dev_item
+
 -- Part 9.
 pub record AreTotals (r : Recount) : Type 0 where
   pub used : r.super.bytes_used ≡ sum_by group_used (groups r)
   pub device : TellsDevice r r.super.dev_item
-  pub one : (i : Item) × (dev_items r ≡ i ∷ []) × ((d : Device) × (device_of i.1 ≡ Some d) × TellsDevice r d)
+  pub one : (i : Item) × (dev_items r ≡ i ∷ []) × IsDeviceItem r.super i

@@ -18,7 +18,7 @@ use Rattle.btr_reader.specs.btr_node.Leaf.{Item}
 use Rattle.btr_reader.specs.btr_space_items.RootRef.{RootRefValue, root_ref_of}
 use Rattle.btr_reader.specs.btr_reader_contents.Extents.{range_covers}
 use Rattle.btr_reader.specs.btr_reader_names.Inodes.{kind_of_mode}
-use Rattle.btr_check_rules.specs.Recount.{Recount, TreeOn, file_trees}
+use Rattle.btr_check_rules.specs.Recount.{Recount, TreeOn, file_trees, of_kind}
 
 -- A name in a directory, and what it names.
 pub record NamedEntry : Type 0 where
@@ -38,10 +38,6 @@ pub record BackName : Type 0 where
   pub dir : ℕ
   pub index : ℕ
   pub name : List ℕ
-
--- the items of a kind
-abbrev pub of_kind : ℕ → List Item → List Item
-of_kind kind items = filter (λ i. i.0.kind == kind) items
 
 abbrev pub or_none : {A : Type 0} → Option (List A) → List A
 or_none None = []

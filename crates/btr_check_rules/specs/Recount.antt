@@ -1,5 +1,5 @@
 -- What a recount of a Btrfs volume finds: its chunks, its trees, and the data that its files refer to.
-use Rattle.std.specs.Prelude.{◌≡◌, ℕ, ◌+◌, ◌-◌, ◌%◌, ◌^◌, ◌==◌, nat_le, nat_lt, Bool, ◌&&◌, ◌||◌, if◌then◌else◌, List, [], ◌∷◌, ◌++◌, filter, Option, Some, None, Contains}
+use Rattle.std.specs.Prelude.{◌≡◌, ℕ, ◌+◌, ◌-◌, ◌%◌, ◌^◌, ◌==◌, nat_le, nat_lt, Bool, not, ◌&&◌, ◌||◌, bit_and, if◌then◌else◌, List, [], ◌∷◌, ◌++◌, filter, Option, Some, None, Contains}
 use Rattle.std.specs.List.{flat_map}
 use Rattle.btrfs_format.specs.declared.key.TheConstants.{EXTENT_DATA}
 use Rattle.btrfs_format.specs.declared.object.TheConstants.{FIRST_FREE_OBJECTID, FS_TREE}
@@ -37,8 +37,15 @@ abbrev pub all_trees : Recount → List TreeOn
 all_trees r = r.chunk_tree ∷ (r.root_tree ∷ r.others)
 
 -- tree 5 and those from 256 on hold files
+abbrev pub holds_files : ℕ → Bool
+holds_files number = (number == FS_TREE) || nat_le FIRST_FREE_OBJECTID number
+
 abbrev pub is_file_tree : TreeOn → Bool
-is_file_tree t = (t.number == FS_TREE) || nat_le FIRST_FREE_OBJECTID t.number
+is_file_tree t = holds_files t.number
+
+-- of these the ones below 2^48 are subvolumes (is_fstree of Linux)
+abbrev pub is_subvolume : ℕ → Bool
+is_subvolume number = (number == FS_TREE) || (nat_le FIRST_FREE_OBJECTID number && nat_lt number (2 ^ 48))
 
 abbrev pub file_trees : Recount → List TreeOn
 file_trees r = filter is_file_tree r.others
@@ -46,6 +53,14 @@ file_trees r = filter is_file_tree r.others
 -- the items of the tree with a number, none where there is no such tree
 abbrev pub recounted_items : Recount → ℕ → List Item
 recounted_items r number = flat_map (λ t. t.items) (filter (λ t. t.number == number) r.others)
+
+-- the items of a kind
+abbrev pub of_kind : ℕ → List Item → List Item
+of_kind kind items = filter (λ i. i.0.kind == kind) items
+
+-- the superblock has an incompatible feature
+abbrev pub has_feature : Super → ℕ → Bool
+has_feature s bit = not (bit_and s.incompat bit == 0)
 
 -- the chunks of the array, and those of the chunk tree that are none of these
 abbrev pub added_chunk : Option (Option ChunkAt) → List ChunkAt

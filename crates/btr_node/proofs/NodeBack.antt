@@ -4,6 +4,7 @@ use Rattle.std.proofs.lemmas.List.{take_at, drop_at, drop-drop}
 use Rattle.btrfs_format.specs.declared.size.TheConstants.{CSUM_SIZE, HEADER_REST_SIZE, HEADER_SIZE, ITEM_SIZE, KEY_PTR_SIZE}
 use Rattle.btr_keys.specs.Layout.{spelling}
 use Rattle.csum_kinds.specs.Kind.{kind_sum}
+use Rattle.csum_kinds.proofs.Widths.{length-kind_sum}
 use Rattle.btr_node.specs.Areas.{HasAreas}
 use Rattle.btr_node.specs.Draft.{Draft, IsDraft, draft_bytes, contents, heads_of, head_of, sealed, node_bytes}
 use Rattle.btr_node.specs.Head.{head_layout, head_in, nritems, behind_head, expected, HasHead}
@@ -18,7 +19,7 @@ use Rattle.btr_node.specs.declared.head.Head.{Head}
 use Rattle.btr_node.specs.declared.item.BtrItemHead.{BtrItemHead}
 use Rattle.btr_node.proofs.Putting.{bytes_of-parts}
 use Rattle.btr_node.proofs.ReadBack.{length-contents, heads_back, items_back, children_back, heads_have_areas}
-use Rattle.btr_node.proofs.Spelled.{head_reads, length-kind_sum}
+use Rattle.btr_node.proofs.Spelled.{head_reads}
 
 pub size_within : (n : ℕ) → IsNodeSize n → (4096 ≤ n) × (n ≤ 65536)
 size_within n (inl is) = (omega arith, omega arith)

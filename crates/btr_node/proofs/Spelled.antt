@@ -2,24 +2,17 @@
 use Rattle.std.proofs.Common.{◌≡◌, ◌<◌, ◌^◌, ℕ, ◌*◌, List, [], ◌∷◌, length, refl, arith, length-append}
 use Rattle.std.proofs.Math.Nat.{mul-suc}
 use Rattle.std.specs.List.{flat_map}
-use Rattle.btrfs_format.specs.declared.size.TheConstants.{CSUM_SIZE, ITEM_SIZE, KEY_PTR_SIZE}
+use Rattle.btrfs_format.specs.declared.size.TheConstants.{ITEM_SIZE, KEY_PTR_SIZE}
 use Rattle.btr_keys.specs.Key.{key_layout}
 use Rattle.btr_keys.specs.declared.key.Key.{Key}
 use Rattle.btr_keys.specs.Layout.{spelling}
 use Rattle.btr_keys.proofs.Layouts.{Reads, start, ◌▹◌, array_reads, u8_reads, u32_reads, u64_reads, part_reads}
 use Rattle.btr_keys.proofs.Records.{key_reads}
-use Rattle.csum_kinds.specs.declared.kind.SumKind.{SumKind}
-use Rattle.csum_kinds.specs.declared.kind.SumKind.TheVariants.{Crc32c}
-use Rattle.csum_kinds.specs.Kind.{kind_sum}
 use Rattle.btr_node.specs.Head.{make_head, head_layout}
 use Rattle.btr_node.specs.Inner.{make_child, child_layout}
 use Rattle.btr_node.specs.Leaf.{make_item_head, item_layout}
 use Rattle.btr_node.specs.declared.child.Child.{Child}
 use Rattle.btr_node.specs.declared.item.BtrItemHead.{BtrItemHead}
-
-pub length-kind_sum : (sums : SumKind) (bytes : List ℕ) → length (kind_sum sums bytes) ≡ CSUM_SIZE
-unfolding kind_sum
-length-kind_sum Crc32c bytes = refl
 
 pub item_size : (head : BtrItemHead) → length (spelling item_layout head) ≡ ITEM_SIZE
 unfolding item_layout key_layout

@@ -3,7 +3,7 @@ use Rattle.std.proofs.Common.{◌≡◌, ℕ, ◌+◌, ◌-◌, ◌^◌, ◌≤�
 use Rattle.std.specs.List.{flat_map, AllByRecursion}
 use Rattle.std.specs.Option.{option_map}
 use Rattle.std.proofs.Math.Seq.{drop-append-add}
-use Rattle.std.proofs.lemmas.Bool.{le-ltb}
+use Rattle.std.proofs.lemmas.Bool.{le-ltb, ne_eqb}
 use Rattle.std.proofs.lemmas.List.{take_at, drop_at}
 use Rattle.btrfs_format.specs.declared.key.TheConstants.{CHUNK_ITEM}
 use Rattle.btrfs_format.specs.declared.object.TheConstants.{FIRST_CHUNK_TREE_OBJECTID}
@@ -11,12 +11,14 @@ use Rattle.btr_reader_walk.specs.vol_block.Volume.{field}
 use Rattle.btr_reader_walk.specs.btr_keys.Key.{key_layout, key_bytes, make_key, key_in_bytes}
 use Rattle.btr_reader_walk.specs.btr_keys.declared.key.Key.{Key}
 use Rattle.btr_reader_walk.proofs.btr_keys.Records.{key_reads}
-use Rattle.btr_space_items.specs.Chunk.{chunk_of, chunk_bytes}
+use Rattle.btr_space_items.specs.Chunk.{chunk_bytes}
+use Rattle.btr_space_items.specs.Stripe.{stripe_at}
 use Rattle.btr_space_items.specs.declared.chunk.Chunk.{Chunk}
+use Rattle.btr_space_items.specs.declared.stripe.Stripe.{Stripe}
 use Rattle.btr_space_items.proofs.Records.{chunks_read_back, chunk_reads, chunk_width, stripes_at}
 use Rattle.btr_super.specs.declared.superblock.Super.{Super}
 use Rattle.btr_reader.specs.declared.chunk.ChunkAt.{ChunkAt}
-use Rattle.btr_reader.specs.Chunks.{entry_size, front_chunk, chunks_within, array_chunks, is_chunk_key}
+use Rattle.btr_reader.specs.Chunks.{placed_chunk, entry_size, front_chunk, chunks_within, array_chunks, is_chunk_key, second_stripe}
 use Rattle.btr_reader.specs.Laws.{array_entry, FitsArray}
 use Rattle.btr_reader.specs.Opening.{boot_chunks}
 use Rattle.btr_reader.proofs.Array.{with_first, more_chunks}
@@ -28,6 +30,16 @@ key_width = refl
 fits_key : (n : ℕ) → n < 2 ^ 64 → key_layout.fits (make_key FIRST_CHUNK_TREE_OBJECTID CHUNK_ITEM n)
 unfolding key_layout
 fits_key n small = (((tt, omega arith), omega arith), omega (arith, small))
+
+-- the body of one stripe has no second one, and reads as the chunk
+pub chunk_made : (c : ChunkAt) → FitsArray c → placed_chunk c.logical (chunk_bytes c.chunk) ≡ Some c
+chunk_made c fits =
+    let bytes : List ℕ = chunk_bytes c.chunk in
+    let long : length bytes ≡ 80 = chunk_reads.len c.chunk fits.fields ∙ chunk_width in
+    let lone : second_stripe bytes ≡ c.mirror = ap (λ (b : Bool). cond b (Some (stripe_at bytes 80)) None) (ne_eqb (length bytes) 112 (λ e. omega (arith, e, long))) ∙ sym fits.alone in
+    let make : Chunk → ChunkAt = λ x. record { logical = c.logical; chunk = x; mirror = second_stripe bytes } in
+    ap (option_map make) (chunks_read_back c.chunk fits.fields fits.single)
+    ∙ ap (λ (m : Option Stripe). let o : Option ChunkAt = Some (record { logical = c.logical; chunk = c.chunk; mirror = m }) in o) lone
 
 module _ (c : ChunkAt) (fits : FitsArray c) (rest : List ℕ) where
   own : Key
@@ -72,17 +84,13 @@ module _ (c : ChunkAt) (fits : FitsArray c) (rest : List ℕ) where
       ap (λ (n : ℕ). take (n - 17) (drop 17 (array_entry c ++ rest))) entry
       ∙ (ap (take 80) (behind_key 0) ∙ take_at (chunk_bytes c.chunk) rest 80 body_len)
 
-  abbrev placed : Key → Option Chunk → Option ChunkAt
-  placed key chunk = option_map (λ (x : Chunk). record { logical = key.offset; chunk = x }) chunk
-
   pub front : front_chunk (array_entry c ++ rest) ≡ Some c
   front =
       let bytes : List ℕ = array_entry c ++ rest in
-      let read : chunk_of (take (entry_size bytes - 17) (drop 17 bytes)) ≡ Some c.chunk = ap chunk_of body ∙ chunks_read_back c.chunk fits.fields fits.single in
       let whole : ltb (length bytes) 97 ≡ false = le-ltb _ _ (omega (arith, long)) in
-      ap (λ (b : Bool). cond b None (cond (is_chunk_key (key_in_bytes bytes 0)) (placed (key_in_bytes bytes 0) (chunk_of (take (entry_size bytes - 17) (drop 17 bytes)))) None)) whole
-      ∙ (ap (λ (b : Bool). cond b (placed (key_in_bytes bytes 0) (chunk_of (take (entry_size bytes - 17) (drop 17 bytes)))) None) (ap is_chunk_key keyed)
-      ∙ (ap (λ (k : Key). placed k (chunk_of (take (entry_size bytes - 17) (drop 17 bytes)))) keyed ∙ ap (placed (make_key FIRST_CHUNK_TREE_OBJECTID CHUNK_ITEM c.logical)) read))
+      ap (λ (b : Bool). cond b None (cond (is_chunk_key (key_in_bytes bytes 0)) (placed_chunk (key_in_bytes bytes 0).offset (take (entry_size bytes - 17) (drop 17 bytes))) None)) whole
+      ∙ (ap (λ (b : Bool). cond b (placed_chunk (key_in_bytes bytes 0).offset (take (entry_size bytes - 17) (drop 17 bytes))) None) (ap is_chunk_key keyed)
+      ∙ (ap (λ (k : Key). placed_chunk k.offset (take (entry_size bytes - 17) (drop 17 bytes))) keyed ∙ (ap (placed_chunk c.logical) body ∙ chunk_made c fits)))
 
   pub behind : drop (entry_size (array_entry c ++ rest)) (array_entry c ++ rest) ≡ rest
   behind =

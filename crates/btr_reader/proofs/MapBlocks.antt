@@ -15,14 +15,14 @@ use Rattle.btr_reader_contents.specs.Blocks.{IsInBlocks, AreInBlocks}
 use Rattle.btr_reader_contents.specs.Extents.{refused_unless}
 use Rattle.btr_reader_contents.proofs.ExtentLists.{none_left, none_right, holds_unless, first, second}
 use Rattle.btr_reader.specs.declared.chunk.ChunkAt.{ChunkAt}
-use Rattle.btr_reader.specs.Chunks.{range_of, is_read_kind, lies_on, chunk_refusals, beside_refusals, chunks_refusals, chunk_in, with_chunk, chunk_item_refusals, with_items, items_refusals}
+use Rattle.btr_reader.specs.Chunks.{range_of, is_read_kind, lies_on, stripe_lies_on, stripes_of, chunk_refusals, beside_refusals, chunks_refusals, chunk_in, with_chunk, chunk_item_refusals, with_items, items_refusals}
 use Rattle.btr_reader.specs.Opening.{chunk_tree, root_tree, boot_chunks, boot_list, boot_refusals, map_from, or_later, trees_refusals, IsBtrfsOpened}
 use Rattle.btr_reader.proofs.Opens.{opening_is}
 
 on_device : (device : ℕ) (c : ChunkAt) → chunk_refusals device c ≡ [] → lies_on device c ≡ true
 on_device device c none =
     let plain : List BtrRefusal = refused_unless (is_read_kind c.chunk.kind) (Unsupported ChunkType c.chunk.kind) in
-    let single : List BtrRefusal = refused_unless (eqb c.chunk.num_stripes 1) (Unsupported ChunkType c.chunk.num_stripes) in
+    let single : List BtrRefusal = refused_unless (eqb c.chunk.num_stripes (stripes_of c.chunk.kind)) (Unsupported ChunkType c.chunk.num_stripes) in
     let placed : List BtrRefusal = refused_unless (lies_on device c) (BadBtrfs c.logical ChunkForm) in
     holds_unless (lies_on device c) (BadBtrfs c.logical ChunkForm) (none_right single placed (none_right plain (single ++ placed) none))
 
@@ -31,14 +31,16 @@ is_in_blocks device c h =
     let logical : eqb (c.logical % 4096) 0 ≡ true = first (eqb (c.logical % 4096) 0) _ h in
     let rest = second (eqb (c.logical % 4096) 0) _ h in
     let long : eqb (c.chunk.length % 4096) 0 ≡ true = first (eqb (c.chunk.length % 4096) 0) _ rest in
-    let place : eqb (c.chunk.stripe.offset % 4096) 0 ≡ true = first (eqb (c.chunk.stripe.offset % 4096) 0) _ (second (eqb (c.chunk.length % 4096) 0) _ rest) in
+    let stripe : stripe_lies_on device c.chunk.length c.chunk.stripe ≡ true = first (stripe_lies_on device c.chunk.length c.chunk.stripe) _ (second (eqb (c.chunk.length % 4096) 0) _ rest) in
+    let place : eqb (c.chunk.stripe.offset % 4096) 0 ≡ true = first (eqb (c.chunk.stripe.offset % 4096) 0) _ stripe in
     record { logical = grind (arith, nat_tests, logical); length = grind (arith, nat_tests, long); physical = grind (arith, nat_tests, place) }
 
 -- a map with one more chunk that lies on the device
 pub added_inside : (device : ℕ) (ranges made : List MapRange) (c : ChunkAt) → LieOn device ranges → lies_on device c ≡ true → made ≡ ranges ++ range_of c ∷ [] → LieOn device made
 added_inside device ranges made c all h is =
     let rest = second (eqb (c.logical % 4096) 0) _ h in
-    let last : nat_le (c.chunk.stripe.offset + c.chunk.length) (4096 * device) ≡ true = second (eqb (c.chunk.stripe.offset % 4096) 0) _ (second (eqb (c.chunk.length % 4096) 0) _ rest) in
+    let stripe : stripe_lies_on device c.chunk.length c.chunk.stripe ≡ true = first (stripe_lies_on device c.chunk.length c.chunk.stripe) _ (second (eqb (c.chunk.length % 4096) 0) _ rest) in
+    let last : nat_le (c.chunk.stripe.offset + c.chunk.length) (4096 * device) ≡ true = second (eqb (c.chunk.stripe.offset % 4096) 0) _ stripe in
     let P : MapRange → Type 0 = λ r. r.physical + r.length ≤ 4096 * device in
     subst (LieOn device) (sym is) (All-append P ranges (range_of c ∷ []) all (All-cons P (range_of c) [] (grind (arith, nat_tests, last)) (All-nil P)))
 

@@ -12,10 +12,11 @@ use Rattle.btr_reader_walk.specs.btr_keys.declared.inode.Inode.{Inode}
 use Rattle.btr_reader_walk.specs.declared.map.MapRange.{MapRange}
 use Rattle.btr_reader_walk.specs.Events.{TreeItem}
 use Rattle.fs_rows.specs.Rows.{NameList, WholeRow}
+use Rattle.fs_rows.specs.declared.row.Kind.{Kind}
 use Rattle.fs_paths.proofs.Lists.{in_map, from_map, at_head, in_tail}
 use Rattle.btr_reader_contents.specs.Extents.{extents_of, is_extent_of, extent_length, content_byte, covers, byte_from, file_byte, bytes_of_inode}
 use Rattle.btr_reader_names.specs.declared.dir_index.DirIndex.{DirIndex}
-use Rattle.btr_reader_names.specs.Inodes.{is_inode_of, find_inode_item, inode_on, IsDirectoryInode}
+use Rattle.btr_reader_names.specs.Inodes.{is_inode_of, find_inode_item, inode_on, kind_of_mode, IsDirectoryInode}
 use Rattle.btr_reader_names.specs.Links.{is_index, index_entry, naming_at, own_naming, dir_indexes, is_followed, followed, IsNamedInode, root, entry, Target, inode, tree, NamesTarget, LeadsToTarget}
 use Rattle.btr_reader.specs.Laws.{unplaced, SameExtents, ItemsDecideBtrfsRows}
 use Rattle.btr_reader.specs.Rows.{top, IsRowOf, AreRows}
@@ -97,6 +98,42 @@ other_disk image other ranges elsewhere items same = record {
       let named : IsNamedInode items ino = leads_named items top path (inode ino) root leads in
       λ j. map (λ k. byte_over image other ranges elsewhere (extents_of items ino) (λ i e n among is below. same ino i e n named among is below) k j) (range_with_len 0 own.size);
 }
+
+-- ---- the rows of one tree over two disks, where its files and symlinks have the same bytes on both
+abbrev pub SameContents : Image → Image → List MapRange → List TreeItem → Type 0
+SameContents image other ranges items =
+    (ino : ℕ) (own : Inode) (kind : Kind) → IsNamedInode items ino → inode_on items ino ≡ Some own → kind_of_mode own.mode ≡ Some kind → has_bytes kind ≡ true
+    → bytes_of_inode other ranges items ino own.size ≡ bytes_of_inode image ranges items ino own.size
+
+pub same_bytes : (image other : Image) (ranges : List MapRange) (items : List TreeItem) (ino size : ℕ)
+    → ((i : TreeItem) (e : FileExtentValue) (n : ℕ) → Contains (extents_of items ino) i → file_extent_of i.body ≡ Some e → n < extent_length e.content → content_byte other ranges e.content n ≡ content_byte image ranges e.content n)
+    → bytes_of_inode other ranges items ino size ≡ bytes_of_inode image ranges items ino size
+same_bytes image other ranges items ino size same = λ j. map (λ k. byte_over image other ranges ranges (extents_of items ino) same k j) (range_with_len 0 size)
+
+module _ (image other : Image) (ranges : List MapRange) (items : List TreeItem) (same : SameContents image other ranges items) where
+  bytes_by_kind : (ino : ℕ) (own : Inode) (kind : Kind) → IsNamedInode items ino → inode_on items ino ≡ Some own → kind_of_mode own.mode ≡ Some kind → (t : Bool) → has_bytes kind ≡ t
+      → (if t then bytes_of_inode image ranges items ino own.size else []) ≡ (if t then bytes_of_inode other ranges items ino own.size else [])
+  bytes_by_kind ino own kind named has known true is = sym (same ino own kind named has known is)
+  bytes_by_kind ino own kind named has known false is = refl
+
+  row_here : (rows : List WholeRow) (to : Target) (row : WholeRow) → IsRowOf image ranges items rows to row → IsRowOf other ranges items rows to row
+  row_here rows (inode ino) row r = record {
+    leads = r.leads;
+    own = r.own;
+    has = r.has;
+    fields = r.fields;
+    least = r.least;
+    names = r.names;
+    bytes = r.bytes ∙ bytes_by_kind ino r.own row.kind (leads_named items top row.path (inode ino) root r.leads) r.has r.fields.kind (has_bytes row.kind) refl;
+  }
+  row_here rows (tree number) row r = r
+
+  pub rows_here : (rows : List WholeRow) → AreRows image ranges items rows → AreRows other ranges items rows
+  rows_here rows are = record {
+    ascends = are.ascends;
+    each = λ row among. (let e = are.each row among in (e.0, row_here rows e.0 row e.1));
+    whole = are.whole;
+  }
 
 abbrev bare : TreeItem → TreeItem
 bare i = record { leaf = 0; key = i.key; body = i.body }

@@ -34,10 +34,12 @@ IsNodeApart test ranges nodesize p = (k : ℕ) → k < nodesize / 4096 → IsApa
 abbrev pub AreNodesApart : (ℕ → Bool) → Image → List MapRange → Tree → Type 0
 AreNodesApart test image ranges tree = All (IsNodeApart test ranges tree.form.nodesize) (nodes_in (met image ranges tree))
 
--- nor a byte of an extent that a file has from the device
+-- nor a byte that a file has from the device by an extent, as far as its disk extent goes: an extent that goes further is refused where
+-- rows are made of it
 abbrev pub IsContentApart : (ℕ → Bool) → List MapRange → ContentValue → Type 0
 IsContentApart test ranges (Inline bytes) = Unit {0}
-IsContentApart test ranges (Regular r) = is_hole r ≡ false → (k : ℕ) → k < r.num_bytes → IsApart test (place ranges (r.disk_bytenr + r.offset + k))
+IsContentApart test ranges (Regular r) =
+    is_hole r ≡ false → (k : ℕ) → k < r.num_bytes → r.offset + k < r.disk_num_bytes → IsApart test (place ranges (r.disk_bytenr + r.offset + k))
 IsContentApart test ranges (Prealloc r) = Unit {0}
 
 abbrev pub AreExtentsApart : (ℕ → Bool) → List MapRange → List TreeItem → Type 0

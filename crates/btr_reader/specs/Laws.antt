@@ -1,5 +1,5 @@
 -- What holds of an opened volume.
-use Rattle.std.specs.Prelude.{◌≡◌, ℕ, ◌+◌, ◌^◌, ◌≤◌, ◌<◌, AllPairs, Contains, List, ◌++◌, length, map, Some}
+use Rattle.std.specs.Prelude.{◌≡◌, ℕ, ◌+◌, ◌^◌, ◌≤◌, ◌<◌, AllPairs, Contains, List, ◌++◌, length, map, None, Some}
 use Rattle.std.specs.List.{flat_map, AllByRecursion}
 use Rattle.btrfs_format.specs.declared.key.TheConstants.{CHUNK_ITEM}
 use Rattle.btrfs_format.specs.declared.object.TheConstants.{FIRST_CHUNK_TREE_OBJECTID}
@@ -43,11 +43,12 @@ OpenedMapsAreApart = (image : Image) (s : Super) (ranges : List MapRange) → Is
 abbrev pub array_entry : ChunkAt → List ℕ
 array_entry c = key_bytes (make_key FIRST_CHUNK_TREE_OBJECTID CHUNK_ITEM c.logical) ++ chunk_bytes c.chunk
 
--- its numbers fit their fields, and it has one stripe
+-- its numbers fit their fields, and it has one stripe alone
 pub record FitsArray (c : ChunkAt) : Type 0 where
   pub logical : c.logical < 2 ^ 64
   pub fields : chunk_layout.fits c.chunk
   pub single : c.chunk.num_stripes ≡ 1
+  pub alone : c.mirror ≡ None
 
 -- Chunks that were written into the bootstrap array of a superblock, one after the other, are its chunks, whatever stands behind them.
 abbrev pub ArraysReadBack : Type 0

@@ -12,6 +12,7 @@ use Rattle.btr_reader_walk.specs.csum_kinds.declared.kind.SumKind.TheVariants.{C
 use Rattle.btr_reader_walk.specs.btr_node.NodeSize.{IsNodeSize}
 use Rattle.btr_super.specs.declared.superblock.Super.{Super}
 use Rattle.btr_super.specs.Rules.{super_of, NamesNoLog}
+use Rattle.btr_super.specs.Super.{node_fsid}
 use Rattle.btr_super.specs.Sums.{known_kind}
 use Rattle.btr_reader_walk.specs.declared.map.MapRange.{MapRange}
 use Rattle.btr_reader_walk.specs.declared.tree.Form.{Form}
@@ -28,7 +29,7 @@ super_on image = super_of (block_at image SUPER_BLOCK) SUPER_BLOCK (length image
 
 -- what the nodes of the volume share
 abbrev pub form_of : Super → Form
-form_of s = record { fsid = s.fsid; nodesize = s.nodesize; sums = unwrap_or (known_kind s.csum_type) Crc32c }
+form_of s = record { fsid = node_fsid s; nodesize = s.nodesize; sums = unwrap_or (known_kind s.csum_type) Crc32c }
 
 abbrev pub tree_of : Super → ℕ → NodePointer → Tree
 tree_of s owner root = record { form = form_of s; root = root; owner = owner }

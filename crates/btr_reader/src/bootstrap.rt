@@ -5,7 +5,6 @@ ghost use Rattle.btr_reader.specs.Opening.{IsBadArray, NamesNoLogTree};
 use crate::chunk::{ChunkAt, is_chunk_key};
 use crate::refusal::refused;
 use btr_reader_walk::{BtrAnswer, BtrRule, Key, Memory, u16_at};
-use btr_space_items::Chunk;
 use btrfs_format::block::SUPER_INFO_OFFSET;
 use btrfs_format::size::{CHUNK_HEAD_SIZE, KEY_SIZE, STRIPE_SIZE};
 use std::alloc::Global;
@@ -41,11 +40,7 @@ fn front_chunk(bytes: &[u8]) -> Option<ChunkAt>
     if !is_chunk_key(&key) || size > bytes.len() {
         return None;
     }
-    let chunk = Chunk::read(&bytes[KEY_SIZE..size])?;
-    Some(ChunkAt {
-        logical: key.offset,
-        chunk,
-    })
+    ChunkAt::read(key.offset, &bytes[KEY_SIZE..size])
 }
 
 /// The chunks of a bootstrap array.

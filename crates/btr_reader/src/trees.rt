@@ -28,7 +28,7 @@ fn form_of(sup: &Super) -> Form
     ensures { result ≡ form_of sup.now }
 {
     Form {
-        fsid: sup.fsid,
+        fsid: sup.node_fsid(),
         nodesize: sup.nodesize,
         sums: sum_kind(sup.csum_type).unwrap(),
     }

@@ -1,4 +1,6 @@
+pub use Rattle.csum_kinds.proofs as csum_kinds
 pub mod Answers
 pub mod Constants
 pub mod Mirrors
 pub mod ReadBack
+pub mod SumNumbers

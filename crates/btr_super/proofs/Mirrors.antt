@@ -20,7 +20,7 @@ use Rattle.btr_super.specs.Sums.{known_kind, csum_type_of, has_sum, sealed_by}
 use Rattle.btr_super.specs.Super.{super_layout, super_in, mirror_bytes}
 use Rattle.btr_super.specs.Rules.{is_super, has_fields, bad_field, block_rules, feature_rules, field_rules, failing, super_refusals, unless_refused, super_of}
 use Rattle.btr_super.specs.Laws.{MirrorsRead}
-use Rattle.btr_super.proofs.Answers.{sum_length}
+use Rattle.csum_kinds.proofs.Widths.{length-kind_sum}
 use Rattle.btr_super.proofs.ReadBack.{starts_with_front, three_hold}
 
 moved_rest : (c : List ℕ) (x : ℕ) → 24 ≤ length c → drop 24 (take 16 c ++ (little_bytes 8 x ++ drop 24 c)) ≡ drop 24 c
@@ -69,6 +69,7 @@ moved_reads c x long fits =
       label = ap (take 256) (same 243) i;
       cache_generation = ap (little_number 8) (same 499) i;
       uuid_tree_generation = ap (little_number 8) (same 507) i;
+      metadata_uuid = ap (take 16) (same 515) i;
       sys_chunk_array = ap (take 2048) (same 755) i;
       backup_roots = ap (take 672) (same 2803) i;
     }
@@ -148,7 +149,7 @@ mirrors_read block s place device to len is below there =
     ap (little_number 2) (sym (drop-drop 164 32 moved) ∙ ap (drop 164) is_covered ∙ sym (drop-drop 140 24 covered) ∙ ap (drop 140) rest ∙ drop-drop 140 24 c ∙ drop-drop 164 32 block) in
     let sealed_is : mirror_bytes to block ≡ copy =
     ap (λ k. sealed_by k moved) (ap known_kind type_moved ∙ kind.1) ∙ ap (λ (z : List ℕ). kind_sum kind.0 z ++ z) is_covered in
-    let behind : drop 32 copy ≡ covered = drop_at sum covered 32 (sum_length kind.0 covered) in
+    let behind : drop 32 copy ≡ covered = drop_at sum covered 32 (length-kind_sum kind.0 covered) in
     let reads : super_in copy ≡ record s { bytenr = x } = ap super_layout.read behind ∙ moved_reads c x long fits ∙ ap (λ (v : Super). record v { bytenr = x }) read.1 in
     let type_is : csum_type_of copy ≡ csum_type_of block =
     ap (little_number 2) (sym (drop-drop 164 32 copy) ∙ ap (drop 164) behind ∙ sym (drop-drop 140 24 covered) ∙ ap (drop 140) rest ∙ drop-drop 140 24 c ∙ drop-drop 164 32 block) in

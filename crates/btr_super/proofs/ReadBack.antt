@@ -17,7 +17,7 @@ use Rattle.btr_super.specs.Sums.{known_kind, csum_type_of, has_sum, sealed_by}
 use Rattle.btr_super.specs.Super.{super_layout, make_super, super_in, super_bytes}
 use Rattle.btr_super.specs.Rules.{is_super, block_rules, field_rules, failing, unless_refused, super_of}
 use Rattle.btr_super.specs.Laws.{SupersReadBack}
-use Rattle.btr_super.proofs.Answers.{sum_length}
+use Rattle.csum_kinds.proofs.Widths.{length-kind_sum}
 use Rattle.btr_super.proofs.Constants.{◌▹▹◌}
 
 pub super_reads : Reads super_layout (λ s. s)
@@ -54,7 +54,8 @@ super_reads =
     ▹ array_reads {n = 256} {get = λ s. s.label}
     ▹ u64_reads {get = λ s. s.cache_generation}
     ▹ u64_reads {get = λ s. s.uuid_tree_generation}
-    ▹▹ replicate 240 0
+    ▹ array_reads {n = 16} {get = λ s. s.metadata_uuid}
+    ▹▹ replicate 224 0
     ▹ array_reads {n = 2048} {get = λ s. s.sys_chunk_array}
     ▹ array_reads {n = 672} {get = λ s. s.backup_roots}
     ▹▹ replicate 565 0
@@ -74,7 +75,7 @@ magic_there id rest bytenr flags len = ap (λ (z : List ℕ). starts_with nat_eq
 
 magic_in : (s : Super) → super_layout.fits s → has_bytes_at (spelling super_layout s) 32 (codes "_BHRfS_M") ≡ true
 unfolding super_layout
-magic_in s fits = magic_there s.fsid _ s.bytenr s.flags fits.0.0.0.0.0.0.0.0.0.0.0.0.0.0.0.0.0.0.0.0.0.0.0.0.0.0.0.0.0.0.1
+magic_in s fits = magic_there s.fsid _ s.bytenr s.flags fits.0.0.0.0.0.0.0.0.0.0.0.0.0.0.0.0.0.0.0.0.0.0.0.0.0.0.0.0.0.0.0.1
 
 pub starts_with_front : (front rest : List ℕ) → starts_with nat_eq (front ++ rest) front ≡ true
 starts_with_front [] rest = refl
@@ -92,7 +93,7 @@ supers_read_back s kind place device fits known there fields =
     let type_is : field 2 covered 164 ≡ s.csum_type = type_in covered ∙ ap (λ (v : Super). v.csum_type) (super_reads.back s [] fits) in
     let kind_is : known_kind (field 2 covered 164) ≡ Some kind = ap known_kind type_is ∙ known in
     let is_block : super_bytes s ≡ block = ap (λ k. sealed_by k (replicate 32 0 ++ covered)) kind_is in
-    let behind : drop 32 block ≡ covered = drop_at sum covered 32 (sum_length kind covered) in
+    let behind : drop 32 block ≡ covered = drop_at sum covered 32 (length-kind_sum kind covered) in
     let reads : super_in block ≡ s = ap super_layout.read behind ∙ super_reads.back s [] fits in
     let named : csum_type_of block ≡ field 2 covered 164 = ap (little_number 2) (sym (drop-drop 164 32 block) ∙ ap (drop 164) behind) in
     let names_kind : known_kind (csum_type_of block) ≡ Some kind = ap known_kind named ∙ kind_is in

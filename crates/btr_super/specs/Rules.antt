@@ -1,7 +1,7 @@
 -- The rules of a superblock that is read, each a test and what is answered where it fails, in their order.
 use Rattle.std.specs.Prelude.{ℕ, ◌+◌, ◌-◌, ◌*◌, ◌%◌, ◌^◌, ◌==◌, nat_lt, nat_le, Bool, ◌&&◌, ◌||◌, if◌then◌else◌, bit_and, List, [], ◌∷◌, ◌++◌, codes, is_some, Result, Ok, Err}
 use Rattle.btrfs_format.specs.declared.block.TheConstants.{SUPER_INFO_OFFSET, SUPER_MAGIC_OFFSET}
-use Rattle.btrfs_format.specs.declared.feature.TheConstants.{BIG_METADATA, COMPRESS_LZO, COMPRESS_ZSTD, DEFAULT_SUBVOL, EXTENDED_IREF, MIXED_BACKREF, NO_HOLES, SKINNY_METADATA}
+use Rattle.btrfs_format.specs.declared.feature.TheConstants.{BIG_METADATA, COMPRESS_LZO, COMPRESS_ZSTD, DEFAULT_SUBVOL, EXTENDED_IREF, METADATA_UUID, MIXED_BACKREF, NO_HOLES, SIMPLE_QUOTA, SKINNY_METADATA}
 use Rattle.btrfs_format.specs.declared.size.TheConstants.{SYSTEM_CHUNK_ARRAY_SIZE}
 use Rattle.refusals.specs.declared.refusal.BtrRefusal.{BtrRefusal}
 use Rattle.refusals.specs.declared.refusal.BtrRefusal.TheVariants.{BadBtrfs, Unsupported, LogPending}
@@ -31,7 +31,7 @@ has_fields s place device =
 
 -- the bits of the incompatible features that are read
 abbrev pub read_bits : ℕ
-read_bits = MIXED_BACKREF + DEFAULT_SUBVOL + COMPRESS_LZO + COMPRESS_ZSTD + BIG_METADATA + EXTENDED_IREF + SKINNY_METADATA + NO_HOLES
+read_bits = MIXED_BACKREF + DEFAULT_SUBVOL + COMPRESS_LZO + COMPRESS_ZSTD + BIG_METADATA + EXTENDED_IREF + SKINNY_METADATA + NO_HOLES + METADATA_UUID + SIMPLE_QUOTA
 
 -- the bits of other features, in a field of 64 bits
 abbrev pub unread_bits : ℕ → ℕ

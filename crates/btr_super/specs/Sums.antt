@@ -1,19 +1,20 @@
 -- The checksum of a superblock: the first 32 bytes, of the bytes behind them.
 use Rattle.std.specs.Prelude.{ℕ, ◌==◌, Bool, true, if◌then◌else◌, List, ◌++◌, drop, nat_eq, Option, Some, None}
 use Rattle.std.specs.List.{starts_with}
-use Rattle.btrfs_format.specs.declared.feature.TheConstants.{CSUM_TYPE_CRC32}
+use Rattle.btrfs_format.specs.declared.feature.TheConstants.{CSUM_TYPE_CRC32, CSUM_TYPE_SHA256}
 use Rattle.btrfs_format.specs.declared.size.TheConstants.{CSUM_SIZE}
 use Rattle.csum_kinds.specs.Kind.{kind_sum}
 use Rattle.csum_kinds.specs.declared.kind.SumKind.{SumKind}
-use Rattle.csum_kinds.specs.declared.kind.SumKind.TheVariants.{Crc32c}
+use Rattle.csum_kinds.specs.declared.kind.SumKind.TheVariants.{Crc32c, Sha256}
 use Rattle.refusals.specs.vol_block.Volume.{field}
 
 -- the kind of checksum that a type of the Btrfs format is
 abbrev pub known_kind : ℕ → Option SumKind
-known_kind csum_type = if csum_type == CSUM_TYPE_CRC32 then Some Crc32c else None
+known_kind csum_type = if csum_type == CSUM_TYPE_CRC32 then Some Crc32c else (if csum_type == CSUM_TYPE_SHA256 then Some Sha256 else None)
 
 abbrev pub csum_number : SumKind → ℕ
 csum_number Crc32c = CSUM_TYPE_CRC32
+csum_number Sha256 = CSUM_TYPE_SHA256
 
 -- the type of checksum that a block names
 abbrev pub csum_type_of : List ℕ → ℕ

@@ -18,8 +18,8 @@ use crate::sums::{has_sum, sum_kind};
 use crate::superblock::Super;
 use btrfs_format::block::{MAGIC, SUPER_INFO_OFFSET, SUPER_MAGIC_OFFSET};
 use btrfs_format::feature::{
-    BIG_METADATA, COMPRESS_LZO, COMPRESS_ZSTD, DEFAULT_SUBVOL, EXTENDED_IREF, MIXED_BACKREF,
-    NO_HOLES, SKINNY_METADATA,
+    BIG_METADATA, COMPRESS_LZO, COMPRESS_ZSTD, DEFAULT_SUBVOL, EXTENDED_IREF, METADATA_UUID,
+    MIXED_BACKREF, NO_HOLES, SIMPLE_QUOTA, SKINNY_METADATA,
 };
 use btrfs_format::size::SYSTEM_CHUNK_ARRAY_SIZE;
 use refusals::{Block, BlockNo, BtrRefusal, BtrRule, Feature, u16_at};
@@ -32,7 +32,9 @@ const READ: u64 = MIXED_BACKREF
     | BIG_METADATA
     | EXTENDED_IREF
     | SKINNY_METADATA
-    | NO_HOLES;
+    | NO_HOLES
+    | METADATA_UUID
+    | SIMPLE_QUOTA;
 
 const BAD_FIELD: BtrRefusal = BtrRefusal::BadBtrfs {
     address: SUPER_INFO_OFFSET,

@@ -1,7 +1,7 @@
 ghost use Rattle.std.specs.Prelude.{◌≡◌, ◌≤◌, drop, length, Some};
 ghost use Rattle.btr_super.specs.Sums.{known_kind, csum_number, has_sum, behind_sum, sealed};
 
-use btrfs_format::feature::CSUM_TYPE_CRC32;
+use btrfs_format::feature::{CSUM_TYPE_CRC32, CSUM_TYPE_SHA256};
 use btrfs_format::size::CSUM_SIZE;
 use csum_kinds::{SumKind, kind_sum};
 use refusals::{Block, u16_at};
@@ -12,6 +12,7 @@ pub fn sum_kind(csum_type: u16) -> Option<SumKind>
 {
     match csum_type {
         CSUM_TYPE_CRC32 => Some(SumKind::Crc32c),
+        CSUM_TYPE_SHA256 => Some(SumKind::Sha256),
         _ => None,
     }
 }
@@ -22,6 +23,7 @@ pub fn csum_type(kind: SumKind) -> u16
 {
     match kind {
         SumKind::Crc32c => CSUM_TYPE_CRC32,
+        SumKind::Sha256 => CSUM_TYPE_SHA256,
     }
 }
 

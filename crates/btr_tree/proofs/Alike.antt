@@ -1,7 +1,7 @@
 -- A tree on two disks, or by two maps, that have the same nodes.
 use Rattle.std.proofs.Common.{◌≡◌, ℕ, zero, suc, Bool, List, [], ◌∷◌, ◌++◌, if◌then◌else◌, map, None, refl, ◌∙◌, ap, subst}
 use Rattle.std.specs.List.{All, flat_map}
-use Rattle.std.proofs.lemmas.List.Elements.{All-nil, All-cons, All-head, All-tail}
+use Rattle.std.proofs.lemmas.List.Elements.{All-head, All-tail}
 use Rattle.btr_node.specs.outside.History.{Image}
 use Rattle.btr_node.specs.refusals.declared.refusal.BtrRefusal.{BtrRefusal}
 use Rattle.btr_node.specs.refusals.declared.rule.BtrRule.{BtrRule}
@@ -18,14 +18,7 @@ use Rattle.btr_reader_walk.specs.Events.{TreeEvent, node, leaf_events, unless_da
 use Rattle.btr_reader_walk.specs.Tree.{tree_items, pointer_damages, at_address, node_faults, order_damages, when_sound, bare_item}
 use Rattle.btr_reader_walk.proofs.Events.{nodes_in-append}
 use Rattle.btr_reader_walk.proofs.Subtrees.{to}
-
-all_first : {X : Type 0} (P : X → Type 0) (xs ys : List X) → All P (xs ++ ys) → All P xs
-all_first P [] ys all = All-nil P
-all_first P (x ∷ xs) ys all = All-cons P x xs (All-head P x (xs ++ ys) all) (all_first P xs ys (All-tail P x (xs ++ ys) all))
-
-all_second : {X : Type 0} (P : X → Type 0) (xs ys : List X) → All P (xs ++ ys) → All P ys
-all_second P [] ys all = all
-all_second P (x ∷ xs) ys all = all_second P xs ys (All-tail P x (xs ++ ys) all)
+use Rattle.btr_tree.proofs.Wholes.{all_first, all_second}
 
 children_same : (P : NodePointer → Type 0) (f g : Child → List TreeEvent) → ((c : Child) → All P (nodes_in (f c)) → g c ≡ f c) → (children : List Child)
     → All P (nodes_in (flat_map f children)) → flat_map g children ≡ flat_map f children

@@ -1,6 +1,6 @@
 -- From the leaves of a tree up to its root.
 use Rattle.std.proofs.Common.{◌≡◌, ℕ, zero, suc, ◌+◌, ◌^◌, ◌<◌, ◌≤◌, Bool, List, [], ◌∷◌, ◌++◌, length, map, get_or, refl, sym, ◌∙◌, ap, subst, arith, append_assoc, ⊎_elim}
-use Rattle.std.specs.List.{flat_map, sum}
+use Rattle.std.specs.List.{All, flat_map, sum}
 use Rattle.std.specs.Int.{div_ceil}
 use Rattle.std.proofs.Math.Nat.{pow-suc}
 use Rattle.std.proofs.lemmas.Bool.{cases_lt}
@@ -17,7 +17,8 @@ use Rattle.btr_reader_walk.specs.Node.{child_pointer}
 use Rattle.btr_reader_walk.specs.declared.tree.NodePointer.{NodePointer}
 use Rattle.btr_tree.specs.Building.{Made, StandAt, pointer_to}
 use Rattle.btr_tree.specs.Packing.{fan_out, level_sizes}
-use Rattle.btr_tree.specs.Roots.{AreRoots, IsExtended, HasSubtreeRoots, IsRaised, IsRoot, HasNodes, AreFirst, nodes_below, pointers_to, level_pointers}
+use Rattle.btr_tree.specs.Whole.{IsWhole}
+use Rattle.btr_tree.specs.Roots.{AreRoots, IsExtended, HasSubtreeRoots, IsRaised, IsRoot, HasNodes, HasWholeNodes, AreFirst, nodes_below, pointers_to, level_pointers}
 use Rattle.std.specs.List.Sorted.{IsPermutation}
 use Rattle.std.proofs.lemmas.List.Sorted.{IsPermutation-refl, IsPermutation-trans, IsPermutation-append_right, IsPermutation-append_comm}
 use Rattle.std.proofs.lemmas.List.Sums.{sum_by_push}
@@ -203,6 +204,17 @@ climbing_nodes old now leaves children level items d so_far one has first = λ i
         let is : child_pointer level c ≡ pointer_to now.generation level c.address =
         ap (λ (g : ℕ). let p : NodePointer = record { address = c.address; level = level; generation = g } in p) (has.roots.one_generation 0 c (omega arith)) in
         below_one image now bare level c ∙ ap (λ (p : NodePointer). nodes_in (pointer_events image identity now.form now.owner bare p)) is
+
+-- and they are whole
+pub whole_of : (m : Made) (level : ℕ) (children : List Child) (items : List Item) (d : Child) → length children ≡ 1 → HasSubtreeRoots m level children items → HasWholeNodes m (get_or children 0 d).address level
+whole_of m level [] items d one has = absurd (omega arith)
+whole_of m level (c ∷ (e ∷ children)) items d one has = absurd (omega arith)
+whole_of m level (c ∷ []) items d one has = λ image stand.
+    let root : NodePointer = pointer_to m.generation level c.address in
+    let bare : Bool = may_be_bare root in
+    let same : child_pointer level c ≡ root = ap (λ (g : ℕ). let p : NodePointer = record { address = c.address; level = level; generation = g } in p) (has.roots.one_generation 0 c (omega arith)) in
+    subst (All (IsWhole image identity m.form m.owner m.chunk_tree)) (below_one image m bare level c ∙ ap (λ (p : NodePointer). nodes_in (pointer_events image identity m.form m.owner bare p)) same)
+    (has.roots.whole image bare stand).nodes
 
 -- one root is the root of the tree
 pub root_of : (law : SubtreesAreTrees) (m : Made) (level : ℕ) (children : List Child) (items : List Item) (d : Child) → length children ≡ 1 → HasSubtreeRoots m level children items → Ascends (keys_of items)

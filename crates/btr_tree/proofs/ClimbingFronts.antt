@@ -9,9 +9,9 @@ use Rattle.btr_node.specs.declared.child.Child.{Child}
 use Rattle.btr_reader_walk.specs.Laws.{SubtreesAreTrees}
 use Rattle.btr_tree.specs.Building.{Made, Goes, HasBack, taken, with_written}
 use Rattle.btr_tree.specs.Packing.{fan_out, tree_levels}
-use Rattle.btr_tree.specs.Roots.{IsRaised, IsClimbed, HasForest, IsRoot, HasNodes}
+use Rattle.btr_tree.specs.Roots.{IsRaised, IsClimbed, HasForest, IsRoot, HasNodes, HasWholeNodes}
 use Rattle.btr_tree.specs.declared.climb.Root.{Root}
-use Rattle.btr_tree.proofs.Climbing.{IsClimbing, roots_ascend, climbing_begins, climbing_below, climbing_goes_on, climbing_short, climbing_count, climbing_nodes, root_of}
+use Rattle.btr_tree.proofs.Climbing.{IsClimbing, roots_ascend, climbing_begins, climbing_below, climbing_goes_on, climbing_short, climbing_count, climbing_nodes, root_of, whole_of}
 use Rattle.btr_tree.proofs.RaisingFronts.{blanks, length-blanks, whole_count}
 
 pub climb_begins : (tells : Bool) (image : Image) (old : Made) (leaves : List Child) → 1 ≤ length leaves → length leaves ≤ 2 ^ 64 → taken old ≡ length leaves → taken old ≤ length old.slots
@@ -80,5 +80,9 @@ module _ (tells : Bool) (first second : Image) (old now : Made) (leaves children
               subst (λ (a : ℕ). HasNodes (with_written now h.back) a root.level (tree_levels old.form.nodesize (length leaves))) (sym address)
               (subst (λ (l : ℕ). HasNodes (with_written now h.back) (get_or children 0 d).address l (tree_levels old.form.nodesize (length leaves))) (sym level_is)
               (climbing_nodes (with_written old front) (with_written now h.back) leaves children level items d h.now one has starts));
+          whole = λ items has.
+              subst (λ (a : ℕ). HasWholeNodes (with_written now h.back) a root.level) (sym address)
+              (subst (λ (l : ℕ). HasWholeNodes (with_written now h.back) (get_or children 0 d).address l) (sym level_is)
+              (whole_of (with_written now h.back) level children items d one (h.now.roots items has)));
         };
       }

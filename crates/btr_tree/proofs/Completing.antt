@@ -11,10 +11,10 @@ use Rattle.btr_tree.specs.Building.{Made, AreSlots, begun_at, with_node, NodeRea
 use Rattle.btr_tree.specs.Builder.{Building, pushed, leaf_closed, IsInHand, IsNextSlot, Standing}
 use Rattle.btr_tree.specs.Counting.{tree_nodes, nodes_above}
 use Rattle.btr_tree.specs.Packing.{capacity, packed_leaves, tree_levels}
-use Rattle.btr_tree.specs.Roots.{IsForest, IsClimbed, IsCompleted, IsRoot, HasNodes, lengths_of}
+use Rattle.btr_tree.specs.Roots.{IsForest, IsClimbed, IsCompleted, IsRoot, HasNodes, HasWholeNodes, lengths_of}
 use Rattle.btr_tree.specs.declared.climb.Root.{Root}
 use Rattle.btr_tree.proofs.Climbing.{extended_then}
-use Rattle.btr_tree.proofs.Leaves.{leaf_roots, leaves_first, empty_met, leaf_count, packed_count, packed_same, empty_nodes, empty_root, extended_node}
+use Rattle.btr_tree.proofs.Leaves.{leaf_roots, leaves_first, empty_met, empty_whole, leaf_count, packed_count, packed_same, empty_nodes, empty_root, extended_node}
 use Rattle.btr_tree.proofs.Standing.{next_is}
 
 module _ (law : LeavesGiveItems) (b : Building) (child : Child) (so_far : Standing b) (hand : IsInHand b child) (read : NodeReadsBack b.made.draft (node_bytes b.made.draft)) where
@@ -48,6 +48,7 @@ module _ (law : LeavesGiveItems) (b : Building) (child : Child) (so_far : Standi
     nodes =
         subst (λ (n : ℕ). HasNodes new.made root.address root.level (tree_levels b.made.form.nodesize n)) closed_leaves
         (climbed.nodes (pushed b) (leaf_roots law b child so_far hand read) (leaves_first law b child so_far hand read));
+    whole = climbed.whole (pushed b) (leaf_roots law b child so_far hand read);
   }
 
 pub completed_empty : (give : LeavesGiveItems) (are : SubtreesAreTrees) (b new : Building) (root : Root) (a : ℕ) → IsNodeSize b.made.form.nodesize → AreSlots b.made.form.nodesize b.made.slots
@@ -76,4 +77,8 @@ completed_empty give are b new root a size slots none no_items at read is addres
           (subst (λ (l : ℕ). HasNodes new.made root.address l (tree_levels b.made.form.nodesize (length (packed_leaves b.made.form.nodesize [])))) (sym level)
           (subst (λ (x : ℕ). HasNodes new.made x 0 (tree_levels b.made.form.nodesize (length (packed_leaves b.made.form.nodesize [])))) (sym address)
           (subst (λ (m : Made). HasNodes m a 0 (tree_levels b.made.form.nodesize (length (packed_leaves b.made.form.nodesize [])))) (sym is) (empty_met b.made a none at))));
+      whole =
+          subst (λ (l : ℕ). HasWholeNodes new.made root.address l) (sym level)
+          (subst (λ (x : ℕ). HasWholeNodes new.made x 0) (sym address)
+          (subst (λ (m : Made). HasWholeNodes m a 0) (sym is) (empty_whole b.made a at read)));
     }

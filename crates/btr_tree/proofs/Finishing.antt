@@ -7,7 +7,7 @@ use Rattle.btr_node.specs.Leaf.{Item}
 use Rattle.btr_reader_walk.specs.Events.{nodes_in, walk_events}
 use Rattle.btr_reader_walk.specs.Map.{identity}
 use Rattle.btr_tree.specs.Building.{Made, StandAt, Goes, HasBack, pointer_to, taken, with_written}
-use Rattle.btr_tree.specs.Builder.{Building, Standing, Holds, pushed, all_made, HasTree}
+use Rattle.btr_tree.specs.Builder.{Building, Standing, Holds, pushed, all_made, HasTree, HasWhole}
 use Rattle.btr_tree.specs.Counting.{tree_nodes}
 use Rattle.btr_tree.specs.Packing.{packed_leaves as leaves_by, tree_levels}
 use Rattle.btr_tree.specs.Roots.{IsCompleted, IsFinished, MeetsNodes, level_pointers, lengths_of}
@@ -42,6 +42,7 @@ module _ (tells : Bool) (first last : Image) (b new : Building) (final : Made) (
           owner = ap (λ (m : Made). m.owner) d.extended.is;
           generation = ap (λ (m : Made). m.generation) d.extended.is;
           slots = ap (λ (m : Made). m.slots) d.extended.is;
+          chunk_tree = ap (λ (m : Made). m.chunk_tree) d.extended.is;
         };
         few = omega (arith, count, d.few);
         count = count ∙ (d.count ∙ ap (λ is. tree_nodes b.made.form.nodesize (lengths_of is)) h.pushed_is);
@@ -67,3 +68,8 @@ module _ (tells : Bool) (first last : Image) (b new : Building) (final : Made) (
       subst (λ is. MeetsNodes last b.made root.address root.level is) f.holds.pushed_is
       (subst (λ (m : Made). IsPermutation (nodes_in (walk_events last identity m.form (pointer_to m.generation root.level root.address) m.owner)) (level_pointers m.generation 0 0 m.slots sizes)) d.extended.is
       (d.nodes last (all_stand told items f)))
+
+  pub finished_whole : IsTrue tells → (items : List Item) → HasFront b first items → HasWhole last b.made root.address root.level
+  finished_whole told items f =
+      let d : IsCompleted (all_made b f.holds.front) (record new { made = with_written final (there items f.holds).back }) root = done items f.holds in
+      subst (λ (m : Made). HasWhole last m root.address root.level) d.extended.is (d.whole last (all_stand told items f))

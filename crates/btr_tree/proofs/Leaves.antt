@@ -25,14 +25,16 @@ use Rattle.btr_tree.specs.Building.{Made, AreSlots, slot, pointer_to, begun_at, 
 use Rattle.btr_tree.specs.Builder.{Building, pushed, first_key, child_of, children_of, IsInHand, IsNextSlot, Standing, item_size}
 use Rattle.btr_tree.specs.Counting.{tree_nodes}
 use Rattle.btr_tree.specs.Packing.{packed_from, packed, weight, capacity, level_sizes, packed_leaves, tree_levels}
-use Rattle.btr_tree.specs.Roots.{HasSubtreeRoots, IsExtended, IsRoot, HasNodes, AreFirst, nodes_below, pointers_to, level_pointers, lengths_of}
+use Rattle.btr_tree.specs.Whole.{IsWhole}
+use Rattle.btr_tree.specs.Roots.{HasSubtreeRoots, IsExtended, IsRoot, HasNodes, HasWholeNodes, AreFirst, nodes_below, pointers_to, level_pointers, lengths_of}
 use Rattle.btr_reader_walk.specs.Events.{may_be_bare, nodes_in, pointer_events}
 use Rattle.std.specs.List.Sorted.{IsPermutation}
 use Rattle.std.proofs.lemmas.List.Sorted.{IsPermutation-refl}
 use Rattle.btr_tree.proofs.Meeting.{leaf_met}
 use Rattle.btr_tree.proofs.Groups.{packed-fits, packed-next, packed-none}
 use Rattle.btr_tree.proofs.Raising.{slot_mapped, stand_last}
-use Rattle.btr_tree.proofs.Standing.{leaves_more, children_more, full_more, lists_are, pushed_same, next_is}
+use Rattle.btr_tree.proofs.Wholes.{leaves_whole}
+use Rattle.btr_tree.proofs.Standing.{leaves_more, exact_more, children_more, full_more, lists_are, pushed_same, next_is}
 
 -- a leaf has as many items as it says
 count_is : (bytes : List ℕ) → length (items_in bytes) ≡ nritems bytes
@@ -115,6 +117,7 @@ module _ (law : LeavesGiveItems) (b : Building) (child : Child) (so_far : Standi
           subtrees = λ image bare stand.
               leaves_subtrees law image m.form m.owner m.generation bare m.slots m.nodes so_far.nodesize so_far.slots.aligned so_far.slots.small few stand (leaves_more b child so_far hand read)
               (full_more b child so_far hand read);
+          whole = λ image bare stand. leaves_whole image m bare m.slots m.nodes few stand (exact_more b child so_far hand read) (full_more b child so_far hand read);
         };
         items_are = flat_same m.nodes ∙ pushed_same b child so_far hand read;
       })
@@ -179,6 +182,21 @@ empty_root give are m a size slots none at read = λ image stand.
     let leaf : IsBtrfsLeaf (want m.form m.owner p) (node_at image identity m.form.nodesize a) = subst (IsBtrfsLeaf (want m.form m.owner p)) (sym node) (read.leaf refl) in
     let below = give image identity m.form m.owner true p (slot_mapped m.form.nodesize a size aligned small) leaf refl in
     are image identity m.form m.owner p [] (subst (λ is. IsSubtree image identity m.form m.owner true p is) (ap items_in node ∙ read.items refl) below) refl
+
+-- which is whole
+pub empty_whole : (m : Made) (a : ℕ) → IsNextSlot m a → NodeReadsBack (begun_at m 0 a).draft (node_bytes (begun_at m 0 a).draft)
+    → HasWholeNodes (with_node (begun_at m 0 a) (node_bytes (begun_at m 0 a).draft)) a 0
+empty_whole m a at read = λ image stand.
+    let bytes : List ℕ = node_bytes (begun_at m 0 a).draft in
+    let p : NodePointer = pointer_to m.generation 0 a in
+    let Node : NodePointer → Type 0 = IsWhole image identity m.form m.owner m.chunk_tree in
+    let node : node_at image identity m.form.nodesize a ≡ bytes =
+    sym (ap (node_at image identity m.form.nodesize) (next_is m a at).0) ∙ stand_last image m.form.nodesize m.slots m.nodes bytes stand in
+    let here : Node p = record {
+      exact = record { draft = (begun_at m 0 a).draft; right = read.right; nodesize_is = refl; want_is = refl; chunk_tree_is = refl; bytes_are = node };
+      firsts = λ h. absurd (omega (arith, h));
+    } in
+    subst (All Node) (sym (leaf_met image m.form m.owner true m.generation a)) (All-cons Node p [] here (All-nil Node))
 
 -- an empty tree has one node
 pub empty_met : (m : Made) (a : ℕ) → m.nodes ≡ [] → IsNextSlot m a → HasNodes (with_node (begun_at m 0 a) (node_bytes (begun_at m 0 a).draft)) a 0 (tree_levels m.form.nodesize (length (packed_leaves m.form.nodesize [])))

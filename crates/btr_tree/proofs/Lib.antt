@@ -6,6 +6,7 @@ pub mod Climbing
 pub mod ClimbingFronts
 pub mod Closing
 pub mod Completing
+pub mod Drafting
 pub mod Falling
 pub mod Finishing
 pub mod Fronts
@@ -15,6 +16,7 @@ pub mod Groups
 pub mod Holding
 pub mod KeyOrder
 pub mod Leaves
+pub mod LinuxForm
 pub mod Maps
 pub mod Meeting
 pub mod Numbered
@@ -25,3 +27,5 @@ pub mod RaisingFronts
 pub mod RaisingLoop
 pub mod Sizes
 pub mod Standing
+pub mod Wholes
+pub mod WholesAlike

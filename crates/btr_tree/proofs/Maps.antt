@@ -1,5 +1,5 @@
 -- A tree by two maps that agree on its nodes.
-use Rattle.std.proofs.Common.{◌≡◌, ℕ, zero, suc, ◌+◌, ◌-◌, ◌*◌, ◌/◌, ◌%◌, ◌^◌, ◌<◌, leb, ltb, eqb, Bool, true, ◌&&◌, List, ◌++◌, Some, Option, refl, sym, ◌∙◌, ap, arith}
+use Rattle.std.proofs.Common.{◌≡◌, ℕ, zero, suc, ◌+◌, ◌-◌, ◌*◌, ◌/◌, ◌%◌, ◌^◌, ◌<◌, leb, ltb, eqb, Bool, true, ◌&&◌, List, ◌++◌, None, Some, Option, refl, sym, ◌∙◌, ap, arith}
 use Rattle.std.specs.Prelude.{is_some}
 use Rattle.std.proofs.lemmas.Bool.{and_from, le-leb, lt-ltb}
 use Rattle.btr_node.specs.outside.History.{Image}
@@ -9,11 +9,12 @@ use Rattle.btr_reader_walk.specs.declared.map.MapRange.{MapRange}
 use Rattle.btr_reader_walk.specs.Map.{place, holds, identity, are_mapped, is_mapped, block_of_place, blocks_at, node_at}
 use Rattle.btr_tree.specs.Laws.{GivesItself, MapsAgree}
 use Rattle.btr_tree.proofs.Alike.{events_alike, items_alike}
+use Rattle.btr_tree.proofs.WholesAlike.{whole_alike}
 
 -- an address by the map that gives each address itself
 identity_gives : (a : ℕ) → a < 2 ^ 64 → place identity a ≡ Some a
 identity_gives a small =
-    let inside : holds (record { logical = 0; length = 2 ^ 64; physical = 0 }) a ≡ true = and_from (leb 0 a) (ltb a (0 + 2 ^ 64)) (le-leb 0 a (omega arith)) (lt-ltb a (0 + 2 ^ 64) (omega arith)) in
+    let inside : holds (record { logical = 0; length = 2 ^ 64; physical = 0; mirror = None }) a ≡ true = and_from (leb 0 a) (ltb a (0 + 2 ^ 64)) (le-leb 0 a (omega arith)) (lt-ltb a (0 + 2 ^ 64) (omega arith)) in
     let at : 0 + (a - 0) ≡ a = omega arith in rw inside (ap Some at)
 
 module _ (image : Image) (ranges : List MapRange) where
@@ -57,4 +58,6 @@ pub agree : MapsAgree
 agree = λ image ranges form root owner all. record {
   events = events_alike image identity image ranges form (P image ranges form) (node_same image ranges form) (is_same image ranges form) root owner all;
   items = items_alike image identity image ranges form (P image ranges form) (node_same image ranges form) (is_same image ranges form) root owner all;
+  whole = λ read chunk_tree are whole.
+      whole_alike image identity image ranges form (P image ranges form) (node_same image ranges form) (is_same image ranges form) root owner chunk_tree read all are whole;
 }

@@ -71,4 +71,5 @@ same_twice a b c first second = record {
   owner = second.owner ∙ first.owner;
   generation = second.generation ∙ first.generation;
   slots = second.slots ∙ first.slots;
+  chunk_tree = second.chunk_tree ∙ first.chunk_tree;
 }

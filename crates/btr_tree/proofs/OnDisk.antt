@@ -1,5 +1,5 @@
 -- Nodes on a disk.
-use Rattle.std.proofs.Common.{◌≡◌, ◌≢◌, ℕ, zero, suc, ◌+◌, ◌-◌, ◌*◌, ◌/◌, ◌%◌, ◌^◌, ◌<◌, ◌≤◌, leb, ltb, true, List, [], ◌∷◌, ◌++◌, length, take, drop, set, get_or, Some, refl, sym, ◌∙◌, ap, subst, arith, ⊎_elim, get_or-set_same, get_or-set_other}
+use Rattle.std.proofs.Common.{◌≡◌, ◌≢◌, ℕ, zero, suc, ◌+◌, ◌-◌, ◌*◌, ◌/◌, ◌%◌, ◌^◌, ◌<◌, ◌≤◌, leb, ltb, true, List, [], ◌∷◌, ◌++◌, length, take, drop, set, get_or, None, Some, refl, sym, ◌∙◌, ap, subst, arith, ⊎_elim, get_or-set_same, get_or-set_other}
 use Rattle.std.proofs.Math.Nat.{mul-suc}
 use Rattle.std.proofs.lemmas.Bool.{cases_eq, and_from, le-leb, lt-ltb}
 use Rattle.std.proofs.lemmas.List.{take-append-drop, drop-drop, nil_from_length, length-drop}
@@ -29,7 +29,7 @@ hold_more image first j bytes block fits is so_far = λ i h.
 
 place_is : (a : ℕ) → a < 2 ^ 64 → place identity a ≡ Some (0 + (a - 0))
 place_is a small =
-    let inside : holds (record { logical = 0; length = 2 ^ 64; physical = 0 }) a ≡ true = and_from (leb 0 a) (ltb a (0 + 2 ^ 64)) (le-leb 0 a (omega arith)) (lt-ltb a (0 + 2 ^ 64) (omega arith)) in
+    let inside : holds (record { logical = 0; length = 2 ^ 64; physical = 0; mirror = None }) a ≡ true = and_from (leb 0 a) (ltb a (0 + 2 ^ 64)) (le-leb 0 a (omega arith)) (lt-ltb a (0 + 2 ^ 64) (omega arith)) in
     rw inside refl
 
 block_is : (image : Image) (a : ℕ) → a < 2 ^ 64 → block_of_place image (place identity a) ≡ block_at image (a / 4096)

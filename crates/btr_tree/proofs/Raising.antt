@@ -1,5 +1,5 @@
 -- A level of a tree from the one below it.
-use Rattle.std.proofs.Common.{◌≡◌, ℕ, zero, suc, ◌+◌, ◌*◌, ◌/◌, ◌%◌, ◌^◌, ◌<◌, ◌≤◌, leb, ltb, eqb, Bool, true, List, [], ◌∷◌, ◌++◌, length, map, take, drop, get_or, refl, sym, ◌∙◌, ap, subst, arith, ⊎_elim}
+use Rattle.std.proofs.Common.{◌≡◌, ℕ, zero, suc, ◌+◌, ◌*◌, ◌/◌, ◌%◌, ◌^◌, ◌<◌, ◌≤◌, leb, ltb, eqb, Bool, true, List, [], ◌∷◌, ◌++◌, length, map, take, drop, get_or, None, refl, sym, ◌∙◌, ap, subst, arith, ⊎_elim}
 use Rattle.std.specs.Prelude.{All}
 use Rattle.std.specs.List.{flat_map}
 use Rattle.std.proofs.lemmas.Bool.{and_from, le-leb, lt-ltb, eq-eqb}
@@ -21,9 +21,12 @@ use Rattle.btr_reader_walk.specs.declared.tree.Form.{Form}
 use Rattle.btr_reader_walk.specs.declared.tree.NodePointer.{NodePointer}
 use Rattle.btr_tree.specs.Building.{Made, AreSlots, slot, StandAt, pointer_to, IsParent}
 use Rattle.btr_tree.specs.Builder.{first_key}
-use Rattle.btr_tree.specs.Roots.{AreRoots, nodes_below}
+use Rattle.btr_tree.specs.Roots.{AreRoots, nodes_below, AreWhole}
 use Rattle.btr_reader_walk.specs.Events.{nodes_in, pointer_events}
 use Rattle.btr_tree.proofs.Meeting.{inner_met, below_one}
+use Rattle.btr_tree.specs.Whole.{IsExact, IsWhole, HasFirstKey, first_key_in}
+use Rattle.btr_tree.proofs.Wholes.{Node, First, first_child, whole_part, whole_append}
+use Rattle.std.proofs.lemmas.List.Elements.{All-nil, All-cons}
 
 -- the keys of the first children ascend, and of any part
 pub front_ascends : (part : List Child) (i : ℕ) (d : Child) → Ascends (first_keys part) → i < length part → Ascends (first_keys (take i part) ++ (get_or part i d).key ∷ [])
@@ -45,7 +48,7 @@ part_ascends children s n h =
 are_mapped_all : (n a : ℕ) → a + 4096 * n ≤ 2 ^ 64 → are_mapped identity n a ≡ true
 are_mapped_all zero a fits = refl
 are_mapped_all (suc n) a fits =
-    let inside : holds (record { logical = 0; length = 2 ^ 64; physical = 0 }) a ≡ true = and_from (leb 0 a) (ltb a (0 + 2 ^ 64)) (le-leb 0 a (omega arith)) (lt-ltb a (0 + 2 ^ 64) (omega arith)) in
+    let inside : holds (record { logical = 0; length = 2 ^ 64; physical = 0; mirror = None }) a ≡ true = and_from (leb 0 a) (ltb a (0 + 2 ^ 64)) (le-leb 0 a (omega arith)) (lt-ltb a (0 + 2 ^ 64) (omega arith)) in
     rw inside (are_mapped_all n (a + 4096) (omega arith))
 
 record Fits (n a : ℕ) : Type 0 where
@@ -122,6 +125,7 @@ part_roots m level s n children lists roots = record {
       let same : take n (drop s ps) ≡ map (child_pointer level) (take n (drop s children)) = ap (take n) (drop-map (child_pointer level) s children) ∙ take-map (child_pointer level) n (drop s children) in
       subst (λ qs. AreSubtrees image identity m.form m.owner bare qs (take n (drop s lists))) same
       (subtrees_take image m.form m.owner bare n (drop s ps) (drop s lists) (subtrees_drop image m.form m.owner bare s ps lists (roots.subtrees image bare stand)));
+  whole = λ image bare stand. whole_part image m bare level s n children (roots.whole image bare stand);
 }
 
 -- one more root
@@ -186,6 +190,29 @@ module _ (law : ChildrenGiveItems) (m : Made) (level : ℕ) (part : List Child) 
       below_one image m bare (suc level) child
       ∙ (ap (λ (q : NodePointer). nodes_in (pointer_events image identity m.form m.owner bare q)) is ∙ (met ∙ ap (λ (q : NodePointer). q ∷ nodes_below image m bare level part) (sym is)))
 
+  -- the parent is whole, as those below it
+  parent_whole : (image : Image) (bare : Bool) → StandAt image m.form.nodesize m.slots (m.nodes ++ parent.bytes ∷ []) → AreWhole image m bare (suc level) (child ∷ [])
+  parent_whole image bare stand =
+      let below : AreWhole image m bare level part = roots.whole image bare (stand_fewer image m.form.nodesize m.slots m.nodes parent.bytes stand) in
+      let node : node_at image identity m.form.nodesize parent.address ≡ parent.bytes =
+      sym (ap (node_at image identity m.form.nodesize) slot_is) ∙ stand_last image m.form.nodesize m.slots m.nodes parent.bytes stand in
+      let links : children_in (node_at image identity m.form.nodesize parent.address) ≡ part = ap children_in node ∙ parent.links in
+      let is : child_pointer (suc level) child ≡ p = ap (child_pointer (suc level)) parent.child_is in
+      let here : IsWhole image identity m.form m.owner m.chunk_tree p = record {
+        exact = subst (IsExact m.form.nodesize (want m.form m.owner p) m.chunk_tree) (sym node) parent.exact;
+        firsts = λ inner. subst (All (HasFirstKey image identity m.form.nodesize)) (sym links) below.firsts;
+      } in
+      let key : child.key ≡ first_key_in (node_at image identity m.form.nodesize child.address) =
+      ap (λ (c : Child). c.key) parent.child_is
+      ∙ (ap (λ cs. (get_or cs 0 child).key) (sym parent.links)
+      ∙ (sym (first_child parent.bytes child (omega (arith, some, ap length parent.links)))
+      ∙ sym (ap (λ (c : Child). first_key_in (node_at image identity m.form.nodesize c.address)) parent.child_is ∙ ap first_key_in node))) in
+      record {
+        nodes = subst (All (Node image m bare level)) (sym (parent_met image bare stand))
+            (All-cons (Node image m bare level) (child_pointer (suc level) child) (nodes_below image m bare level part) (subst (Node image m bare level) (sym is) here) below.nodes);
+        firsts = All-cons (First image m bare level) child [] key (All-nil (First image m bare level));
+      }
+
   one_root : IsOneRoot grown (suc level) child (flat lists)
   one_root =
       let head = head_key part lists child roots.keys roots.full some in
@@ -209,4 +236,8 @@ module _ (law : ChildrenGiveItems) (m : Made) (level : ℕ) (part : List Child) 
             subst (λ qs. AreSubtrees image identity m.form m.owner bare qs (plists ++ flat lists ∷ [])) (sym (map-append (child_pointer (suc level)) parents (child ∷ [])))
             (subtrees_push image m.form m.owner bare (map (child_pointer (suc level)) parents) plists (child_pointer (suc level) child) (flat lists)
             (so_far.subtrees image bare (stand_fewer image m.form.nodesize m.slots m.nodes parent.bytes stand)) (one_root.subtree image bare stand));
+        whole = λ image bare stand.
+            let before : AreWhole image m bare (suc level) parents = so_far.whole image bare (stand_fewer image m.form.nodesize m.slots m.nodes parent.bytes stand) in
+            let all : AreWhole image m bare (suc level) (parents ++ child ∷ []) = whole_append image m bare (suc level) parents (child ∷ []) before (parent_whole image bare stand) in
+            record { nodes = all.nodes; firsts = all.firsts };
       })

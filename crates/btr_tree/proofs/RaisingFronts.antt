@@ -35,6 +35,7 @@ parent_whole old new level part child front count p = record {
       ∙ ap (λ ns. let m : Made = record old { written = 0; nodes = ns; draft = p.draft } in m) (sym (append_assoc front old.nodes (p.bytes ∷ [])));
   inner = p.inner;
   links = p.links;
+  exact = p.exact;
   child_is = p.child_is;
 }
 

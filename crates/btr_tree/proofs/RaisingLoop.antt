@@ -18,12 +18,13 @@ use Rattle.btr_reader_walk.specs.Laws.{ChildrenGiveItems}
 use Rattle.btr_tree.specs.Building.{Made, AreSlots, StandAt, IsParent, pointer_to}
 use Rattle.btr_tree.specs.Builder.{first_key}
 use Rattle.btr_tree.specs.Packing.{fan_out}
-use Rattle.btr_tree.specs.Roots.{AreRoots, IsExtended, HasSubtreeRoots, IsRaised, nodes_below, pointers_to}
+use Rattle.btr_tree.specs.Roots.{AreRoots, AreWhole, IsExtended, HasSubtreeRoots, IsRaised, nodes_below, pointers_to}
 use Rattle.btr_reader_walk.specs.Node.{child_pointer}
 use Rattle.btr_reader_walk.specs.declared.tree.NodePointer.{NodePointer}
 use Rattle.std.specs.List.Sorted.{IsPermutation}
 use Rattle.std.proofs.lemmas.List.Sorted.{IsPermutation-refl, IsPermutation-trans, IsPermutation-append_left}
 use Rattle.btr_tree.proofs.Meeting.{perm_more, below_append}
+use Rattle.btr_tree.proofs.Wholes.{whole_none}
 use Rattle.btr_tree.proofs.Raising.{flat, flat-is, part_roots, roots_more, parent_met, stand_fewer}
 
 -- how many nodes hold so many children
@@ -48,7 +49,7 @@ stand_front image n slots nodes more stand = λ i h. stand i (omega (arith, leng
 pub roots_extended : (old new : Made) (level : ℕ) (children : List Child) (lists : List (List Item)) → IsExtended old new → AreRoots old level children lists → AreRoots new level children lists
 roots_extended old new level children lists ext roots =
     subst (λ (x : Made). AreRoots x level children lists) (sym ext.is)
-    (record { keys = roots.keys; full = roots.full; one_generation = roots.one_generation; subtrees = λ image bare stand. roots.subtrees image bare (stand_front image old.form.nodesize old.slots old.nodes ext.more stand) })
+    (record { keys = roots.keys; full = roots.full; one_generation = roots.one_generation; subtrees = λ image bare stand. roots.subtrees image bare (stand_front image old.form.nodesize old.slots old.nodes ext.more stand); whole = λ image bare stand. let all : AreWhole image old bare level children = roots.whole image bare (stand_front image old.form.nodesize old.slots old.nodes ext.more stand) in record { nodes = all.nodes; firsts = all.firsts } })
 
 pub extended_none : (old : Made) → IsExtended old old
 extended_none old = record { more = []; draft = old.draft; is = ap (λ ns. let x : Made = record old { nodes = ns } in x) (sym (append-nil old.nodes)) }
@@ -107,7 +108,7 @@ raising_begins old children level wide few = record {
   few = few;
   roots = λ below lists is roots. record {
     lists = [];
-    roots = record { keys = refl; full = All-nil (λ (items : List Item). 1 ≤ length items); one_generation = All-nil (λ (c : Child). c.generation ≡ old.generation); subtrees = λ image bare stand. tt };
+    roots = record { keys = refl; full = All-nil (λ (items : List Item). 1 ≤ length items); one_generation = All-nil (λ (c : Child). c.generation ≡ old.generation); subtrees = λ image bare stand. tt; whole = λ image bare stand. whole_none image old bare level };
     items_are = sym flat_nothing;
   };
   pointers = refl;

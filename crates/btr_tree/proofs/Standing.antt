@@ -20,6 +20,7 @@ use Rattle.btr_node.proofs.Ascending.{second_ascends}
 use Rattle.btr_tree.specs.Building.{Made, with_written, AreSlots, slot, expected_at, with_node, with_item, NodeReadsBack, IsFresh}
 use Rattle.btr_tree.specs.Builder.{Building, pushed, first_key, child_of, children_of, leaf_closed, leaf_begun, IsNextSlot, item_size, IsInHand, IsIdle, Standing, leaves_of}
 use Rattle.btr_tree.specs.Packing.{capacity, packed}
+use Rattle.btr_tree.specs.Whole.{IsExact}
 use Rattle.btr_tree.proofs.Groups.{packed-fits, packed-none, one_more_fits, one_more_next, ends_in}
 
 -- the keys of the leaf in hand, with the next
@@ -69,6 +70,7 @@ stands_first b a key body so_far idle at order small =
         want_is = ap (expected_at b.made 0) (sym next.0);
         size = refl;
         no_children = refl;
+        chunk_tree_is = refl;
         slot_left = next.1;
         some = omega arith;
         child_is = ap (λ (s : ℕ). let c : Child = record { key = key; address = s; generation = b.made.generation } in c) (sym next.0);
@@ -78,6 +80,7 @@ stands_first b a key body so_far idle at order small =
       children = so_far.children;
       packing = ap (packed item_size (capacity b.made.form.nodesize)) here ∙ (one ∙ sym (ap (λ ns. map items_in ns ++ ((key, body) ∷ []) ∷ []) idle.no_nodes));
       order = ap (λ items. ascends (keys_of items)) here;
+      exact = so_far.exact;
     }
 
 -- the leaf in hand is made
@@ -106,6 +109,24 @@ module _ (b : Building) (child : Child) (so_far : Standing b) (hand : IsInHand b
       let at : length b.made.nodes ≡ i = omega (arith, length_push b.made.nodes bytes) in
       subst (IsBtrfsLeaf (expected_at b.made 0 (slot b.made.slots i))) (sym (get_or_push b.made.nodes bytes [] i at))
       (subst (λ (w : Expect). IsBtrfsLeaf w bytes) (hand.want_is ∙ ap (λ (k : ℕ). expected_at b.made 0 (slot b.made.slots k)) at) (read.leaf level)))
+      (cases_lt i (length b.made.nodes))
+
+  pub exact_more : (i : ℕ) → i < length (b.made.nodes ++ bytes ∷ [])
+      → IsExact b.made.form.nodesize (expected_at b.made 0 (slot b.made.slots i)) b.made.chunk_tree (get_or (b.made.nodes ++ bytes ∷ []) i [])
+  exact_more i h =
+      let Exact : ℕ → List ℕ → Type 0 = λ k ns. IsExact b.made.form.nodesize (expected_at b.made 0 (slot b.made.slots k)) b.made.chunk_tree ns in
+      ⊎_elim (λ (before : i < length b.made.nodes). subst (Exact i) (sym (get_or_append_left b.made.nodes (bytes ∷ []) [] i before)) (so_far.exact i before))
+      (λ (last : length b.made.nodes ≤ i).
+      let at : length b.made.nodes ≡ i = omega (arith, length_push b.made.nodes bytes) in
+      subst (Exact i) (sym (get_or_push b.made.nodes bytes [] i at))
+      (record {
+        draft = b.made.draft;
+        right = read.right;
+        nodesize_is = hand.size;
+        want_is = hand.want_is ∙ ap (λ (k : ℕ). expected_at b.made 0 (slot b.made.slots k)) at;
+        chunk_tree_is = hand.chunk_tree_is;
+        bytes_are = refl;
+      }))
       (cases_lt i (length b.made.nodes))
 
   pub children_more : b.children ++ child ∷ [] ≡ children_of b.made.generation b.made.slots (map items_in (b.made.nodes ++ bytes ∷ []))
@@ -138,6 +159,7 @@ module _ (b : Building) (child : Child) (so_far : Standing b) (hand : IsInHand b
           want_is = ap (expected_at b.made 0) (sym next.0);
           size = refl;
           no_children = refl;
+          chunk_tree_is = refl;
           slot_left = next.1;
           some = omega arith;
           child_is = ap (λ (s : ℕ). let c : Child = record { key = key; address = s; generation = b.made.generation } in c) (sym next.0);
@@ -147,6 +169,7 @@ module _ (b : Building) (child : Child) (so_far : Standing b) (hand : IsInHand b
         children = children_more;
         packing = ap (packed item_size (capacity b.made.form.nodesize)) here ∙ (more ∙ ap (λ lists. lists ++ ((key, body) ∷ []) ∷ []) (sym lists_are));
         order = ap (λ items. ascends (keys_of items)) here ∙ order;
+        exact = exact_more;
       }
 
 pub leaves_next : (b : Building) (key : Key) (body : List ℕ) → Standing b → b.made.draft.children ≡ [] → b.made.draft.nodesize ≡ b.made.form.nodesize → room b.made.draft < ITEM_SIZE + length body
@@ -184,6 +207,7 @@ stands_fits b child key body so_far hand is order fits =
             want_is = hand.want_is;
             size = hand.size;
             no_children = hand.no_children;
+            chunk_tree_is = hand.chunk_tree_is;
             slot_left = hand.slot_left;
             some = omega (arith, hand.some, length_push items (key, body));
             child_is = hand.child_is ∙ ap (λ (k : Key). let c : Child = record { key = k; address = slot b.made.slots (length b.made.nodes); generation = b.made.generation } in c) (first_same items (key, body) hand.some);
@@ -193,6 +217,7 @@ stands_fits b child key body so_far hand is order fits =
       children = so_far.children;
       packing = ap (packed item_size (capacity b.made.form.nodesize)) here ∙ more;
       order = ap (λ items. ascends (keys_of items)) here ∙ order;
+      exact = so_far.exact;
     }
 
 -- nothing was pushed
@@ -208,6 +233,7 @@ stands_new m form owner generation chunk_tree slots size right fresh = record {
   children = sym (ap (λ ns. children_of m.generation m.slots (map items_in ns)) fresh.no_nodes ∙ none m.slots);
   packing = rw (fresh.no_nodes, fresh.no_items) (packed-none item_size (capacity m.form.nodesize) []);
   order = rw (fresh.no_nodes, fresh.no_items) refl;
+  exact = λ i h. absurd (omega (arith, ap (λ ns. length ns) fresh.no_nodes));
 }
   where
     none : (slots : List ℕ) → children_of m.generation slots [] ≡ []
@@ -241,6 +267,7 @@ standing_spent b spent done s = record {
   children = s.children;
   packing = s.packing;
   order = s.order;
+  exact = s.exact;
 }
   where
     by_hand : (hand : Option Child) → MatchOption hand (IsIdle b) (IsInHand b) → MatchOption hand (IsIdle (record b { spent = spent; done = done })) (IsInHand (record b { spent = spent; done = done }))
@@ -250,6 +277,7 @@ standing_spent b spent done s = record {
       want_is = hand.want_is;
       size = hand.size;
       no_children = hand.no_children;
+      chunk_tree_is = hand.chunk_tree_is;
       slot_left = hand.slot_left;
       some = hand.some;
       child_is = hand.child_is;

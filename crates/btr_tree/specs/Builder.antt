@@ -14,6 +14,7 @@ use Rattle.btr_reader_walk.specs.Map.{identity}
 use Rattle.btr_reader_walk.specs.Tree.{tree_items}
 use Rattle.btr_tree.specs.Building.{Made, AreSlots, slot, taken, with_written, nodes_on, pointer_to, expected_at, begun_at, with_node, with_item}
 use Rattle.btr_tree.specs.Packing.{capacity, packed}
+use Rattle.btr_tree.specs.Whole.{IsExact, IsWholeTree}
 
 -- the nodes, and of the level that is being made the children that its nodes are for the level above
 pub record Building : Type 0 where
@@ -75,6 +76,7 @@ pub record IsInHand (b : Building) (child : Child) : Type 0 where
   pub want_is : b.made.draft.want ≡ expected_at b.made 0 (slot b.made.slots (length b.made.nodes))
   pub size : b.made.draft.nodesize ≡ b.made.form.nodesize
   pub no_children : b.made.draft.children ≡ []
+  pub chunk_tree_is : b.made.draft.chunk_tree ≡ b.made.chunk_tree
   pub slot_left : length b.made.nodes < length b.made.slots
   pub some : 1 ≤ length b.made.draft.items
   pub child_is : child ≡ child_of b.made.generation (slot b.made.slots (length b.made.nodes)) b.made.draft.items
@@ -84,8 +86,9 @@ pub record IsIdle (b : Building) : Type 0 where
   pub no_nodes : b.made.nodes ≡ []
   pub no_items : b.made.draft.items ≡ []
 
--- What holds of all that was made after each push: each leaf that was made is on the grammar of its slot, the children are those
--- of the leaves, the leaves and the one in hand are those that packing the items in order gives, and keys ascend over all.
+-- What holds of all that was made after each push: each leaf that was made is on the grammar of its slot and exactly the bytes
+-- of its draft, the children are those of the leaves, the leaves and the one in hand are those that packing the items in order
+-- gives, and keys ascend over all.
 pub record Standing (b : Building) : Type 0 where
   pub nodesize : IsNodeSize b.made.form.nodesize
   pub slots : AreSlots b.made.form.nodesize b.made.slots
@@ -96,6 +99,7 @@ pub record Standing (b : Building) : Type 0 where
   pub children : b.children ≡ children_of b.made.generation b.made.slots (map items_in b.made.nodes)
   pub packing : packed item_size (capacity b.made.form.nodesize) (pushed b) ≡ map items_in b.made.nodes ++ b.made.draft.items ∷ []
   pub order : Ascends (keys_of (pushed b))
+  pub exact : (i : ℕ) → i < length b.made.nodes → IsExact b.made.form.nodesize (expected_at b.made 0 (slot b.made.slots i)) b.made.chunk_tree (slice_index_or b.made.nodes i [])
 
 -- all that was made, where the nodes that were written are these
 abbrev pub all_made : Building → List (List ℕ) → Building
@@ -141,6 +145,7 @@ pub record IsSameBuilding (old new : Building) : Type 0 where
   pub owner : new.made.owner ≡ old.made.owner
   pub generation : new.made.generation ≡ old.made.generation
   pub slots : new.made.slots ≡ old.made.slots
+  pub chunk_tree : new.made.chunk_tree ≡ old.made.chunk_tree
 
 -- how many leaves items take
 abbrev pub leaves_of : ℕ → List Item → ℕ
@@ -149,3 +154,7 @@ leaves_of nodesize items = length (packed item_size (capacity nodesize) items)
 -- The tree of these items stands on a disk, under a root with this address and level.
 abbrev pub HasTree : Image → Made → ℕ → ℕ → List Item → Type 0
 HasTree image m address level items = tree_items image identity m.form (pointer_to m.generation level address) m.owner ≡ Some items
+
+-- Each node of the tree under this root is exactly the bytes of its draft, and each child's key is the child's first key.
+abbrev pub HasWhole : Image → Made → ℕ → ℕ → Type 0
+HasWhole image m address level = IsWholeTree image identity m.form m.owner m.chunk_tree (pointer_to m.generation level address)

@@ -16,10 +16,20 @@ use Rattle.btr_reader_walk.specs.Tree.{tree_items}
 use Rattle.btr_reader_walk.specs.Events.{nodes_in, pointer_events, walk_events}
 use Rattle.btr_reader_walk.specs.declared.tree.NodePointer.{NodePointer}
 use Rattle.btr_tree.specs.Building.{Made, StandAt, taken, with_written, pointer_to}
-use Rattle.btr_tree.specs.Builder.{Building, pushed, first_key, IsSameBuilding}
+use Rattle.btr_tree.specs.Builder.{Building, pushed, first_key, IsSameBuilding, HasWhole}
 use Rattle.btr_tree.specs.Counting.{tree_nodes}
 use Rattle.btr_tree.specs.Packing.{fan_out, packed_leaves as leaves_by, tree_levels}
+use Rattle.btr_tree.specs.Whole.{IsWhole, HasFirstKey}
 use Rattle.btr_tree.specs.declared.climb.Root.{Root}
+
+-- the nodes that a walk meets below these children, each child before those below it
+abbrev pub nodes_below : Image → Made → Bool → ℕ → List Child → List NodePointer
+nodes_below image m bare level children = flat_map (λ p. nodes_in (pointer_events image identity m.form m.owner bare p)) (map (child_pointer level) children)
+
+-- the nodes below these children are whole, and their keys are the first ones of their nodes
+pub record AreWhole (image : Image) (m : Made) (bare : Bool) (level : ℕ) (children : List Child) : Type 0 where
+  pub nodes : All (IsWhole image identity m.form m.owner m.chunk_tree) (nodes_below image m bare level children)
+  pub firsts : All (HasFirstKey image identity m.form.nodesize) children
 
 -- Each child is the root of a subtree that has these items and some at all, on every disk on which the nodes stand.
 pub record AreRoots (m : Made) (level : ℕ) (children : List Child) (lists : List (List Item)) : Type 0 where
@@ -28,10 +38,7 @@ pub record AreRoots (m : Made) (level : ℕ) (children : List Child) (lists : Li
   pub one_generation : All (λ child. child.generation ≡ m.generation) children
   pub subtrees : (image : Image) (bare : Bool) → StandAt image m.form.nodesize m.slots m.nodes
       → AreSubtrees image identity m.form m.owner bare (map (child_pointer level) children) lists
-
--- the nodes that a walk meets below these children, each child before those below it
-abbrev pub nodes_below : Image → Made → Bool → ℕ → List Child → List NodePointer
-nodes_below image m bare level children = flat_map (λ p. nodes_in (pointer_events image identity m.form m.owner bare p)) (map (child_pointer level) children)
+  pub whole : (image : Image) (bare : Bool) → StandAt image m.form.nodesize m.slots m.nodes → AreWhole image m bare level children
 
 -- nodes of one level at so many slots behind the first ones
 abbrev pub pointers_to : ℕ → ℕ → ℕ → ℕ → List ℕ → List NodePointer
@@ -84,6 +91,10 @@ HasNodes m address level sizes =
     (image : Image) → StandAt image m.form.nodesize m.slots m.nodes
     → IsPermutation (nodes_in (walk_events image identity m.form (pointer_to m.generation level address) m.owner)) (level_pointers m.generation 0 0 m.slots sizes)
 
+-- the nodes of the tree of a root are whole, on every disk on which the nodes stand
+abbrev pub HasWholeNodes : Made → ℕ → ℕ → Type 0
+HasWholeNodes m address level = (image : Image) → StandAt image m.form.nodesize m.slots m.nodes → HasWhole image m address level
+
 -- the leaves are met at the first slots
 abbrev pub AreFirst : Made → List Child → Type 0
 AreFirst m leaves =
@@ -98,6 +109,7 @@ pub record IsClimbed (old : Made) (leaves : List Child) (new : Made) (root : Roo
   pub nodes_are : root.nodes ≡ length new.nodes
   pub root_is : (items : List Item) → HasSubtreeRoots old 0 leaves items → Ascends (keys_of items) → IsRoot new root.address root.level items
   pub nodes : (items : List Item) → HasSubtreeRoots old 0 leaves items → AreFirst old leaves → HasNodes new root.address root.level (tree_levels old.form.nodesize (length leaves))
+  pub whole : (items : List Item) → HasSubtreeRoots old 0 leaves items → HasWholeNodes new root.address root.level
 
 -- the lengths of the bodies of items
 abbrev pub lengths_of : List Item → List ℕ
@@ -111,6 +123,7 @@ pub record IsCompleted (old new : Building) (root : Root) : Type 0 where
   pub nodes_are : root.nodes ≡ length new.made.nodes
   pub root_is : IsRoot new.made root.address root.level (pushed old)
   pub nodes : HasNodes new.made root.address root.level (tree_levels old.made.form.nodesize (length (leaves_by old.made.form.nodesize (lengths_of (pushed old)))))
+  pub whole : HasWholeNodes new.made root.address root.level
 
 -- On a disk, a walk of the tree under this root meets the nodes that packing the items gives: each once and at its slot,
 -- the leaves at the first ones and each level behind those below it, and no other.

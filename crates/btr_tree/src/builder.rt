@@ -9,7 +9,7 @@ ghost use Rattle.btr_node.specs.Order.{Ascends};
 ghost use Rattle.btr_tree.specs.Building.{AreSlots, IsFresh, IsLater, Goes, taken, with_written, NodeReadsBack};
 ghost use Rattle.btr_tree.specs.Counting.{nodes_above, tree_nodes};
 ghost use Rattle.btr_tree.specs.Roots.{HasForest, IsClimbed, IsCompleted, IsFinished, MeetsNodes, lengths_of};
-ghost use Rattle.btr_tree.specs.Builder.{pushed, pushed_on, Standing, Stands, Holds, IsReady, HasPut, IsPushed, all_made, leaf_closed, leaf_begun, IsNextTaken, IsSameBuilding, HasTree, leaves_of};
+ghost use Rattle.btr_tree.specs.Builder.{pushed, pushed_on, Standing, Stands, Holds, IsReady, HasPut, IsPushed, all_made, leaf_closed, leaf_begun, IsNextTaken, IsSameBuilding, HasTree, HasWhole, leaves_of};
 
 use crate::answer::NodeAnswer;
 use crate::climb::{Root, climb};
@@ -137,6 +137,7 @@ impl TreeBuilder {
         requires in_range { All (λ a. a + self.old.made.form.nodesize ≤ 4096 * D.size disk.old) self.old.made.slots }
         ensures tree { IsTrue D.tells → IfOk result (λ root. HasTree (reads (D.history disk.new)) self.old.made root.address root.level (pushed_on self.old (reads (D.history disk.old)))) }
         ensures nodes { IsTrue D.tells → IfOk result (λ root. MeetsNodes (reads (D.history disk.new)) self.old.made root.address root.level (pushed_on self.old (reads (D.history disk.old)))) }
+        ensures whole { IsTrue D.tells → IfOk result (λ root. HasWhole (reads (D.history disk.new)) self.old.made root.address root.level) }
         ensures finished { (items : List Item) → Holds self.old items → IfOk result (λ root. IsFinished self.old self.new root items) }
         ensures spent { IsTrue self.new.spent ↔ IsErr result }
         ensures done { IsTrue self.new.done ↔ IsOk result }
@@ -198,6 +199,7 @@ impl TreeBuilder {
         requires in_range { All (λ a. a + self.old.made.form.nodesize ≤ 4096 * D.size disk.old) self.old.made.slots }
         ensures tree { IsTrue D.tells → IfOk result (λ root. HasTree (reads (D.history disk.new)) self.old.made root.address root.level (pushed_on self.old (reads (D.history disk.old)))) }
         ensures nodes { IsTrue D.tells → IfOk result (λ root. MeetsNodes (reads (D.history disk.new)) self.old.made root.address root.level (pushed_on self.old (reads (D.history disk.old)))) }
+        ensures whole { IsTrue D.tells → IfOk result (λ root. HasWhole (reads (D.history disk.new)) self.old.made root.address root.level) }
         ensures finished { (items : List Item) → Holds self.old items → IfOk result (λ root. IsFinished self.old self.new root items) }
         ensures out { (items : List Item) → Holds self.old items → result ≡ Err TreeAnswer.OutOfSlots
             → length self.old.made.slots < tree_nodes self.old.made.form.nodesize (lengths_of items) }

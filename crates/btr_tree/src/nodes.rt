@@ -2,7 +2,7 @@ ghost use Rattle.std.specs.Prelude.{◌≡◌, ◌≤◌, ◌<◌, ◌+◌, ◌*
 ghost use Rattle.btr_node.specs.outside.Fault.{HasCause};
 ghost use Rattle.btr_node.specs.outside.History.{reads, WritesOnly};
 ghost use Rattle.btr_tree.specs.Writing.{IsInSlots};
-ghost use Rattle.btr_node.specs.Draft.{room, node_bytes};
+ghost use Rattle.btr_node.specs.Draft.{room, node_bytes, IsDraft};
 ghost use Rattle.btr_node.specs.Inner.{first_keys};
 ghost use Rattle.btr_node.specs.Leaf.{keys_of};
 ghost use Rattle.btr_node.specs.NodeSize.{IsNodeSize};
@@ -55,7 +55,7 @@ impl Model for Nodes {
       draft = n.writer;
     } };
 
-    ghost invariant = { λ n. IsStock n.form.nodesize n.writer.nodesize n.written n.held (vec_capacity n.bytes) n.bytes.items n.slots };
+    ghost invariant = { λ n. IsStock n.form.nodesize n.written n.held (vec_capacity n.bytes) n.writer n.bytes.items n.slots };
 }
 
 impl Nodes {
@@ -263,6 +263,7 @@ impl Nodes {
 fn append_node(bytes: &mut Vec<u8>, writer: &mut NodeWriter)
     requires started { IsTrue writer.old.started }
     requires children { 1 ≤ writer.old.want.level → 1 ≤ length writer.old.children }
+    requires right { IsDraft writer.old }
     requires room { length bytes.old.items + writer.old.nodesize ≤ vec_capacity bytes.old }
     ensures appended { bytes.new.items ≡ bytes.old.items ++ node_bytes writer.old }
     ensures room { vec_capacity bytes.old ≤ vec_capacity bytes.new }

@@ -17,6 +17,7 @@ use Rattle.btr_tree.specs.Packing.{packed_leaves, tree_levels}
 use Rattle.btr_tree.specs.Roots.{level_pointers, pointers_to, lengths_of}
 use Rattle.btr_tree.proofs.Alike.{events_alike, items_alike}
 use Rattle.btr_tree_writer.specs.Trees.{TreesStandByNodes, pointer_to_root}
+use Rattle.btr_tree.proofs.WholesAlike.{whole_alike}
 
 module _ (image other : Image) where
   -- the blocks of a node of n blocks are the same
@@ -31,7 +32,7 @@ module _ (image other : Image) where
   placed : (x : ℕ) → block_at other (x / 4096) ≡ block_at image (x / 4096) → block_of_place other (place identity x) ≡ block_of_place image (place identity x)
   placed x same =
       let at : x ≡ 0 + (x - 0) = omega arith in
-      tested (holds (record { logical = 0; length = 2 ^ 64; physical = 0 }) x) (0 + (x - 0)) (subst (λ (y : ℕ). block_at other (y / 4096) ≡ block_at image (y / 4096)) at same)
+      tested (holds (record { logical = 0; length = 2 ^ 64; physical = 0; mirror = None }) x) (0 + (x - 0)) (subst (λ (y : ℕ). block_at other (y / 4096) ≡ block_at image (y / 4096)) at same)
 
   here : (n a : ℕ) → Same (suc n) a → block_at other (a / 4096) ≡ block_at image (a / 4096)
   here n a same =
@@ -96,4 +97,8 @@ by_nodes = λ image other form owner slots items root same stands.
       nodes_are = subst (λ (es : List TreeEvent). IsPermutation (nodes_in es) (level_pointers 1 0 0 slots sizes)) (sym events) stands.nodes_are;
       count = stands.count;
       few = stands.few;
+      whole = (
+        stands.whole.0,
+        whole_alike image identity other identity form (P image other form) (node_same image other form) (λ q same. refl) p owner stands.whole.0 items all stands.items_are stands.whole.1,
+      );
     }

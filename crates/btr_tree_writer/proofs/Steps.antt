@@ -13,10 +13,11 @@ use Rattle.btr_tree.specs.refusals.declared.answer.VolAnswer.TheVariants as sour
 use Rattle.btr_tree.specs.btr_keys.declared.key.Key.{Key}
 use Rattle.btr_tree.specs.btr_node.Leaf.{Item}
 use Rattle.btr_tree.specs.Building.{Made, pointer_to}
-use Rattle.btr_tree.specs.Builder.{HasTree}
+use Rattle.btr_tree.specs.Builder.{HasTree, HasWhole}
 use Rattle.btr_tree.specs.Counting.{tree_nodes}
 use Rattle.btr_tree.specs.Packing.{packed_leaves, tree_levels}
 use Rattle.btr_tree.specs.Roots.{MeetsNodes, level_pointers, lengths_of}
+use Rattle.btr_tree.specs.Whole.{IsWholeTree}
 use Rattle.btr_tree.specs.Writing.{IsInSlots}
 use Rattle.btr_tree.specs.declared.climb.Root.{Root}
 use Rattle.btr_tree.specs.btr_reader_walk.Events.{nodes_in, walk_events}
@@ -25,7 +26,7 @@ use Rattle.btr_tree.specs.btr_reader_walk.Tree.{tree_items}
 use Rattle.btr_tree.specs.btr_reader_walk.declared.tree.Form.{Form}
 use Rattle.btr_tree_writer.specs.Answers.{of_source, IsFailure, IsSourceFailure, IsWriteAnswer}
 use Rattle.btr_tree_writer.specs.Source.{LieApart, SameWhere}
-use Rattle.btr_tree_writer.specs.Trees.{TreeStands}
+use Rattle.btr_tree_writer.specs.Trees.{TreeStands, pointer_to_root}
 use Rattle.btr_tree_writer.specs.declared.answer.WriteAnswer.{WriteAnswer}
 use Rattle.btr_tree_writer.specs.declared.answer.WriteAnswer.TheVariants as answer
 
@@ -94,12 +95,21 @@ pushed_of items rest all item is = append_assoc items (item ∷ []) rest ∙ is
 pub last_of : (items before all : List Item) → items ++ before ≡ all → before ≡ [] → items ≡ all
 last_of items before all is none = sym (append-nil items) ∙ (sym (ap (λ (is : List Item). items ++ is) none) ∙ is)
 
+-- each node is exactly the bytes of its draft
+pub whole_by : (image : Image) (m : Made) (form : Form) (owner : ℕ) (root : Root) → m.form ≡ form → m.owner ≡ owner → m.generation ≡ 1
+    → HasWhole image m root.address root.level → IsWholeTree image identity form owner m.chunk_tree (pointer_to_root root)
+whole_by image m form owner root form-is owner-is generation whole =
+    subst (λ (f : Form). IsWholeTree image identity f owner m.chunk_tree (pointer_to_root root)) form-is
+    (subst (λ (o : ℕ). IsWholeTree image identity m.form o m.chunk_tree (pointer_to_root root)) owner-is
+    (subst (λ (n : ℕ). IsWholeTree image identity m.form m.owner m.chunk_tree (pointer_to n root.level root.address)) generation whole))
+
 -- what the builder says of the tree that it finished
 pub stands_by : (image : Image) (m : Made) (form : Form) (owner : ℕ) (slots : List ℕ) (pushed items : List Item) (root : Root)
     → m.form ≡ form → m.owner ≡ owner → m.generation ≡ 1 → m.slots ≡ slots → pushed ≡ items
     → HasTree image m root.address root.level pushed → MeetsNodes image m root.address root.level pushed
+    → HasWhole image m root.address root.level
     → root.nodes ≡ tree_nodes m.form.nodesize (lengths_of items) → root.nodes ≤ length m.slots → TreeStands image form owner slots items root
-stands_by image m form owner slots pushed items root form-is owner-is generation slots-are pushed-are tree meets count few = record {
+stands_by image m form owner slots pushed items root form-is owner-is generation slots-are pushed-are tree meets whole count few = record {
   items_are =
       subst (λ (f : Form). tree_items image identity f (pointer_to 1 root.level root.address) owner ≡ Some items) form-is
       (subst (λ (o : ℕ). tree_items image identity m.form (pointer_to 1 root.level root.address) o ≡ Some items) owner-is
@@ -113,6 +123,7 @@ stands_by image m form owner slots pushed items root form-is owner-is generation
       (subst (λ (is : List Item). IsPermutation (nodes_in (walk_events image identity m.form (pointer_to m.generation root.level root.address) m.owner)) (level_pointers m.generation 0 0 m.slots (tree_levels m.form.nodesize (length (packed_leaves m.form.nodesize (lengths_of is)))))) pushed-are meets))));
   count = subst (λ (f : Form). root.nodes ≡ tree_nodes f.nodesize (lengths_of items)) form-is count;
   few = subst (λ (s : List ℕ). root.nodes ≤ length s) slots-are few;
+  whole = (m.chunk_tree, whole_by image m form owner root form-is owner-is generation whole);
 }
 
 -- a part answered, after so many faults as at the start

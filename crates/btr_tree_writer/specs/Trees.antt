@@ -8,6 +8,7 @@ use Rattle.btr_tree.specs.Building.{pointer_to}
 use Rattle.btr_tree.specs.Counting.{tree_nodes}
 use Rattle.btr_tree.specs.Packing.{packed_leaves, tree_levels}
 use Rattle.btr_tree.specs.Roots.{level_pointers, lengths_of}
+use Rattle.btr_tree.specs.Whole.{IsWholeTree}
 use Rattle.btr_tree.specs.Writing.{IsInSlots}
 use Rattle.btr_tree.specs.declared.climb.Root.{Root}
 use Rattle.btr_tree.specs.btr_reader_walk.Events.{nodes_in, walk_events}
@@ -32,6 +33,12 @@ pub record TreeStands (image : Image) (form : Form) (owner : ℕ) (slots : List 
   pub nodes_are : IsPermutation (nodes_in (walk_events image identity form (pointer_to_root root) owner)) (level_pointers 1 0 0 slots (tree_levels form.nodesize (length (packed_leaves form.nodesize (lengths_of items)))))
   pub count : root.nodes ≡ tree_nodes form.nodesize (lengths_of items)
   pub few : root.nodes ≤ length slots
+  -- each node is exactly the bytes of its draft, with the identifier of one chunk tree
+  pub whole : (chunk_tree : List ℕ) × IsWholeTree image identity form owner chunk_tree (pointer_to_root root)
+
+-- The nodes of a tree have the identifiers of this form, and are exactly the bytes of their drafts.
+abbrev pub IsWrittenWith : Image → NodeForm → ℕ → Root → Type 0
+IsWrittenWith image form owner root = IsWholeTree image identity (read_form form) owner form.ids.chunk_tree (pointer_to_root root)
 
 -- Items of which a tree can be written: their keys ascend, each fits into a leaf, and there are slots for the nodes.
 pub record AreWritable (nodesize : ℕ) (slots : List ℕ) (items : List Item) : Type 0 where

@@ -11,7 +11,7 @@ ghost use Rattle.btr_tree.specs.Writing.{IsInSlots};
 ghost use Rattle.space_items.specs.Nodes.{AreNodes, nodes_of_tree};
 ghost use Rattle.btr_tree_writer.specs.Answers.{IsFailure};
 ghost use Rattle.btr_tree_writer.specs.Source.{LieApart};
-ghost use Rattle.btr_tree_writer.specs.Trees.{AreWritable, TreeStands, read_form};
+ghost use Rattle.btr_tree_writer.specs.Trees.{AreWritable, IsWrittenWith, TreeStands, read_form};
 
 use crate::answer::WriteAnswer;
 use crate::form::NodeForm;
@@ -70,6 +70,7 @@ impl Trees {
         ensures tree { OverTold D.tells (D.blocks disk.old) (λ image. I.fits items.old image → LieApart (I.needs items.old) self.old.form.nodesize self.old.slots → (all : List ItemOf) → I.ahead items.old image ≡ all → AreWritable self.old.form.nodesize (drop self.old.taken self.old.slots) all
             → MatchResult result (λ root. TreeStands (reads (D.history disk.new)) (read_form self.old.form) owner (drop self.old.taken self.old.slots) all root
             × (self.new.nodes ≡ self.old.nodes ++ nodes_of_tree owner self.old.form.nodesize (lengths_of all) (drop self.old.taken self.old.slots))) IsFailure) }
+        ensures whole { IsTrue D.tells → IfOk result (λ root. IsWrittenWith (reads (D.history disk.new)) self.old.form owner root) }
         ensures open { D.opened disk.new ≡ D.opened disk.old }
         ensures size { D.size disk.new ≡ D.size disk.old }
         ensures borrow { D.borrow disk.new ≡ D.borrow disk.old }

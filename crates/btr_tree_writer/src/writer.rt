@@ -9,7 +9,9 @@ ghost use Rattle.btr_tree.specs.Counting.{Counted};
 ghost use Rattle.btr_tree.specs.Roots.{lengths_of};
 ghost use Rattle.btr_tree.specs.Writing.{IsInSlots};
 ghost use Rattle.btr_tree_writer.specs.Answers.{of_builder};
-ghost use Rattle.btr_tree_writer.specs.Trees.{AreWritable, TreeStands, read_form};
+ghost use Rattle.btr_tree.specs.Whole.{IsWholeTree};
+ghost use Rattle.btr_tree.specs.btr_reader_walk.Map.{identity};
+ghost use Rattle.btr_tree_writer.specs.Trees.{AreWritable, TreeStands, pointer_to_root, read_form};
 
 use crate::answer::WriteAnswer;
 use crate::form::NodeForm;
@@ -46,6 +48,7 @@ impl TreeWriter {
         requires few { length slots < 2 ^ 43 }
         ensures writes { IfOk result (λ w. WritesTree w (read_form form) owner slots []) }
         ensures stands { IfOk result (λ w. (image : Image) → StandsOn w image []) }
+        ensures chunk_tree { IfOk result (λ w. w.builder.made.chunk_tree ≡ form.ids.chunk_tree) }
     {
         Ok(TreeWriter {
             builder: TreeBuilder::new(alloc, owner, 1, slots, form.ids, form.nodesize, form.sums)?,
@@ -67,6 +70,7 @@ impl TreeWriter {
         ensures misfit { (form : FormOf) (owner : ℕ) (slots : List ℕ) (items rest : List Item) → WritesTree self.old form owner slots items → result ≡ Err WriteAnswer.Misfit
             → ¬ AreWritable form.nodesize slots (items ++ (key, body.now) ∷ rest) }
         ensures more { OnOk result (self.old.counter.bytes < self.new.counter.bytes) }
+        ensures chunk_tree { OnOk result (self.new.builder.made.chunk_tree ≡ self.old.builder.made.chunk_tree) }
         ensures open { D.opened disk.new ≡ D.opened disk.old }
         ensures size { D.size disk.new ≡ D.size disk.old }
         ensures borrow { D.borrow disk.new ≡ D.borrow disk.old }
@@ -101,6 +105,8 @@ impl TreeWriter {
         requires in_range { All (λ a. a + self.builder.made.form.nodesize ≤ 4096 * D.size disk.old) self.builder.made.slots }
         ensures tree { (form : FormOf) (owner : ℕ) (slots : List ℕ) (items : List Item) → IsTrue D.tells → WritesTree self form owner slots items → StandsOn self (reads (D.history disk.old)) items
             → IfOk result (λ t. TreeStands (reads (D.history disk.new)) form owner slots items t.0) }
+        ensures whole { (form : FormOf) (owner : ℕ) (slots : List ℕ) (items : List Item) → IsTrue D.tells → WritesTree self form owner slots items
+            → IfOk result (λ t. IsWholeTree (reads (D.history disk.new)) identity form owner self.builder.made.chunk_tree (pointer_to_root t.0)) }
         ensures counted { (form : FormOf) (owner : ℕ) (slots : List ℕ) (items : List Item) → WritesTree self form owner slots items → IfOk result (λ t. IsCountedTree form.nodesize slots items t.0 t.1) }
         ensures answers { IfErr result IsWriteAnswer }
         ensures misfit { (form : FormOf) (owner : ℕ) (slots : List ℕ) (items : List Item) → WritesTree self form owner slots items → result ≡ Err WriteAnswer.Misfit → ¬ AreWritable form.nodesize slots items }

@@ -35,6 +35,7 @@ const ALL: [MapRange; 1] = [MapRange {
     logical: 0,
     length: 131072,
     physical: 0,
+    mirror: None,
 }];
 
 fn key(objectid: u64) -> Key {

@@ -24,5 +24,20 @@ pub const SKINNY_METADATA: u64 = 0x100;
 /// Holes of files without file extents.
 pub const NO_HOLES: u64 = 0x200;
 
+/// Nodes carry another id than the one that the volume is known by: its `metadata_uuid`.
+pub const METADATA_UUID: u64 = 0x400;
+
+/// Quotas that count an extent for the tree that it was made for.
+pub const SIMPLE_QUOTA: u64 = 0x10000;
+
 /// The kind of checksum that is CRC-32C.
 pub const CSUM_TYPE_CRC32: u16 = 0;
+
+/// The kind of checksum that is SHA-256.
+pub const CSUM_TYPE_SHA256: u16 = 2;
+
+/// A compat_ro feature: the volume has a free space tree, `BTRFS_FEATURE_COMPAT_RO_FREE_SPACE_TREE`.
+pub const FREE_SPACE_TREE: u64 = 0x1;
+
+/// A compat_ro feature: the free space tree tells what is free, `BTRFS_FEATURE_COMPAT_RO_FREE_SPACE_TREE_VALID`.
+pub const FREE_SPACE_TREE_VALID: u64 = 0x2;

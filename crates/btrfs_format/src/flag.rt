@@ -9,11 +9,38 @@ pub const BLOCK_GROUP_SYSTEM: u64 = 2;
 /// A chunk or block group of all other trees.
 pub const BLOCK_GROUP_METADATA: u64 = 4;
 
+/// A chunk whose bytes are spread over devices.
+pub const BLOCK_GROUP_RAID0: u64 = 0x8;
+
+/// A chunk that stands on two devices.
+pub const BLOCK_GROUP_RAID1: u64 = 0x10;
+
+/// A chunk that stands twice on one device.
+pub const BLOCK_GROUP_DUP: u64 = 0x20;
+
+/// A chunk whose bytes are spread over pairs of devices.
+pub const BLOCK_GROUP_RAID10: u64 = 0x40;
+
+/// A chunk with one parity.
+pub const BLOCK_GROUP_RAID5: u64 = 0x80;
+
+/// A chunk with two parities.
+pub const BLOCK_GROUP_RAID6: u64 = 0x100;
+
+/// A chunk that stands on three devices.
+pub const BLOCK_GROUP_RAID1C3: u64 = 0x200;
+
+/// A chunk that stands on four devices.
+pub const BLOCK_GROUP_RAID1C4: u64 = 0x400;
+
 /// An extent of data.
 pub const EXTENT_FLAG_DATA: u64 = 1;
 
 /// An extent that is a node of a tree.
 pub const EXTENT_FLAG_TREE_BLOCK: u64 = 2;
+
+/// The flag of the extent of a node that what the node refers to names the node as its parent.
+pub const BLOCK_FLAG_FULL_BACKREF: u64 = 0x100;
 
 /// The flag of nodes and of the superblock that they were written.
 pub const HEADER_FLAG_WRITTEN: u64 = 1;

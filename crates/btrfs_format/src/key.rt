@@ -57,6 +57,15 @@ pub const SHARED_DATA_REF: u8 = 184;
 /// A block group: (logical address, kind, length).
 pub const BLOCK_GROUP_ITEM: u8 = 192;
 
+/// What is told of the free space of a block group: (logical address, kind, length).
+pub const FREE_SPACE_INFO: u8 = 198;
+
+/// A free range: (logical address, kind, length).
+pub const FREE_SPACE_EXTENT: u8 = 199;
+
+/// A range with a bit for each of its blocks: (logical address, kind, length).
+pub const FREE_SPACE_BITMAP: u8 = 200;
+
 /// A part of a device that is in use: (device, kind, physical address).
 pub const DEV_EXTENT: u8 = 204;
 

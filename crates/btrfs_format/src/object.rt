@@ -22,6 +22,15 @@ pub const ROOT_TREE_DIR_OBJECTID: u64 = 6;
 /// The checksum tree, which has the checksums of data.
 pub const CSUM_TREE: u64 = 7;
 
+/// The quota tree, which has how much subvolumes take.
+pub const QUOTA_TREE: u64 = 8;
+
+/// The UUID tree, which has the numbers of subvolumes by their ids.
+pub const UUID_TREE: u64 = 9;
+
+/// The free space tree, which has what of block groups is free.
+pub const FREE_SPACE_TREE: u64 = 10;
+
 /// Trees that are relocated: −8.
 pub const TREE_RELOC: u64 = u64::MAX - 7;
 

@@ -1,5 +1,5 @@
 -- What a crash leaves in each phase of a conversion.
-use Rattle.std.proofs.Common.{◌≡◌, ◌≢◌, ◌∙◌, ◌⊎◌, inl, inr, ⊎_elim, ℕ, ◌≤◌, ◌<◌, List, length, refl, sym, ap, subst, arith}
+use Rattle.std.proofs.Common.{◌≡◌, ◌≢◌, ◌∙◌, ◌⊎◌, inl, inr, ⊎_elim, ℕ, ◌≤◌, ◌<◌, ◌+◌, List, length, refl, sym, ap, subst, arith}
 use Rattle.reiser_volume.specs.vol_block.declared.format.Format.TheVariants.{Btrfs}
 use Rattle.reiser_volume.specs.vol_block.declared.ids.Ids.{Ids}
 use Rattle.reiser_volume.specs.outside.Format.{format_in}
@@ -18,6 +18,8 @@ use Rattle.convert_core.specs.declared.volume.Written.{Written}
 use Rattle.convert_core.proofs.Putting.{convertible, free_before, node_free, piece_some, used_not_free}
 use Rattle.convert_core.proofs.Reserved.{free_apart, piece_apart, switch_reserved}
 use Rattle.convert_core.proofs.Standing.{InNodes, InPieces, stands_stay}
+use Rattle.first_sync.specs.Synced.{GoesOn}
+use Rattle.first_sync.proofs.Synced.{goes_on}
 
 -- while free blocks alone are written, a crash leaves the old volume
 pub free_crash : (h₀ h₁ : History) → IsSettled h₀ → WritesOnly (λ b _. IsFree (reads h₀) b) h₀ h₁ → (other : Image) → LeftSince (clock h₀) h₁ other → KeepsOldVolume (reads h₀) other
@@ -62,21 +64,21 @@ module _ (o : Options) (ids : Ids) (now : ℕ) (image put : Image) (w : Written)
         (node_free down.m.volume image down.m.options down.m.plan down.m.pieces of (subst (λ (p : Options). IsNodeSize p.nodesize) (sym down.conversion.options_are) size) b at)
 
     -- the superblock over all that was put down is the new volume
-    pub switched_new : (other : Image) → IsSwitched w.superblock.bytes put other → KeepsBehind image other → IsNew o ids now image other down.m down.r down.nodes
+    pub switched_new : (other : Image) → IsSwitched w.superblock.bytes w.blocks put other → KeepsBehind image other → IsNew o ids now image other down.m down.r down.nodes
     switched_new other is behind = record {
       conversion = down.conversion;
       stands =
           stands_stay image put other down.m down.r down.nodes (piece_some down.m.volume image down.m.options down.m.plan down.m.pieces of) is.size
-          (λ b at. is.others b (λ here. piece_elsewhere b at (inl here)) (λ mirror. piece_elsewhere b at (inr mirror)))
-          (λ b at. is.others b (λ here. node_elsewhere b at (inl here)) (λ mirror. node_elsewhere b at (inr mirror)))
+          (λ b at. is.others b (λ here. piece_elsewhere b at (inl here)) (λ mirror. piece_elsewhere b at (inr mirror.0)))
+          (λ b at. is.others b (λ here. node_elsewhere b at (inl here)) (λ mirror. node_elsewhere b at (inr mirror.0)))
           down.stands;
       superblock = is.superblock_is ∙ down.superblock;
-      others = λ b other_block no_mirror outside. is.others b other_block no_mirror ∙ down.others b outside;
+      others = λ b other_block no_mirror outside. is.others b other_block (λ mirror. no_mirror (mirror.0, subst (λ (n : ℕ). b + 1 < n) down.blocks mirror.1)) ∙ down.others b outside;
       behind = λ b low. behind b (subst (λ (s : Super). s.blocks ≤ b) of.opened.sup low);
     }
 
     -- with its copies the volume is converted
-    pub converted : (other : Image) → IsSwitched w.superblock.bytes put other → KeepsBehind image other → HasCopies w.superblock.bytes w.blocks other → IsConverted o ids now image other
+    pub converted : (other : Image) → IsSwitched w.superblock.bytes w.blocks put other → KeepsBehind image other → HasCopies w.superblock.bytes w.blocks other → IsConverted o ids now image other
     converted other is behind copies = record {
       m = down.m;
       r = down.r;
@@ -94,6 +96,9 @@ MayWrite o h₀ h₁ = (h₁ ≡ h₀) ⊎ (IsConvertible o (reads h₀) × Writ
 may_only : (o : Options) (h₀ h₁ : History) → MayWrite o h₀ h₁ → WritesOnly (λ b _. IsFree (reads h₀) b) h₀ h₁
 may_only o h₀ h₁ may =
     ⊎_elim (λ same. subst (λ (h : History). WritesOnly (λ b _. IsFree (reads h₀) b) h₀ h) (sym same) (writes_none (λ b _. IsFree (reads h₀) b) h₀)) (λ both. both.1) may
+
+pub may_go_on : (o : Options) (h₀ h₁ : History) → MayWrite o h₀ h₁ → GoesOn h₀ h₁
+may_go_on o h₀ h₁ may = goes_on (λ b _. IsFree (reads h₀) b) h₀ h₁ (may_only o h₀ h₁ may)
 
 -- so at any answer only free blocks differ
 pub may_keep : (o : Options) (h₀ h₁ : History) → MayWrite o h₀ h₁ → DiffersInFree (reads h₀) (reads h₁)
@@ -120,7 +125,7 @@ module _ (o : Options) (ids : Ids) (now : ℕ) (h₀ h₁ : History) (settled : 
   -- and while the superblock and its copies are written
   pub switch_crash : (h₂ : History) (w : Written) → IsNodeSize o.nodesize → IsPutDown o ids now (reads h₀) (reads h₁) w → IsSettled h₁ → 16 < w.blocks
       → WritesOnly (IsSwitchPart w.superblock.bytes w.blocks) h₁ h₂
-      → ((other : Image) → LeftSince (clock h₁) h₂ other → (other ≡ reads h₁) ⊎ IsSwitched w.superblock.bytes (reads h₁) other)
+      → ((other : Image) → LeftSince (clock h₁) h₂ other → (other ≡ reads h₁) ⊎ IsSwitched w.superblock.bytes w.blocks (reads h₁) other)
       → (other : Image) → LeftSince (clock h₀) h₂ other → IsEither o ids now (reads h₀) other
   switch_crash h₂ w size down put some only each other left =
       let P : ℕ → List ℕ → Type 0 = IsSwitchPart w.superblock.bytes w.blocks in

@@ -22,6 +22,8 @@ refuses o image answer.ImageMissing reiser is = is
 refuses o image (answer.ImageMoved block) reiser is = is
 refuses o image (answer.ImageDamaged r) reiser is = is
 refuses o image (answer.ReservedUsed block) reiser is = is
+refuses o image (answer.NotSound part address) reiser is = is
+refuses o image (answer.ImageShared tree) reiser is = is
 refuses o image answer.Fault reiser is = tt
 refuses o image answer.Memory reiser is = tt
 
@@ -34,6 +36,8 @@ answers answer.ImageMissing is = is
 answers (answer.ImageMoved block) is = is
 answers (answer.ImageDamaged r) is = is
 answers (answer.ReservedUsed block) is = is
+answers (answer.NotSound part address) is = is
+answers (answer.ImageShared tree) is = is
 answers answer.Fault is = tt
 answers answer.Memory is = tt
 

@@ -150,7 +150,7 @@ module _ (image : Image) (o : Options) (ids : Ids) (p : Prepared) (is : IsPrepar
 
     -- its superblock, by the bytes that all extents have
     abbrev bytes_by : VolumeTrees → Ids → List ℕ → ℕ → List ℕ
-    bytes_by r new label used = super_bytes (new_super new p.volume.sup.blocks o.nodesize label chunks (record { chunk = r.chunk; root = r.root; used = used }))
+    bytes_by r new label used = super_bytes (new_super new p.volume.sup.blocks o.nodesize o.sums label chunks (record { chunk = r.chunk; root = r.root; used = used }))
 
     module _ (size : IsNodeSize o.nodesize) (h₀ h₁ h₂ h₃ : History) (told : reads h₀ ≡ image) (first : WritesOnly (λ b _. IsMovedPlace p.pieces.items.items b) h₀ h₁)
         (then : WritesOnly (λ b _. InSystem o.nodesize p.plan b ⊎ InMetadata o.nodesize p.plan b) h₁ h₂) (last : reads h₃ ≡ reads h₂) where

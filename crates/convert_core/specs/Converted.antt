@@ -11,7 +11,7 @@ use Rattle.convert_steps.specs.Standing.{HasTrees, used_bytes}
 use Rattle.convert_steps.specs.declared.trees.VolumeTrees.{VolumeTrees}
 use Rattle.convert_steps.specs.Moved.{HoldMoved}
 use Rattle.convert_steps.specs.Superblock.{new_super}
-use Rattle.convert_steps.specs.Switch.{HasCopies, IsMirror}
+use Rattle.convert_steps.specs.Switch.{HasCopies, IsMirrorOf}
 use Rattle.extent_pieces.specs.Found.{IsFound}
 use Rattle.extent_pieces.specs.Laws.{AreSortedKeys}
 use Rattle.extent_pieces.specs.declared.pieces.Pieces.{Pieces}
@@ -75,7 +75,7 @@ IsTaken plan b = is_chosen plan.system plan.metadata plan.data_ (b / 256) ≡ tr
 abbrev pub superblock_of : Making → VolumeTrees → List TreeNode → List ℕ
 superblock_of m r nodes =
     super_bytes
-    (new_super (new_ids m) m.volume.sup.blocks m.options.nodesize (label_field (label_by m.volume.sup m.options.label)) m.chunks
+    (new_super (new_ids m) m.volume.sup.blocks m.options.nodesize m.options.sums (label_field (label_by m.volume.sup m.options.label)) m.chunks
     (record { chunk = r.chunk; root = r.root; used = used_bytes m nodes }))
 
 -- Its trees stand, and each piece of data holds what it is to hold: blocks of the old volume, or bytes of direct items.
@@ -101,7 +101,7 @@ pub record IsNew (o : Options) (ids : Ids) (now : ℕ) (image other : Image) (m 
   pub conversion : IsConversion o ids now image m
   pub stands : StandsConverted image other m r nodes
   pub superblock : block_at other SUPER_BLOCK ≡ superblock_of m r nodes
-  pub others : (b : ℕ) → b ≢ 16 → ¬ IsMirror b → ¬ IsTaken m.plan b → block_at other b ≡ block_at image b
+  pub others : (b : ℕ) → b ≢ 16 → ¬ IsMirrorOf m.volume.sup.blocks b → ¬ IsTaken m.plan b → block_at other b ≡ block_at image b
   -- what lies behind the volume is as it was
   pub behind : (b : ℕ) → m.volume.sup.blocks ≤ b → block_at other b ≡ block_at image b
 

@@ -1,7 +1,7 @@
 //! The conversion of a ReiserFS volume to Btrfs.
 //!
-//! [`convert`] converts a volume in place. [`Survey::read`] says what a conversion would count and need, and [`Survey::of`]
-//! says it of a volume that is open already.
+//! [`convert`] syncs a disk and converts its volume in place. [`Survey::read`] says what a conversion would count and need,
+//! and [`Survey::of`] says it of a volume that is open already.
 #![tactic(auto)]
 
 mod answers;

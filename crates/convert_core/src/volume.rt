@@ -170,7 +170,7 @@ fn superblock_of(
     requires plan { HasPlanFor prepared.now }
     requires whole { (device : ℕ) × IsWhole prepared.now device }
     ensures bytes { (chunks : List PlannedChunkOf) → AreChunks prepared.now.plan prepared.now.volume.sup.blocks chunks → IfOk result (λ block. block.bytes
-        ≡ super_bytes (new_super prepared.now.ids prepared.now.volume.sup.blocks options.now.nodesize prepared.now.label chunks (record { chunk = trees.now.chunk; root = trees.now.root; used = trees.now.used }))) }
+        ≡ super_bytes (new_super prepared.now.ids prepared.now.volume.sup.blocks options.now.nodesize options.now.sums prepared.now.label chunks (record { chunk = trees.now.chunk; root = trees.now.root; used = trees.now.used }))) }
     ensures answers { IfErr result (λ e. e ≡ Answer.Memory) }
 {
     know_ids(prepared.ids);
@@ -185,7 +185,7 @@ fn superblock_of(
         prepared.volume.sup().blocks,
         &prepared.ids,
         prepared.label,
-        options.nodesize,
+        options,
         &roots,
     )?)
 }

@@ -1,6 +1,6 @@
 -- What the ReiserFS volume has for a file or a symlink, by where its blocks lie.
-use Rattle.std.proofs.Common.{◌≡◌, ◌≤◌, ◌<◌, ℕ, ◌+◌, ◌-◌, ◌*◌, ◌/◌, ◌%◌, ◌^◌, ◌&&◌, nat_le, Bool, true, false, List, ◌++◌, length, get_or, take, All, Option, Some, None, refl, sym, ap, subst, ◌∙◌, ⊎_elim, true≢false, arith}
-use Rattle.std.proofs.lemmas.Bool.{and_parts, cases_lt, false≢true, leb-true}
+use Rattle.std.proofs.Common.{◌≡◌, ◌≤◌, ◌<◌, ℕ, ◌+◌, ◌-◌, ◌*◌, ◌/◌, ◌%◌, ◌^◌, ◌&&◌, nat_le, Bool, true, false, List, ◌++◌, length, get_or, take, All, Option, Some, None, if◌then◌else◌, refl, sym, ap, subst, ◌∙◌, ⊎_elim, true≢false, arith}
+use Rattle.std.proofs.lemmas.Bool.{and_parts, cases_lt, false≢true, le-ltb, leb-true}
 use Rattle.std.proofs.lemmas.List.{get_or_append_left, get_or-append_right, get_or_past, get_or-replicate, get_or-take, length-take}
 use Rattle.std.proofs.lemmas.List.Elements.{All-contains}
 use Rattle.reiser_volume.specs.outside.History.{Image}
@@ -18,9 +18,9 @@ use Rattle.reiser_volume.specs.reiser_walk.Tree.{items_of_tree}
 use Rattle.reiser_volume.proofs.reiser_walk.Rules.{sound_exactly}
 use Rattle.reiser_volume.specs.reiser_volume_files.declared.map.RunFrom.{RunFrom}
 use Rattle.reiser_volume.specs.reiser_volume_files.declared.map.RunFrom.TheVariants.{Disk, Tail}
-use Rattle.reiser_volume.specs.reiser_volume_files.Bytes.{IsAligned, content, file_block, file_byte, file_bytes, tail_block, target_bytes}
+use Rattle.reiser_volume.specs.reiser_volume_files.Bytes.{IsAligned, content, file_block, file_byte, file_bytes, named_block, tail_block, target_bytes}
 use Rattle.reiser_volume.specs.reiser_volume_files.Laws.{IsNoIndirect, held_from, up_to_size}
-use Rattle.reiser_volume.specs.reiser_volume_files.Runs.{block_from}
+use Rattle.reiser_volume.specs.reiser_volume_files.Runs.{block_from, disk_or_hole, is_held}
 use Rattle.reiser_volume.proofs.reiser_volume_files.Sorts.{blocks_held, target_is}
 use Rattle.reiser_volume.proofs.reiser_volume_contents.Files.{aligned_by}
 use Rattle.reiser_volume.specs.reiser_volume_objects.declared.key.ObjectKey.{ObjectKey}
@@ -95,6 +95,13 @@ module _ (image : Image) (a : IsAccepted image) (key : ObjectKey) (named : IsNam
   tail_lies (Some (Disk b)) is = absurd (cc)
   tail_lies (Some Tail) is = refl
 
+  -- so it has a byte
+  tail_some : is_tail (block_from items size 0) ≡ true → 1 ≤ size
+  tail_some is =
+      ⊎_elim (λ (some : 0 < size). omega (arith, some))
+      (λ (none : size ≤ 0). absurd (false≢true (sym (ap (λ (b : Bool). is_tail (if b then (if is_held items size 0 then Some Tail else disk_or_hole (named_block items 0)) else None)) (le-ltb (4096 * 0) size (omega (arith, none)))) ∙ is)))
+      (cases_lt 0 size)
+
   -- a symlink has no items of pointers
   no_pointers : object.kind ≡ Symlink → All IsNoIndirect items
   no_pointers link = all_of IsNoIndirect items (λ i among.
@@ -103,6 +110,12 @@ module _ (image : Image) (a : IsAccepted image) (key : ObjectKey) (named : IsNam
 
   link_short : object.kind ≡ Symlink → size ≤ 3900
   link_short link = let low = a.names.keeps.targets key object.stat named object.has_stat (object.known ∙ ap (λ (k : Kind). let o : Option Kind = Some k in o) link) in let same = size_is in omega (arith, low, same)
+
+  link_some : object.kind ≡ Symlink → 1 ≤ size
+  link_some link =
+      let some : 1 ≤ object.stat.fields.size = leb-true 1 object.stat.fields.size (sym (ap (λ (k : Kind). fits_size k object.stat.fields.size) link) ∙ object.size) in
+      let same = size_is in
+      omega (arith, some, same)
 
   -- a file has at most 2^44 bytes
   file_short : (kind : Kind) → kind ≡ File → fits_size kind object.stat.fields.size ≡ true → object.stat.fields.size ≤ 2 ^ 44
@@ -130,7 +143,8 @@ module _ (image : Image) (a : IsAccepted image) (key : ObjectKey) (named : IsNam
 
   -- What stays in the tree has all bytes of the file, and these are few.
   pub record StaysInTree : Type 0 where
-    pub short : size ≤ 4096
+    pub short : size ≤ 3900
+    pub some : 1 ≤ size
     pub bytes : target_bytes items size ≡ file_bytes image items size
 
   pub stays : (inline : Bool) → stays_in_tree inline items size (kind_by (stat_at (volume_items image) key)) ≡ true → StaysInTree
@@ -141,11 +155,11 @@ module _ (image : Image) (a : IsAccepted image) (key : ObjectKey) (named : IsNam
           let parts = and_parts inline (nat_le size 2048 && is_tail (block_from items size 0)) h in
           let more = and_parts (nat_le size 2048) (is_tail (block_from items size 0)) parts.1 in
           let short = leb-true size 2048 more.0 in
-          record { short = omega (arith, short); bytes = tail_bytes short (tail_lies (block_from items size 0) more.1) }
+          record { short = omega (arith, short); some = tail_some more.1; bytes = tail_bytes short (tail_lies (block_from items size 0) more.1) }
       by Symlink same h =
           let link : object.kind ≡ Symlink = sym kind_is ∙ same in
           let short = link_short link in
-          record { short = omega (arith, short); bytes = target_is image items size (omega (arith, short)) (no_pointers link) }
+          record { short = short; some = link_some link; bytes = target_is image items size (omega (arith, short)) (no_pointers link) }
       by Directory same h = absurd (cc)
       by Character same h = absurd (cc)
       by Block same h = absurd (cc)

@@ -1,5 +1,5 @@
 -- The chunks of a conversion map each address of a piece to its place.
-use Rattle.std.proofs.Common.{◌≡◌, ◌≤◌, ◌<◌, ℕ, ◌+◌, ◌-◌, ◌*◌, ◌/◌, ◌&&◌, not, nat_le, nat_lt, inl, inr, Bool, true, false, List, [], ◌∷◌, length, Option, Some, None, if◌then◌else◌, refl, sym, ap, subst, ◌∙◌, ⊎_elim, arith}
+use Rattle.std.proofs.Common.{◌≡◌, ◌≤◌, ◌<◌, ℕ, ◌+◌, ◌-◌, ◌*◌, ◌/◌, ◌&&◌, ◌||◌, not, nat_le, nat_lt, inl, inr, Bool, true, false, List, [], ◌∷◌, length, Option, Some, None, if◌then◌else◌, refl, sym, ap, subst, ◌∙◌, ⊎_elim, arith}
 use Rattle.std.specs.Prelude.{Contains}
 use Rattle.std.specs.List.{range_with_len}
 use Rattle.std.proofs.lemmas.Bool.{and_from, cases_lt, not_from_false, or_left, or_right}
@@ -22,7 +22,7 @@ use Rattle.reiser_volume.specs.Volume.{used_of}
 use Rattle.reiser_volume.specs.declared.volume.Volume.{Volume}
 use Rattle.reiser_volume.proofs.Holding.{used_length}
 use Rattle.convert_core.specs.unit_plan.Choice.{holds_data, is_among, is_data}
-use Rattle.convert_core.specs.unit_plan.Chunks.{AreChunks, HoldsUnit, IsChunk, is_data_unit, role_of, usable_end, use_of}
+use Rattle.convert_core.specs.unit_plan.Chunks.{AreChunks, HoldsUnit, IsChunk, is_data_unit, is_filler, role_of, usable_end, use_of}
 use Rattle.convert_core.specs.unit_plan.Needed.{need}
 use Rattle.convert_core.specs.unit_plan.declared.chunk.PlannedChunk.{PlannedChunk}
 use Rattle.convert_core.specs.unit_plan.declared.chunk.Role.{Role}
@@ -58,10 +58,10 @@ own_address (x ∷ ranges) r a same h is =
 some_use : (used : List Bool) (plan : Plan) (u : ℕ) → is_data_unit used plan u ≡ true → (r : Role) × (use_of used plan u ≡ Some r)
 some_use used plan u is = by (is_among plan.system u) (is_among plan.metadata u)
   where
-    by : (s m : Bool) → (r : Role) × ((if s then Some System else if m then Some Metadata else if is_data_unit used plan u then Some Data else None) ≡ Some r)
+    by : (s m : Bool) → (r : Role) × ((if s then Some System else if m then Some Metadata else if is_data_unit used plan u || is_filler used plan u then Some Data else None) ≡ Some r)
     by true m = (System, refl)
     by false true = (Metadata, refl)
-    by false false = (Data, ap (λ (b : Bool). if b then Some Data else None) is)
+    by false false = (Data, ap (λ (b : Bool). if b || is_filler used plan u then Some Data else None) is)
 
 -- a used block that is not reserved makes its unit one of data
 holds_it : (used : List Bool) (b : ℕ) → is_data used b ≡ true → holds_data used (b / 256) ≡ true

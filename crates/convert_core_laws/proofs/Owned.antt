@@ -46,7 +46,7 @@ own_object : (n : ℕ) → ((n == n) && (EXTENT_DATA == EXTENT_DATA)) ≡ true
 own_object n = grind (arith, nat_tests)
 
 -- an item is of an object
-abbrev IsOf : ℕ → Item → Type 0
+abbrev pub IsOf : ℕ → Item → Type 0
 IsOf n i = i.0.objectid ≡ n
 
 module _ (s : Source) (key : ObjectKey) where
@@ -104,7 +104,7 @@ module _ (s : Source) (key : ObjectKey) where
   content_of_object Socket = tt
   content_of_object Subvolume = tt
 
-  of_object : AllByRecursion (IsOf n) (object_items s key)
+  pub of_object : AllByRecursion (IsOf n) (object_items s key)
   unfolding object_items
   of_object = (refl, all_append (IsOf n) (name_items s key) (content_items s key (kind_in s key)) names_of_object (content_of_object (kind_in s key)))
 

@@ -42,6 +42,19 @@ fn answers_have_lines_and_statuses(rt: HostRuntime) -> Result<(), Fail> {
             "refused 20 reserved 5\n",
         ),
         (
+            Answer::NotSound {
+                part: 5,
+                address: 1228800,
+            },
+            1,
+            "refused 21 unsound 5 1228800\n",
+        ),
+        (
+            Answer::ImageShared { tree: 257 },
+            1,
+            "refused 22 shared 257\n",
+        ),
+        (
             Answer::Btr(BtrRefusal::BadBtrfs {
                 address: SUPER_INFO_OFFSET,
                 rule: BtrRule::SuperCsum,

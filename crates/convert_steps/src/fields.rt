@@ -7,17 +7,18 @@ ghost use Rattle.space_items.specs.Chunks.{chunk_item};
 ghost use Rattle.unit_plan.specs.Chunks.{AreChunks, FitsVolume};
 ghost use Rattle.unit_plan.specs.declared.chunk.PlannedChunk.{PlannedChunk as PlannedChunkOf};
 
-use btr_super::Super;
+use btr_super::{Super, csum_type};
 use btr_tree::{Key, Root};
 use btrfs_format::block::SUPER_INFO_OFFSET;
 use btrfs_format::feature::{
-    BIG_METADATA, CSUM_TYPE_CRC32, EXTENDED_IREF, MIXED_BACKREF, NO_HOLES, SKINNY_METADATA,
+    BIG_METADATA, EXTENDED_IREF, MIXED_BACKREF, NO_HOLES, SKINNY_METADATA,
 };
 use btrfs_format::flag::HEADER_FLAG_WRITTEN;
 use btrfs_format::key::CHUNK_ITEM;
 use btrfs_format::object::{FIRST_CHUNK_TREE_OBJECTID, ROOT_TREE_DIR_OBJECTID};
 use btrfs_format::size::{KEY_SIZE, LABEL_SIZE, SYSTEM_CHUNK_ARRAY_SIZE, SYSTEM_CHUNK_SIZE};
 use command_answers::{Block, Ids, Memory};
+use convert_options::Options;
 use space_items::{chunk_body, device_body};
 use std::alloc::Global;
 use unit_plan::{Chunks, Plan, PlannedChunk, Role, chunks_of};
@@ -39,20 +40,20 @@ pub struct NewRoots {
     pub used: u64,
 }
 
-/// The superblock of a converted volume of so many blocks, with this field of its label.
+/// The superblock of a volume of so many blocks that is converted with these options, with this field of its label.
 pub fn superblock(
     alloc: Global,
     plan: &Plan,
     blocks: u64,
     ids: &Ids,
     label: [u8; LABEL_SIZE],
-    nodesize: u32,
+    options: &Options,
     roots: &NewRoots,
 ) -> Result<Block, Memory>
     requires small { blocks ≤ 2 ^ 29 }
     requires units { FitsVolume plan.now blocks }
     requires boot { (chunks : List PlannedChunkOf) → AreChunks plan.now blocks chunks → length (boot_bytes ids.now chunks) ≤ SYSTEM_CHUNK_ARRAY_SIZE }
-    ensures { (chunks : List PlannedChunkOf) → AreChunks plan.now blocks chunks → IfOk result (λ block. block.bytes ≡ super_bytes (new_super ids.now blocks nodesize label chunks roots.now)) }
+    ensures { (chunks : List PlannedChunkOf) → AreChunks plan.now blocks chunks → IfOk result (λ block. block.bytes ≡ super_bytes (new_super ids.now blocks options.now.nodesize options.now.sums label chunks roots.now)) }
 {
     let chunks = chunks_of(alloc, plan, blocks)?;
     let (array, size) = boot_array(ids, &chunks);
@@ -70,15 +71,15 @@ pub fn superblock(
         root_dir_objectid: ROOT_TREE_DIR_OBJECTID,
         num_devices: 1,
         sectorsize: 4096,
-        nodesize,
-        leafsize: nodesize,
+        nodesize: options.nodesize,
+        leafsize: options.nodesize,
         stripesize: 4096,
         sys_chunk_array_size: size as u32,
         chunk_root_generation: 1,
         compat: 0,
         compat_ro: 0,
-        incompat: features(nodesize),
-        csum_type: CSUM_TYPE_CRC32,
+        incompat: features(options.nodesize),
+        csum_type: csum_type(options.sums),
         root_level: roots.root.level,
         chunk_root_level: roots.chunk.level,
         log_root_level: 0,
@@ -86,6 +87,7 @@ pub fn superblock(
         label,
         cache_generation: 0,
         uuid_tree_generation: 0,
+        metadata_uuid: [0; 16],
         sys_chunk_array: array,
         backup_roots: [0; 672],
     };

@@ -30,7 +30,7 @@ use Rattle.convert_steps.specs.unit_plan.declared.counts.Counts.{Counts}
 use Rattle.convert_steps.specs.convert_options.declared.options.Options.{Options}
 use Rattle.convert_steps.proofs.unit_plan.Sound.{plans_sound}
 use Rattle.btr_reader.specs.csum_kinds.declared.kind.SumKind.{SumKind}
-use Rattle.btr_reader.specs.csum_kinds.declared.kind.SumKind.TheVariants.{Crc32c}
+use Rattle.btr_reader.specs.csum_kinds.declared.kind.SumKind.TheVariants.{Crc32c, Sha256}
 use Rattle.convert_trees_laws.specs.Bounds.{AreCounted, FileTreeIsCounted, PlansSuffice, bytes_in}
 use Rattle.convert_trees_laws.proofs.NodeCounts.{nodes_few}
 use Rattle.convert_trees_laws.proofs.Others.{few_chunks, pieces_few, trees_counted}
@@ -79,6 +79,7 @@ image_low c small = omega (arith, small.pieces)
 
 sums_low : (sums : SumKind) (c : Counts) → AreSmall c → checksum_tree_bytes sums c < 2 ^ 60
 sums_low Crc32c c small = omega (arith, small.pieces, small.piece_blocks)
+sums_low Sha256 c small = omega (arith, small.pieces, small.piece_blocks)
 
 bound_low : (c : Counts) → AreSmall c → chunk_bound c.runs c.blocks < 2 ^ 52
 bound_low c small = omega (arith, small.runs, small.blocks)

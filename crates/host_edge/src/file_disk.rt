@@ -5,8 +5,9 @@ ghost use Rattle.host_edge.specs.FileDisk.{Kept, opened_for, length_of, kept_ref
 
 use crate::opened::{FailedWrite, Opened};
 use crate::status_line::StatusLine;
+use crate::steps::Task;
 use crate::trouble::{Cause, DiskCall, Trouble};
-use crate::watch::{Task, Watch};
+use crate::watch::Watch;
 use crate::{FileIdentity, Signature, Use};
 use btrfs_format::block::SUPER_BLOCK;
 use outside::{Access, Block, BlockNo, BlockSource, Disk, Fault, Format, format_of};
@@ -239,7 +240,7 @@ impl<R: Files<File = File> + AllocGlobal + Clock + Clone + Drop> Disk for FileDi
         };
         match done {
             Ok(()) => {
-                self.watch.writes();
+                self.watch.writes(n, from);
                 self.watch.look(&self.files);
                 Ok(())
             }
@@ -256,7 +257,10 @@ impl<R: Files<File = File> + AllocGlobal + Clock + Clone + Drop> Disk for FileDi
             None => Err(Cause::Closed),
         };
         match done {
-            Ok(()) => Ok(()),
+            Ok(()) => {
+                self.watch.syncs();
+                Ok(())
+            }
             Err(cause) => Err(self.fail(DiskCall::Sync, cause)),
         }
     }

@@ -13,9 +13,11 @@
 #![tactic(auto)]
 
 mod btrfs;
+mod census;
 mod devices;
 mod file_disk;
 mod file_identity;
+mod generation;
 mod in_use;
 mod line_sink;
 mod loops;
@@ -25,6 +27,7 @@ mod pace;
 mod signatures;
 mod status_line;
 mod std_sink;
+mod steps;
 mod streams;
 mod trouble;
 mod volume_use;
@@ -34,6 +37,7 @@ pub use btrfs::is_of_a_volume;
 pub use devices::{DeviceNumber, is_held, is_read_only};
 pub use file_disk::FileDisk;
 pub use file_identity::FileIdentity;
+pub use generation::generation_at;
 pub use in_use::{Use, is_told};
 pub use line_sink::LineSink;
 pub use loops::is_behind_a_loop;
@@ -42,6 +46,6 @@ pub use outside::{Ids, Sink};
 pub use signatures::Signature;
 pub use status_line::StatusLine;
 pub use std_sink::StdSink;
+pub use steps::Task;
 pub use streams::hold_streams;
 pub use trouble::{Cause, DiskCall, Trouble};
-pub use watch::Task;

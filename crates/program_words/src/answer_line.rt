@@ -48,6 +48,20 @@ pub fn write_answer<E: Sink>(answer: &Answer, err: &mut E) -> Result<(), Fault>
             ],
             err,
         ),
+        Answer::NotSound { part, address } => write_pieces(
+            &[
+                Plain(b"refused 21 unsound "),
+                Decimal(u64::from(*part)),
+                Plain(b" "),
+                Decimal(*address),
+                Plain(b"\n"),
+            ],
+            err,
+        ),
+        Answer::ImageShared { tree } => write_pieces(
+            &[Plain(b"refused 22 shared "), Decimal(*tree), Plain(b"\n")],
+            err,
+        ),
         Answer::Fault => err.write(b"device fault\n"),
         Answer::Memory => err.write(b"out of memory\n"),
     }

@@ -14,7 +14,7 @@ use Rattle.volume_state.proofs.Images.{image_block}
 use Rattle.reiser_bitmap.proofs.SystemBlocks.{superblock_in}
 use Rattle.reiser_volume.proofs.Holding.{used_length}
 use Rattle.reiser_volume.specs.Volume.{superblock}
-use Rattle.volume_state.specs.Untouched.{IsUntouched, old_used}
+use Rattle.volume_state.specs.GoingBack.{CanGoBack, old_used}
 use Rattle.rollback_core.specs.Prepared.{IsWayBack}
 use Rattle.rollback_core.specs.RolledBack.{IsBack, IsRestored, IsRolledBack, StillStands, is_wiped, restored_blocks}
 use Rattle.rollback_core.specs.Writing.{AreWritesApart, AreWiped, IsSavedPlace, IsTurned, IsUnturned, IsWiped}
@@ -41,17 +41,17 @@ has_within (x ∷ set) zero h = omega arith
 has_within (x ∷ set) (suc b) h = omega (arith, has_within set b h)
 
 -- a used block of the old volume is one of its image
-pub used_below : (disk : Image) → IsUntouched disk → (b : ℕ) → has (old_used disk) b ≡ true → b < length (image_blocks disk)
-used_below disk untouched b marked =
+pub used_below : (disk : Image) → CanGoBack disk → (b : ℕ) → has (old_used disk) b ≡ true → b < length (image_blocks disk)
+used_below disk can b marked =
     let within = has_within (old_used disk) b marked in
     let long = used_length (image_blocks disk) in
-    let fits = untouched.accepted.clean.superblock.fits in
+    let fits = can.accepted.clean.superblock.fits in
     omega (arith, within, long, fits)
 
 -- and where it is not reserved it is that of the disk
-image_in_place : (disk : Image) → IsUntouched disk → (b : ℕ) → IsOld (old_used disk) b → block_at (image_blocks disk) b ≡ block_at disk b
-image_in_place disk untouched b old =
-    image_block disk b (used_below disk untouched b old.marked) ∙ ap (λ (o : Option ℕ). block_or_hole disk o) (untouched.in_place b old)
+image_in_place : (disk : Image) → CanGoBack disk → (b : ℕ) → IsOld (old_used disk) b → block_at (image_blocks disk) b ≡ block_at disk b
+image_in_place disk can b old =
+    image_block disk b (used_below disk can b old.marked) ∙ ap (λ (o : Option ℕ). block_or_hole disk o) (can.in_place b old)
 
 module _ (disk : Image) (way : WayBack) (p : IsWayBack disk way) where
   abbrev used : List Bool
@@ -130,7 +130,7 @@ module _ (disk : Image) (way : WayBack) (p : IsWayBack disk way) where
             let outside : ¬ IsSavedPlace way.reserved.items b = λ at. true≢false (sym ((place_restored b at).reserved) ∙ free) in
             let same : block_at other b ≡ block_at disk b =
             ⊎_elim (λ kept. kept) (λ wiping. absurd (true≢false (sym marked ∙ free_unused b (wiped_free b wiping.0).1))) (is.others b rest outside) in
-            same ∙ sym (image_in_place disk p.untouched b old)
+            same ∙ sym (image_in_place disk p.can b old)
 
     -- and the old volume is back
     pub back : IsBack disk other
@@ -146,11 +146,11 @@ module _ (disk : Image) (way : WayBack) (p : IsWayBack disk way) where
         superblock_used : has used 16 ≡ true
         superblock_used =
             let s = superblock (image_blocks disk) in
-            p.untouched.accepted.system 16 (superblock_in s.blocks s.journal_first s.journal_size)
+            p.can.accepted.system 16 (superblock_in s.blocks s.journal_first s.journal_size)
 
     pub rolled_back : AreWiped way other → IsRolledBack disk other
     rolled_back wiped = record {
-      untouched = p.untouched;
+      can = p.can;
       back = back;
       wiped = λ b mirror is_to. wiped b (to_wipe b mirror is_to);
     }

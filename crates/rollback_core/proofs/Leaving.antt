@@ -10,7 +10,7 @@ use Rattle.rollback_core.proofs.Back.{back, standing}
 -- either of the two states is one that may be left
 pub left_of : (disk : Image) (way : WayBack) → IsWayBack disk way → AreWritesApart way → (other : Image) → IsUnturned way disk other ⊎ IsTurned way disk other → IsLeftByRollback disk other
 left_of disk way p apart other is =
-    ⊎_elim (λ unturned. inr (p.untouched, inl (standing disk way p apart other unturned))) (λ turned. inr (p.untouched, inr (back disk way p other turned))) is
+    ⊎_elim (λ unturned. inr (p.can, inl (standing disk way p apart other unturned))) (λ turned. inr (p.can, inr (back disk way p other turned))) is
 
 -- what a crash leaves while the old volume is written, which began with the disk as it was
 pub writing_crash : (h₀ h₁ h₂ : History) (way : WayBack) → h₁ ≡ h₀ → IsWayBack (reads h₀) way → AreWritesApart way → IsSettled h₀

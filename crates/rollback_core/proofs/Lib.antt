@@ -14,6 +14,7 @@ pub mod Recovering
 pub mod RecoveryFormats
 pub mod RecoveryKeeping
 pub mod Refusing
+pub mod Rewriting
 pub mod RollbackFormats
 pub mod RollbackKeeping
 pub mod Standing

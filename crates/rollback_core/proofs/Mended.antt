@@ -1,5 +1,5 @@
 -- What is to stand in the blocks of copies, and how many of them are to change.
-use Rattle.std.proofs.Common.{◌≡◌, ◌≢◌, ◌∙◌, ℕ, Bool, true, false, cond, not, ◌&&◌, nat_lt, List, [], ◌∷◌, length, Some, None, codes, refl, sym, ap, true≢false}
+use Rattle.std.proofs.Common.{◌≡◌, ◌≢◌, ◌∙◌, ℕ, ◌+◌, Bool, true, false, cond, not, ◌&&◌, nat_lt, List, [], ◌∷◌, length, Some, None, codes, refl, sym, ap, true≢false}
 use Rattle.std.specs.Prelude.{◌+◌, bytes_eq, filter}
 use Rattle.std.proofs.lemmas.Slice.Eq.{bytes_eq-Decides}
 use Rattle.btrfs_format.specs.declared.block.TheConstants.{FIRST_MIRROR, SECOND_MIRROR, SUPER_BLOCK, SUPER_MAGIC_OFFSET}
@@ -35,7 +35,7 @@ taken_again false z bytes = refl
 -- ---- mending again
 -- the block is to become zeros
 abbrev is_stale : ℕ → List Bool → ℕ → List ℕ → Bool
-is_stale blocks used b bytes = nat_lt b blocks && (not (has used b) && has_bytes_at bytes SUPER_MAGIC_OFFSET (codes "_BHRfS_M"))
+is_stale blocks used b bytes = nat_lt (b + 1) blocks && (not (has used b) && has_bytes_at bytes SUPER_MAGIC_OFFSET (codes "_BHRfS_M"))
 
 wipe_again : (blocks : ℕ) (used : List Bool) (b : ℕ) (bytes : List ℕ) → wiped blocks used b (wiped blocks used b bytes) ≡ wiped blocks used b bytes
 unfolding wiped
@@ -43,7 +43,7 @@ wipe_again blocks used b bytes = chosen_again (is_stale blocks used b) zeros byt
 
 copy_again : (blocks : ℕ) (superblock : List ℕ) (b : ℕ) (bytes : List ℕ) → copied blocks superblock b (copied blocks superblock b bytes) ≡ copied blocks superblock b bytes
 unfolding copied
-copy_again blocks superblock b bytes = taken_again (nat_lt b blocks) (mirror_bytes b superblock) bytes
+copy_again blocks superblock b bytes = taken_again (nat_lt (b + 1) blocks) (mirror_bytes b superblock) bytes
 
 pub mend_again : (f : Format) (image : Image) (b : ℕ) (bytes : List ℕ) → mended_by f image b (mended_by f image b bytes) ≡ mended_by f image b bytes
 mend_again Reiser image b bytes = wipe_again (superblock image).blocks (used_of image) b bytes
@@ -65,16 +65,16 @@ used_chosen true false magic z bytes is = absurd cc
 
 pub used_stays : (blocks : ℕ) (used : List Bool) (b : ℕ) (bytes : List ℕ) → has used b ≡ true → wiped blocks used b bytes ≡ bytes
 unfolding wiped
-used_stays blocks used b bytes is = used_chosen (nat_lt b blocks) (has used b) (has_bytes_at bytes SUPER_MAGIC_OFFSET (codes "_BHRfS_M")) zeros bytes is
+used_stays blocks used b bytes is = used_chosen (nat_lt (b + 1) blocks) (has used b) (has_bytes_at bytes SUPER_MAGIC_OFFSET (codes "_BHRfS_M")) zeros bytes is
 
 -- so does one that the volume has not, and one without the magic
 beyond_chosen : (low had magic : Bool) (z bytes : List ℕ) → low ≡ false → cond (low && (not had && magic)) z bytes ≡ bytes
 beyond_chosen false had magic z bytes is = refl
 beyond_chosen true had magic z bytes is = absurd cc
 
-pub beyond_stays : (blocks : ℕ) (used : List Bool) (b : ℕ) (bytes : List ℕ) → nat_lt b blocks ≡ false → wiped blocks used b bytes ≡ bytes
+pub beyond_stays : (blocks : ℕ) (used : List Bool) (b : ℕ) (bytes : List ℕ) → nat_lt (b + 1) blocks ≡ false → wiped blocks used b bytes ≡ bytes
 unfolding wiped
-beyond_stays blocks used b bytes is = beyond_chosen (nat_lt b blocks) (has used b) (has_bytes_at bytes SUPER_MAGIC_OFFSET (codes "_BHRfS_M")) zeros bytes is
+beyond_stays blocks used b bytes is = beyond_chosen (nat_lt (b + 1) blocks) (has used b) (has_bytes_at bytes SUPER_MAGIC_OFFSET (codes "_BHRfS_M")) zeros bytes is
 
 other_chosen : (low had magic : Bool) (z bytes : List ℕ) → magic ≡ false → cond (low && (not had && magic)) z bytes ≡ bytes
 other_chosen true true false z bytes is = refl
@@ -84,7 +84,7 @@ other_chosen true had true z bytes is = absurd cc
 
 pub other_stays : (blocks : ℕ) (used : List Bool) (b : ℕ) (bytes : List ℕ) → has_bytes_at bytes SUPER_MAGIC_OFFSET (codes "_BHRfS_M") ≡ false → wiped blocks used b bytes ≡ bytes
 unfolding wiped
-other_stays blocks used b bytes is = other_chosen (nat_lt b blocks) (has used b) (has_bytes_at bytes SUPER_MAGIC_OFFSET (codes "_BHRfS_M")) zeros bytes is
+other_stays blocks used b bytes is = other_chosen (nat_lt (b + 1) blocks) (has used b) (has_bytes_at bytes SUPER_MAGIC_OFFSET (codes "_BHRfS_M")) zeros bytes is
 
 -- and one that is to become zeros isn't zeros
 stale_chosen : (low had magic : Bool) (z bytes : List ℕ) → low ≡ true → had ≡ false → magic ≡ true → cond (low && (not had && magic)) z bytes ≡ z
@@ -93,9 +93,9 @@ stale_chosen false had magic z bytes below free is = absurd cc
 stale_chosen true true magic z bytes below free is = absurd cc
 stale_chosen true false false z bytes below free is = absurd cc
 
-pub stale_wiped : (blocks : ℕ) (used : List Bool) (b : ℕ) (bytes : List ℕ) → nat_lt b blocks ≡ true → has used b ≡ false → has_bytes_at bytes SUPER_MAGIC_OFFSET (codes "_BHRfS_M") ≡ true → wiped blocks used b bytes ≡ zeros
+pub stale_wiped : (blocks : ℕ) (used : List Bool) (b : ℕ) (bytes : List ℕ) → nat_lt (b + 1) blocks ≡ true → has used b ≡ false → has_bytes_at bytes SUPER_MAGIC_OFFSET (codes "_BHRfS_M") ≡ true → wiped blocks used b bytes ≡ zeros
 unfolding wiped
-stale_wiped blocks used b bytes low free is = stale_chosen (nat_lt b blocks) (has used b) (has_bytes_at bytes SUPER_MAGIC_OFFSET (codes "_BHRfS_M")) zeros bytes low free is
+stale_wiped blocks used b bytes low free is = stale_chosen (nat_lt (b + 1) blocks) (has used b) (has_bytes_at bytes SUPER_MAGIC_OFFSET (codes "_BHRfS_M")) zeros bytes low free is
 
 pub not_zeros : (bytes : List ℕ) → has_bytes_at bytes SUPER_MAGIC_OFFSET (codes "_BHRfS_M") ≡ true → zeros ≢ bytes
 not_zeros bytes is same = true≢false (sym is ∙ ap (λ (z : List ℕ). has_bytes_at z SUPER_MAGIC_OFFSET (codes "_BHRfS_M")) (sym same))
@@ -105,17 +105,17 @@ low_chosen : (t : Bool) (z bytes : List ℕ) → t ≡ true → cond t z bytes �
 low_chosen true z bytes is = refl
 low_chosen false z bytes is = absurd cc
 
-pub copy_wanted : (blocks : ℕ) (superblock : List ℕ) (b : ℕ) (bytes : List ℕ) → nat_lt b blocks ≡ true → copied blocks superblock b bytes ≡ mirror_bytes b superblock
+pub copy_wanted : (blocks : ℕ) (superblock : List ℕ) (b : ℕ) (bytes : List ℕ) → nat_lt (b + 1) blocks ≡ true → copied blocks superblock b bytes ≡ mirror_bytes b superblock
 unfolding copied
-copy_wanted blocks superblock b bytes low = low_chosen (nat_lt b blocks) (mirror_bytes b superblock) bytes low
+copy_wanted blocks superblock b bytes low = low_chosen (nat_lt (b + 1) blocks) (mirror_bytes b superblock) bytes low
 
 high_chosen : (t : Bool) (z bytes : List ℕ) → t ≡ false → cond t z bytes ≡ bytes
 high_chosen true z bytes is = absurd cc
 high_chosen false z bytes is = refl
 
-pub copy_beyond : (blocks : ℕ) (superblock : List ℕ) (b : ℕ) (bytes : List ℕ) → nat_lt b blocks ≡ false → copied blocks superblock b bytes ≡ bytes
+pub copy_beyond : (blocks : ℕ) (superblock : List ℕ) (b : ℕ) (bytes : List ℕ) → nat_lt (b + 1) blocks ≡ false → copied blocks superblock b bytes ≡ bytes
 unfolding copied
-copy_beyond blocks superblock b bytes high = high_chosen (nat_lt b blocks) (mirror_bytes b superblock) bytes high
+copy_beyond blocks superblock b bytes high = high_chosen (nat_lt (b + 1) blocks) (mirror_bytes b superblock) bytes high
 
 -- ---- what differs
 not_true : (t : Bool) → (t ≡ true → ⊥) → t ≡ false
@@ -148,9 +148,9 @@ clean_chosen true false bytes below free =
 clean_chosen true true bytes below free = absurd cc
 clean_chosen false had bytes below free = absurd cc
 
-pub wiped_clean : (blocks : ℕ) (used : List Bool) (b : ℕ) (bytes : List ℕ) → nat_lt b blocks ≡ true → has used b ≡ false → has_bytes_at (wiped blocks used b bytes) SUPER_MAGIC_OFFSET (codes "_BHRfS_M") ≡ false
+pub wiped_clean : (blocks : ℕ) (used : List Bool) (b : ℕ) (bytes : List ℕ) → nat_lt (b + 1) blocks ≡ true → has used b ≡ false → has_bytes_at (wiped blocks used b bytes) SUPER_MAGIC_OFFSET (codes "_BHRfS_M") ≡ false
 unfolding wiped
-wiped_clean blocks used b bytes low free = clean_chosen (nat_lt b blocks) (has used b) bytes low free
+wiped_clean blocks used b bytes low free = clean_chosen (nat_lt (b + 1) blocks) (has used b) bytes low free
 
 -- a block is written where something else is to stand than does
 pub gives_same : (bytes wanted : List ℕ) → wanted ≡ bytes → Gives bytes wanted None

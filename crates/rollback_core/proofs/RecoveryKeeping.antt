@@ -1,5 +1,5 @@
 -- What a recovery keeps.
-use Rattle.std.proofs.Common.{◌≡◌, ◌≢◌, ◌∙◌, ◌⊎◌, inl, inr, ⊎_elim, ℕ, zero, suc, Bool, not, ◌/◌, ◌<◌, ◌≤◌, true, false, true≢false, cond, nat_lt, nat_le, List, length, codes, refl, sym, ap, subst, arith}
+use Rattle.std.proofs.Common.{◌≡◌, ◌≢◌, ◌∙◌, ◌⊎◌, inl, inr, ⊎_elim, ℕ, zero, suc, Bool, not, ◌+◌, ◌/◌, ◌<◌, ◌≤◌, true, false, true≢false, cond, nat_lt, nat_le, List, length, codes, refl, sym, ap, subst, arith}
 use Rattle.std.specs.Prelude.{Contains, Ok, Err, Result, bytes_eq}
 use Rattle.std.proofs.lemmas.Bool.{cases_lt}
 use Rattle.std.proofs.lemmas.Bool.Decides.{nat_tests}
@@ -161,27 +161,27 @@ stays = record {
 }
 
 -- ---- what stands
-copied_there : (image : Image) (b : ℕ) → format_in image ≡ Btrfs → b < blocks_of (block_at image SUPER_BLOCK) → mended image b ≡ mirror_bytes b (block_at image SUPER_BLOCK)
+copied_there : (image : Image) (b : ℕ) → format_in image ≡ Btrfs → b + 1 < blocks_of (block_at image SUPER_BLOCK) → mended image b ≡ mirror_bytes b (block_at image SUPER_BLOCK)
 copied_there image b btrfs low =
-    let yes : nat_lt b (blocks_of (block_at image SUPER_BLOCK)) ≡ true = grind (arith, nat_tests, low) in
+    let yes : nat_lt (b + 1) (blocks_of (block_at image SUPER_BLOCK)) ≡ true = grind (arith, nat_tests, low) in
     ap (λ (f : Format). mended_by f image b (block_at image b)) btrfs ∙ copy_wanted (blocks_of (block_at image SUPER_BLOCK)) (block_at image SUPER_BLOCK) b (block_at image b) yes
 
-kept_beyond : (image : Image) (b : ℕ) → format_in image ≡ Btrfs → blocks_of (block_at image SUPER_BLOCK) ≤ b → mended image b ≡ block_at image b
+kept_beyond : (image : Image) (b : ℕ) → format_in image ≡ Btrfs → blocks_of (block_at image SUPER_BLOCK) ≤ b + 1 → mended image b ≡ block_at image b
 kept_beyond image b btrfs high =
-    let no : nat_lt b (blocks_of (block_at image SUPER_BLOCK)) ≡ false = grind (arith, nat_tests, high) in
+    let no : nat_lt (b + 1) (blocks_of (block_at image SUPER_BLOCK)) ≡ false = grind (arith, nat_tests, high) in
     ap (λ (f : Format). mended_by f image b (block_at image b)) btrfs ∙ copy_beyond (blocks_of (block_at image SUPER_BLOCK)) (block_at image SUPER_BLOCK) b (block_at image b) no
 
 pub mends : RecoveryMends
 mends = record {
   copies = λ image other is btrfs b mirror low. is.copies b mirror ∙ copied_there image b btrfs low;
   wiped = λ image other is reiser b mirror low free.
-      let yes : nat_lt b (superblock image).blocks ≡ true = grind (arith, nat_tests, low) in
+      let yes : nat_lt (b + 1) (superblock image).blocks ≡ true = grind (arith, nat_tests, low) in
       let here : block_at other b ≡ mended_by Reiser image b (block_at image b) = is.copies b mirror ∙ ap (λ (f : Format). mended_by f image b (block_at image b)) reiser in
       ap (λ (bytes : List ℕ). has_bytes_at bytes SUPER_MAGIC_OFFSET (codes "_BHRfS_M")) here ∙ wiped_clean (superblock image).blocks (used_of image) b (block_at image b) yes free;
   whole = λ image can btrfs copies. record {
     can = can;
     size = refl;
-    copies = λ b mirror. ⊎_elim (λ low. copies b mirror low ∙ sym (copied_there image b btrfs low)) (λ high. sym (kept_beyond image b btrfs high)) (cases_lt b (blocks_of (block_at image SUPER_BLOCK)));
+    copies = λ b mirror. ⊎_elim (λ low. copies b mirror low ∙ sym (copied_there image b btrfs low)) (λ high. sym (kept_beyond image b btrfs high)) (cases_lt (b + 1) (blocks_of (block_at image SUPER_BLOCK)));
     others = λ b outside. refl;
   };
 }
@@ -248,5 +248,7 @@ in_order_recovers image answer.ImageMissing can refused = absurd refused
 in_order_recovers image (answer.ImageMoved block) can refused = absurd refused
 in_order_recovers image (answer.ImageDamaged r) can refused = absurd refused
 in_order_recovers image (answer.ReservedUsed block) can refused = absurd refused
+in_order_recovers image (answer.NotSound part address) can refused = absurd refused
+in_order_recovers image (answer.ImageShared tree) can refused = absurd refused
 in_order_recovers image answer.Fault can refused = inl refl
 in_order_recovers image answer.Memory can refused = inr (refl, has_bitmap image (format_in image) can refused)

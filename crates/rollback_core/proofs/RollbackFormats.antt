@@ -13,7 +13,7 @@ use Rattle.btr_reader.specs.Opening.{opening_refusals, refusals_after, super_on}
 use Rattle.btr_reader.specs.Parts.{IsReadable, SavedImage, Superblock}
 use Rattle.btr_super.specs.declared.superblock.Super.{Super}
 use Rattle.rollback_core.proofs.RecoveryFormats.{has_format}
-use Rattle.volume_state.specs.Untouched.{IsReadWhole}
+use Rattle.volume_state.specs.GoingBack.{HasReadableWay}
 
 chosen_long : (short : Bool) (f : Format) → short ≡ false → cond short formats.Neither f ≡ f
 chosen_long false f long = refl
@@ -43,6 +43,6 @@ opening_refused disk r is = ap (λ (read : Result Super BtrRefusal). refusals_af
 super_readable : (disk : Image) → IsReadable disk SavedImage → IsReadable disk Superblock
 super_readable disk way r is = way r (inl (subst (λ (rs : List BtrRefusal). Contains rs r) (sym (opening_refused disk r is)) (0, omega arith, refl)))
 
--- a volume of which all is read is one of Btrfs
-pub format_read : (disk : Image) → IsReadWhole disk → format_in disk ≡ formats.Btrfs
-format_read disk whole = (has_format.btrfs disk (super_readable disk whole.way)).0
+-- a volume with a way to an image is one of Btrfs
+pub format_read : (disk : Image) → HasReadableWay disk → format_in disk ≡ formats.Btrfs
+format_read disk way = (has_format.btrfs disk (super_readable disk way.readable)).0

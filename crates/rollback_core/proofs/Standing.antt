@@ -1,5 +1,5 @@
 -- What is written, and what a crash leaves of it.
-use Rattle.std.proofs.Common.{◌≡◌, ◌∙◌, inl, inr, ⊎_elim, ℕ, true, ◌+◌, ◌<◌, List, length, Option, Some, None, Result, OnOk, refl, sym, ap, subst, arith}
+use Rattle.std.proofs.Common.{◌≡◌, ◌∙◌, ◌⊎◌, inl, inr, ⊎_elim, ℕ, true, ◌+◌, ◌<◌, List, length, Option, Some, None, Result, OnOk, refl, sym, ap, subst, arith}
 use Rattle.std.specs.Prelude.{IsSomeAnd, filter, is_some}
 use Rattle.btrfs_format.specs.declared.block.TheConstants.{FIRST_MIRROR, SECOND_MIRROR}
 use Rattle.reiser_bitmap.specs.outside.Format.{format_in}
@@ -10,7 +10,7 @@ use Rattle.convert_steps.specs.Switch.{IsMirror}
 use Rattle.reiser_bitmap.specs.vol_block.declared.block.Block.{Block}
 use Rattle.reiser_bitmap.specs.vol_block.declared.format.Format.{Format}
 use Rattle.rollback_core.specs.Mending.{given, is_torn, mended}
-use Rattle.rollback_core.specs.Planned.{IsGiven, IsGivenAt, IsPlanned, MendingStands, writes_of}
+use Rattle.rollback_core.specs.Planned.{IsGiven, IsGivenAt, IsGivenOrRewrite, IsPlanned, MendingStands, writes_of}
 use Rattle.rollback_core.specs.Recovered.{IsMend, IsPartly, IsRecovered, copy_blocks, recover_summary}
 use Rattle.rollback_core.specs.declared.mending.Mending.{Mending}
 use Rattle.rollback_core.specs.declared.recovery.RecoverSummary.{RecoverSummary}
@@ -37,7 +37,7 @@ module _ (image : Image) (m : Mending) (planned : IsPlanned image m) where
       is
 
   -- and it is written only where something else stands
-  given_mend : (b : ℕ) (bytes : List ℕ) → IsGiven m b bytes → IsMend image b bytes
+  pub given_mend : (b : ℕ) (bytes : List ℕ) → IsGiven m b bytes → IsMend image b bytes
   given_mend b bytes is = record {
     mirror = (given_mended b bytes is).0;
     torn = ⊎_elim
@@ -46,30 +46,33 @@ module _ (image : Image) (m : Mending) (planned : IsPlanned image m) where
     bytes_are = (given_mended b bytes is).1;
   }
 
-  pub mends_only : (h₀ h₁ : History) → WritesOnly (IsGiven m) h₀ h₁ → WritesOnly (IsMend image) h₀ h₁
-  mends_only = writes_weaker (IsGiven m) (IsMend image) given_mend
+  -- block 16 stays where it is written as it stands
+  kept_or_given : (other : Image) (b : ℕ) → (block_at other b ≡ block_at image b) ⊎ IsGivenOrRewrite image m b (block_at other b)
+      → (block_at other b ≡ block_at image b) ⊎ IsGiven m b (block_at other b)
+  kept_or_given other b is = ⊎_elim (λ same. inl same) (λ written. ⊎_elim (λ again. inl (again.1 ∙ ap (block_at image) (sym again.0))) (λ given. inr given) written) is
 
-  module _ (h₀ h₁ : History) (start : reads h₀ ≡ image) (only : WritesOnly (IsGiven m) h₀ h₁) where
+  module _ (h₀ h₁ : History) (start : reads h₀ ≡ image) (only : WritesOnly (IsGivenOrRewrite image m) h₀ h₁) where
     pub crash_partly : IsSettled h₀ → (other : Image) → LeftSince (clock h₀) h₁ other → IsPartly image other
     crash_partly settled other left =
-        let each = left_each (IsGiven m) h₀ h₁ settled only other left in
+        let each = left_each (IsGivenOrRewrite image m) h₀ h₁ settled only other left in
         record {
           size = each.0 ∙ ap (λ (i : Image). length i) start;
-          each = λ b. ⊎_elim (λ same. inl (same ∙ ap (λ (i : Image). block_at i b) start)) (λ is. inr (given_mended b (block_at other b) is)) (each.1 b);
+          each = λ b. ⊎_elim (λ same. inl same) (λ is. inr (given_mended b (block_at other b) is))
+              (kept_or_given other b (⊎_elim (λ same. inl (same ∙ ap (λ (i : Image). block_at i b) start)) (λ is. inr is) (each.1 b)));
         }
 
     pub recovers : MendingStands m (reads h₀) (reads h₁) → IsRecovered image (reads h₁)
     recovers stands = record {
       can = planned.can;
-      size = writes_length (IsGiven m) h₀ h₁ only ∙ ap (λ (i : Image). length i) start;
+      size = writes_length (IsGivenOrRewrite image m) h₀ h₁ only ∙ ap (λ (i : Image). length i) start;
       copies = λ b mirror. ⊎_elim
           (λ one. subst (λ (n : ℕ). block_at (reads h₁) n ≡ mended image n) (sym one)
           (stands.first ∙ (ap (λ (i : Image). given m.first (block_at i FIRST_MIRROR)) start ∙ planned.first.bytes_are)))
           (λ two. subst (λ (n : ℕ). block_at (reads h₁) n ≡ mended image n) (sym two)
           (stands.second ∙ (ap (λ (i : Image). given m.second (block_at i SECOND_MIRROR)) start ∙ planned.second.bytes_are)))
           mirror;
-      others = λ b outside. ⊎_elim (λ same. same ∙ ap (λ (i : Image). block_at i b) start) (λ is. absurd (outside (given_mended b (block_at (reads h₁) b) is).0))
-          (reads_only (IsGiven m) h₀ h₁ only b);
+      others = λ b outside. ⊎_elim (λ same. same) (λ is. absurd (outside (given_mended b (block_at (reads h₁) b) is).0))
+          (kept_or_given (reads h₁) b (⊎_elim (λ same. inl (same ∙ ap (λ (i : Image). block_at i b) start)) (λ is. inr is) (reads_only (IsGivenOrRewrite image m) h₀ h₁ only b)));
     }
 
   -- the blocks that are written are those that are to change

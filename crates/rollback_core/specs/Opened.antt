@@ -11,7 +11,7 @@ use Rattle.btr_reader.specs.Volume.{IsVolumeOn}
 use Rattle.btr_reader.specs.declared.image_map.ImageMap.{ImageMap}
 use Rattle.btr_reader.specs.declared.volume.Btrfs.{Btrfs as Opened}
 use Rattle.volume_state.specs.Saved.{blocks_by_map, image_blocks, saved_place}
-use Rattle.volume_state.specs.Untouched.{old_used}
+use Rattle.volume_state.specs.GoingBack.{old_used}
 use Rattle.reiser_volume.specs.declared.volume.Volume.{Volume}
 use Rattle.rollback_core.specs.RollbackAnswers.{HasImage, HasVolume}
 

@@ -5,7 +5,7 @@ use Rattle.reiser_bitmap.specs.outside.Format.{format_in}
 use Rattle.reiser_bitmap.specs.outside.History.{Image, block_at}
 use Rattle.reiser_bitmap.specs.vol_block.declared.block.Block.{Block}
 use Rattle.rollback_core.specs.Mending.{Gives, given, mended}
-use Rattle.rollback_core.specs.Recovered.{IsRecoverable}
+use Rattle.rollback_core.specs.Recovered.{IsRecoverable, IsRewrite}
 use Rattle.rollback_core.specs.declared.mending.Mending.{Mending}
 
 -- The volume is in order, and this is what is to be written.
@@ -26,6 +26,10 @@ IsGivenAt place found b bytes = (b ≡ place) × IsSomeAnd found (λ block. byte
 
 abbrev pub IsGiven : Mending → ℕ → List ℕ → Type 0
 IsGiven m b bytes = IsGivenAt FIRST_MIRROR m.first b bytes ⊎ IsGivenAt SECOND_MIRROR m.second b bytes
+
+-- so is block 16, as it stands
+abbrev pub IsGivenOrRewrite : Image → Mending → ℕ → List ℕ → Type 0
+IsGivenOrRewrite image m b bytes = IsRewrite image b bytes ⊎ IsGiven m b bytes
 
 -- it stands
 pub record MendingStands (m : Mending) (old new : Image) : Type 0 where

@@ -9,7 +9,7 @@ use Rattle.reiser_bitmap.specs.refusals.declared.answer.VolAnswer.{VolAnswer}
 use Rattle.reiser_bitmap.specs.refusals.declared.answer.VolAnswer.TheVariants as reiser
 use Rattle.reiser_bitmap.specs.vol_block.declared.format.Format.TheVariants.{Btrfs}
 use Rattle.volume_state.specs.Saved.{image_blocks}
-use Rattle.volume_state.specs.Untouched.{IsUntouched}
+use Rattle.volume_state.specs.GoingBack.{CanGoBack}
 use Rattle.rollback_core.specs.RolledBack.{is_wiped, restored_blocks, rollback_summary}
 use Rattle.rollback_core.specs.declared.way.Saved.{Saved}
 use Rattle.rollback_core.specs.declared.way.WayBack.{WayBack}
@@ -23,7 +23,7 @@ pub record AreSaved (image : Image) (numbers : List ℕ) (saved : List Saved) : 
 -- block of a copy that is to be wiped.
 pub record IsWayBack (disk : Image) (way : WayBack) : Type 0 where
   pub format : format_in disk ≡ Btrfs
-  pub untouched : IsUntouched disk
+  pub can : CanGoBack disk
   pub reserved : AreSaved (image_blocks disk) (filter (λ b. not (b == 16)) (restored_blocks disk)) way.reserved.items
   pub superblock : way.superblock.bytes ≡ block_at (image_blocks disk) SUPER_BLOCK
   pub first : way.first ≡ is_wiped disk FIRST_MIRROR

@@ -29,6 +29,8 @@ RefusesRecover image answer.ImageMissing = ⊥
 RefusesRecover image (answer.ImageMoved block) = ⊥
 RefusesRecover image (answer.ImageDamaged r) = ⊥
 RefusesRecover image (answer.ReservedUsed block) = ⊥
+RefusesRecover image (answer.NotSound part address) = ⊥
+RefusesRecover image (answer.ImageShared tree) = ⊥
 RefusesRecover image answer.Fault = Unit {0}
 RefusesRecover image answer.Memory = format_in image ≢ Btrfs
 
@@ -42,5 +44,7 @@ IsRecoverAnswer answer.ImageMissing = ⊥
 IsRecoverAnswer (answer.ImageMoved block) = ⊥
 IsRecoverAnswer (answer.ImageDamaged r) = ⊥
 IsRecoverAnswer (answer.ReservedUsed block) = ⊥
+IsRecoverAnswer (answer.NotSound part address) = ⊥
+IsRecoverAnswer (answer.ImageShared tree) = ⊥
 IsRecoverAnswer answer.Fault = Unit {0}
 IsRecoverAnswer answer.Memory = Unit {0}

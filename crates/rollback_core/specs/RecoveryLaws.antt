@@ -1,5 +1,5 @@
 -- What a recovery and its crashes keep.
-use Rattle.std.specs.Prelude.{◌≡◌, ◌≢◌, ◌⊎◌, ◌↔◌, ℕ, ◌<◌, false, List, length, codes, Contains}
+use Rattle.std.specs.Prelude.{◌≡◌, ◌≢◌, ◌⊎◌, ◌↔◌, ℕ, ◌+◌, ◌<◌, false, List, length, codes, Contains}
 use Rattle.btrfs_format.specs.declared.block.TheConstants.{SUPER_BLOCK, SUPER_MAGIC_OFFSET}
 use Rattle.reiser_bitmap.specs.outside.Format.{format_in}
 use Rattle.reiser_bitmap.specs.outside.History.{Image, block_at}
@@ -52,7 +52,7 @@ pub record RecoveryKeeps : Type 0 where
 pub record RecoveryMends : Type 0 where
   pub copies : (image other : Image) → IsRecovered image other → format_in image ≡ Btrfs → HasCopies (block_at image SUPER_BLOCK) (blocks_of (block_at image SUPER_BLOCK)) other
   pub wiped : (image other : Image) → IsRecovered image other → format_in image ≡ Reiser
-      → (b : ℕ) → IsMirror b → b < (superblock image).blocks → has (used_of image) b ≡ false → has_bytes_at (block_at other b) SUPER_MAGIC_OFFSET (codes "_BHRfS_M") ≡ false
+      → (b : ℕ) → IsMirror b → b + 1 < (superblock image).blocks → has (used_of image) b ≡ false → has_bytes_at (block_at other b) SUPER_MAGIC_OFFSET (codes "_BHRfS_M") ≡ false
   pub whole : (image : Image) → IsRecoverable image → format_in image ≡ Btrfs → HasCopies (block_at image SUPER_BLOCK) (blocks_of (block_at image SUPER_BLOCK)) image → IsRecovered image image
 
 -- The blocks that are counted, no two of which are one, are those that differ.

@@ -1,15 +1,15 @@
 -- The disk before, while and after a converted volume is rolled back.
-use Rattle.std.specs.Prelude.{◌≡◌, ◌⊎◌, ℕ, nat_lt, Bool, true, false, ◌&&◌, not, List, codes, filter, length}
+use Rattle.std.specs.Prelude.{◌≡◌, ◌⊎◌, ℕ, ◌+◌, nat_lt, Bool, true, false, ◌&&◌, not, List, codes, filter, length}
 use Rattle.btrfs_format.specs.declared.block.TheConstants.{SUPER_BLOCK, SUPER_MAGIC_OFFSET}
 use Rattle.reiser_bitmap.specs.outside.History.{Image, block_at}
 use Rattle.reiser_bitmap.specs.vol_block.Format.{has_bytes_at}
 use Rattle.reiser_bitmap.specs.vol_block.Volume.{is_reserved, zeros}
 use Rattle.convert_steps.specs.Switch.{IsMirror}
 use Rattle.volume_state.specs.Saved.{image_blocks}
-use Rattle.volume_state.specs.Untouched.{IsUntouched, old_used}
 use Rattle.reiser_volume.specs.reiser_volume_contents.Laws.{SameUsed}
 use Rattle.reiser_bitmap.specs.Bits.{has, used_blocks}
 use Rattle.rollback_core.specs.declared.way.RollbackSummary.{RollbackSummary}
+use Rattle.volume_state.specs.GoingBack.{CanGoBack, old_used}
 
 -- ---- which blocks change
 
@@ -20,7 +20,7 @@ pub record IsRestored (disk : Image) (b : ℕ) : Type 0 where
 
 -- A block of a copy of the superblock that the old volume has without use, and which holds the magic of a Btrfs superblock.
 abbrev pub is_wiped : Image → ℕ → Bool
-is_wiped disk b = nat_lt b (length (old_used disk)) && (not (has (old_used disk) b) && has_bytes_at (block_at disk b) SUPER_MAGIC_OFFSET (codes "_BHRfS_M"))
+is_wiped disk b = nat_lt (b + 1) (length (old_used disk)) && (not (has (old_used disk) b) && has_bytes_at (block_at disk b) SUPER_MAGIC_OFFSET (codes "_BHRfS_M"))
 
 -- ---- the Btrfs volume
 
@@ -41,7 +41,7 @@ pub record IsBack (disk other : Image) : Type 0 where
 
 -- And no copy is left in a block without use.
 pub record IsRolledBack (disk other : Image) : Type 0 where
-  pub untouched : IsUntouched disk
+  pub can : CanGoBack disk
   pub back : IsBack disk other
   pub wiped : (b : ℕ) → IsMirror b → is_wiped disk b ≡ true → block_at other b ≡ zeros
 
@@ -49,7 +49,7 @@ pub record IsRolledBack (disk other : Image) : Type 0 where
 
 -- the disk as it was; or, of a volume that can be rolled back, the Btrfs volume or the old one
 abbrev pub IsLeftByRollback : Image → Image → Type 0
-IsLeftByRollback disk other = (other ≡ disk) ⊎ (IsUntouched disk × (StillStands disk other ⊎ IsBack disk other))
+IsLeftByRollback disk other = (other ≡ disk) ⊎ (CanGoBack disk × (StillStands disk other ⊎ IsBack disk other))
 
 -- ---- what is told
 

@@ -125,15 +125,17 @@ fn copy_both<S: BlockSource>(src: &mut S, superblock: &Block, blocks: u64) -> Re
     })
 }
 
-/// The zeros that are to be written to a block, where the ReiserFS volume has it without use and it holds a Btrfs superblock.
+/// The zeros that are to be written to a block, where a copy has its place on the ReiserFS volume, which has it
+/// without use, and it holds a Btrfs superblock.
 fn wipe<S: BlockSource>(src: &mut S, front: &Front, place: BlockNo) -> Result<Option<Block>, Fault>
     requires device { front.now.sup.blocks ≤ S.size src.old }
+    requires small { place < 2 ^ 52 }
     ensures kept { S.kept src.old src.new }
     ensures gives { OverTold S.tells (S.blocks src.old) (λ image. IfOk result (Gives (block_at image place) (wiped front.now.sup.blocks front.now.bitmap place (block_at image place)))) }
     ensures room { IfOk result (λ found. is_some found ≡ true → place < S.size src.old) }
     ensures cause { HasCause (S.faults src.old) (S.faults src.new) result }
 {
-    if place >= front.sup.blocks || front.bitmap.is_used(place) {
+    if place + 1 >= front.sup.blocks || front.bitmap.is_used(place) {
         return Ok(None);
     }
     let mut block = Block::zero();
@@ -145,8 +147,8 @@ fn wipe<S: BlockSource>(src: &mut S, front: &Front, place: BlockNo) -> Result<Op
     }
 }
 
-/// The copy of a superblock that is to be written to its block, where a Btrfs volume of so many blocks has it and it holds anything
-/// else.
+/// The copy of a superblock that is to be written to its block, where it has its place on a Btrfs volume of so many blocks, which
+/// holds anything else there.
 fn copy<S: BlockSource>(
     src: &mut S,
     superblock: &Block,
@@ -160,7 +162,7 @@ fn copy<S: BlockSource>(
     ensures room { IfOk result (λ found. is_some found ≡ true → place < S.size src.old) }
     ensures cause { HasCause (S.faults src.old) (S.faults src.new) result }
 {
-    if place >= blocks {
+    if place + 1 >= blocks {
         return Ok(None);
     }
     let mut copy = Block::zero();

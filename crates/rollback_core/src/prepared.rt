@@ -3,9 +3,8 @@ ghost use Rattle.std.specs.Prelude.{◌≡◌, ◌⊎◌, ℕ, IfErr, IfOk};
 ghost use Rattle.std.specs.Result.{MatchResult};
 ghost use Rattle.reiser_bitmap.specs.outside.Fault.{HasCauseOf};
 ghost use Rattle.reiser_bitmap.specs.outside.History.{Image, OverTold};
-ghost use Rattle.btr_reader.specs.Parts.{HasBtrfsRows};
 ghost use Rattle.volume_state.specs.Saved.{image_blocks};
-ghost use Rattle.volume_state.specs.Untouched.{IsUntouched, old_used};
+ghost use Rattle.volume_state.specs.GoingBack.{CanGoBack, old_used};
 ghost use Rattle.reiser_volume.specs.Volume.{superblock};
 ghost use Rattle.rollback_core.specs.RollbackAnswers.{HasPlaces, HasVolume, IsRollbackAnswer, RefusesRollback};
 ghost use Rattle.rollback_core.specs.Opened.{IsBtrfsOn, IsMapOn, IsOldOf, IsOpenedOn, LiesWithin};
@@ -29,9 +28,10 @@ use volume_state::{ImageSource, image_moved, reserved_used};
 /// written.
 ///
 /// It is refused, in this order: where the disk has no volume, or a ReiserFS one; where something is wrong with the superblock; where
-/// there is a log tree; where something is wrong with the chunks, the root tree, the file tree or what lies on the way to the image; where
-/// the image is missing; where the volume in it is refused; where a block of that was moved; and where the Btrfs volume uses a reserved
-/// block.
+/// there is a log tree; where something is wrong with the chunks, the root tree or what lies on the way to the image; where the image is
+/// missing; where the volume in it is refused; where a block of that was moved; and where the Btrfs volume uses a reserved block. Of the
+/// file tree all nodes are looked at, and in them the names of the root directory and where extents lie. What else its bodies hold stands
+/// in no one's way.
 pub fn prepare<S: BlockSource>(alloc: Global, src: &mut S) -> Result<WayBack, Answer>
     ensures kept { S.kept src.old src.new }
     ensures prepared { OverTold S.tells (S.blocks src.old) (λ disk. MatchResult result (IsWayBack disk) (RefusesRollback disk)) }
@@ -42,7 +42,6 @@ pub fn prepare<S: BlockSource>(alloc: Global, src: &mut S) -> Result<WayBack, An
 {
     let block = find_superblock(src)?;
     let volume = open_volume(alloc, src, &block)?;
-    check_rows(alloc, src, &volume)?;
     let map = read_map(alloc, src, &volume)?;
     prepare_old(alloc, src, &volume, &map)
 }
@@ -99,22 +98,11 @@ fn open_volume<S: BlockSource>(alloc: Global, src: &mut S, block: &Block) -> Res
     Ok(Btrfs::open_by(alloc, src, block)?)
 }
 
-/// Whether the rows of the Btrfs volume, which a crash has to leave, can be read.
-fn check_rows<S: BlockSource>(alloc: Global, src: &mut S, volume: &Btrfs) -> Result<(), Answer>
-    ensures kept { S.kept src.old src.new }
-    ensures checked { OverTold S.tells (S.blocks src.old) (λ disk. IsOpenedOn disk volume.now → MatchResult result (λ _. HasBtrfsRows disk) (RefusesRollback disk)) }
-    ensures cause { HasCauseOf Answer.Fault (S.faults src.old) (S.faults src.new) result }
-    ensures answers { IfErr result IsRollbackAnswer }
-{
-    volume.check_rows(alloc, src)?;
-    Ok(())
-}
-
 /// The map of the saved image.
 fn read_map<S: BlockSource>(alloc: Global, src: &mut S, volume: &Btrfs) -> Result<ImageMap, Answer>
     ensures kept { S.kept src.old src.new }
     ensures device { IfOk result (λ map. map.device ≡ S.size src.old) }
-    ensures read { OverTold S.tells (S.blocks src.old) (λ disk. IsOpenedOn disk volume.now → HasBtrfsRows disk → MatchResult result (IsMapOn disk) (RefusesRollback disk)) }
+    ensures read { OverTold S.tells (S.blocks src.old) (λ disk. IsOpenedOn disk volume.now → MatchResult result (IsMapOn disk) (RefusesRollback disk)) }
     ensures cause { HasCauseOf Answer.Fault (S.faults src.old) (S.faults src.new) result }
     ensures answers { IfErr result IsRollbackAnswer }
 {
@@ -165,7 +153,7 @@ fn check_reserved<S: BlockSource>(
 ) -> Result<(), Answer>
     ensures kept { S.kept src.old src.new }
     ensures told { OverTold S.tells (S.blocks src.old) (λ disk. IsOpenedOn disk volume.now → HasPlaces disk → blocks ≡ (superblock (image_blocks disk)).blocks →
-        MatchResult result (λ _. IsUntouched disk) (RefusesRollback disk)) }
+        MatchResult result (λ _. CanGoBack disk) (RefusesRollback disk)) }
     ensures cause { HasCauseOf Answer.Fault (S.faults src.old) (S.faults src.new) result }
     ensures answers { IfErr result IsRollbackAnswer }
 {
@@ -185,7 +173,7 @@ fn plan<S: BlockSource>(
     requires device { map.now.device ≡ S.size src.old }
     requires inside { LiesWithin used.now map.now (S.size src.old) }
     ensures kept { S.kept src.old src.new }
-    ensures planned { OverTold S.tells (S.blocks src.old) (λ disk. IsMapOn disk map.now → IsUntouched disk → used.now ≡ old_used disk →
+    ensures planned { OverTold S.tells (S.blocks src.old) (λ disk. IsMapOn disk map.now → CanGoBack disk → used.now ≡ old_used disk →
         MatchResult result (IsWayBack disk) (RefusesRollback disk)) }
     ensures room { IfOk result (HasRoom (S.size src.old)) }
     ensures apart { IfOk result AreWritesApart }

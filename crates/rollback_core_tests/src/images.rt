@@ -26,6 +26,7 @@ fn image(alloc: Global) -> Result<ImageMap, Fail> {
         logical: 0x10_0000,
         length: 0x1_0000,
         physical: 4096 * 8,
+        mirror: None,
     })?;
     let mut pieces = Vec::new(alloc);
     pieces.push(MappedExtent {
@@ -112,6 +113,7 @@ fn kept(alloc: Global) -> Result<ImageMap, Fail> {
         logical: 0x10_0000,
         length: 0x1000_0000,
         physical: 0x10_0000,
+        mirror: None,
     })?;
     let mut pieces = Vec::new(alloc);
     pieces.push(MappedExtent {
@@ -165,6 +167,21 @@ fn reserved_blocks_in_use_are_told(rt: HostRuntime) -> Result<(), Fail> {
         (8712, Some(8704)),
         (12_288, None),
     ] {
+        let told = reserved_used(rt.alloc(), &volume, &mut disk, blocks)?;
+        assert_eq!(rt; told, expected);
+    }
+    Ok(())
+}
+
+#[test]
+fn a_second_copy_is_in_use(rt: HostRuntime) -> Result<(), Fail> {
+    let twice = Sample {
+        mirror: Some(4096 * 9984),
+        ..Sample::PLAIN
+    };
+    let mut disk = btrfs(rt.alloc(), &twice)?;
+    let volume = Btrfs::open(rt.alloc(), &mut disk)?;
+    for (blocks, expected) in [(8712, Some(8704)), (9984, None), (9985, Some(9984))] {
         let told = reserved_used(rt.alloc(), &volume, &mut disk, blocks)?;
         assert_eq!(rt; told, expected);
     }

@@ -18,7 +18,7 @@ use Rattle.btr_tree.specs.btr_keys.Key.{IsBefore}
 use Rattle.btr_tree.specs.btr_node.Leaf.{Item}
 use Rattle.btr_tree.specs.csum_kinds.Kind.{kind_sum, kind_width}
 use Rattle.btr_tree.specs.csum_kinds.declared.kind.SumKind.{SumKind}
-use Rattle.btr_tree.specs.csum_kinds.declared.kind.SumKind.TheVariants.{Crc32c}
+use Rattle.btr_tree.specs.csum_kinds.declared.kind.SumKind.TheVariants.{Crc32c, Sha256}
 use Rattle.unit_plan.specs.Chunks.{AreChunks, IsChunk, role_of, usable_end}
 use Rattle.unit_plan.specs.Sums.{sums_in_item}
 use Rattle.unit_plan.specs.declared.chunk.PlannedChunk.{PlannedChunk}
@@ -120,6 +120,7 @@ rise_append (x ∷ xs) ys up also across =
 -- an item's checksums fit into a leaf
 item_fits : (sums : SumKind) → kind_width sums * sums_in_item sums + 126 ≤ 4096
 item_fits Crc32c = omega arith
+item_fits Sha256 = omega arith
 
 module _ (sums : SumKind) (image : Image) where
   abbrev item_at : ℕ → ℕ → ℕ → Item

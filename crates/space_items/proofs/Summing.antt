@@ -9,7 +9,7 @@ use Rattle.std.proofs.lemmas.Bool.{cases_lt}
 use Rattle.btr_tree.specs.outside.History.{Image}
 use Rattle.btr_tree.specs.btr_node.Leaf.{Item}
 use Rattle.btr_tree.specs.csum_kinds.declared.kind.SumKind.{SumKind}
-use Rattle.btr_tree.specs.csum_kinds.declared.kind.SumKind.TheVariants.{Crc32c}
+use Rattle.btr_tree.specs.csum_kinds.declared.kind.SumKind.TheVariants.{Crc32c, Sha256}
 use Rattle.unit_plan.specs.Sums.{sums_in_item}
 use Rattle.unit_plan.specs.declared.piece.Piece.{Piece}
 use Rattle.space_items.specs.Stream.{IsPieceTaken, behind, left_of, sum_standing, sums_ahead, blocks_taken}
@@ -130,6 +130,7 @@ module _ {X : Type 0} (n : ℕ) (some : 0 < n) (item : ℕ → ℕ → X) where
 
 pub item_some : (sums : SumKind) → 0 < sums_in_item sums
 item_some Crc32c = omega arith
+item_some Sha256 = omega arith
 
 -- of a piece of which nothing was done
 left_whole : (sums : SumKind) (image : Image) (pieces : List Piece) → left_of sums image 0 pieces ≡ sum_items sums image pieces

@@ -20,8 +20,8 @@ use Rattle.reiser_volume.specs.Laws.{FrontsAreJudged, RefusalsBreakRules}
 use Rattle.reiser_volume.specs.Volume.{IsAccepted}
 use Rattle.rollback_core.specs.RecoveryLaws.{InOrderHasFormat}
 use Rattle.rollback_core.specs.RollbackAnswers.{IsRollbackAnswer, RefusesRollback}
-use Rattle.rollback_core.specs.RollbackLaws.{RefusalsAreOfTouched}
-use Rattle.rollback_core.specs.volume_state.Untouched.{IsUntouched}
+use Rattle.rollback_core.specs.RollbackLaws.{RefusedCanNotGoBack}
+use Rattle.rollback_core.specs.volume_state.GoingBack.{CanGoBack}
 use Rattle.trial_core.specs.Answers.{IsTrialReadAnswer, IsStop, LeavesRound, RefusesRound, StopsUnless, by_step}
 use Rattle.trial_core.specs.Round.{FreeAreBytes, plain}
 
@@ -43,11 +43,11 @@ convert_leaves old new _ same = tt
 
 -- ---- of a rollback
 
-pub rollback_refused : RefusalsAreOfTouched → (disk : Image) (e : Answer) → RefusesRollback disk e → StopsUnless (IsUntouched disk) (by_step e)
-rollback_refused touched disk (answer.NoSpace needed free run_needed longest) refused = absurd refused
-rollback_refused touched disk answer.Fault refused = inl (inl refl)
-rollback_refused touched disk answer.Memory refused = inl (inr refl)
-rollback_refused touched disk e refused = inr (refl, touched disk e refused (λ is. absurd (cc is)) (λ is. absurd (cc is)))
+pub rollback_refused : RefusedCanNotGoBack → (disk : Image) (e : Answer) → RefusesRollback disk e → StopsUnless (CanGoBack disk) (by_step e)
+rollback_refused can_not disk (answer.NoSpace needed free run_needed longest) refused = absurd refused
+rollback_refused can_not disk answer.Fault refused = inl (inl refl)
+rollback_refused can_not disk answer.Memory refused = inl (inr refl)
+rollback_refused can_not disk e refused = inr (refl, can_not disk e refused (λ is. absurd (cc is)) (λ is. absurd (cc is)))
 
 pub rollback_known : (e : Answer) → IsRollbackAnswer e → IsTrialReadAnswer (by_step e)
 rollback_known (answer.NoSpace needed free run_needed longest) known = absurd known

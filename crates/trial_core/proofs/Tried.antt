@@ -8,7 +8,6 @@ use Rattle.reiser_bitmap.specs.vol_block.declared.ids.Ids.{Ids}
 use Rattle.convert_core_laws.specs.going_back.Back.{ConvertedVolumesGoBack}
 use Rattle.reiser_bitmap.specs.outside.History.{History, Image, IsSettled, WritesOnly, after, block_at, reads, synced}
 use Rattle.convert_core.specs.command_answers.declared.answer.Answer.{Answer}
-use Rattle.convert_core.specs.command_answers.declared.answer.Answer.TheVariants as answer
 use Rattle.reiser_bitmap.proofs.outside.Crash.{reads_only}
 use Rattle.fs_rows.specs.Rows.{WholeRow, row_of}
 use Rattle.fs_rows.specs.declared.row.Row.{Row}
@@ -31,6 +30,8 @@ use Rattle.trial_core.specs.Laws.{TriesKeep}
 use Rattle.trial_core.specs.Round.{FreeAreBytes, IsRound, IsTrialSummary}
 use Rattle.trial_core.specs.Trial.{IsSampleMade, IsScratch, IsTried, KeepsFree, needed_by, sample_on, trial_summary}
 use Rattle.trial_core.proofs.Rounds.{gone_back, restored}
+use Rattle.first_sync.specs.Synced.{synced_now}
+use Rattle.convert_core.specs.command_answers.declared.answer.Answer.TheVariants as answer
 
 -- ---- what was made
 
@@ -95,10 +96,10 @@ module _ (number : ℕ) (old mid : History) (scratch : IsScratch (reads old)) (r
   round_refuses answer.Memory refused = tt
   round_refuses _ refused = absurd refused
 
-  pub round_leaves : (new : History) (e : Answer) → RefusesRound (reads mid) e → LeavesRound mid new e → LeavesRefused number old new e
+  pub round_leaves : (new : History) (e : Answer) → RefusesRound (reads mid) e → LeavesRound (synced_now mid) new e → LeavesRefused number old new e
   round_leaves new (answer.Volume r) refused leaves = (λ short. absurd (omega (arith, short, scratch.long)), λ bytes. absurd (refused.1 (free_bytes number old mid made bytes)))
   round_leaves new (answer.NoSpace needed free run_needed longest) refused leaves =
-      (λ many. absurd (omega (arith, many, room)), λ few. (ap reads leaves ∙ made.written, subst IsSettled (sym leaves) made.settled))
+      (λ many. absurd (omega (arith, many, room)), λ few. (ap reads leaves ∙ made.written, subst IsSettled (sym leaves) (synced_settled mid)))
   round_leaves new answer.Fault refused leaves = tt
   round_leaves new answer.Memory refused leaves = tt
   round_leaves new _ refused leaves = absurd refused
@@ -119,7 +120,7 @@ kept back keeps described number ids now disk other t few low are bytes =
     let is = described number false 65536 disk (record { number_low = few; needed_low = t.room; blocks_low = omega arith; inside = t.scratch.long }) in
     let free : FreeAreBytes sample = λ b free i. subst (λ (block : List ℕ). slice_index block i < 256) (sym (t.free b free)) (bytes b i) in
     let goes = gone_back ids now sample t.round.between low are t.round.converted t.round.bytes free back in
-    let volume = keeps.back t.round.between other t.round.rolled_back.untouched t.round.rolled_back.back in
+    let volume = keeps.back t.round.between other t.round.rolled_back.can t.round.rolled_back.back in
     record {
       accepted = volume.accepted;
       rows = (volume.rows (sample_rows number)).0 ((goes.volume.rows (sample_rows number)).0 is.rows);
@@ -134,7 +135,7 @@ module _ (number : ℕ) (ids : Ids) (now : ℕ) (old mid new : History) (scratch
   tried_result one (Ok told) right = (tried number ids now old mid (reads new) scratch room made right.0, told_number one number old mid told made right.1)
   tried_result one (Err e) right = round_refuses number old mid scratch room made e right
 
-  pub leaves_result : (result : Result TrialSummary Answer) → MatchResult result (λ told. IsRound ids now (reads mid) (reads new) × IsTrialSummary (reads mid) told) (RefusesRound (reads mid)) → IfErr result (LeavesRound mid new)
+  pub leaves_result : (result : Result TrialSummary Answer) → MatchResult result (λ told. IsRound ids now (reads mid) (reads new) × IsTrialSummary (reads mid) told) (RefusesRound (reads mid)) → IfErr result (LeavesRound (synced_now mid) new)
       → IfErr result (LeavesRefused number old new)
   leaves_result (Ok told) right leaves = tt
   leaves_result (Err e) right leaves = round_leaves number old mid scratch room made new e right leaves

@@ -124,7 +124,7 @@ IsTrialAnswer answer.Fault = Unit {0}
 IsTrialAnswer answer.Memory = Unit {0}
 IsTrialAnswer _ = ⊥
 
--- What a refusal leaves. Where the disk has a volume or too few blocks, and where the sample is too large for the volume, nothing was
+-- What a refusal leaves, by the history behind the first sync. Where the disk has a volume or too few blocks, and where the sample is too large for the volume, nothing was
 -- written. Where the sample leaves too little space for a conversion it stays, and has reached the device. After a failed call or want of
 -- memory any block may have been written.
 abbrev pub LeavesRefused : ℕ → History → History → Answer → Type 0

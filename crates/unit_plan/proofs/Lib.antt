@@ -5,9 +5,11 @@ pub mod Dividing
 pub mod Enough
 pub mod Lists
 pub mod Placing
+pub mod RunSums
 pub mod Sets
 pub mod Sound
 pub mod Starts
+pub mod Tables
 pub mod Tallies
 pub mod Told
 pub mod Uses

@@ -1,5 +1,5 @@
 -- The chunks that a plan makes of a volume, by the plan and the number of blocks alone.
-use Rattle.std.specs.Prelude.{◌≡◌, ◌≢◌, ◌⊎◌, ℕ, ◌+◌, ◌-◌, ◌*◌, ◌/◌, ◌%◌, ◌≤◌, ◌<◌, ◌==◌, nat_lt, nat_le, min, Bool, not, ◌&&◌, ◌||◌, if◌then◌else◌, List, length, Option, Some, None, All, AllPairs, Any}
+use Rattle.std.specs.Prelude.{◌≡◌, ◌≢◌, ◌⊎◌, ℕ, ◌+◌, ◌*◌, ◌%◌, ◌≤◌, ◌<◌, nat_lt, min, Bool, not, ◌&&◌, ◌||◌, if◌then◌else◌, List, length, Option, Some, None, All, AllPairs, Any}
 use Rattle.std.specs.List.{list_any}
 use Rattle.reiser_bitmap.specs.Runs.{free_runs}
 use Rattle.reiser_bitmap.specs.declared.runs.Run.{Run}
@@ -8,12 +8,9 @@ use Rattle.unit_plan.specs.declared.chunk.Role.{Role}
 use Rattle.unit_plan.specs.declared.chunk.Role.TheVariants.{System, Metadata, Data}
 use Rattle.unit_plan.specs.declared.need.Need.{Need}
 use Rattle.unit_plan.specs.declared.plan.Plan.{Plan}
-use Rattle.unit_plan.specs.Choice.{HasEnoughSpace, IsPlan, is_in, is_among, holds_data, volume_units}
+pub use Rattle.unit_plan.specs.Choice.{usable_end}
+use Rattle.unit_plan.specs.Choice.{HasEnoughSpace, IsPlan, is_in, is_among, holds_data, is_spare}
 use Rattle.unit_plan.specs.Needed.{chunk_bound}
-
--- Where the blocks end that a chunk may hold: those behind the last multiple of 64 KiB are reserved.
-abbrev pub usable_end : ℕ → ℕ
-usable_end blocks = 16 * (blocks / 16)
 
 -- a unit of one of the runs
 abbrev pub is_in_runs : List Run → ℕ → Bool
@@ -68,12 +65,16 @@ pub record FitsVolume (plan : Plan) (blocks : ℕ) : Type 0 where
 abbrev pub is_data_unit : List Bool → Plan → ℕ → Bool
 is_data_unit used plan u = is_among plan.data_ u || holds_data used u
 
+-- the unit is spare, and stays in no unallocated run
+abbrev pub is_filler : List Bool → Plan → ℕ → Bool
+is_filler used plan u = is_spare used plan.system plan.metadata plan.data_ u && not (is_in_runs plan.unallocated u)
+
 -- what a unit from unit 1 on is used for, by the lists that name it
 abbrev pub use_of : List Bool → Plan → ℕ → Option Role
 use_of used plan u =
-    if is_among plan.system u then Some System else if is_among plan.metadata u then Some Metadata else if is_data_unit used plan u then Some Data else None
+    if is_among plan.system u then Some System else if is_among plan.metadata u then Some Metadata else if is_data_unit used plan u || is_filler used plan u then Some Data else None
 
--- a plan's runs without use leave exactly the units that a list names or that hold data
+-- a unit that a list names or that holds data has that use, and the spare units of runs that do not stay are for data
 abbrev pub RolesAreUses : Type 0
 RolesAreUses =
     (used : List Bool) (need : Need) (plan : Plan) → HasEnoughSpace used need → IsPlan used need plan

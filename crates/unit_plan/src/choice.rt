@@ -2,7 +2,8 @@ ghost use Rattle.std.specs.Prelude.{◌≡◌, ◌≤◌, ◌<◌, ◌+◌, ◌-
 ghost use Rattle.std.specs.List.{fold, range_with_len};
 ghost use Rattle.unit_plan.specs.Choice.{HasEnoughSpace, IsPlan, IsPlanAt, IsAnswer, IsSmallNeed, lowest_long, others, is_other};
 
-use crate::unused::unallocated;
+use crate::spare::spare_runs;
+use crate::staying::staying;
 use crate::{Need, Plan, PlanAnswer, Units};
 use reiser_bitmap::{Bitmap, Memory, Run, Runs};
 use std::alloc::Global;
@@ -74,7 +75,8 @@ fn plan_at(alloc: Global, map: &Bitmap, need: &Need, first: u64) -> Result<Plan,
     let system = consecutive(alloc, taken)?;
     let metadata = free_others(alloc, map, units, taken, 0, need.metadata)?;
     let data_ = free_others(alloc, map, units, taken, need.metadata, need.data_)?;
-    let unallocated = unallocated(alloc, map, &system, &metadata, &data_)?;
+    let spare = spare_runs(alloc, map, &system, &metadata, &data_)?;
+    let unallocated = staying(alloc, &spare)?;
     Ok(Plan {
         system,
         metadata,

@@ -16,9 +16,10 @@ mod piece;
 mod places;
 mod plan;
 mod roles;
+mod spare;
+mod staying;
 mod sums;
 mod units;
-mod unused;
 
 pub use btr_tree::{DirEntry, Extref, Inode, InodeRef, Key};
 pub use choice::choose;

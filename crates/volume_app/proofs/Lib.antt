@@ -3,6 +3,7 @@ pub mod Counts
 pub mod Formats
 pub mod Inspecting
 pub mod Listing
+pub mod Moments
 pub mod OneText
 pub mod Outcomes
 pub mod Performing

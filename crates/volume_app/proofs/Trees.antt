@@ -68,7 +68,7 @@ module _ (keeps : RollbackKeeps) (disk other : Image) where
   pub rolled_back_whole : IsRolledBack disk other → rolling.IsRolledBackWhole disk other
   rolled_back_whole r = record {
     rolled_back = r;
-    tree = record { restored = r.back.used; volume = keeps.back disk other r.untouched r.back };
+    tree = record { restored = r.back.used; volume = keeps.back disk other r.can r.back };
   }
 
   restored_left : IsLeftByRollback disk other → LeavesRestoredTree disk other
@@ -89,7 +89,7 @@ module _ (keeps : RecoveryKeeps) (opens : RecoveryOpens) (spare : SpareBlocksDec
   kept : recovery.IsLeftByRecover disk other → KeepsTree disk other
   kept left = record {
     opens = λ f rows is. opens.left f disk other rows is left;
-    untouched = λ is. spare disk other is (record {
+    goes_back = λ is. spare disk other is (record {
       size = (keeps.left disk other left).size;
       others = λ b outside. (keeps.left disk other left).others b (mirror_spare disk b outside);
     });

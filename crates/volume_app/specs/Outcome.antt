@@ -1,7 +1,8 @@
 -- What an ending means of the disk that was found, and what the sinks gained.
 use Rattle.std.specs.Prelude.{◌≡◌, ◌⊎◌, ℕ, ◌≤◌, Bool, IsTrue, List, ◌++◌, take, Option, Some, None, Result, Ok, Err}
 use Rattle.reiser_volume.specs.outside.Fault.{Rose}
-use Rattle.reiser_volume.specs.outside.History.{EachCrash, History, Image, IsSettled, reads}
+use Rattle.first_sync.specs.Synced.{EachCrashSynced}
+use Rattle.reiser_volume.specs.outside.History.{History, Image, IsSettled, reads}
 use Rattle.reiser_volume.specs.outside.declared.fault.Fault as faults
 use Rattle.convert_core.specs.command_answers.declared.answer.Answer.TheVariants.{Fault, Memory}
 use Rattle.volume_app.specs.declared.ending.Ending.{Ending}
@@ -14,7 +15,7 @@ use Rattle.volume_app.specs.Inspect.{inspect_meaning}
 use Rattle.volume_app.specs.Listing.{list_meaning}
 use Rattle.volume_app.specs.Recovering.{recover_meaning}
 use Rattle.volume_app.specs.RollingBack.{rollback_meaning}
-use Rattle.volume_app.specs.Meaning.{Meaning, says, no_command}
+use Rattle.volume_app.specs.Meaning.{Meaning, begun, says, no_command}
 use Rattle.volume_app.specs.Texts.{help_text, version_text}
 use Rattle.volume_app.specs.Trying.{trial_meaning}
 
@@ -106,10 +107,11 @@ pub record Performs (m : Meaning) (tells : Bool) (old new : History) (disk_old d
   pub printed : (m.asks_disk → IsTrue tells) → IsTrue out_tells → Prints (m.is_text (reads old)) ending taken_old taken_new
   pub quiet : IsTrue out_tells → IsQuiet ending → taken_new ≡ taken_old
   pub memory : ending ≡ Failed Memory → m.takes_memory
-  pub unchanged : IsTrue tells → m.keeps (reads old) (status ending) → new ≡ old
-  pub lacking : IsTrue tells → status ending ≡ 6 → m.lacking (reads old) (reads new) × (IsSettled old → IsSettled new)
+  pub unchanged : IsTrue tells → m.keeps (reads old) (status ending) → new ≡ begun m.writes old
+  pub lacking : IsTrue tells → status ending ≡ 6 → m.lacking (reads old) (reads new) × (IsTrue m.writes → IsSettled new)
   pub starved : IsTrue tells → status ending ≡ 4 → m.starved (reads old) (reads new)
   pub changed : IsTrue tells → IsDoneWith ending → m.becomes (reads old) (reads new)
-  pub settled : IsTrue tells → IsSettled old → IsDoneWith ending → IsSettled new
-  pub crash : EachCrash tells old new (m.leaves (reads old))
+  pub settled : IsTrue tells → IsTrue m.writes → IsDoneWith ending → IsSettled new
+  pub crash : EachCrashSynced tells old new (m.leaves (reads old))
+  pub order : IsTrue tells → m.order old new
   pub faults : HasFaults ending disk_old disk_new out_old out_new

@@ -1,8 +1,8 @@
 -- What `recover` answers, prints and writes.
-use Rattle.std.specs.Prelude.{◌≡◌, ◌⊎◌, ℕ, List, [], ◌∷◌, codes, decimal}
+use Rattle.std.specs.Prelude.{◌≡◌, ◌⊎◌, ℕ, true, List, [], ◌∷◌, codes, decimal}
 use Rattle.reiser_volume.specs.outside.History.{Image}
 use Rattle.rollback_core.specs.RecoveryAnswers.{IsRecoverAnswer, RefusesRecover}
-use Rattle.rollback_core.specs.Recovered.{IsLeftByRecover, IsRecoverable, IsRecovered, recover_summary}
+use Rattle.rollback_core.specs.Recovered.{IsLeftByRecover, IsRecoverable, IsRecovered, RewritesBeforeCopies, recover_summary}
 use Rattle.rollback_core.specs.declared.recovery.RecoverSummary.{RecoverSummary}
 use Rattle.reiser_volume.specs.vol_block.declared.format.Format.{Format}
 use Rattle.reiser_volume.specs.vol_block.declared.format.Format.TheVariants.{Reiser, Btrfs, Neither}
@@ -44,6 +44,7 @@ abbrev pub recover_meaning : Meaning
 recover_meaning = record {
   is_usage = ⊥;
   asks_disk = Unit {0};
+  writes = true;
   takes_memory = Unit {0};
   is_done = IsRecoverable;
   is_due = IsRecoverable;
@@ -55,4 +56,5 @@ recover_meaning = record {
   starved = IsSame;
   becomes = IsRecoveredWhole;
   leaves = IsRecoverLeftWhole;
+  order = RewritesBeforeCopies;
 }

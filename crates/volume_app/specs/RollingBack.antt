@@ -1,10 +1,10 @@
 -- What `rollback` answers, prints and writes.
-use Rattle.std.specs.Prelude.{◌≡◌, ◌⊎◌, ℕ, List, [], ◌∷◌, codes, decimal}
+use Rattle.std.specs.Prelude.{◌≡◌, ◌⊎◌, ℕ, List, [], ◌∷◌, codes, decimal, true}
 use Rattle.reiser_volume.specs.outside.History.{Image}
 use Rattle.rollback_core.specs.RollbackAnswers.{IsRollbackAnswer, RefusesRollback}
 use Rattle.rollback_core.specs.RolledBack.{IsLeftByRollback, IsRolledBack, rollback_summary}
-use Rattle.volume_state.specs.Untouched.{IsUntouched}
-use Rattle.volume_app.specs.Meaning.{IsSame, Meaning}
+use Rattle.volume_state.specs.GoingBack.{CanGoBack}
+use Rattle.volume_app.specs.Meaning.{IsSame, Meaning, AnyOrder}
 use Rattle.volume_app.specs.Texts.{text_of_lines}
 use Rattle.volume_app.specs.Trees.{IsRestoredTree, LeavesRestoredTree}
 use Rattle.rollback_core.specs.declared.way.RollbackSummary.{RollbackSummary}
@@ -38,9 +38,10 @@ abbrev pub rollback_meaning : Meaning
 rollback_meaning = record {
   is_usage = ⊥;
   asks_disk = Unit {0};
+  writes = true;
   takes_memory = Unit {0};
-  is_done = IsUntouched;
-  is_due = IsUntouched;
+  is_done = CanGoBack;
+  is_due = CanGoBack;
   is_text = IsRollbackText;
   answers = RefusesRollback;
   knows = IsRollbackAnswer;
@@ -49,4 +50,5 @@ rollback_meaning = record {
   starved = IsSame;
   becomes = IsRolledBackWhole;
   leaves = IsRollbackLeftWhole;
+  order = AnyOrder;
 }

@@ -1,5 +1,5 @@
 -- What `trial` answers, prints and writes.
-use Rattle.std.specs.Prelude.{◌≡◌, ◌⊎◌, ◌≤◌, ◌<◌, ℕ, List, [], ◌∷◌, codes, decimal}
+use Rattle.std.specs.Prelude.{◌≡◌, ◌⊎◌, ◌≤◌, ◌<◌, ℕ, true, List, [], ◌∷◌, codes, decimal}
 use Rattle.convert_core.specs.Converted.{IsConvertible}
 use Rattle.reiser_volume.specs.outside.History.{Image}
 use Rattle.convert_core.specs.convert_trees_laws.Rows.{HasBytes}
@@ -9,7 +9,7 @@ use Rattle.trial_core.specs.Round.{plain}
 use Rattle.trial_core.specs.Trial.{IsScratch, IsTried, needed_by, sample_on, trial_summary}
 use Rattle.trial_core.specs.declared.summary.TrialSummary.{TrialSummary}
 use Rattle.reiser_volume.specs.vol_block.declared.ids.Ids.{Ids}
-use Rattle.volume_app.specs.Meaning.{Meaning}
+use Rattle.volume_app.specs.Meaning.{AnyOrder, Meaning}
 use Rattle.volume_app.specs.Texts.{text_of_lines}
 
 abbrev pub trial_lines : ℕ → TrialSummary → List (List ℕ × List (List ℕ))
@@ -55,6 +55,7 @@ abbrev pub trial_meaning : Ids → ℕ → ℕ → Meaning
 trial_meaning ids now number = record {
   is_usage = ⊥;
   asks_disk = Unit {0};
+  writes = true;
   takes_memory = Unit {0};
   is_done = IsTriable number;
   is_due = λ disk. IsTriable number disk × HasBytes disk;
@@ -66,4 +67,5 @@ trial_meaning ids now number = record {
   starved = λ disk other. Unit {0};
   becomes = IsTriedWhole number ids now;
   leaves = λ disk other. Unit {0};
+  order = AnyOrder;
 }

@@ -23,7 +23,7 @@ mod stop;
 pub use block_access::{block, format_at_16, put_block};
 pub use broken::Broken;
 pub use choice::Choice;
-pub use converted::{move_image, remove_image};
+pub use converted::{Encoding, encode, move_image, remove_image};
 pub use home_volume::home;
 pub use old::Old;
 pub use run::{Ended, Trouble, done, ends, ran};

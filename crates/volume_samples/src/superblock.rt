@@ -1,9 +1,9 @@
 use crate::bodies::{chunk, device, key};
 use crate::sample::{BLOCKS, CHUNK_LEAF, FSID, NODE, ROOT_LEAF, SYSTEM, Sample};
-use btr_super::Super;
+use btr_super::{Super, csum_type};
 use btrfs_format::block::SUPER_INFO_OFFSET;
 use btrfs_format::feature::{
-    CSUM_TYPE_CRC32, EXTENDED_IREF, MIXED_BACKREF, NO_HOLES, SKINNY_METADATA,
+    EXTENDED_IREF, METADATA_UUID, MIXED_BACKREF, NO_HOLES, SKINNY_METADATA,
 };
 use btrfs_format::flag::{BLOCK_GROUP_SYSTEM, HEADER_FLAG_WRITTEN};
 use btrfs_format::key::CHUNK_ITEM;
@@ -14,7 +14,7 @@ use vol_block::Block;
 /// The block of the superblock.
 pub fn superblock(sample: &Sample) -> Block {
     let sup = Super {
-        fsid: FSID,
+        fsid: sample.known_as.unwrap_or(FSID),
         bytenr: SUPER_INFO_OFFSET,
         flags: HEADER_FLAG_WRITTEN,
         generation: 1,
@@ -35,8 +35,8 @@ pub fn superblock(sample: &Sample) -> Block {
         chunk_root_generation: 1,
         compat: 0,
         compat_ro: 0,
-        incompat: MIXED_BACKREF | EXTENDED_IREF | SKINNY_METADATA | NO_HOLES,
-        csum_type: CSUM_TYPE_CRC32,
+        incompat: features(sample),
+        csum_type: csum_type(sample.sums),
         root_level: 0,
         chunk_root_level: 0,
         log_root_level: 0,
@@ -44,12 +44,30 @@ pub fn superblock(sample: &Sample) -> Block {
         label: sample.label,
         cache_generation: 0,
         uuid_tree_generation: 0,
+        metadata_uuid: kept_id(sample),
         sys_chunk_array: bootstrap(),
         backup_roots: [0; 672],
     };
     let mut block = Block::zero();
     sup.encode(&mut block);
     block
+}
+
+/// The identifier that the nodes keep where the volume is known by another.
+fn kept_id(sample: &Sample) -> [u8; 16] {
+    match sample.known_as {
+        Some(_) => FSID,
+        None => [0; 16],
+    }
+}
+
+/// The features: a volume that is known by another identifier than its nodes have says so.
+fn features(sample: &Sample) -> u64 {
+    let features = MIXED_BACKREF | EXTENDED_IREF | SKINNY_METADATA | NO_HOLES;
+    match sample.known_as {
+        Some(_) => features | METADATA_UUID,
+        None => features,
+    }
 }
 
 /// The bootstrap array: the key and the body of the system chunk.

@@ -1,5 +1,5 @@
 -- What lies in none of some blocks, where none of these is in use.
-use Rattle.std.proofs.Common.{◌≡◌, ℕ, ◌+◌, ◌*◌, ◌/◌, ◌<◌, eqb, Bool, true, false, List, ◌∷◌, ◌++◌, length, get_or, Contains, Option, Some, None, refl, sym, ◌∙◌, ap, subst, arith, if◌then◌else◌}
+use Rattle.std.proofs.Common.{◌≡◌, inl, ℕ, ◌+◌, ◌*◌, ◌/◌, ◌<◌, eqb, Bool, true, false, List, ◌∷◌, ◌++◌, length, get_or, Contains, Option, Some, None, refl, sym, ◌∙◌, ap, subst, arith, if◌then◌else◌}
 use Rattle.std.specs.Option.{option_and_then}
 use Rattle.std.proofs.lemmas.Bool.{and_parts}
 use Rattle.std.proofs.lemmas.List.{get_or_default}
@@ -32,7 +32,7 @@ module _ (test : ℕ → Bool) (ranges : List MapRange) where
     where
       by : (o : Option ℕ) → place ranges (address + k) ≡ o → IsApart test o
       by None is = tt
-      by (Some a) is = outside (a / 4096) (record { k = k; within = below; at = a; place_is = is; block = refl })
+      by (Some a) is = outside (a / 4096) (record { k = k; within = below; at = a; place_is = inl is; block = refl })
 
   pub nodes_apart : (disk : Image) (t : Tree) → ((b : ℕ) → HoldsNodeOf disk ranges t b → test b ≡ false) → AreNodesApart test disk ranges t
   nodes_apart disk t outside i d below k inside =
@@ -42,9 +42,11 @@ module _ (test : ℕ → Bool) (ranges : List MapRange) where
   content_apart : (items : List TreeItem) → ((b : ℕ) → HoldsExtent items ranges b → test b ≡ false) → (i : TreeItem) → Contains items i → (c : ContentValue) → item_range i ≡ content_range c → IsContentApart test ranges c
   content_apart items outside i among (Inline bytes) is = tt
   content_apart items outside i among (Prealloc r) is = tt
-  content_apart items outside i among (Regular r) is = λ some k below.
+  content_apart items outside i among (Regular r) is = λ some k below inside.
       let range : item_range i ≡ Some r = is ∙ ap (λ (t : Bool). if t then None else Some r) some in
-      byte_apart (r.disk_bytenr + r.offset) r.num_bytes k below (λ b lies. outside b (record { item = i; among = among; range = r; range_is = range; lies = lies }))
+      let same : r.disk_bytenr + (r.offset + k) ≡ r.disk_bytenr + r.offset + k = omega arith in
+      subst (λ (a : ℕ). IsApart test (place ranges a)) same
+      (byte_apart r.disk_bytenr r.disk_num_bytes (r.offset + k) inside (λ b lies. outside b (record { item = i; among = among; range = r; range_is = range; lies = lies })))
 
   pub extents_apart : (items : List TreeItem) → ((b : ℕ) → HoldsExtent items ranges b → test b ≡ false) → AreExtentsApart test ranges items
   extents_apart items outside ino i e among read =

@@ -19,7 +19,7 @@ module _ (ranges : List MapRange) (blocks : ℕ) (items : List TreeItem) (i : Tr
     lies = holds.lies;
   }
 
-  last : (r : DiskRange) (b : ℕ) → item_range i ≡ Some r → LieIn ranges (r.disk_bytenr + r.offset) r.num_bytes b → HoldsExtent (items ++ i ∷ []) ranges b
+  last : (r : DiskRange) (b : ℕ) → item_range i ≡ Some r → LieIn ranges r.disk_bytenr r.disk_num_bytes b → HoldsExtent (items ++ i ∷ []) ranges b
   last r b is lies = record { item = i; among = Contains-append_right items (i ∷ []) i (at_head i []); range = r; range_is = is; lies = lies }
 
   only : (x : TreeItem) → Contains (i ∷ []) x → i ≡ x
@@ -40,6 +40,6 @@ module _ (ranges : List MapRange) (blocks : ℕ) (items : List TreeItem) (i : Tr
       ⊎_elim (λ before. none b reserved (record { item = holds.item; among = before; range = holds.range; range_is = holds.range_is; lies = holds.lies }))
       (λ here.
       let same : r ≡ holds.range = some_is r holds.range (sym range ∙ (ap item_range (only holds.item here) ∙ holds.range_is)) in
-      tells b reserved (subst (λ (x : DiskRange). LieIn ranges (x.disk_bytenr + x.offset) x.num_bytes b) (sym same) holds.lies))
+      tells b reserved (subst (λ (x : DiskRange). LieIn ranges x.disk_bytenr x.disk_num_bytes b) (sym same) holds.lies))
       (Contains-append_cases items (i ∷ []) holds.item holds.among)
   found_more (Some r) (Some b) range tells none = (tells.0, last r b range tells.1)

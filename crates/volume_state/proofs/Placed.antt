@@ -1,5 +1,5 @@
 -- A block of the saved image is a block of an extent.
-use Rattle.std.proofs.Common.{◌≡◌, ℕ, suc, ◌+◌, ◌-◌, ◌*◌, ◌/◌, ◌%◌, ◌<◌, ◌≤◌, eqb, nat_lt, nat_le, Bool, true, false, List, [], ◌∷◌, ◌++◌, Contains, Option, Some, None, refl, subst, arith, if◌then◌else◌}
+use Rattle.std.proofs.Common.{◌≡◌, inl, ℕ, suc, ◌+◌, ◌-◌, ◌*◌, ◌/◌, ◌%◌, ◌<◌, ◌≤◌, eqb, nat_lt, nat_le, Bool, true, false, List, [], ◌∷◌, ◌++◌, Contains, Option, Some, None, refl, subst, arith, if◌then◌else◌, ◌&&◌, ◌||◌, ◌∙◌, ap}
 use Rattle.std.specs.Option.{option_map}
 use Rattle.std.proofs.lemmas.Bool.{and_parts}
 use Rattle.std.proofs.lemmas.Bool.Decides.{nat_tests}
@@ -32,7 +32,7 @@ pub record HasBlock (ranges : List MapRange) (extents : List TreeItem) (b at : �
   pub range : DiskRange
   pub content : extent.content ≡ Regular range
   pub some : is_hole range ≡ false
-  pub lies : LieIn ranges (range.disk_bytenr + range.offset) range.num_bytes at
+  pub lies : LieIn ranges range.disk_bytenr range.disk_num_bytes at
 
 later : (ranges : List MapRange) (i : TreeItem) (extents : List TreeItem) (b at : ℕ) → HasBlock ranges extents b at → HasBlock ranges (i ∷ extents) b at
 later ranges i extents b at has = record {
@@ -50,22 +50,35 @@ later ranges i extents b at has = record {
 whole_blocks : (offset : ℕ) (r : DiskRange) → range_is_aligned offset r ≡ true → offset % 4096 ≡ 0
 whole_blocks offset r aligned = let test : eqb (offset % 4096) 0 ≡ true = (and_parts (eqb (offset % 4096) 0) _ aligned).0 in grind (arith, nat_tests, test)
 
+-- an extent that is aligned stays in its disk extent
+in_disk_extent : (offset : ℕ) (r : DiskRange) → range_is_aligned offset r ≡ true → is_hole r ≡ false → r.offset + r.num_bytes ≤ r.disk_num_bytes
+in_disk_extent offset r aligned some = stays_inside (is_hole r) some (and_parts (eqb (r.num_bytes % 4096) 0) _ (and_parts (eqb (offset % 4096) 0) _ aligned).1).1
+  where
+    stays_inside : (hole : Bool) → hole ≡ false → (hole || (eqb (r.disk_bytenr % 4096) 0 && (eqb (r.offset % 4096) 0 && nat_le (r.offset + r.num_bytes) r.disk_num_bytes))) ≡ true
+        → r.offset + r.num_bytes ≤ r.disk_num_bytes
+    stays_inside true is all = absurd (cc is)
+    stays_inside false is all =
+        let last : nat_le (r.offset + r.num_bytes) r.disk_num_bytes ≡ true = (and_parts (eqb (r.offset % 4096) 0) _ (and_parts (eqb (r.disk_bytenr % 4096) 0) _ all).1).1 in
+        grind (arith, nat_tests, last)
+
 covers_bounds : (offset b : ℕ) (r : DiskRange) → covers offset (Regular r) (4096 * b) ≡ true → (offset ≤ 4096 * b) × (4096 * b < offset + r.num_bytes)
 covers_bounds offset b r over =
     let parts = and_parts (nat_le offset (4096 * b)) (nat_lt (4096 * b) (offset + r.num_bytes)) over in
     (grind (arith, nat_tests, parts.0), grind (arith, nat_tests, parts.1))
 
 -- the place of a block of an extent
-placed : (ranges : List MapRange) (offset b at : ℕ) (r : DiskRange) (o : Option ℕ) → offset % 4096 ≡ 0 → (offset ≤ 4096 * b) × (4096 * b < offset + r.num_bytes)
-    → place ranges (r.disk_bytenr + r.offset + 4096 * (b - offset / 4096)) ≡ o → option_map (λ p. p / 4096) o ≡ Some at → LieIn ranges (r.disk_bytenr + r.offset) r.num_bytes at
-placed ranges offset b at r None straight over is there = absurd (no_some at there)
-placed ranges offset b at r (Some p) straight over is there = record {
-  k = 4096 * (b - offset / 4096);
-  within = omega (arith, straight, over.0, over.1);
-  at = p;
-  place_is = is;
-  block = some_is (p / 4096) at there;
-}
+placed : (ranges : List MapRange) (offset b at : ℕ) (r : DiskRange) (o : Option ℕ) → offset % 4096 ≡ 0 → r.offset + r.num_bytes ≤ r.disk_num_bytes → (offset ≤ 4096 * b) × (4096 * b < offset + r.num_bytes)
+    → place ranges (r.disk_bytenr + r.offset + 4096 * (b - offset / 4096)) ≡ o → option_map (λ p. p / 4096) o ≡ Some at → LieIn ranges r.disk_bytenr r.disk_num_bytes at
+placed ranges offset b at r None straight inside over is there = absurd (no_some at there)
+placed ranges offset b at r (Some p) straight inside over is there =
+    let same : r.disk_bytenr + (r.offset + 4096 * (b - offset / 4096)) ≡ r.disk_bytenr + r.offset + 4096 * (b - offset / 4096) = omega arith in
+    record {
+      k = r.offset + 4096 * (b - offset / 4096);
+      within = omega (arith, straight, inside, over.0, over.1);
+      at = p;
+      place_is = inl (ap (λ (a : ℕ). place ranges a) same ∙ is);
+      block = some_is (p / 4096) at there;
+    }
 
 unless_hole : (hole : Bool) (o : Option ℕ) (at : ℕ) → (if hole then None else o) ≡ Some at → (hole ≡ false) × (o ≡ Some at)
 unless_hole true o at is = absurd (no_some at is)
@@ -88,6 +101,7 @@ in_content ranges i extents x b at (Regular r) content read aligned over is =
       some = some.0;
       lies =
           placed ranges i.key.offset b at r (place ranges (r.disk_bytenr + r.offset + 4096 * (b - i.key.offset / 4096))) (whole_blocks i.key.offset r (aligned r refl))
+          (in_disk_extent i.key.offset r (aligned r refl) some.0)
           (covers_bounds i.key.offset b r over) refl some.1;
     }
 

@@ -1,4 +1,4 @@
--- The parts of an untouched volume lie in no spare block.
+-- The parts of a volume that can go back lie in no spare block.
 use Rattle.std.proofs.Common.{◌≡◌, inl, inr, ℕ, ◌+◌, ◌*◌, ◌/◌, ◌<◌, eqb, nat_lt, Bool, true, false, not, ◌&&◌, List, ◌∷◌, ◌++◌, length, get_or, Contains, Option, Some, None, refl, sym, ◌∙◌, ap, subst, arith, if◌then◌else◌}
 use Rattle.std.specs.Option.{option_and_then}
 use Rattle.std.proofs.lemmas.Bool.{and_parts}
@@ -25,7 +25,7 @@ use Rattle.reiser_volume.proofs.fs_paths.Lists.{from_filter}
 use Rattle.reiser_volume.specs.Volume.{superblock}
 use Rattle.volume_state.specs.Laws.{is_spare}
 use Rattle.volume_state.specs.Saved.{image_blocks}
-use Rattle.volume_state.specs.Untouched.{IsUntouched}
+use Rattle.volume_state.specs.GoingBack.{CanGoBack}
 use Rattle.volume_state.proofs.Placed.{has_block, no_some}
 use Rattle.volume_state.proofs.Reaching.{reached}
 use Rattle.volume_state.proofs.Apart.{extents_apart, file_tree_among, nodes_apart, saved_tree_among}
@@ -35,7 +35,7 @@ when_below : (t : Bool) (o : Option ℕ) (at : ℕ) → (if t then o else None) 
 when_below true o at is = is
 when_below false o at is = absurd (no_some at is)
 
-module _ (disk : Image) (u : IsUntouched disk) where
+module _ (disk : Image) (u : CanGoBack disk) where
   abbrev blocks : ℕ
   blocks = (superblock (image_blocks disk)).blocks
 
@@ -80,7 +80,7 @@ module _ (disk : Image) (u : IsUntouched disk) where
   -- a block of the saved image is in use
   image_in_use : (f : ImageFile) (b at : ℕ) → saved_image disk s ranges ≡ Some f → image_place ranges f b ≡ Some at → IsInUse disk at
   image_in_use f b at is placed =
-      let way = reached disk u.whole.way f is in
+      let way = reached disk u.way.readable f is in
       let has = has_block ranges f.extents 0 0 b at way.sound (when_below (nat_lt b f.blocks) (file_block ranges f.extents b) at placed) in
       let items : List TreeItem = items_at disk s ranges way.number way.q in
       let among : Contains (extents_of items way.ino) has.item = subst (λ (extents : List TreeItem). Contains extents has.item) way.extents has.among in
@@ -97,8 +97,8 @@ module _ (disk : Image) (u : IsUntouched disk) where
       })
 
   -- no part of the volume lies in a spare block
-  pub untouched_apart : IsVolumeApart (is_spare disk) disk
-  untouched_apart = record {
+  pub spare_apart : IsVolumeApart (is_spare disk) disk
+  spare_apart = record {
     superblock = superblock_apart;
     chunks = chunks_apart;
     roots = roots_apart;

@@ -1,4 +1,4 @@
--- What differs in spare blocks alone stays untouched.
+-- What differs in spare blocks alone can go back too.
 use Rattle.std.proofs.Common.{◌≡◌, ⊎_elim, inl, inr, ℕ, ◌<◌, min, List, [], ◌++◌, length, Contains, Option, Some, None, refl, sym, ◌∙◌, ap, subst, arith}
 use Rattle.std.specs.Option.{option_and_then}
 use Rattle.std.proofs.lemmas.List.{ext_get_or}
@@ -7,7 +7,6 @@ use Rattle.reiser_bitmap.specs.outside.History.{Image, block_at}
 use Rattle.btr_reader.specs.Image.{ImageFile, items_at, pointer_in, saved_location, tree_number}
 use Rattle.btr_reader.specs.Opening.{chunk_tree, root_tree}
 use Rattle.btr_reader.specs.Parts.{SavedImage, own_map, own_super}
-use Rattle.btr_reader.specs.Parts as part
 use Rattle.btr_reader.specs.Roots.{root_item}
 use Rattle.btr_super.specs.declared.superblock.Super.{Super}
 use Rattle.btr_reader_walk.specs.Events.{TreeEvent, TreeItem, nodes_in}
@@ -24,12 +23,12 @@ use Rattle.reiser_bitmap.specs.vol_block.Volume.{IsReserved}
 use Rattle.volume_state.specs.Laws.{SpareBlocksDecideNothing, is_spare}
 use Rattle.volume_state.specs.Moved.{IsOld}
 use Rattle.volume_state.specs.Saved.{block_or_hole, blocks_by, file_blocks, image_blocks, place_by_file, saved_file, saved_place}
-use Rattle.volume_state.specs.Untouched.{IsUntouched}
+use Rattle.volume_state.specs.GoingBack.{CanGoBack}
 use Rattle.volume_state.specs.Using.{HoldsExtent, HoldsNode, HoldsNodeOf, HoldsPartOf, IsInUse, chunk_node, file_part, file_pointer, file_trees, named_by, numbered, root_node, tree_if}
 use Rattle.volume_state.proofs.Images.{block_by, length_by}
-use Rattle.volume_state.proofs.Spare.{chunks_apart, file_nodes_apart, roots_apart, untouched_apart}
+use Rattle.volume_state.proofs.Spare.{chunks_apart, file_nodes_apart, in_use_apart, roots_apart, spare_apart, superblock_apart}
 
-module _ (disk other : Image) (u : IsUntouched disk) (same : IsSameOutside (is_spare disk) disk other) where
+module _ (disk other : Image) (u : CanGoBack disk) (same : IsSameOutside (is_spare disk) disk other) where
   abbrev s : Super
   s = own_super disk
 
@@ -37,7 +36,7 @@ module _ (disk other : Image) (u : IsUntouched disk) (same : IsSameOutside (is_s
   ranges = own_map disk
 
   decided : IsDecided (is_spare disk) disk other
-  decided = metadata_decides (is_spare disk) disk other (untouched_apart disk u) same
+  decided = metadata_decides (is_spare disk) disk other (spare_apart disk u) same
 
   abbrev volume : IsSameBtrfs disk other
   volume = decided.same
@@ -82,23 +81,23 @@ module _ (disk other : Image) (u : IsUntouched disk) (same : IsSameOutside (is_s
       subst (λ (events : List TreeEvent). HoldsNode (nodes_in events) m t.form.nodesize b) (met_same (is_spare disk) disk other same m t apart) holds
 
   pointer_same : file_pointer other s ranges ≡ file_pointer disk s ranges
-  pointer_same = ap (λ (items : List TreeItem). pointer_in (root_item FS_TREE items)) (roots_same (is_spare disk) disk other (untouched_apart disk u) same)
+  pointer_same = ap (λ (items : List TreeItem). pointer_in (root_item FS_TREE items)) (roots_same (is_spare disk) disk other (spare_apart disk u) same)
 
   numbered_same : (o : Option ℕ) → numbered other s ranges o ≡ numbered disk s ranges o
   numbered_same None = refl
   numbered_same (Some number) =
-      ap (λ (items : List TreeItem). tree_if s number (pointer_in (root_item number items))) (roots_same (is_spare disk) disk other (untouched_apart disk u) same)
+      ap (λ (items : List TreeItem). tree_if s number (pointer_in (root_item number items))) (roots_same (is_spare disk) disk other (spare_apart disk u) same)
 
   named_same : (o : Option NodePointer) → root_of disk FS_TREE ≡ o → named_by other s ranges o ≡ named_by disk s ranges o
   named_same None is = refl
   named_same (Some p) is =
-      let apart = untouched_apart disk u in
+      let apart = spare_apart disk u in
       numbered_same (option_and_then tree_number (saved_location (items_at other s ranges FS_TREE p)))
       ∙ ap (λ (items : List TreeItem). numbered disk s ranges (option_and_then tree_number (saved_location items))) (items_same (is_spare disk) disk other apart same 5 p (apart.files p is))
 
   trees_same : file_trees other (own_super other) (own_map other) ≡ file_trees disk s ranges
   trees_same =
-      both (is_spare disk) disk other (untouched_apart disk u) same (λ t m. file_trees other t m)
+      both (is_spare disk) disk other (spare_apart disk u) same (λ t m. file_trees other t m)
       ∙ (ap (λ (o : Option NodePointer). tree_if s FS_TREE o ++ named_by other s ranges o) pointer_same
       ∙ ap (λ (more : List Tree). tree_if s FS_TREE (file_pointer disk s ranges) ++ more) (named_same (file_pointer disk s ranges) refl))
 
@@ -118,12 +117,9 @@ module _ (disk other : Image) (u : IsUntouched disk) (same : IsSameOutside (is_s
       file_part (record { tree = holding.tree; among = among; holds = holds })
 
   -- ---- all of it
-  stays : IsUntouched other
+  stays : CanGoBack other
   stays = record {
-    whole = record {
-      rows = record { log = volume.log ∙ u.whole.rows.log; tree = λ r refused. u.whole.rows.tree r ((volume.refusals part.Tree r).1 refused) };
-      way = λ r refused. u.whole.way r ((volume.refusals SavedImage r).1 refused);
-    };
+    way = record { log = volume.log ∙ u.way.log; readable = λ r refused. u.way.readable r ((volume.refusals SavedImage r).1 refused) };
     there = λ missing. u.there (sym volume.saved ∙ missing);
     accepted = subst IsAccepted (sym image_same) u.accepted;
     in_place = λ b old. place_same b ∙ u.in_place b (subst (λ (i : Image). IsOld (used_of i) b) image_same old);
@@ -131,4 +127,13 @@ module _ (disk other : Image) (u : IsUntouched disk) (same : IsSameOutside (is_s
   }
 
 pub spare_blocks_decide_nothing : SpareBlocksDecideNothing
-spare_blocks_decide_nothing disk other u same = record { same = volume disk other u same; image = image_same disk other u same; untouched = stays disk other u same }
+spare_blocks_decide_nothing disk other u same = record {
+  blocks = record {
+    size = same.size;
+    superblock = same.others 16 (superblock_apart disk u);
+    used = λ b used. same.others b (in_use_apart disk u b used);
+  };
+  same = volume disk other u same;
+  image = image_same disk other u same;
+  can = stays disk other u same;
+}

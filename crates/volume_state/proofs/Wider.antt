@@ -1,7 +1,8 @@
 -- A tree by a map that begins with another, where its nodes lie by the beginning. The chunk tree of an opened volume is met by its whole
 -- map as by the chunks in the superblock.
-use Rattle.std.proofs.Common.{◌≡◌, ℕ, zero, suc, ◌+◌, ◌-◌, ◌*◌, ◌/◌, ◌%◌, ◌<◌, eqb, Bool, true, false, ◌&&◌, List, [], ◌∷◌, ◌++◌, Contains, Option, Some, None, is_some, refl, sym, ◌∙◌, ap, subst, arith, append_assoc, true≢false, if◌then◌else◌}
+use Rattle.std.proofs.Common.{◌≡◌, ⊎_elim, inl, inr, ℕ, zero, suc, ◌+◌, ◌-◌, ◌*◌, ◌/◌, ◌%◌, ◌<◌, eqb, Bool, true, false, ◌&&◌, List, [], ◌∷◌, ◌++◌, Contains, Option, Some, None, is_some, refl, sym, ◌∙◌, ap, subst, arith, append_assoc, true≢false, if◌then◌else◌}
 use Rattle.std.specs.List.{All, flat_map}
+use Rattle.std.specs.Option.{option_map}
 use Rattle.std.proofs.lemmas.Bool.{and_parts}
 use Rattle.std.proofs.lemmas.Bool.Decides.{nat_tests}
 use Rattle.std.proofs.lemmas.List.{append-nil}
@@ -19,7 +20,7 @@ use Rattle.btr_node.specs.declared.child.Child.{Child}
 use Rattle.btr_reader.specs.Chunks.{chunk_in, range_of, with_chunk, with_items}
 use Rattle.btr_reader.specs.declared.chunk.ChunkAt.{ChunkAt}
 use Rattle.btr_reader_walk.specs.Events.{TreeEvent, TreeItem, items_in_events, leaf_events, may_be_bare, node, node_events, nodes_in, unless_damaged}
-use Rattle.btr_reader_walk.specs.Map.{are_mapped, block_of_place, blocks_at, holds, is_mapped, node_at, place}
+use Rattle.btr_reader_walk.specs.Map.{are_mapped, block_of_place, blocks_at, holds, is_mapped, node_at, place, second_place}
 use Rattle.btr_reader_walk.specs.Tree.{at_address, order_damages, pointer_damages}
 use Rattle.btr_reader_walk.specs.Walks.{met, met_faults, wrong}
 use Rattle.btr_reader_walk.specs.declared.map.MapRange.{MapRange}
@@ -42,6 +43,26 @@ place_first (r ∷ early) late a p is = one (holds r a) (place_first early late 
     one : (t : Bool) → (place early a ≡ Some p → place (early ++ late) a ≡ Some p)
         → (if t then Some (r.physical + (a - r.logical)) else place early a) ≡ Some p → (if t then Some (r.physical + (a - r.logical)) else place (early ++ late) a) ≡ Some p
     one true rest there = there
+    one false rest there = rest there
+
+-- the same of second copies
+second_first : (early late : List MapRange) (a p : ℕ) → second_place early a ≡ Some p → second_place (early ++ late) a ≡ Some p
+second_first [] late a p is = absurd (no_some p is)
+second_first (r ∷ early) late a p is = one (holds r a) (second_first early late a p) is
+  where
+    one : (t : Bool) → (second_place early a ≡ Some p → second_place (early ++ late) a ≡ Some p)
+        → (if t then option_map (λ at. at + (a - r.logical)) r.mirror else second_place early a) ≡ Some p → (if t then option_map (λ at. at + (a - r.logical)) r.mirror else second_place (early ++ late) a) ≡ Some p
+    one true rest there = there
+    one false rest there = rest there
+
+-- where an address has a place, its range is one of the first
+second_same : (early late : List MapRange) (a : ℕ) → is_some (place early a) ≡ true → second_place (early ++ late) a ≡ second_place early a
+second_same [] late a some = absurd (true≢false (sym some))
+second_same (r ∷ early) late a some = one (holds r a) (second_same early late a) some
+  where
+    one : (t : Bool) → (is_some (place early a) ≡ true → second_place (early ++ late) a ≡ second_place early a) → is_some (if t then Some (r.physical + (a - r.logical)) else place early a) ≡ true
+        → (if t then option_map (λ at. at + (a - r.logical)) r.mirror else second_place (early ++ late) a) ≡ (if t then option_map (λ at. at + (a - r.logical)) r.mirror else second_place early a)
+    one true rest there = refl
     one false rest there = rest there
 
 some_of : (o : Option ℕ) → is_some o ≡ true → (p : ℕ) × (o ≡ Some p)
@@ -205,7 +226,7 @@ module _ (image : Image) (early late : List MapRange) where
       holds_wide b holding = record {
         node = holding.node;
         among = subst (λ (events : List TreeEvent). Contains (nodes_in events) holding.node) (sym met_wide) holding.among;
-        lies = record { k = holding.lies.k; within = holding.lies.within; at = holding.lies.at; place_is = place_first early late (holding.node.address + holding.lies.k) holding.lies.at holding.lies.place_is; block = holding.lies.block };
+        lies = record { k = holding.lies.k; within = holding.lies.within; at = holding.lies.at; place_is = ⊎_elim (λ is. inl (place_first early late (holding.node.address + holding.lies.k) holding.lies.at is)) (λ is. inr (second_first early late (holding.node.address + holding.lies.k) holding.lies.at is)) holding.lies.place_is; block = holding.lies.block };
       }
 
       module _ (blocks : AreInBlocks early) (size : IsNodeSize t.form.nodesize) where
@@ -222,10 +243,11 @@ module _ (image : Image) (early late : List MapRange) where
             let among : Contains (nodes_in (met image early t)) holding.node = subst (λ (events : List TreeEvent). Contains (nodes_in events) holding.node) met_wide holding.among in
             let inside : IsIn holding.node = subst IsIn among.2 (all_met among.0 holding.node among.1) in
             let k : ℕ = holding.lies.k in
+            let some : is_some (place early (holding.node.address + k)) ≡ true = some_there holding.node k inside holding.lies.within in
             record {
               node = holding.node;
               among = among;
-              lies = record { k = k; within = holding.lies.within; at = holding.lies.at; place_is = sym (place_same (holding.node.address + k) (some_there holding.node k inside holding.lies.within)) ∙ holding.lies.place_is; block = holding.lies.block };
+              lies = record { k = k; within = holding.lies.within; at = holding.lies.at; place_is = ⊎_elim (λ is. inl (sym (place_same (holding.node.address + k) some) ∙ is)) (λ is. inr (sym (second_same early late (holding.node.address + k) some) ∙ is)) holding.lies.place_is; block = holding.lies.block };
             }
 
 -- ---- the map of an opened volume

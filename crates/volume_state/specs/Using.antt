@@ -19,7 +19,7 @@ use Rattle.btr_reader.specs.Roots.{root_item}
 use Rattle.btr_reader.specs.Rows.{roots_on}
 use Rattle.btr_super.specs.declared.superblock.Super.{Super}
 use Rattle.btr_reader_walk.specs.Events.{TreeItem, nodes_in}
-use Rattle.btr_reader_walk.specs.Map.{place}
+use Rattle.btr_reader_walk.specs.Map.{place, second_place}
 use Rattle.btr_reader_walk.specs.Walks.{found, met}
 use Rattle.btr_reader_walk.specs.declared.map.MapRange.{MapRange}
 use Rattle.btr_reader_walk.specs.declared.tree.NodePointer.{NodePointer}
@@ -28,12 +28,17 @@ use Rattle.btr_reader.specs.Apart.{boot_map}
 
 -- ---- what lies in a block
 
--- One of so many bytes from an address on lies in block b of the device. A byte whose address is in no chunk lies nowhere.
+-- The address has this place, by either copy of its range.
+abbrev pub HasPlace : List MapRange → ℕ → ℕ → Type 0
+HasPlace ranges address at = (place ranges address ≡ Some at) ⊎ (second_place ranges address ≡ Some at)
+
+-- One of so many bytes from an address on lies in block b of the device, by either copy. A byte whose address is in no chunk lies
+-- nowhere.
 pub record LieIn (ranges : List MapRange) (address count b : ℕ) : Type 0 where
   pub k : ℕ
   pub within : k < count
   pub at : ℕ
-  pub place_is : place ranges (address + k) ≡ Some at
+  pub place_is : HasPlace ranges (address + k) at
   pub block : at / 4096 ≡ b
 
 -- One of these nodes does, each of so many bytes.
@@ -42,7 +47,7 @@ pub record HoldsNode (nodes : List NodePointer) (ranges : List MapRange) (nodesi
   pub among : Contains nodes node
   pub lies : LieIn ranges node.address nodesize b
 
--- The bytes that an extent has on the device: written, or only laid out. A hole and an inline extent have none.
+-- Where the disk extent of a file extent lies, in any encoding: written, or only laid out. A hole and an inline extent have none.
 abbrev pub range_unless_hole : DiskRange → Option DiskRange
 range_unless_hole r = if is_hole r then None else Some r
 
@@ -55,13 +60,14 @@ content_range (Prealloc r) = range_unless_hole r
 abbrev pub item_range : TreeItem → Option DiskRange
 item_range i = if i.key.kind == EXTENT_DATA then option_and_then (λ e. content_range e.content) (file_extent_of i.body) else None
 
--- A file extent of these items does.
+-- A file extent of these items does: written, compressed or only laid out, all of the disk extent that it names, whatever part of it the
+-- file has.
 pub record HoldsExtent (items : List TreeItem) (ranges : List MapRange) (b : ℕ) : Type 0 where
   pub item : TreeItem
   pub among : Contains items item
   pub range : DiskRange
   pub range_is : item_range item ≡ Some range
-  pub lies : LieIn ranges (range.disk_bytenr + range.offset) range.num_bytes b
+  pub lies : LieIn ranges range.disk_bytenr range.disk_num_bytes b
 
 -- a node of the tree does
 abbrev pub HoldsNodeOf : Image → List MapRange → Tree → ℕ → Type 0
@@ -123,11 +129,11 @@ TellsReserved P blocks (Some b) = IsReserved b blocks × P b
 -- ---- what may be answered
 
 -- A log tree comes first; then what is wrong on the way to the saved image.
-pub data IsUseRefusal (disk : Image) (r : BtrRefusal) : Type 0 where
-  has_log : (address : ℕ) → log_tree disk ≡ Some address → r ≡ LogPending address → IsUseRefusal disk r
-  unreadable : log_tree disk ≡ None → IsBtrfsRefusal disk SavedImage r → IsUseRefusal disk r
+pub data IsWayRefusal (disk : Image) (r : BtrRefusal) : Type 0 where
+  has_log : (address : ℕ) → log_tree disk ≡ Some address → r ≡ LogPending address → IsWayRefusal disk r
+  unreadable : log_tree disk ≡ None → IsBtrfsRefusal disk SavedImage r → IsWayRefusal disk r
 
 abbrev pub RefusesUse : Image → BtrAnswer → Type 0
-RefusesUse disk (Refused r) = IsUseRefusal disk r
+RefusesUse disk (Refused r) = IsWayRefusal disk r
 RefusesUse disk Fault = Unit {0}
 RefusesUse disk Memory = Unit {0}

@@ -27,7 +27,7 @@ use Rattle.reiser_volume.specs.Volume.{superblock, used_of}
 use Rattle.convert_trees_laws.specs.Names.{NamesKeepRules}
 use Rattle.volume_state.specs.Moved.{AreInPlace}
 use Rattle.volume_state.specs.Saved.{image_blocks, saved_place}
-use Rattle.volume_state.specs.Untouched.{IsUntouched, old_used}
+use Rattle.volume_state.specs.GoingBack.{CanGoBack, old_used}
 use Rattle.volume_state.specs.Using.{IsInUse, IsReservedFree}
 use Rattle.convert_core_laws.specs.soundness.Laws.{ConvertedReservedAreSound}
 use Rattle.convert_core_laws.specs.soundness.Recounted.{recount_for}
@@ -124,9 +124,9 @@ module _ (o : Options) (ids : Ids) (now : ℕ) (image other : Image) (m : Making
           let count : (superblock (image_blocks other)).blocks ≡ length (used_of image) = ap (λ (t : OldSuper). t.blocks) same_volume.fields ∙ sym volume_is in
           used_free b in_use (subst (λ (n : ℕ). IsReserved b n) count at)
 
-      untouched : IsUntouched other
-      untouched = record {
-        whole = record { rows = opens.has_rows; way = opens.saved.readable };
+      can : CanGoBack other
+      can = record {
+        way = record { log = opens.has_rows.log; readable = opens.saved.readable };
         there = λ none. no_some file (sym none ∙ saved);
         accepted = same_volume.accepted;
         in_place = in_place;
@@ -134,7 +134,7 @@ module _ (o : Options) (ids : Ids) (now : ℕ) (image other : Image) (m : Making
       }
 
       goes_back : GoesBack image other
-      goes_back = record { untouched = untouched; used = same_used; blocks = same_blocks; volume = same_volume }
+      goes_back = record { can = can; used = same_used; blocks = same_blocks; volume = same_volume }
 
 pub converted_volumes_go_back : NewIdsFit → ChunksMap → ConvertedIsReadable → EntriesAreThere → NamesKeepRules → ConvertedReservedAreSound → ConvertedVolumesOpen → UsedBlocksDecide → ConvertedVolumesGoBack
 converted_volumes_go_back fit maps readable entries names reserved opens decide = λ o ids now image other new size low are has bytes.

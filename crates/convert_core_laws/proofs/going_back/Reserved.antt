@@ -1,5 +1,5 @@
 -- No part of a converted volume lies in a reserved block.
-use Rattle.std.proofs.Common.{◌≡◌, ◌≤◌, ◌<◌, ℕ, ◌+◌, ◌-◌, ◌*◌, ◌/◌, eqb, Bool, true, false, List, [], ◌∷◌, ◌++◌, length, map, Option, Some, refl, sym, ap, subst, ◌∙◌, ⊎_elim, arith}
+use Rattle.std.proofs.Common.{◌≡◌, ◌≤◌, ◌<◌, ℕ, ◌+◌, ◌-◌, ◌*◌, ◌/◌, eqb, Bool, true, false, List, [], ◌∷◌, ◌++◌, length, map, Option, None, Some, refl, sym, ap, subst, ◌∙◌, ⊎_elim, arith}
 use Rattle.std.specs.Prelude.{Contains, if◌then◌else◌}
 use Rattle.std.proofs.lemmas.List.{map-append}
 use Rattle.std.proofs.lemmas.List.Sorted.{Contains-permutation, IsPermutation-sym}
@@ -24,7 +24,7 @@ use Rattle.btr_reader.specs.btr_super.declared.superblock.Super.{Super}
 use Rattle.convert_core.specs.btr_tree.Laws.{GivesItself}
 use Rattle.convert_core.specs.btr_tree.declared.climb.Root.{Root}
 use Rattle.btr_reader.specs.btr_reader_walk.Events.{TreeItem, nodes_in, walk_events}
-use Rattle.btr_reader.specs.btr_reader_walk.Map.{holds, place}
+use Rattle.btr_reader.specs.btr_reader_walk.Map.{holds, place, second_place}
 use Rattle.btr_reader.specs.btr_reader_walk.Tree.{bare_item}
 use Rattle.btr_reader.specs.btr_reader_walk.Walks.{found}
 use Rattle.btr_reader.specs.btr_reader_walk.declared.map.MapRange.{MapRange}
@@ -43,7 +43,7 @@ use Rattle.convert_core_laws.proofs.reading.Superblock.{size}
 use Rattle.btr_reader.specs.Apart.{boot_map}
 use Rattle.reiser_volume.proofs.reiser_bitmap.Ranges.{all_from_contains, contains_cases}
 use Rattle.reiser_volume.specs.Volume.{used_of}
-use Rattle.volume_state.specs.Using.{HoldsExtent, HoldsNodeOf, HoldsPartOf, IsInUse, chunk_node, file_part, file_trees, root_node}
+use Rattle.volume_state.specs.Using.{HasPlace, HoldsExtent, HoldsNodeOf, HoldsPartOf, IsInUse, chunk_node, file_part, file_trees, root_node}
 use Rattle.convert_core_laws.specs.soundness.Recounted.{recount_for, tree_for}
 use Rattle.convert_core_laws.proofs.soundness.Nodes.{chunk_at as chunk_nodes_at, met as met_by, packed_at}
 use Rattle.convert_core_laws.proofs.soundness.Recounting.{form_is, total_is}
@@ -52,6 +52,7 @@ use Rattle.convert_core.specs.space_items.declared.node.TreeNode.{TreeNode}
 use Rattle.convert_trees_laws.proofs.Booting.{blocks_are}
 use Rattle.convert_core.specs.btr_tree_writer.Trees.{pointer_to_root}
 use Rattle.convert_core.specs.convert_options.declared.options.Options.{Options}
+use Rattle.convert_core.specs.unit_plan.declared.chunk.PlannedChunk.{PlannedChunk}
 use Rattle.convert_core.specs.unit_plan.declared.piece.Piece.{Piece}
 use Rattle.convert_core_laws.proofs.going_back.Extents.{IsOfPiece, body_range, file_range, saved_range}
 use Rattle.convert_core_laws.proofs.going_back.Options.{no_some, some_is, when_true}
@@ -64,6 +65,18 @@ place_before (x ∷ xs) ys a p is = by (place_before xs ys a p) (holds x a) is
     by : (place xs a ≡ Some p → place (xs ++ ys) a ≡ Some p) → (t : Bool) → (if t then Some (x.physical + (a - x.logical)) else place xs a) ≡ Some p → (if t then Some (x.physical + (a - x.logical)) else place (xs ++ ys) a) ≡ Some p
     by rest true told = told
     by rest false told = rest told
+
+-- a chunk of a conversion has one copy
+no_second : (cs : List PlannedChunk) (a : ℕ) → second_place (map range_for cs) a ≡ None
+no_second [] a = refl
+no_second (c ∷ cs) a = by (holds (range_for c) a) (no_second cs a)
+  where
+    by : (t : Bool) → second_place (map range_for cs) a ≡ None → (if t then None else second_place (map range_for cs) a) ≡ None
+    by true rest = refl
+    by false rest = rest
+
+only_first : (cs : List PlannedChunk) (a p : ℕ) → HasPlace (map range_for cs) a p → place (map range_for cs) a ≡ Some p
+only_first cs a p placed = ⊎_elim (λ is. is) (λ is. absurd (no_some p (sym (no_second cs a) ∙ is))) placed
 
 module _ (m : Making) (r : VolumeTrees) (nodes : List TreeNode) where
   chunk_tree_is : chunk_tree (super_for m r nodes) ≡ tree_of (super_for m r nodes) CHUNK_TREE (pointer_to_root r.chunk)
@@ -109,6 +122,12 @@ module _ (o : Options) (ids : Ids) (now : ℕ) (image other : Image) (m : Making
   extent_free span kind a p extent low high there reserved =
       sound span kind a p extent low high (ap (λ (rs : List MapRange). place rs a) map_is ∙ there) (subst (λ (n : ℕ). IsReserved (p / 4096) n) (sym volume_is) reserved)
 
+  -- by either copy: there is one alone
+  only_own : (a p : ℕ) → HasPlace (own_map other) a p → place (own_map other) a ≡ Some p
+  only_own a p placed =
+      let whole : own_map other ≡ map_for m.chunks = ap (chunk_map other) is.super_is ∙ maps.map_is in
+      ap (λ (rs : List MapRange). place rs a) whole ∙ only_first (boot_part m.chunks ++ other_part m.chunks) a p (subst (λ (rs : List MapRange). HasPlace rs a p) whole placed)
+
   -- a byte of a node of one of the trees
   node_free : (t : TreeOn) (p : NodePointer) (j at : ℕ) → Contains (all_trees k) t → Contains t.nodes p → j < (super_for m r nodes).nodesize → place (map_for m.chunks) (p.address + j) ≡ Some at → ¬ IsReserved (at / 4096) volume
   node_free t p j at of_tree among within there =
@@ -119,7 +138,8 @@ module _ (o : Options) (ids : Ids) (now : ℕ) (image other : Image) (m : Making
   tree_free number root items b of_tree held =
       let lies = held.lies in
       subst (λ (n : ℕ). ¬ IsReserved n volume) lies.block
-      (node_free (tree_for other (super_for m r nodes) number root items) held.node lies.k lies.at of_tree held.among lies.within (ap (λ (rs : List MapRange). place rs (held.node.address + lies.k)) (sym maps.map_is) ∙ lies.place_is))
+      (node_free (tree_for other (super_for m r nodes) number root items) held.node lies.k lies.at of_tree held.among lies.within
+      (only_first (boot_part m.chunks ++ other_part m.chunks) (held.node.address + lies.k) lies.at (subst (λ (rs : List MapRange). HasPlace rs (held.node.address + lies.k) lies.at) maps.map_is lies.place_is)))
 
   -- by its own superblock
   own_tree_free : (number : ℕ) (root : Root) (items : List Item) (b : ℕ) → Contains (all_trees k) (tree_for other (super_for m r nodes) number root items)
@@ -157,7 +177,7 @@ module _ (o : Options) (ids : Ids) (now : ℕ) (image other : Image) (m : Making
       let a : ℕ = held.node.address + lies.k in
       let there : place (map_for m.chunks) a ≡ Some lies.at =
       ap (λ (rs : List MapRange). place rs a) (map-append range_for (boot_part m.chunks) (other_part m.chunks))
-      ∙ place_before (map range_for (boot_part m.chunks)) (map range_for (other_part m.chunks)) a lies.at lies.place_is in
+      ∙ place_before (map range_for (boot_part m.chunks)) (map range_for (other_part m.chunks)) a lies.at (only_first (boot_part m.chunks) a lies.at lies.place_is) in
       subst (λ (n : ℕ). ¬ IsReserved n volume) lies.block (node_free k.chunk_tree held.node lies.k lies.at (0, omega arith, refl) (boot_node held.node held.among) lies.within there)
 
   chunks_free : (b : ℕ) → HoldsNodeOf other (boot_map (own_super other)) (chunk_tree (own_super other)) b → ¬ IsReserved b volume
@@ -170,17 +190,16 @@ module _ (o : Options) (ids : Ids) (now : ℕ) (image other : Image) (m : Making
   -- ---- file extents
 
   -- a byte of a piece
-  piece_free : (p : Piece) (j at : ℕ) → Contains m.pieces p → j < 4096 * p.count → place (own_map other) (4096 * p.place + 0 + j) ≡ Some at → ¬ IsReserved (at / 4096) volume
+  piece_free : (p : Piece) (j at : ℕ) → Contains m.pieces p → j < 4096 * p.count → place (own_map other) (4096 * p.place + j) ≡ Some at → ¬ IsReserved (at / 4096) volume
   piece_free p j at among within there =
-      let same : 4096 * p.place + 0 + j ≡ at = some_is (4096 * p.place + 0 + j) at (sym (is.own.pieces p (4096 * p.place + 0 + j) among (omega arith) (omega (arith, within))) ∙ there) in
+      let same : 4096 * p.place + j ≡ at = some_is (4096 * p.place + j) at (sym (is.own.pieces p (4096 * p.place + j) among (omega arith) (omega (arith, within))) ∙ there) in
       piece_apart m.volume image m.options m.plan m.pieces making.has_pieces p among (at / 4096) (omega (arith, same)) (omega (arith, same, within))
 
-  range_free : (range : DiskRange) (j at : ℕ) → IsOfPiece m range → j < range.num_bytes → place (own_map other) (range.disk_bytenr + range.offset + j) ≡ Some at → ¬ IsReserved (at / 4096) volume
+  range_free : (range : DiskRange) (j at : ℕ) → IsOfPiece m range → j < range.disk_num_bytes → place (own_map other) (range.disk_bytenr + j) ≡ Some at → ¬ IsReserved (at / 4096) volume
   range_free range j at of within there =
       let first : range.disk_bytenr ≡ 4096 * of.piece.place = ap (λ (x : DiskRange). x.disk_bytenr) of.range_is in
-      let offset : range.offset ≡ 0 = ap (λ (x : DiskRange). x.offset) of.range_is in
-      let long : range.num_bytes ≡ 4096 * of.piece.count = ap (λ (x : DiskRange). x.num_bytes) of.range_is in
-      let address : range.disk_bytenr + range.offset + j ≡ 4096 * of.piece.place + 0 + j = omega (arith, first, offset) in
+      let long : range.disk_num_bytes ≡ 4096 * of.piece.count = ap (λ (x : DiskRange). x.disk_num_bytes) of.range_is in
+      let address : range.disk_bytenr + j ≡ 4096 * of.piece.place + j = omega (arith, first) in
       piece_free of.piece j at of.among (omega (arith, within, long)) (ap (λ (a : ℕ). place (own_map other) a) (sym address) ∙ there)
 
   -- of a tree whose file extents are those of pieces
@@ -189,7 +208,7 @@ module _ (o : Options) (ids : Ids) (now : ℕ) (image other : Image) (m : Making
   extents_free items b each held =
       let lies = held.lies in
       let told : (eqb held.item.key.kind EXTENT_DATA ≡ true) × (body_range held.item.body ≡ Some held.range) = when_true (eqb held.item.key.kind EXTENT_DATA) (body_range held.item.body) held.range held.range_is in
-      subst (λ (n : ℕ). ¬ IsReserved n volume) lies.block (range_free held.range lies.k lies.at (each held.item held.range held.among told.0 told.1) lies.within lies.place_is)
+      subst (λ (n : ℕ). ¬ IsReserved n volume) lies.block (range_free held.range lies.k lies.at (each held.item held.range held.among told.0 told.1) lies.within (only_own (held.range.disk_bytenr + lies.k) lies.at lies.place_is))
 
   bare_in : (items : List TreeItem) (list : List Item) (i : TreeItem) → map bare_item items ≡ list → Contains items i → Contains list (bare_item i)
   bare_in items list i are h = subst (λ (l : List Item). Contains l (bare_item i)) are (in_map bare_item items i h)

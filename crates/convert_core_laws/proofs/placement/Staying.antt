@@ -1,7 +1,8 @@
 -- The data of files stays where it is.
-use Rattle.std.proofs.Common.{ℕ, List, subst}
+use Rattle.std.proofs.Common.{ℕ, ◌+◌, ◌<◌, List, subst}
 use Rattle.btrfs_format.specs.declared.object.TheConstants.{FS_TREE}
 use Rattle.reiser_volume.specs.outside.History.{Image}
+use Rattle.reiser_volume.specs.reiser_super.declared.superblock.Super.{Super}
 use Rattle.reiser_volume.specs.vol_block.declared.ids.Ids.{Ids}
 use Rattle.btr_reader.specs.Image.{items_at}
 use Rattle.btr_reader.specs.Parts.{own_map, own_super}
@@ -9,6 +10,7 @@ use Rattle.btr_reader.specs.btr_reader_walk.Events.{TreeItem}
 use Rattle.convert_core.specs.convert_steps.Making.{IsMaking, Making}
 use Rattle.convert_core.specs.convert_steps.Source.{HasPieces, made_from}
 use Rattle.convert_core.specs.convert_steps.Standing.{file_tree_items}
+use Rattle.convert_core.specs.convert_steps.Switch.{IsMirrorOf}
 use Rattle.convert_core.specs.convert_steps.declared.trees.VolumeTrees.{VolumeTrees}
 use Rattle.convert_core.proofs.Moving.{taken_free}
 use Rattle.convert_core.proofs.Putting.{used_not_free}
@@ -67,7 +69,7 @@ module _ (readable : ConvertedIsReadable) (held : FilesAreHeld) (names : NamesAr
 
   pub in_place : IsInPlace image other
   in_place = record {
-    used = λ b used super mirror. v.new.others b super mirror (λ taken. used_not_free image b used (taken_free m.volume image m.options m.plan m.pieces of b taken));
+    used = λ b used super mirror. v.new.others b super (λ (is : IsMirrorOf m.volume.sup.blocks b). mirror (is.0, subst (λ (s : Super). b + 1 < s.blocks) of.opened.sup is.1)) (λ taken. used_not_free image b used (taken_free m.volume image m.options m.plan m.pieces of b taken));
     at = pointer_to_root r.files;
     has_root = pointer_by other (own_super other) (own_map other) FS_TREE r.files (file_tree_items image m) tree;
     files = λ key named. file_stays key;

@@ -23,11 +23,12 @@ use Rattle.btr_reader.specs.btr_space_items.Chunk.{chunk_bytes, chunk_layout}
 use Rattle.btr_reader.specs.btr_space_items.Device.{device_bytes}
 use Rattle.btr_reader.specs.btr_space_items.Stripe.{stripe_layout}
 use Rattle.btr_reader.specs.btr_space_items.declared.chunk.Chunk.{Chunk}
-use Rattle.btr_reader.proofs.btr_space_items.Records.{chunks_read_back}
+use Rattle.btr_reader.specs.btr_space_items.declared.stripe.Stripe.{Stripe}
+use Rattle.btr_reader.proofs.ArrayBack.{chunk_made}
 use Rattle.btr_reader.specs.btr_reader_walk.Events.{TreeItem}
 use Rattle.btr_reader.specs.btr_reader_walk.Tree.{bare_item}
 use Rattle.btr_reader.specs.btr_reader_walk.declared.map.MapRange.{MapRange}
-use Rattle.btr_reader.specs.Chunks.{beside_refusals, chunk_in, chunk_item_refusals, chunk_refusals, chunks_refusals, is_read_kind, items_refusals, lies_on, new_chunk, overlap, same_body, same_chunk, with_chunk, with_items}
+use Rattle.btr_reader.specs.Chunks.{beside_refusals, chunk_in, chunk_item_refusals, chunk_refusals, chunks_refusals, is_read_kind, items_refusals, lies_on, new_chunk, overlap, same_body, same_chunk, same_mirror, same_stripe, stripes_of, with_chunk, with_items}
 use Rattle.btr_reader.specs.Laws.{FitsArray, array_entry}
 use Rattle.btr_reader.specs.declared.chunk.ChunkAt.{ChunkAt}
 use Rattle.convert_core.specs.convert_steps.Superblock.{is_system_role, record_bytes}
@@ -51,7 +52,7 @@ body_fits ids c long small = ((((((((((tt, omega (arith, small)), omega arith), 
     kind_low Data = omega arith
 
 fits_array : (ids : Ids) (c : PlannedChunk) → length ids.device ≡ 16 → c.start + c.length ≤ 2 ^ 29 → FitsArray (chunk_at ids c)
-fits_array ids c long small = record { logical = omega (arith, small); fields = body_fits ids c long small; single = refl }
+fits_array ids c long small = record { logical = omega (arith, small); fields = body_fits ids c long small; single = refl; alone = refl }
 
 pub all_fit : (ids : Ids) (cs : List PlannedChunk) → length ids.device ≡ 16 → ((c : PlannedChunk) → Contains cs c → c.start + c.length ≤ 2 ^ 29) → AllByRecursion FitsArray (map (chunk_at ids) cs)
 all_fit ids [] long small = tt
@@ -91,7 +92,12 @@ kind_read System = refl
 kind_read Metadata = refl
 kind_read Data = refl
 
-four_hold : (a b c d : Bool) → a ≡ true → b ≡ true → c ≡ true → d ≡ true → (a && (b && (c && d))) ≡ true
+stripes_read : (role : Role) → eqb 1 (stripes_of (chunk_kind role)) ≡ true
+stripes_read System = refl
+stripes_read Metadata = refl
+stripes_read Data = refl
+
+four_hold : (a b c d : Bool) → a ≡ true → b ≡ true → c ≡ true → d ≡ true → (a && (b && ((c && d) && true))) ≡ true
 four_hold a b c d e f g h = rw (e, f, g, h) refl
 
 on_device : (ids : Ids) (device : ℕ) (c : PlannedChunk) → LiesOn device c → lies_on device (chunk_at ids c) ≡ true
@@ -101,10 +107,10 @@ on_device ids device c is =
     (le-leb (4096 * c.start + 4096 * c.length) (4096 * device) (omega (arith, end)))
 
 own_sound : (ids : Ids) (device : ℕ) (c : PlannedChunk) → LiesOn device c → chunk_refusals device (chunk_at ids c) ≡ []
-own_sound ids device c is = by _ _ (kind_read c.role) (on_device ids device c is)
+own_sound ids device c is = by _ _ _ (kind_read c.role) (stripes_read c.role) (on_device ids device c is)
   where
-    by : (a b : Bool) → a ≡ true → b ≡ true → refused_unless a (Unsupported ChunkType (chunk_kind c.role)) ++ ([] ++ refused_unless b (BadBtrfs (4096 * c.start) ChunkForm)) ≡ []
-    by a b s t = rw (s, t) refl
+    by : (a n b : Bool) → a ≡ true → n ≡ true → b ≡ true → refused_unless a (Unsupported ChunkType (chunk_kind c.role)) ++ (refused_unless n (Unsupported ChunkType 1) ++ refused_unless b (BadBtrfs (4096 * c.start) ChunkForm)) ≡ []
+    by a n b s u t = rw (s, u, t) refl
 
 -- nothing is wrong with a chunk beside others
 beside_sound : (ids : Ids) (device : ℕ) (c : PlannedChunk) (ds : List PlannedChunk) → LiesOn device c → ((d : PlannedChunk) → Contains ds d → AreApart c d) → beside_refusals device (map range_for ds) (chunk_at ids c) ≡ []
@@ -143,10 +149,18 @@ same_list : (xs : List ℕ) → pointwise nat_eq xs xs ≡ true
 same_list [] = refl
 same_list (x ∷ xs) = and_from (eqb x x) (pointwise nat_eq xs xs) (eq-eqb x x refl) (same_list xs)
 
+stripe_itself : (s : Stripe) → same_stripe s s ≡ true
+stripe_itself s = and_from _ _ (eq-eqb s.devid s.devid refl) (and_from _ _ (eq-eqb s.offset s.offset refl) (same_list s.device_uuid))
+
+mirror_itself : (m : Option Stripe) → same_mirror m m ≡ true
+mirror_itself None = refl
+mirror_itself (Some s) = stripe_itself s
+
 pub same_itself : (a : ChunkAt) → same_chunk a a ≡ true
 same_itself a =
     let b : Chunk = a.chunk in
     and_from _ _ (eq-eqb a.logical a.logical refl)
+    (and_from _ _
     (and_from _ _ (eq-eqb b.length b.length refl)
     (and_from _ _ (eq-eqb b.owner b.owner refl)
     (and_from _ _ (eq-eqb b.stripe_len b.stripe_len refl)
@@ -155,9 +169,8 @@ same_itself a =
     (and_from _ _ (eq-eqb b.io_width b.io_width refl)
     (and_from _ _ (eq-eqb b.sector_size b.sector_size refl)
     (and_from _ _ (eq-eqb b.num_stripes b.num_stripes refl)
-    (and_from _ _ (eq-eqb b.sub_stripes b.sub_stripes refl)
-    (and_from _ _ (eq-eqb b.stripe.devid b.stripe.devid refl)
-    (and_from _ _ (eq-eqb b.stripe.offset b.stripe.offset refl) (same_list b.stripe.device_uuid))))))))))))
+    (and_from _ _ (eq-eqb b.sub_stripes b.sub_stripes refl) (stripe_itself b.stripe))))))))))
+    (mirror_itself a.mirror))
 
 -- a chunk of the array is no new one
 known : (ids : Ids) (boot : List PlannedChunk) (c : PlannedChunk) → Contains boot c → list_any (same_chunk (chunk_at ids c)) (map (chunk_at ids) boot) ≡ true
@@ -172,7 +185,7 @@ known ids (d ∷ boot) c h =
 not_same : (ids : Ids) (c d : PlannedChunk) → AreApart c d → 1 ≤ c.length → 1 ≤ d.length → same_chunk (chunk_at ids c) (chunk_at ids d) ≡ false
 not_same ids c d apart some also =
     let other : 4096 * c.start ≢ 4096 * d.start = λ e. ⊎_elim (λ low. omega (arith, low, e, some)) (λ high. omega (arith, high, e, also)) apart in
-    ap (λ (b : Bool). b && same_body (chunk_body ids c) (chunk_body ids d)) (ne_eqb (4096 * c.start) (4096 * d.start) other)
+    ap (λ (b : Bool). b && (same_body (chunk_body ids c) (chunk_body ids d) && true)) (ne_eqb (4096 * c.start) (4096 * d.start) other)
 
 unknown : (ids : Ids) (boot : List PlannedChunk) (c : PlannedChunk) → 1 ≤ c.length → ((d : PlannedChunk) → Contains boot d → (1 ≤ d.length) × AreApart c d) → list_any (same_chunk (chunk_at ids c)) (map (chunk_at ids) boot) ≡ false
 unknown ids [] c some each = refl
@@ -189,7 +202,7 @@ item_of_chunk : (ids : Ids) (boot : List ChunkAt) (c : PlannedChunk) (key : Key)
 item_of_chunk ids boot c key body long small key_is body_is =
     ap (λ (k : Key). chunk_in boot k body) key_is
     ∙ (ap (λ (b : List ℕ). chunk_in boot (make_key FIRST_CHUNK_TREE_OBJECTID CHUNK_ITEM (4096 * c.start)) b) body_is
-    ∙ ap (λ (o : Option Chunk). option_map (λ (x : Chunk). new_chunk boot (record { logical = 4096 * c.start; chunk = x })) o) (chunks_read_back (chunk_body ids c) (body_fits ids c long small) refl))
+    ∙ ap (λ (o : Option ChunkAt). option_map (new_chunk boot) o) (chunk_made (chunk_at ids c) (fits_array ids c long small)))
 
 -- the key and the body of an item
 pub item_parts : (i : TreeItem) (items : List TreeItem) (x : Item) (xs : List Item) → map bare_item (i ∷ items) ≡ x ∷ xs → (i.key ≡ x.0) × (i.body ≡ x.1) × (map bare_item items ≡ xs)

@@ -1,6 +1,6 @@
 -- A converted volume is opened.
 use Rattle.std.proofs.Common.{◌≡◌, ◌⊎◌, ◌≤◌, ◌<◌, ℕ, ◌+◌, ◌-◌, ◌^◌, inl, inr, true, false, List, [], ◌++◌, length, map, take, drop, get_or, replicate, Option, Some, Ok, refl, sym, ap, subst, ◌∙◌, ⊎_elim, arith}
-use Rattle.std.specs.Prelude.{All, AllPairs, Contains}
+use Rattle.std.specs.Prelude.{All, AllPairs, Contains, unwrap_or}
 use Rattle.std.specs.List.{flat_map}
 use Rattle.std.proofs.lemmas.Bool.{both_ways, cases_lt}
 use Rattle.std.proofs.lemmas.List.{get_or_default}
@@ -16,6 +16,7 @@ use Rattle.btr_reader.specs.btr_node.Leaf.{Item}
 use Rattle.btr_reader.specs.btr_node.NodeSize.{IsNodeSize}
 use Rattle.btr_reader.specs.csum_kinds.declared.kind.SumKind.{SumKind}
 use Rattle.btr_reader.specs.csum_kinds.declared.kind.SumKind.TheVariants.{Crc32c}
+use Rattle.btr_reader.specs.btr_super.Sums.{csum_number, known_kind}
 use Rattle.btr_reader.specs.Chunks.{chunks_refusals, items_refusals, range_of, with_items}
 use Rattle.btr_reader.specs.Laws.{array_entry}
 use Rattle.btr_reader.specs.Opening.{IsBtrfsOpened, boot_chunks, boot_list, boot_refusals, chunk_tree, form_of, map_from, opening_refusals, or_later, refusals_after, root_tree, super_on, tree_of, trees_refusals}
@@ -51,7 +52,8 @@ use Rattle.convert_core_laws.specs.reading.Opened.{IsNewVolume, boot_part, chunk
 use Rattle.convert_core_laws.proofs.reading.Chunks.{AreApart, AreRead, Come, LiesOn, all_fit, array_sound, entries_are, tree_read}
 use Rattle.convert_core_laws.proofs.reading.Mapped.{all_itself, boot_nodes, ranges_are as are_ranges_of}
 use Rattle.convert_core_laws.proofs.reading.Stood.{IsRead, read_by}
-use Rattle.convert_core_laws.proofs.reading.Superblock.{size, super_reads}
+use Rattle.convert_core_laws.proofs.reading.Superblock.{size, super_reads, own_fsid}
+use Rattle.btr_reader.proofs.btr_super.SumNumbers.{known-number}
 
 -- two chunks of a list that ascends lie apart, or are one
 two_of : (cs : List PlannedChunk) (c d : PlannedChunk) → AllPairs (λ c d. c.start + c.length ≤ d.start) cs → Contains cs c → Contains cs d → (c ≡ d) ⊎ AreApart c d
@@ -78,12 +80,15 @@ module _ (m : Making) (r : VolumeTrees) (nodes : List TreeNode) where
   unfolding new_super
   array_size = refl
 
-  only_kind : (kind : SumKind) → Crc32c ≡ kind
-  only_kind Crc32c = refl
+  kind_is : unwrap_or (known_kind (csum_number m.options.sums)) Crc32c ≡ m.options.sums
+  kind_is = ap (λ (known : Option SumKind). unwrap_or known Crc32c) (known-number m.options.sums)
 
   form_is : form_of (super_for m r nodes) ≡ form m
   unfolding new_super
-  form_is = ap (λ (kind : SumKind). let f : Form = record { fsid = (new_ids m).fsid; nodesize = m.options.nodesize; sums = kind } in f) (only_kind m.options.sums)
+  form_is =
+      ap (λ (id : List ℕ). let f : Form = record { fsid = id; nodesize = m.options.nodesize; sums = unwrap_or (known_kind (csum_number m.options.sums)) Crc32c } in f)
+      (own_fsid m r nodes)
+      ∙ ap (λ (kind : SumKind). let f : Form = record { fsid = (new_ids m).fsid; nodesize = m.options.nodesize; sums = kind } in f) kind_is
 
   abbrev tree_by : Form → ℕ → NodePointer → Tree
   tree_by f owner root = record { form = f; root = root; owner = owner }

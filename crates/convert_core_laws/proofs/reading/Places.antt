@@ -16,7 +16,7 @@ use Rattle.reiser_volume.specs.Volume.{used_of}
 use Rattle.convert_core.specs.extent_pieces.Laws.{LieWell, LiesInUnit}
 use Rattle.convert_core.proofs.extent_pieces.Lists.{all_at, any_from}
 use Rattle.convert_core.specs.unit_plan.Choice.{holds_data, is_among, is_data}
-use Rattle.convert_core.specs.unit_plan.Chunks.{AreChunks, HoldsUnit, IsChunk, is_data_unit, role_of, usable_end, use_of}
+use Rattle.convert_core.specs.unit_plan.Chunks.{AreChunks, HoldsUnit, IsChunk, is_data_unit, is_filler, role_of, usable_end, use_of}
 use Rattle.convert_core.specs.unit_plan.Needed.{need}
 use Rattle.convert_core.specs.unit_plan.Laws.{IsSoundPlan}
 use Rattle.convert_core.specs.unit_plan.declared.chunk.PlannedChunk.{PlannedChunk}
@@ -46,11 +46,11 @@ pub record HasBlockOf (role : Role) (chunks : List PlannedChunk) (b : ℕ) : Typ
   pub role_is : has.chunk.role ≡ role
 
 -- a unit that is used for something
-by_uses : (s m d : Bool) → (s || (m || d)) ≡ true → (role : Role) × ((if s then Some System else if m then Some Metadata else if d then Some Data else None) ≡ Some role)
-by_uses true m d t = (System, refl)
-by_uses false true d t = (Metadata, refl)
-by_uses false false true t = (Data, refl)
-by_uses false false false t = absurd (cc)
+by_uses : (s m d f : Bool) → (s || (m || d)) ≡ true → (role : Role) × ((if s then Some System else if m then Some Metadata else if d || f then Some Data else None) ≡ Some role)
+by_uses true m d f t = (System, refl)
+by_uses false true d f t = (Metadata, refl)
+by_uses false false true f t = (Data, refl)
+by_uses false false false f t = absurd (cc)
 
 some_role : (a b : Role) → Some a ≡ Some b → a ≡ b
 some_role a b is = cc
@@ -109,7 +109,7 @@ module _ (image : Image) (m : Making) (made : IsMaking image m) where
   -- a block of a unit that is used
   in_use : (b : ℕ) → 1 ≤ b / 256 → b < usable_end n → (is_among m.plan.system (b / 256) || (is_among m.plan.metadata (b / 256) || is_data_unit used m.plan (b / 256))) ≡ true → HasBlock m.chunks b
   in_use b some inside t =
-      let role = by_uses (is_among m.plan.system (b / 256)) (is_among m.plan.metadata (b / 256)) (is_data_unit used m.plan (b / 256)) t in
+      let role = by_uses (is_among m.plan.system (b / 256)) (is_among m.plan.metadata (b / 256)) (is_data_unit used m.plan (b / 256)) (is_filler used m.plan (b / 256)) t in
       let is : role_of m.plan n (b / 256) ≡ Some role.0 = role_is used (need of.found.counts m.options) m.plan plan_sound (b / 256) some ∙ role.1 in
       (in_role role.0 b is inside).has
 

@@ -18,7 +18,7 @@ use Rattle.btr_reader.specs.btr_keys.Stamp.{stamp_layout}
 use Rattle.btr_reader.specs.btr_reader_names.Roots.{has_root, is_root_of}
 use Rattle.btr_reader.specs.btr_node.Leaf.{Item}
 use Rattle.btr_reader.specs.Roots.{last_or, pointer_of, root_item, root_pointer as read_pointer}
-use Rattle.btr_reader.specs.btr_space_items.RootItem.{root_item_bytes, root_item_layout}
+use Rattle.btr_reader.specs.btr_space_items.RootItem.{root_item_bytes, root_item_layout, root_item_of}
 use Rattle.btr_reader.specs.btr_space_items.declared.root_item.RootItem.{RootItem}
 use Rattle.btr_reader.proofs.btr_space_items.Records.{root_items_read_back}
 use Rattle.btr_reader.specs.btr_reader_walk.Events.{TreeItem}
@@ -64,10 +64,14 @@ body_fits ids nodesize r are small address low few =
 low_pointer : (r : RootItem) → r.level ≤ 7 → read_pointer r ≡ Some (record { address = r.bytenr; level = r.level; generation = r.generation })
 low_pointer r low = ap (λ (b : Bool). if b then None else Some (record { address = r.bytenr; level = r.level; generation = r.generation })) (le-ltb 7 r.level low)
 
+pub root_reads : (ids : Ids) (nodesize : ℕ) (r : TreeRoot) → AreIds ids → nodesize ≤ 65536 → r.root.address < 2 ^ 64 → r.root.level ≤ 7 → r.root.nodes ≤ 2 ^ 40
+    → root_item_of (root_item_bytes (root_body ids nodesize r)) ≡ Some (root_body ids nodesize r)
+root_reads ids nodesize r are small address low few = root_items_read_back (root_body ids nodesize r) (body_fits ids nodesize r are small address low few)
+
 pub leads : (ids : Ids) (nodesize : ℕ) (r : TreeRoot) → AreIds ids → nodesize ≤ 65536 → r.root.address < 2 ^ 64 → r.root.level ≤ 7 → r.root.nodes ≤ 2 ^ 40
     → pointer_of (root_item_bytes (root_body ids nodesize r)) ≡ Some (pointer_to_root r.root)
 leads ids nodesize r are small address low few =
-    ap (λ (o : Option RootItem). option_and_then read_pointer o) (root_items_read_back (root_body ids nodesize r) (body_fits ids nodesize r are small address low few))
+    ap (λ (o : Option RootItem). option_and_then read_pointer o) (root_reads ids nodesize r are small address low few)
     ∙ low_pointer (root_body ids nodesize r) low
 
 -- ---- the items of the root tree, one after the other

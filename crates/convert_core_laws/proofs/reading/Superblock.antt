@@ -1,12 +1,12 @@
 -- The superblock of a converted volume reads back.
 use Rattle.std.proofs.Common.{◌≡◌, ◌≤◌, ◌<◌, ℕ, ◌-◌, ◌*◌, ◌%◌, ◌^◌, ◌++◌, ◌&&◌, eqb, Bool, true, false, List, [], ◌∷◌, length, take, drop, replicate, Some, None, Ok, refl, sym, ap, subst, ◌∙◌, ⊎_elim, arith, length-append, length-drop, ◌+◌}
-use Rattle.std.specs.Prelude.{if◌then◌else◌}
+use Rattle.std.specs.Prelude.{if◌then◌else◌, bit_and}
 use Rattle.std.specs.List.{sum_by}
 use Rattle.std.proofs.lemmas.Bool.{eq-eqb, le-leb}
 use Rattle.std.proofs.lemmas.List.{length-replicate, length-take}
 use Rattle.std.proofs.lemmas.List.Elements.{All-drop, All-take}
 use Rattle.btrfs_format.specs.declared.block.TheConstants.{SUPER_BLOCK}
-use Rattle.btrfs_format.specs.declared.feature.TheConstants.{BIG_METADATA, EXTENDED_IREF, MIXED_BACKREF, NO_HOLES, SKINNY_METADATA}
+use Rattle.btrfs_format.specs.declared.feature.TheConstants.{BIG_METADATA, EXTENDED_IREF, MIXED_BACKREF, NO_HOLES, SKINNY_METADATA, METADATA_UUID}
 use Rattle.reiser_volume.specs.outside.History.{Image}
 use Rattle.reiser_volume.specs.refusals.declared.refusal.BtrRefusal.{BtrRefusal}
 use Rattle.reiser_volume.specs.refusals.declared.refusal.BtrRefusal.TheVariants.{Unsupported}
@@ -14,10 +14,10 @@ use Rattle.reiser_volume.specs.refusals.declared.rule.Feature.TheVariants.{Devic
 use Rattle.reiser_volume.specs.vol_block.declared.ids.Ids.{Ids}
 use Rattle.btr_reader.specs.btr_node.NodeSize.{IsNodeSize}
 use Rattle.btr_reader.specs.btr_space_items.Device.{device_layout}
-use Rattle.btr_reader.specs.csum_kinds.declared.kind.SumKind.TheVariants.{Crc32c}
+use Rattle.btr_reader.specs.csum_kinds.declared.kind.SumKind.{SumKind}
 use Rattle.btr_reader.specs.btr_super.Rules.{bad_field, failing, field_rules, has_fields, is_node_size, super_of, unread_bits}
-use Rattle.btr_reader.specs.btr_super.Sums.{known_kind}
-use Rattle.btr_reader.specs.btr_super.Super.{super_bytes, super_layout}
+use Rattle.btr_reader.specs.btr_super.Sums.{csum_number, known_kind}
+use Rattle.btr_reader.specs.btr_super.Super.{super_bytes, super_layout, node_fsid}
 use Rattle.btr_reader.proofs.btr_super.ReadBack.{supers_read_back}
 use Rattle.btr_reader.specs.Opening.{super_on}
 use Rattle.btr_reader.specs.Parts.{log_of}
@@ -41,6 +41,7 @@ use Rattle.convert_core_laws.specs.reading.Opened.{IsNewVolume, super_for}
 use Rattle.convert_core_laws.proofs.reading.Mapped.{chunk_slot_small, slot_small}
 use Rattle.convert_core_laws.proofs.reading.Numbers.{chunk_slots_few, size_small, slots_few, used_small}
 use Rattle.convert_core_laws.proofs.reading.Stood.{root_at, root_low}
+use Rattle.btr_reader.proofs.btr_super.SumNumbers.{known-number, number-small}
 
 -- a label's field is filled up
 label_long : (bytes : List ℕ) → length (label_field bytes) ≡ 256
@@ -67,6 +68,20 @@ record HasRoom (ids : Ids) (blocks nodesize : ℕ) (label : List ℕ) (chunks : 
   chunk_low : roots.chunk.level ≤ 7
   used : roots.used < 2 ^ 64
 
+-- the nodes have the identifier of the volume
+nodes_fsid : (ids : Ids) (blocks nodesize : ℕ) (sums : SumKind) (label : List ℕ) (chunks : List PlannedChunk) (roots : NewRoots) → node_fsid (new_super ids blocks nodesize sums label chunks roots) ≡ ids.fsid
+unfolding new_super
+nodes_fsid ids blocks nodesize sums label chunks roots = by (eqb nodesize 4096)
+  where
+    by : (b : Bool)
+        → (if eqb (bit_and (if b then MIXED_BACKREF + EXTENDED_IREF + SKINNY_METADATA + NO_HOLES else MIXED_BACKREF + EXTENDED_IREF + SKINNY_METADATA + NO_HOLES + BIG_METADATA) METADATA_UUID) 0 then ids.fsid else replicate 16 0) ≡ ids.fsid
+    by true = refl
+    by false = refl
+
+pub own_fsid : (m : Making) (r : VolumeTrees) (nodes : List TreeNode) → node_fsid (super_for m r nodes) ≡ (new_ids m).fsid
+own_fsid m r nodes =
+    nodes_fsid (new_ids m) m.volume.sup.blocks m.options.nodesize m.options.sums (label_field (label_by m.volume.sup m.options.label)) m.chunks (record { chunk = r.chunk; root = r.root; used = used_bytes m nodes })
+
 features_read : (nodesize : ℕ) → (unread_bits (features nodesize) ≡ 0) × (features nodesize < 2 ^ 64)
 features_read nodesize = by (eqb nodesize 4096)
   where
@@ -81,11 +96,11 @@ sized n size =
     at : (k : ℕ) → n ≡ k → is_node_size k ≡ true → is_node_size n ≡ true
     at k e is = subst (λ (j : ℕ). is_node_size j ≡ true) (sym e) is
 
-module _ (ids : Ids) (blocks nodesize : ℕ) (label : List ℕ) (chunks : List PlannedChunk) (roots : NewRoots) (room : HasRoom ids blocks nodesize label chunks roots) where
+module _ (ids : Ids) (blocks nodesize : ℕ) (sums : SumKind) (label : List ℕ) (chunks : List PlannedChunk) (roots : NewRoots) (room : HasRoom ids blocks nodesize label chunks roots) where
   array_long : length (boot_bytes ids chunks ++ replicate (2048 - length (boot_bytes ids chunks)) 0) ≡ 2048
   array_long = omega (arith, length-append (boot_bytes ids chunks) (replicate (2048 - length (boot_bytes ids chunks)) 0), length-replicate {A = ℕ} (2048 - length (boot_bytes ids chunks)) 0, room.boot)
 
-  fits : super_layout.fits (new_super ids blocks nodesize label chunks roots)
+  fits : super_layout.fits (new_super ids blocks nodesize sums label chunks roots)
   unfolding super_layout new_super
   fits = (
     (
@@ -105,38 +120,41 @@ module _ (ids : Ids) (blocks nodesize : ℕ) (label : List ℕ) (chunks : List P
                                 (
                                   (
                                     (
-                                      (((((((((((((tt, room.ids_.fsid), omega arith), omega arith), omega arith), omega (arith, room.root)), omega (arith, room.chunk)), omega arith), omega arith), omega (arith, room.small)), omega (arith, room.used)), omega arith), omega arith), omega arith),
+                                      (
+                                        (((((((((((((tt, room.ids_.fsid), omega arith), omega arith), omega arith), omega (arith, room.root)), omega (arith, room.chunk)), omega arith), omega arith), omega (arith, room.small)), omega (arith, room.used)), omega arith), omega arith), omega arith),
+                                        omega (arith, size_small nodesize room.size),
+                                      ),
                                       omega (arith, size_small nodesize room.size),
                                     ),
-                                    omega (arith, size_small nodesize room.size),
+                                    omega arith,
                                   ),
-                                  omega arith,
+                                  omega (arith, room.boot),
                                 ),
-                                omega (arith, room.boot),
+                                omega arith,
                               ),
                               omega arith,
                             ),
                             omega arith,
                           ),
-                          omega arith,
+                          omega (arith, (features_read nodesize).1),
                         ),
-                        omega (arith, (features_read nodesize).1),
+                        number-small sums,
                       ),
-                      omega arith,
+                      omega (arith, room.root_low),
                     ),
-                    omega (arith, room.root_low),
+                    omega (arith, room.chunk_low),
                   ),
-                  omega (arith, room.chunk_low),
+                  omega arith,
                 ),
-                omega arith,
+                device_fits ids blocks chunks room.ids_ room.small room.fit,
               ),
-              device_fits ids blocks chunks room.ids_ room.small room.fit,
+              room.labelled,
             ),
-            room.labelled,
+            omega arith,
           ),
           omega arith,
         ),
-        omega arith,
+        length-replicate {A = ℕ} 16 0,
       ),
       array_long,
     ),
@@ -149,31 +167,31 @@ module _ (ids : Ids) (blocks nodesize : ℕ) (label : List ℕ) (chunks : List P
   eight_hold : (a b c d e f g h : Bool) → a ≡ true → b ≡ true → c ≡ true → d ≡ true → e ≡ true → f ≡ true → g ≡ true → h ≡ true → (a && (b && (c && (d && (e && (f && (g && h))))))) ≡ true
   eight_hold a b c d e f g h i j k l m n o p = rw (i, j, k, l, m, n, o, p) refl
 
-  fields_hold : (device : ℕ) → blocks ≤ device → has_fields (new_super ids blocks nodesize label chunks roots) SUPER_BLOCK device ≡ true
+  fields_hold : (device : ℕ) → blocks ≤ device → has_fields (new_super ids blocks nodesize sums label chunks roots) SUPER_BLOCK device ≡ true
   unfolding new_super
   fields_hold device inside =
       eight_hold _ _ _ _ _ _ _ _ refl (le-leb roots.root.level 7 room.root_low) (le-leb roots.chunk.level 7 room.chunk_low) refl (le-leb (length (boot_bytes ids chunks)) 2048 room.boot)
       (le-leb (4096 * blocks) (4096 * device) (omega (arith, inside))) (le-leb (4096 * blocks) (2 ^ 48) (omega (arith, room.small))) (eq-eqb ((4096 * blocks) % 4096) 0 (omega arith))
 
-  rules_hold : (device : ℕ) → blocks ≤ device → failing (field_rules (new_super ids blocks nodesize label chunks roots) SUPER_BLOCK device) ≡ []
+  rules_hold : (device : ℕ) → blocks ≤ device → failing (field_rules (new_super ids blocks nodesize sums label chunks roots) SUPER_BLOCK device) ≡ []
   unfolding new_super
   rules_hold device inside =
       five_hold _ _ _ _ _ bad_field (Unsupported Incompat (unread_bits (features nodesize))) (Unsupported SectorSize 4096) (Unsupported NodeSize nodesize) (Unsupported DeviceCount 1) (fields_hold device inside) (eq-eqb (unread_bits (features nodesize)) 0 (features_read nodesize).0) refl (sized nodesize room.size) refl
 
-  kind_is : (new_super ids blocks nodesize label chunks roots).csum_type ≡ 0
+  kind_is : (new_super ids blocks nodesize sums label chunks roots).csum_type ≡ csum_number sums
   unfolding new_super
   kind_is = refl
 
-  log_is : (new_super ids blocks nodesize label chunks roots).log_root ≡ 0
+  log_is : (new_super ids blocks nodesize sums label chunks roots).log_root ≡ 0
   unfolding new_super
   log_is = refl
 
-  reads_back : (device : ℕ) → 16 < device → blocks ≤ device → super_of (super_bytes (new_super ids blocks nodesize label chunks roots)) SUPER_BLOCK device ≡ Ok (new_super ids blocks nodesize label chunks roots)
+  reads_back : (device : ℕ) → 16 < device → blocks ≤ device → super_of (super_bytes (new_super ids blocks nodesize sums label chunks roots)) SUPER_BLOCK device ≡ Ok (new_super ids blocks nodesize sums label chunks roots)
   reads_back device there inside =
-      supers_read_back (new_super ids blocks nodesize label chunks roots) Crc32c 16 device fits known there (rules_hold device inside)
+      supers_read_back (new_super ids blocks nodesize sums label chunks roots) sums 16 device fits known there (rules_hold device inside)
     where
-      known : known_kind (new_super ids blocks nodesize label chunks roots).csum_type ≡ Some Crc32c
-      known = ap known_kind kind_is
+      known : known_kind (new_super ids blocks nodesize sums label chunks roots).csum_type ≡ Some sums
+      known = ap known_kind kind_is ∙ known-number sums
 
 -- of a converted volume
 module _ (o : Options) (ids : Ids) (now : ℕ) (image other : Image) (m : Making) (r : VolumeTrees) (nodes : List TreeNode) (v : IsNewVolume o ids now image other m r nodes) where
@@ -225,12 +243,12 @@ module _ (o : Options) (ids : Ids) (now : ℕ) (image other : Image) (m : Making
       let inside = blocks_inside m.volume image m.options m.plan m.pieces making.has_pieces in
       let some = blocks_some m.volume image m.options m.plan m.pieces making.has_pieces in
       ap (λ (block : List ℕ). super_of block SUPER_BLOCK (length other)) v.new.superblock
-      ∙ reads_back (new_ids m) m.volume.sup.blocks m.options.nodesize (label_field (label_by m.volume.sup m.options.label)) m.chunks (record { chunk = r.chunk; root = r.root; used = used_bytes m nodes }) room (length other) (omega (arith, whole, inside, some)) (omega (arith, whole, inside))
+      ∙ reads_back (new_ids m) m.volume.sup.blocks m.options.nodesize m.options.sums (label_field (label_by m.volume.sup m.options.label)) m.chunks (record { chunk = r.chunk; root = r.root; used = used_bytes m nodes }) room (length other) (omega (arith, whole, inside, some)) (omega (arith, whole, inside))
 
   pub reads : ReadsSuperblock other m r nodes
   reads = record {
     reads = super_reads;
-    log = ap log_of super_reads ∙ ap (λ (n : ℕ). if eqb n 0 then None else Some n) (log_is (new_ids m) m.volume.sup.blocks m.options.nodesize (label_field (label_by m.volume.sup m.options.label)) m.chunks (record { chunk = r.chunk; root = r.root; used = used_bytes m nodes }) room);
+    log = ap log_of super_reads ∙ ap (λ (n : ℕ). if eqb n 0 then None else Some n) (log_is (new_ids m) m.volume.sup.blocks m.options.nodesize m.options.sums (label_field (label_by m.volume.sup m.options.label)) m.chunks (record { chunk = r.chunk; root = r.root; used = used_bytes m nodes }) room);
   }
 
 pub superblock_reads : SuperblockReads

@@ -11,8 +11,8 @@ use Rattle.reiser_volume.proofs.fs_paths.Lists.{at_head, from_filter, head_or_ta
 use Rattle.btr_reader.specs.btr_keys.Inode.{inode_of}
 use Rattle.btr_reader.specs.btr_keys.declared.inode.Inode.{Inode}
 use Rattle.btr_reader.specs.btr_node.Leaf.{Item}
-use Rattle.btr_check_rules.specs.Names.{AreTreeNames, AreOnForm, BackName, NamedEntry, IndexEntry, IsInode, IsThere, IsTreeEntry, back_name, directory_size, hashed_entries, index_entries, ref_name_count, names_inode_item, of_kind, own_name, ref_names}
-use Rattle.btr_check_rules.specs.Recount.{TreeOn}
+use Rattle.btr_check_rules.specs.Names.{AreTreeNames, AreOnForm, BackName, NamedEntry, IndexEntry, IsInode, IsThere, IsTreeEntry, back_name, directory_size, hashed_entries, index_entries, ref_name_count, names_inode_item, own_name, ref_names}
+use Rattle.btr_check_rules.specs.Recount.{TreeOn, of_kind}
 use Rattle.convert_trees_laws.proofs.Rising.{Climb, all_append}
 use Rattle.reiser_volume.proofs.reiser_bitmap.Ranges.{all_from_contains}
 use Rattle.convert_trees_laws.proofs.Lists.{all_in}

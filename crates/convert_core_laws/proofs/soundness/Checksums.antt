@@ -313,7 +313,7 @@ module _ (o : Options) (ids : Ids) (now : ℕ) (image other : Image) (m : Making
       let is : InPiece a = wants_piece a w (wanted_use a w) in
       let low = is.low in
       let high = is.high in
-      let covers : Covers (sums_item sums other) (a / 4096) (sum_items sums other m.pieces) = piece_covered sums other m.pieces is.piece (a / 4096) is.there (omega (arith, low)) (omega (arith, high)) in
+      let covers : Covers sums (sums_item sums other) (a / 4096) (sum_items sums other m.pieces) = piece_covered sums other m.pieces is.piece (a / 4096) is.there (omega (arith, low)) (omega (arith, high)) in
       let item : Item = sums_item sums other covers.at covers.long in
       let count = count_of sums other covers.at covers.long in
       let from = covers.low in

@@ -6,8 +6,7 @@ use Rattle.std.specs.Option.{option_map}
 use Rattle.std.proofs.lemmas.Bool.{cases_Bool, ne_eqb, or_left, or_right}
 use Rattle.reiser_volume.specs.vol_block.declared.ids.Ids.{Ids}
 use Rattle.btr_reader.specs.btr_node.Leaf.{Item}
-use Rattle.btr_reader.specs.btr_space_items.declared.chunk.Chunk.{Chunk}
-use Rattle.btr_reader.proofs.btr_space_items.Records.{chunks_read_back}
+use Rattle.btr_reader.proofs.ArrayBack.{chunk_made}
 use Rattle.btr_reader.specs.Chunks.{chunk_in, new_chunk, same_body, same_chunk}
 use Rattle.btr_reader.specs.declared.chunk.ChunkAt.{ChunkAt}
 use Rattle.btr_check_rules.specs.Recount.{added_chunk, chunks_on}
@@ -33,7 +32,7 @@ unknown ids [] c each = refl
 unknown ids (d ∷ boot) c each =
     let apart : c.start ≢ d.start = each d (contains_head d boot) in
     let other : same_chunk (chunk_at ids c) (chunk_at ids d) ≡ false =
-    ap (λ (b : Bool). b && same_body (chunk_body ids c) (chunk_body ids d)) (ne_eqb (4096 * c.start) (4096 * d.start) (λ e. apart (omega (arith, e)))) in
+    ap (λ (b : Bool). b && (same_body (chunk_body ids c) (chunk_body ids d) && true)) (ne_eqb (4096 * c.start) (4096 * d.start) (λ e. apart (omega (arith, e)))) in
     rw other (unknown ids boot c (λ e h. each e (contains_tail e d boot h)))
 
 module _ (ids : Ids) (boot : List PlannedChunk) (long : length ids.device ≡ 16) where
@@ -55,8 +54,8 @@ module _ (ids : Ids) (boot : List PlannedChunk) (long : length ids.device ≡ 16
 
   of_item : (c : PlannedChunk) → c.start + c.length ≤ 2 ^ 29 → adds (chunk_item ids c) ≡ by_test (chunk_at ids c) (list_any (same_chunk (chunk_at ids c)) array)
   of_item c small =
-      let fits = (all_fit ids (c ∷ []) long (λ d h. ⊎_elim (λ (same : c ≡ d). subst (λ (e : PlannedChunk). e.start + e.length ≤ 2 ^ 29) same small) (λ (none : Contains [] d). absurd (omega (arith, none.1))) (contains_cases d c [] h))).0.fields in
-      ap (λ (o : Option Chunk). added_chunk (option_map (λ (x : Chunk). new_chunk array (record { logical = 4096 * c.start; chunk = x })) o)) (chunks_read_back (chunk_body ids c) fits refl)
+      let fits = (all_fit ids (c ∷ []) long (λ d h. ⊎_elim (λ (same : c ≡ d). subst (λ (e : PlannedChunk). e.start + e.length ≤ 2 ^ 29) same small) (λ (none : Contains [] d). absurd (omega (arith, none.1))) (contains_cases d c [] h))).0 in
+      ap (λ (o : Option ChunkAt). added_chunk (option_map (new_chunk array) o)) (chunk_made (chunk_at ids c) fits)
 
   pub all_added : (cs : List PlannedChunk) → Known cs → flat_map adds (map (chunk_item ids) cs) ≡ map (chunk_at ids) (other_part cs)
   all_added [] is = refl

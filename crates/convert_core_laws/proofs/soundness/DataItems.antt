@@ -62,7 +62,7 @@ module _ (r : Recount) (once : AreDistinct (data_uses r)) (i : Item) where
       (λ e. omega (arith, e), here)
 
   -- one use
-  pub one_ref : (u : DataUse) → Contains (data_uses r) u → i.0 ≡ record { objectid = u.start; kind = EXTENT_ITEM; offset = u.length } → HasRefs i.1 EXTENT_FLAG_DATA 1 (ref_of u ∷ [])
+  pub one_ref : (u : DataUse) → Contains (data_uses r) u → i.0 ≡ record { objectid = u.start; kind = EXTENT_ITEM; offset = u.length } → HasRefs r.super.generation i.1 EXTENT_FLAG_DATA 1 (ref_of u ∷ [])
       → ((v : DataUse) → Contains (data_uses r) v → v.start ≡ u.start → v.length ≡ u.length → u ≡ v) → IsDataItem r i
   one_ref u h key body only =
       let refs : List InlineRef = ref_of u ∷ [] in
@@ -73,7 +73,7 @@ module _ (r : Recount) (once : AreDistinct (data_uses r)) (i : Item) where
         used = h;
         key = key;
         refs = refs;
-        body = subst (λ (n : ℕ). HasRefs i.1 EXTENT_FLAG_DATA n refs) (sym count) body;
+        body = subst (λ (n : ℕ). HasRefs r.super.generation i.1 EXTENT_FLAG_DATA n refs) (sym count) body;
         each = All-cons (CountsUses r u.start u.length) (ref_of u) [] (counts u.start u.length u refl refl h (λ v l s n t. only v l s n)) (All-nil (CountsUses r u.start u.length));
         once = λ a b d l k. absurd (omega (arith, l, k));
         whole = λ v l s n. (1, subst (λ (w : DataUse). Contains refs (ref_of w)) (only v l s n) (at_head (ref_of u) []));
@@ -81,7 +81,7 @@ module _ (r : Recount) (once : AreDistinct (data_uses r)) (i : Item) where
 
   -- two uses, by different trees
   pub two_refs : (u w : DataUse) → Contains (data_uses r) u → Contains (data_uses r) w → w.start ≡ u.start → w.length ≡ u.length → u.tree ≢ w.tree
-      → i.0 ≡ record { objectid = u.start; kind = EXTENT_ITEM; offset = u.length } → HasRefs i.1 EXTENT_FLAG_DATA 2 (ref_of u ∷ (ref_of w ∷ []))
+      → i.0 ≡ record { objectid = u.start; kind = EXTENT_ITEM; offset = u.length } → HasRefs r.super.generation i.1 EXTENT_FLAG_DATA 2 (ref_of u ∷ (ref_of w ∷ []))
       → ((v : DataUse) → Contains (data_uses r) v → v.start ≡ u.start → v.length ≡ u.length → (u ≡ v) ⊎ (w ≡ v)) → IsDataItem r i
   two_refs u w h k start length apart key body only =
       let refs : List InlineRef = ref_of u ∷ (ref_of w ∷ []) in
@@ -93,7 +93,7 @@ module _ (r : Recount) (once : AreDistinct (data_uses r)) (i : Item) where
         used = h;
         key = key;
         refs = refs;
-        body = subst (λ (n : ℕ). HasRefs i.1 EXTENT_FLAG_DATA n refs) (sym count) body;
+        body = subst (λ (n : ℕ). HasRefs r.super.generation i.1 EXTENT_FLAG_DATA n refs) (sym count) body;
         each = All-cons (CountsUses r u.start u.length) (ref_of u) (ref_of w ∷ [])
             (counts u.start u.length u refl refl h (λ v l s n t. ⊎_elim (λ (e : u ≡ v). e) (λ (e : w ≡ v). absurd (apart (sym (ap (λ (x : DataUse). x.tree) e ∙ t)))) (only v l s n)))
             (All-cons (CountsUses r u.start u.length) (ref_of w) []

@@ -61,7 +61,7 @@ module _ (image : Image) (m : Making) (made : IsMaking image m) where
   src = s image m made
 
   -- an entry of a directory is a link, or the root's last one
-  data IsEntry (key : ObjectKey) (x : Indexed) : Type 0 where
+  pub data IsEntry (key : ObjectKey) (x : Indexed) : Type 0 where
     by_link : (f : Link) → Contains (names_in src.links key) f → indexed (kind_in src) src.keys f ≡ x → IsEntry key x
     by_image : key ≡ root → (next_index src.links key, saved_entry) ≡ x → IsEntry key x
 
@@ -86,14 +86,14 @@ module _ (image : Image) (m : Making) (made : IsMaking image m) where
   entry_at key Subvolume x h = absurd (omega (arith, h.1))
 
   -- an entry of the tree
-  record IsOfDirectory (e : IndexEntry) : Type 0 where
-    key : ObjectKey
-    among : Contains (keys m.volume.named) key
-    x : Indexed
-    is : index_by (ino_of src key) x ≡ e
-    entry : IsEntry key x
+  pub record IsOfDirectory (e : IndexEntry) : Type 0 where
+    pub key : ObjectKey
+    pub among : Contains (keys m.volume.named) key
+    pub x : Indexed
+    pub is : index_by (ino_of src key) x ≡ e
+    pub entry : IsEntry key x
 
-  of_directory : (e : IndexEntry) → Contains (flat_map (indexes image m made) (objects image m made)) e → IsOfDirectory e
+  pub of_directory : (e : IndexEntry) → Contains (flat_map (indexes image m made) (objects image m made)) e → IsOfDirectory e
   of_directory e h =
       let at = from_flat_map (indexes image m made) (objects image m made) e h in
       let x = from_map (index_by (ino_of src at.0)) (listed image m made at.0 (kind_in src at.0)) e at.2 in

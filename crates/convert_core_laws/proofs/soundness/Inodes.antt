@@ -62,7 +62,7 @@ use Rattle.convert_core_laws.proofs.soundness.Names.{climbs, from_order, in_orde
 use Rattle.convert_core_laws.proofs.soundness.Objects.{indexes, listed, names, rest_behind, s}
 use Rattle.convert_core_laws.proofs.soundness.Telling.{index_by}
 
-some_same : {A : Type 0} (a b : A) → Some a ≡ Some b → a ≡ b
+pub some_same : {A : Type 0} (a b : A) → Some a ≡ Some b → a ≡ b
 some_same a b e = cc
 
 pub sum_on : {A : Type 0} (v w : A → ℕ) (xs : List A) → ((x : A) → Contains xs x → v x ≡ w x) → sum_by v xs ≡ sum_by w xs
@@ -74,7 +74,7 @@ sum_on v w (x ∷ xs) same =
     let second = sum_by-cons w x xs in
     omega (arith, here, later, first, second)
 
-kept_twice : {A : Type 0} (p q : A → Bool) (xs : List A) → filter p (filter q xs) ≡ filter (λ x. p x && q x) xs
+pub kept_twice : {A : Type 0} (p q : A → Bool) (xs : List A) → filter p (filter q xs) ≡ filter (λ x. p x && q x) xs
 kept_twice p q [] = refl
 kept_twice {A} p q (x ∷ xs) = by (p x) (q x) refl (kept_twice p q xs)
   where
@@ -96,11 +96,15 @@ pub piece_adds : (place count ino block : ℕ) → 1 ≤ place → 4096 * place 
 piece_adds place count ino block some low few =
     ap nbytes_of (regular_read place count low few) ∙ ap (λ (b : Bool). if b then 0 else 4096 * count) (ne_eqb (4096 * place) 0 (λ e. omega (arith, e, some)))
 
-mode_in : (src : Source) (key : ObjectKey) → (inode_in src key).mode ≡ (stat_in src key).fields.mode
+pub mode_in : (src : Source) (key : ObjectKey) → (inode_in src key).mode ≡ (stat_in src key).fields.mode
 unfolding inode_in
 mode_in src key = refl
 
-nlink_in : (src : Source) (key : ObjectKey) → (inode_in src key).nlink ≡ link_count src key
+pub made_once : (src : Source) (key : ObjectKey) → ((inode_in src key).generation ≡ 1) × ((inode_in src key).transid ≡ 1)
+unfolding inode_in
+made_once src key = (refl, refl)
+
+pub nlink_in : (src : Source) (key : ObjectKey) → (inode_in src key).nlink ≡ link_count src key
 unfolding inode_in
 nlink_in src key = refl
 
@@ -118,14 +122,14 @@ module _ (image : Image) (m : Making) (made : IsMaking image m) where
   abbrev all : List ObjectKey
   all = keys m.volume.named
 
-  kind_told : (key : ObjectKey) → Contains all key → kind_of_mode (inode_in src key).mode ≡ Some (kind_in src key)
+  pub kind_told : (key : ObjectKey) → Contains all key → kind_of_mode (inode_in src key).mode ≡ Some (kind_in src key)
   kind_told key among =
       ap kind_of_mode (mode_in src key) ∙ tree_kind_is (stat_in src key).fields.mode (kind_in src key) (kind_is m.volume image of.accepted of.opened m.options m.pieces key among)
 
   one : (a b : ObjectKey) → Contains all a → Contains all b → ino_of src a ≡ ino_of src b → a ≡ b
   one = one_object m.volume image m.options m.plan m.pieces of
 
-  root_kind : kind_in src root ≡ Directory
+  pub root_kind : kind_in src root ≡ Directory
   root_kind = directory_there m.volume image of.accepted of.opened m.options m.pieces root of.accepted.objects.root_directory
 
   module _ (nodes : List NodePointer) where
@@ -200,16 +204,21 @@ module _ (image : Image) (m : Making) (made : IsMaking image m) where
       not_root other =
           ne_eqb 256 n (λ e. other (ap (kind_in src) (one key root among (root_known m.volume image of.accepted of.opened) (sym e ∙ sym (root_number m.volume image m.options m.plan m.pieces of))) ∙ root_kind))
 
-      count_told : (kind_in src key ≡ Directory → ⊥) → count_by (λ l. same_key l.target key) src.links ≡ ref_name_count tree n
-      count_told other =
+      pub names_count : ref_name_count tree n ≡ cond (256 == n) 1 0 + count_by (λ l. same_key l.target key) src.links
+      names_count =
           let first : sum_by of_own (own_name ∷ map (to_back image m made) (indexed_links src.links)) ≡ of_own own_name + sum_by of_own (map (to_back image m made) (indexed_links src.links)) = sum_by-cons of_own own_name (map (to_back image m made) (indexed_links src.links)) in
-          let none : of_own own_name ≡ 0 = ap {B = ℕ} (λ (b : Bool). cond b 1 0) (not_root other) in
           let links = links_count in
           let moved = sum_by-IsPermutation of_own name_all (own_name ∷ map (to_back image m made) (indexed_links src.links)) (names_by_links image m made) in
           let count = count_is tree index_all name_all tells n in
-          omega (arith, first, none, links, moved, count)
+          omega (arith, first, links, moved, count)
 
-      nlink_other : (kind_in src key ≡ Directory → ⊥) → link_count src key ≡ count_by (λ l. same_key l.target key) src.links
+      pub count_told : (kind_in src key ≡ Directory → ⊥) → count_by (λ l. same_key l.target key) src.links ≡ ref_name_count tree n
+      count_told other =
+          let none : cond (256 == n) 1 0 ≡ 0 = ap {B = ℕ} (λ (b : Bool). cond b 1 0) (not_root other) in
+          let all = names_count in
+          omega (arith, none, all)
+
+      pub nlink_other : (kind_in src key ≡ Directory → ⊥) → link_count src key ≡ count_by (λ l. same_key l.target key) src.links
       nlink_other other = by (kind_in src key) refl
         where
           by : (k : Kind) → kind_in src key ≡ k → (if is_directory k then 1 else count_by (λ l. same_key l.target key) src.links) ≡ count_by (λ l. same_key l.target key) src.links
@@ -387,9 +396,13 @@ module _ (image : Image) (m : Making) (made : IsMaking image m) where
         let is = of_items at.0 ino body among at.2 in
         record { key = at.0; among = among; number = is.0; body_is = is.1 }
 
-    pub inodes_told : FilesAreHeld → InodesAreThere → HasBytes image → (ino : ℕ) (body : List ℕ) (inode : Inode) → Contains (fs_tree_items src) (record { objectid = ino; kind = INODE_ITEM; offset = 0 }, body) → inode_of body ≡ Some inode → IsInode tree ino inode
-    inodes_told held there bytes ino body inode h read =
+    -- what holds of the inode of each object holds of each inode item
+    pub each_object : InodesAreThere → HasBytes image → (P : ℕ → Inode → Type 0) → ((key : ObjectKey) → Contains (keys m.volume.named) key → P (ino_of src key) (inode_in src key))
+        → (ino : ℕ) (body : List ℕ) (inode : Inode) → Contains (fs_tree_items src) (record { objectid = ino; kind = INODE_ITEM; offset = 0 }, body) → inode_of body ≡ Some inode → P ino inode
+    each_object there bytes P each ino body inode h read =
         let o : IsOfObject ino body = of_object ino body h in
         let own : inode_of body ≡ Some (inode_in src o.key) = ap inode_of (sym o.body_is) ∙ inode_reads there m.volume image m.options m.plan m.pieces of bytes o.key o.among in
-        subst (λ (i : Inode). IsInode tree ino i) (some_same (inode_in src o.key) inode (sym own ∙ read))
-        (subst (λ (k : ℕ). IsInode tree k (inode_in src o.key)) o.number (inode_told o.key o.among held))
+        subst (λ (i : Inode). P ino i) (some_same (inode_in src o.key) inode (sym own ∙ read)) (subst (λ (k : ℕ). P k (inode_in src o.key)) o.number (each o.key o.among))
+
+    pub inodes_told : FilesAreHeld → InodesAreThere → HasBytes image → (ino : ℕ) (body : List ℕ) (inode : Inode) → Contains (fs_tree_items src) (record { objectid = ino; kind = INODE_ITEM; offset = 0 }, body) → inode_of body ≡ Some inode → IsInode tree ino inode
+    inodes_told held there bytes = each_object there bytes (IsInode tree) (λ key among. inode_told key among held)

@@ -39,7 +39,7 @@ use Rattle.convert_core.specs.convert_options.declared.options.Options.{Options}
 use Rattle.convert_core.specs.unit_plan.declared.piece.Piece.{Piece}
 use Rattle.convert_core_laws.specs.soundness.Recounted.{recount_for, tree_for}
 use Rattle.convert_core_laws.proofs.soundness.AllUses.{from_is, source_low, uses_are}
-use Rattle.convert_core_laws.proofs.soundness.Trees.{six_all, trees}
+use Rattle.convert_core_laws.proofs.soundness.Trees.{all_once, six_all}
 use Rattle.convert_core_laws.proofs.soundness.Unreserved.{fit_size}
 use Rattle.convert_core_laws.proofs.soundness.Uses.{IsUse, by_file, by_image, file_piece, owner_low, piece_use, use_at, uses_from}
 use Rattle.convert_core_laws.proofs.soundness.Distinct.{AreDistinct, distinct_flat, distinct_nil, distinct_one}
@@ -189,7 +189,7 @@ module _ (o : Options) (ids : Ids) (now : ℕ) (image other : Image) (m : Making
       let sums : TreeOn = tree_for other s CSUM_TREE r.sums (sum_tree_items other m) in
       let saved : TreeOn = tree_for other s CONV_IMAGE_SUBVOL r.image (image_tree_items m) in
       let relocation : TreeOn = tree_for other s DATA_RELOC_TREE r.relocation (relocation_items m.now) in
-      let up = (trees o ids now image other m r nodes v).once in
+      let up = all_once o ids now image other m r nodes v in
       AllPairs-cons Other k.chunk_tree (k.root_tree ∷ k.others)
       (All-cons (Other k.chunk_tree) k.root_tree k.others (λ e. omega (arith, e))
       (six_all (Other k.chunk_tree) extents device files sums saved relocation (λ e. omega (arith, e)) (λ e. omega (arith, e)) (λ e. omega (arith, e)) (λ e. omega (arith, e)) (λ e. omega (arith, e)) (λ e. omega (arith, e))))

@@ -22,6 +22,13 @@ inode_low all key few = by (same_key key root)
     by true = omega arith
     by false = let low = count_by-le-length (λ (k : ObjectKey). is_lt (object_cmp k key) && not (same_key k root)) all in omega (arith, low, few)
 
+pub inode_range : (all : List ObjectKey) (key : ObjectKey) → length all ≤ 2 ^ 37 → (256 ≤ ino_of_key all key) × (ino_of_key all key ≤ 2 ^ 38)
+inode_range all key few = by (same_key key root)
+  where
+    by : (b : Bool) → (256 ≤ (if b then 256 else 257 + count_by (λ k. is_lt (object_cmp k key) && not (same_key k root)) all)) × ((if b then 256 else 257 + count_by (λ k. is_lt (object_cmp k key) && not (same_key k root)) all) ≤ 2 ^ 38)
+    by true = (omega arith, omega arith)
+    by false = let low = count_by-le-length (λ (k : ObjectKey). is_lt (object_cmp k key) && not (same_key k root)) all in (omega arith, omega (arith, low, few))
+
 -- ---- keys of different kinds
 
 then_first : (o p : Ordering) → ordering_then o p ≡ Equal → o ≡ Equal

@@ -67,6 +67,16 @@ index_low before (n ∷ ls) e h =
     subst (λ (l : List Naming). e.index ≤ 2 + length l) (append_assoc before (n ∷ []) ls) (index_low (before ++ n ∷ []) ls e later))
     (head_or_tail (entry_behind before n) (entries_behind (before ++ n ∷ []) ls) e h)
 
+-- and at least 2
+pub index_some : (before ls : List Naming) (e : Link) → Contains (entries_behind before ls) e → 2 ≤ e.index
+index_some before [] e h = absurd (omega (arith, h.1))
+index_some before (n ∷ ls) e h =
+    ⊎_elim
+    (λ (is : entry_behind before n ≡ e).
+    let own : 2 + count_by (λ (m : Naming). same_key m.dir n.dir) before ≡ e.index = ap (λ (f : Link). f.index) is in
+    omega (arith, own))
+    (λ (later : Contains (entries_behind (before ++ n ∷ []) ls) e). index_some (before ++ n ∷ []) ls e later) (head_or_tail (entry_behind before n) (entries_behind (before ++ n ∷ []) ls) e h)
+
 pub link_among : (links : List Naming) (e : Link) → Contains (indexed_links links) e → Contains links e.link
 link_among links e h = (is_link links e.link.dir e (in_filter (λ (f : Link). same_key f.link.dir e.link.dir) (indexed_links links) e h (same_key-self e.link.dir))).among
 

@@ -1,6 +1,7 @@
 -- The references of a converted volume are sound: its extent tree is the recount of all nodes and of all uses of data.
-use Rattle.std.proofs.Common.{◌≡◌, ◌≢◌, ◌⊎◌, ◌≤◌, ◌<◌, ℕ, ◌+◌, ◌-◌, ◌*◌, ◌^◌, inl, inr, Bool, true, false, List, [], ◌∷◌, map, Option, Some, None, refl, sym, ap, subst, ◌∙◌, ⊎_elim, true≢false, arith}
-use Rattle.std.specs.Prelude.{All, Contains, nat_lt, if◌then◌else◌, is_some}
+use Rattle.std.proofs.Common.{◌≡◌, ◌≢◌, ◌⊎◌, ◌≤◌, ◌<◌, ℕ, ◌+◌, ◌-◌, ◌*◌, ◌%◌, ◌^◌, inl, inr, Bool, true, false, List, [], ◌∷◌, length, map, Option, Some, None, refl, sym, ap, subst, ◌∙◌, ⊎_elim, true≢false, arith}
+use Rattle.std.specs.List.{AllByRecursion}
+use Rattle.std.specs.Prelude.{All, AllPairs, Contains, nat_lt, if◌then◌else◌, is_some}
 use Rattle.std.specs.Option.{option_map_or}
 use Rattle.std.specs.declared.cmp.Ordering.TheVariants.{Equal}
 use Rattle.std.proofs.lemmas.Bool.{eq-eqb}
@@ -17,8 +18,9 @@ use Rattle.btr_reader.specs.btr_keys.declared.key.Key.{Key}
 use Rattle.btr_reader.specs.btr_node.Leaf.{Item}
 use Rattle.btr_reader.specs.btr_node.NodeSize.{IsNodeSize}
 use Rattle.btr_check_rules.specs.Recount.{DataUse, Recount, TreeOn, all_trees, data_uses, recounted_items}
-use Rattle.btr_check_rules.specs.References.{AreReferences, HasKey, IsDataItem, IsNodeItem, is_group}
+use Rattle.btr_check_rules.specs.References.{AreReferences, FitFeatures, HasKey, HasRefs, IsDataItem, IsNodeItem, IsWhole, StandsBefore, is_group}
 use Rattle.btr_reader.specs.btr_space_items.InlineRef.{FitsInline}
+use Rattle.btr_reader.specs.btr_space_items.declared.inline_ref.InlineRef.{InlineRef}
 use Rattle.btr_reader.specs.btr_space_items.declared.inline_ref.InlineRef.TheVariants.{TreeBlock}
 use Rattle.btr_reader.specs.btr_reader_walk.declared.tree.NodePointer.{NodePointer}
 use Rattle.convert_core.specs.convert_steps.Making.{IsMaking, Making, new_ids}
@@ -48,13 +50,14 @@ use Rattle.convert_core.specs.convert_options.declared.options.Options.{Options}
 use Rattle.convert_core.specs.unit_plan.declared.piece.Piece.{Piece}
 use Rattle.convert_core_laws.specs.soundness.Recounted.{recount_for, tree_for}
 use Rattle.convert_core_laws.proofs.soundness.AllUses.{from_is, source_low, uses_are}
-use Rattle.convert_core_laws.proofs.soundness.Recounting.{volume_for}
+use Rattle.convert_core_laws.proofs.soundness.Nodes.{LiesAt, node_lies, of_chunks, of_others}
+use Rattle.convert_core_laws.proofs.soundness.Recounting.{generation_is, volume_for, with_extended, with_skinny}
 use Rattle.convert_core_laws.proofs.soundness.Trees.{six_all}
-use Rattle.convert_core_laws.proofs.soundness.Unreserved.{fit_size}
+use Rattle.convert_core_laws.proofs.soundness.Unreserved.{fit_size, place_whole}
 use Rattle.convert_core_laws.proofs.soundness.Used.{file_use, owned, saved_use}
 use Rattle.convert_core_laws.proofs.soundness.Uses.{IsUse, by_file, by_image, owner_low, use_at}
 use Rattle.convert_core_laws.specs.soundness.Laws.{ConvertedReferencesAreSound}
-use Rattle.convert_core_laws.proofs.soundness.Bodies.{data_fits, has_refs, node_fits}
+use Rattle.convert_core_laws.proofs.soundness.Bodies.{data_fits, has_refs, hash_above, hash_below, node_fits, one_alone, two_ordered}
 use Rattle.convert_core_laws.proofs.soundness.DataItems.{one_ref, two_refs}
 use Rattle.convert_core_laws.proofs.soundness.Distinct.{AreDistinct}
 use Rattle.convert_core_laws.proofs.soundness.InMerged.{in_first, in_second}
@@ -129,6 +132,10 @@ module _ (o : Options) (ids : Ids) (now : ℕ) (image other : Image) (m : Making
       (in_second item_cmp (piece_item p) (map node_item nodes) (map piece_item m.pieces)
       (λ x l e. let at = from_map node_item nodes x l in kinds_apart x.0 (piece_item p).0 (λ same. let is : x.0.kind ≡ METADATA_ITEM = sym (ap (λ (i : Item). i.0.kind) at.2) in omega (arith, same, is)) e) (in_map piece_item m.pieces p h))
 
+  -- the body of an extent, as the volume has it
+  refs_made : (flags : ℕ) (refs : List InlineRef) → flags < 2 ^ 64 → length refs < 2 ^ 64 → AllByRecursion FitsInline refs → AllPairs StandsBefore refs → HasRefs k.super.generation (extent_body flags refs) flags (length refs) refs
+  refs_made flags refs low few fits order = let newest = generation_is m r nodes in has_refs k.super.generation flags refs (omega (arith, newest)) low few fits order
+
   -- ---- nodes
 
   abbrev IsLow : TreeOn → Type 0
@@ -148,7 +155,7 @@ module _ (o : Options) (ids : Ids) (now : ℕ) (image other : Image) (m : Making
       let is : IsMet o ids now image other m r nodes v x = All-contains (IsMet o ids now image other m r nodes v) nodes x (all_told o ids now image other m r nodes v) h in
       let low : is.tree.number < 2 ^ 64 = All-contains IsLow (all_trees k) is.tree numbers_low is.there in
       subst (λ (y : TreeNode). IsNodeItem k (node_item y)) (sym is.is)
-      (is.tree, is.pointer, is.there, is.met, refl, has_refs EXTENT_FLAG_TREE_BLOCK (TreeBlock is.tree.number ∷ []) (omega arith) (omega arith) (node_fits is.tree.number low, tt))
+      (is.tree, is.pointer, is.there, is.met, refl, refs_made EXTENT_FLAG_TREE_BLOCK (TreeBlock is.tree.number ∷ []) (omega arith) (omega arith) (node_fits is.tree.number low, tt) (one_alone (TreeBlock is.tree.number)))
 
   node_key : (t : TreeOn) (p : NodePointer) → Contains (all_trees k) t → Contains t.nodes p → HasKey items (record { objectid = p.address; kind = METADATA_ITEM; offset = p.level })
   node_key t p h l =
@@ -236,7 +243,7 @@ module _ (o : Options) (ids : Ids) (now : ℕ) (image other : Image) (m : Making
       let one = small.inode_low_ in
       let two = small.offset_low in
       one_ref k once (key_of_piece p, extent_body EXTENT_FLAG_DATA (data_ref FS_TREE w.0 w.1 ∷ [])) (use_at FS_TREE w.0 w.1 p) (file_use image m making fit held other r nodes p w.0 w.1 h own) refl
-      (has_refs EXTENT_FLAG_DATA (data_ref FS_TREE w.0 w.1 ∷ []) (omega arith) (omega arith) (data_fits FS_TREE w.0 (4096 * w.1) (omega arith) one two, tt)) (λ u l start length. by u (range_use p h u l start))
+      (refs_made EXTENT_FLAG_DATA (data_ref FS_TREE w.0 w.1 ∷ []) (omega arith) (omega arith) (data_fits FS_TREE w.0 (4096 * w.1) (omega arith) one two, tt) (one_alone (data_ref FS_TREE w.0 w.1))) (λ u l start length. by u (range_use p h u l start))
     where
       by : (u : DataUse) → IsUseOf p u → use_at FS_TREE w.0 w.1 p ≡ u
       by u (of_file inode block also e) = file_same p w u inode block own also e
@@ -246,13 +253,13 @@ module _ (o : Options) (ids : Ids) (now : ℕ) (image other : Image) (m : Making
   by_from p h b from none =
       let two = image_small p b h from in
       one_ref k once (key_of_piece p, extent_body EXTENT_FLAG_DATA (data_ref CONV_IMAGE_SUBVOL 257 b ∷ [])) (use_at CONV_IMAGE_SUBVOL 257 b p) (image_use p b h from) refl
-      (has_refs EXTENT_FLAG_DATA (data_ref CONV_IMAGE_SUBVOL 257 b ∷ []) (omega arith) (omega arith) (data_fits CONV_IMAGE_SUBVOL 257 (4096 * b) (omega arith) (omega arith) two, tt)) (λ u l start length. by u (range_use p h u l start))
+      (refs_made EXTENT_FLAG_DATA (data_ref CONV_IMAGE_SUBVOL 257 b ∷ []) (omega arith) (omega arith) (data_fits CONV_IMAGE_SUBVOL 257 (4096 * b) (omega arith) (omega arith) two, tt) (one_alone (data_ref CONV_IMAGE_SUBVOL 257 b))) (λ u l start length. by u (range_use p h u l start))
     where
       by : (u : DataUse) → IsUseOf p u → use_at CONV_IMAGE_SUBVOL 257 b p ≡ u
       by u (of_file inode block own e) = absurd (no_value (inode, block) p.owner none own)
       by u (of_image block also e) = image_same p b u block from also e
 
-  by_both : (p : Piece) → Contains m.pieces p → (w : ℕ × ℕ) (b : ℕ) → p.owner ≡ Some w → p.from ≡ Some b → (t : Bool)
+  by_both : (p : Piece) → Contains m.pieces p → (w : ℕ × ℕ) (b : ℕ) → p.owner ≡ Some w → p.from ≡ Some b → (t : Bool) → nat_lt (hash_of_ref (data_ref FS_TREE w.0 w.1)) (hash_of_ref (data_ref CONV_IMAGE_SUBVOL 257 b)) ≡ t
       → IsDataItem k (key_of_piece p, extent_body EXTENT_FLAG_DATA (if t then data_ref CONV_IMAGE_SUBVOL 257 b ∷ (data_ref FS_TREE w.0 w.1 ∷ []) else data_ref FS_TREE w.0 w.1 ∷ (data_ref CONV_IMAGE_SUBVOL 257 b ∷ [])))
   by_both p h w b own from = ordered
     where
@@ -275,14 +282,16 @@ module _ (o : Options) (ids : Ids) (now : ℕ) (image other : Image) (m : Making
       by u (of_file inode block also e) = inl (file_same p w u inode block own also e)
       by u (of_image block also e) = inr (image_same p b u block from also e)
 
-      ordered : (t : Bool) → IsDataItem k (key_of_piece p, extent_body EXTENT_FLAG_DATA (if t then data_ref CONV_IMAGE_SUBVOL 257 b ∷ (data_ref FS_TREE w.0 w.1 ∷ []) else data_ref FS_TREE w.0 w.1 ∷ (data_ref CONV_IMAGE_SUBVOL 257 b ∷ [])))
-      ordered true =
+      ordered : (t : Bool) → nat_lt (hash_of_ref (data_ref FS_TREE w.0 w.1)) (hash_of_ref (data_ref CONV_IMAGE_SUBVOL 257 b)) ≡ t → IsDataItem k (key_of_piece p, extent_body EXTENT_FLAG_DATA (if t then data_ref CONV_IMAGE_SUBVOL 257 b ∷ (data_ref FS_TREE w.0 w.1 ∷ []) else data_ref FS_TREE w.0 w.1 ∷ (data_ref CONV_IMAGE_SUBVOL 257 b ∷ [])))
+      ordered true is =
           two_refs k once (key_of_piece p, extent_body EXTENT_FLAG_DATA (data_ref CONV_IMAGE_SUBVOL 257 b ∷ (data_ref FS_TREE w.0 w.1 ∷ []))) (use_at CONV_IMAGE_SUBVOL 257 b p) (use_at FS_TREE w.0 w.1 p) theirs ours refl refl (λ e. omega (arith, e)) refl
-          (has_refs EXTENT_FLAG_DATA (data_ref CONV_IMAGE_SUBVOL 257 b ∷ (data_ref FS_TREE w.0 w.1 ∷ [])) (omega arith) (omega arith) (image_fits, (file_fits, tt)))
+          (refs_made EXTENT_FLAG_DATA (data_ref CONV_IMAGE_SUBVOL 257 b ∷ (data_ref FS_TREE w.0 w.1 ∷ [])) (omega arith) (omega arith) (image_fits, (file_fits, tt))
+          (two_ordered (data_ref CONV_IMAGE_SUBVOL 257 b) (data_ref FS_TREE w.0 w.1) (inr (refl, hash_above (hash_of_ref (data_ref FS_TREE w.0 w.1)) (hash_of_ref (data_ref CONV_IMAGE_SUBVOL 257 b)) is))))
           (λ u l start length. ⊎_elim (λ x. inr x) (λ y. inl y) (by u (range_use p h u l start)))
-      ordered false =
+      ordered false is =
           two_refs k once (key_of_piece p, extent_body EXTENT_FLAG_DATA (data_ref FS_TREE w.0 w.1 ∷ (data_ref CONV_IMAGE_SUBVOL 257 b ∷ []))) (use_at FS_TREE w.0 w.1 p) (use_at CONV_IMAGE_SUBVOL 257 b p) ours theirs refl refl (λ e. omega (arith, e)) refl
-          (has_refs EXTENT_FLAG_DATA (data_ref FS_TREE w.0 w.1 ∷ (data_ref CONV_IMAGE_SUBVOL 257 b ∷ [])) (omega arith) (omega arith) (file_fits, (image_fits, tt))) (λ u l start length. by u (range_use p h u l start))
+          (refs_made EXTENT_FLAG_DATA (data_ref FS_TREE w.0 w.1 ∷ (data_ref CONV_IMAGE_SUBVOL 257 b ∷ [])) (omega arith) (omega arith) (file_fits, (image_fits, tt))
+          (two_ordered (data_ref FS_TREE w.0 w.1) (data_ref CONV_IMAGE_SUBVOL 257 b) (inr (refl, hash_below (hash_of_ref (data_ref FS_TREE w.0 w.1)) (hash_of_ref (data_ref CONV_IMAGE_SUBVOL 257 b)) is)))) (λ u l start length. by u (range_use p h u l start))
 
   piece_is : (p : Piece) → Contains m.pieces p → IsDataItem k (piece_item p)
   piece_is p h = by p.owner p.from refl refl
@@ -291,7 +300,7 @@ module _ (o : Options) (ids : Ids) (now : ℕ) (image other : Image) (m : Making
       by None None own from = let at = owned image m making fit held p h from in absurd (no_value (at.0, at.1) p.owner own at.2)
       by (Some w) None own from = by_owner p h w own from
       by None (Some b) own from = by_from p h b from own
-      by (Some w) (Some b) own from = by_both p h w b own from (nat_lt (hash_of_ref (data_ref FS_TREE w.0 w.1)) (hash_of_ref (data_ref CONV_IMAGE_SUBVOL 257 b)))
+      by (Some w) (Some b) own from = by_both p h w b own from (nat_lt (hash_of_ref (data_ref FS_TREE w.0 w.1)) (hash_of_ref (data_ref CONV_IMAGE_SUBVOL 257 b))) refl
 
   data_key : (u : DataUse) → Contains (data_uses k) u → HasKey items (record { objectid = u.start; kind = EXTENT_ITEM; offset = u.length })
   data_key u h = by (uses_are image m making fit other r nodes u h)
@@ -313,11 +322,41 @@ module _ (o : Options) (ids : Ids) (now : ℕ) (image other : Image) (m : Making
       by (a_node x l is) = inl (subst (IsNodeItem k) is (node_is x l))
       by (a_piece p l is) = inr (subst (IsDataItem k) is (piece_is p l))
 
+  -- ---- whole extents, and features
+
+  is_whole : (i : Item) → Contains items i → is_group i ≡ false → IsWhole i
+  is_whole i h off = by (All-contains IsListed items i all_listed h)
+    where
+      slot_whole : (number a : ℕ) → LiesAt o ids now image other m r nodes v number a → a % 4096 ≡ 0
+      slot_whole number a (of_chunks is l) = place_whole m.options.nodesize fit m.plan.system a l
+      slot_whole number a (of_others is l) = place_whole m.options.nodesize fit m.plan.metadata a l
+
+      node_whole : (x : TreeNode) → Contains nodes x → x.address % 4096 ≡ 0
+      node_whole x l =
+          let is : IsMet o ids now image other m r nodes v x = All-contains (IsMet o ids now image other m r nodes v) nodes x (all_told o ids now image other m r nodes v) l in
+          let at : is.pointer.address % 4096 ≡ 0 = slot_whole is.tree.number is.pointer.address (node_lies o ids now image other m r nodes v is.tree is.pointer is.there is.met) in
+          subst (λ (y : TreeNode). y.address % 4096 ≡ 0) (sym is.is) at
+
+      by : IsListed i → IsWhole i
+      by (a_group is) = absurd (true≢false (sym (eq-eqb i.0.kind BLOCK_GROUP_ITEM is) ∙ off))
+      by (a_node x l is) = subst IsWhole is (record { start = node_whole x l; range = λ e. absurd (omega (arith, e)) })
+      by (a_piece p l is) =
+          let some = all_at (λ (x : Piece). 1 ≤ x.count) m.pieces p (well m.volume image m.options m.plan m.pieces of).apart.some l in
+          subst IsWhole is (record { start = omega arith; range = λ e. (omega arith, λ none. omega (arith, none, some)) })
+
+  fit_features : FitFeatures k
+  fit_features = record {
+    skinny = λ off. absurd (true≢false (sym (with_skinny m r nodes) ∙ off));
+    extended = λ off. absurd (true≢false (sym (with_extended m r nodes) ∙ off));
+  }
+
   pub references : AreReferences k
   references = record {
     each = λ i h. each_item i (subst (λ (l : List Item). Contains l i) items_are h);
     nodes = λ t p h l. subst (λ (is : List Item). HasKey is (record { objectid = p.address; kind = METADATA_ITEM; offset = p.level })) (sym items_are) (node_key t p h l);
     data_ = λ u h. subst (λ (is : List Item). HasKey is (record { objectid = u.start; kind = EXTENT_ITEM; offset = u.length })) (sym items_are) (data_key u h);
+    whole = λ i h. is_whole i (subst (λ (l : List Item). Contains l i) items_are h);
+    features = fit_features;
   }
 
 pub converted_references_are_sound : NewIdsFit → FilesAreHeld → ImageKeysAscend → ConvertedReferencesAreSound

@@ -1,7 +1,7 @@
 -- The names of the tree of the saved image.
-use Rattle.std.proofs.Common.{◌≡◌, ◌≤◌, ◌<◌, ◌⊎◌, inl, inr, ℕ, ◌+◌, ◌*◌, ◌^◌, Bool, true, false, List, [], ◌∷◌, ◌++◌, map, sum_by, Contains, Some, refl, sym, ap, subst, ◌∙◌, ⊎_elim, true≢false, arith}
+use Rattle.std.proofs.Common.{◌≡◌, ◌≤◌, ◌<◌, ◌⊎◌, inl, inr, ℕ, ◌+◌, ◌*◌, ◌^◌, Bool, true, false, List, [], ◌∷◌, ◌++◌, map, sum_by, All, AllPairs, Contains, Some, refl, sym, ap, subst, ◌∙◌, ⊎_elim, true≢false, arith}
 use Rattle.std.specs.List.{AllByRecursion}
-use Rattle.std.proofs.lemmas.List.Elements.{filter-append}
+use Rattle.std.proofs.lemmas.List.Elements.{All-cons, All-from_recursion, All-nil, filter-append}
 use Rattle.std.proofs.lemmas.List.Sorted.{IsPermutation-refl}
 use Rattle.btrfs_format.specs.declared.key.TheConstants.{INODE_ITEM}
 use Rattle.btrfs_format.specs.declared.object.TheConstants.{CONV_IMAGE_SUBVOL, FIRST_FREE_OBJECTID}
@@ -10,26 +10,28 @@ use Rattle.btr_reader.specs.btr_keys.InodeRef.{InodeRefValue, inode_ref_head}
 use Rattle.btr_reader.specs.btr_keys.Key.{make_key}
 use Rattle.btr_reader.specs.btr_keys.declared.inode.Inode.{Inode}
 use Rattle.btr_reader.specs.btr_node.Leaf.{Item}
-use Rattle.btr_check_rules.specs.Names.{AreTreeNames, BackName, IndexEntry, IsInode, IsThere, inode_nbytes, names_inode_item, own_name}
+use Rattle.btr_check_rules.specs.Inodes.{AreInodes, HasKind, IsDirEntry, IsOwned, KeepsInode, SameName, is_orphan}
+use Rattle.btr_check_rules.specs.Names.{AreTreeNames, BackName, IndexEntry, IsInode, IsThere, index_entries, inode_nbytes, names_inode_item, own_name, ref_name_count}
 use Rattle.btr_check_rules.specs.Recount.{TreeOn}
 use Rattle.btr_reader.specs.btr_reader_walk.declared.tree.NodePointer.{NodePointer}
+use Rattle.btr_reader.specs.btr_super.declared.superblock.Super.{Super}
 use Rattle.convert_core_laws.proofs.ByteReading.{filter_all, filter_none, is_extent, regular_read}
 use Rattle.convert_core.specs.file_items.Extents.{extents_at, piece_bytes, pieces_of_volume, source_block}
 use Rattle.convert_core.specs.file_items.Names.{entry_items, entry_to, root_ref}
 use Rattle.convert_core.specs.file_items.Small.{image_entries, image_head, image_items, image_name, root_directory_items}
 use Rattle.convert_trees_laws.proofs.Rising.{all_append, all_mapped, all_true}
 use Rattle.convert_trees_laws.proofs.Short.{sum_mapped}
-use Rattle.reiser_volume.specs.fs_rows.declared.row.Kind.TheVariants.{File}
+use Rattle.reiser_volume.specs.fs_rows.declared.row.Kind.TheVariants.{Directory, File}
 use Rattle.convert_core.specs.btr_item_list.Extents.{extent_item, regular_extent}
 use Rattle.convert_core.specs.btr_item_list.Inodes.{inode_item, ref_item}
 use Rattle.reiser_volume.proofs.fs_paths.Lists.{at_head, head_or_tail}
 use Rattle.convert_trees_laws.proofs.Lists.{all_in}
 use Rattle.convert_core.specs.unit_plan.declared.piece.Piece.{Piece}
 use Rattle.convert_core_laws.proofs.soundness.Flags.{image_inode, image_inode_reads, image_inode_there}
-use Rattle.convert_core_laws.proofs.soundness.Assembling.{Tells, count_is, have_names, tells_of}
+use Rattle.convert_core_laws.proofs.soundness.Assembling.{Tells, count_is, entries_are, have_names, tells_of}
 use Rattle.convert_core_laws.proofs.soundness.Fits.{entry_fits}
 use Rattle.convert_core_laws.proofs.soundness.Inodes.{bytes_are, piece_adds, sum_on}
-use Rattle.convert_core_laws.proofs.soundness.Small.{root_inode, root_inode_told, root_reads, root_told, some_inode}
+use Rattle.convert_core_laws.proofs.soundness.Small.{root_inode, root_inode_keeps, root_inode_told, root_reads, root_told, some_inode}
 use Rattle.convert_core_laws.proofs.soundness.Telling.{FitsEntry, Told, hash_entries, index_by, told_append, told_extent, told_inode, told_none, told_ref}
 
 -- the only name of the saved image
@@ -154,9 +156,12 @@ module _ (blocks now : ℕ) (pieces : List Piece) (datasum : Bool) (few : blocks
         subst (IsInode saved ino) same (subst (λ (k : ℕ). IsInode saved k own) number own_told))
         (all_in IsOne (image_items blocks pieces datasum now) (make_key ino INODE_ITEM 0, body) ones h refl)
 
-    root_there : IsThere saved FIRST_FREE_OBJECTID
+    root_in : Contains (image_items blocks pieces datasum now) (inode_item FIRST_FREE_OBJECTID (root_inode now image_entries))
     unfolding image_items image_head
-    root_there = (inode_bytes (root_inode now image_entries), at_head (inode_item FIRST_FREE_OBJECTID (root_inode now image_entries)) (((root_ref ∷ entry_items FIRST_FREE_OBJECTID image_entries) ++ of_image) ++ extents))
+    root_in = at_head (inode_item FIRST_FREE_OBJECTID (root_inode now image_entries)) (((root_ref ∷ entry_items FIRST_FREE_OBJECTID image_entries) ++ of_image) ++ extents)
+
+    root_there : IsThere saved FIRST_FREE_OBJECTID
+    root_there = (inode_bytes (root_inode now image_entries), root_in)
 
     pub saved_names : AreTreeNames roots saved
     saved_names =
@@ -167,3 +172,63 @@ module _ (blocks now : ℕ) (pieces : List Piece) (datasum : Bool) (few : blocks
       where
         only : (e : IndexEntry) → Contains indexes e → image_index ≡ e
         only e h = ⊎_elim (λ (is : image_index ≡ e). is) (λ (none : Contains [] e). absurd (omega (arith, none.1))) (head_or_tail (image_index) [] e h)
+
+    -- ---- the rules of inodes
+
+    root_is : HasKind saved FIRST_FREE_OBJECTID Directory
+    root_is = (root_inode now image_entries, record { body = inode_bytes (root_inode now image_entries); there = root_in; reads = root_reads now image_entries low (omega arith) }, refl)
+
+    pub own_is : HasKind saved 257 File
+    own_is = (own, record { body = inode_bytes own; there = image_inode_there blocks pieces datasum now; reads = image_inode_reads blocks pieces datasum now few small low }, refl)
+
+    own_keeps : (sup : Super) → KeepsInode sup saved 257 own
+    own_keeps sup =
+        let count : ref_name_count saved 257 ≡ 1 = count_is saved indexes names tells 257 in
+        record { kind = refl; bits = omega arith; generation = (omega arith, omega arith); links = sym count; orphan = λ none. absurd (omega (arith, none, count)) }
+
+    entry_keeps : IsDirEntry saved image_index
+    entry_keeps = record {
+      directory = root_is;
+      inode = λ to_inode. (File, own_is, refl);
+      tree = λ none. absurd (true≢false none);
+      name = refl;
+      short = omega arith;
+      index = omega arith;
+    }
+
+    -- each item is of one of the two inodes
+    abbrev OwnedOrOrphan : Item → Type 0
+    OwnedOrOrphan i = is_orphan i ≡ false → IsOwned saved i
+
+    own_there : IsThere saved 257
+    own_there = (inode_bytes own, image_inode_there blocks pieces datasum now)
+
+    all_owned : AllByRecursion OwnedOrOrphan (image_items blocks pieces datasum now)
+    unfolding image_items image_head
+    all_owned =
+        let top : (kind offset : ℕ) (body : List ℕ) → IsOwned saved (make_key FIRST_FREE_OBJECTID kind offset, body) = λ kind offset body. record { there = root_there; low = omega arith; high = omega arith } in
+        let image : (kind offset : ℕ) (body : List ℕ) → IsOwned saved (make_key 257 kind offset, body) = λ kind offset body. record { there = own_there; low = omega arith; high = omega arith } in
+        all_append OwnedOrOrphan (root_directory_items now image_entries ++ of_image) extents
+        ((λ plain. top _ _ _), ((λ plain. top _ _ _), ((λ plain. top _ _ _), ((λ plain. top _ _ _), ((λ plain. image _ _ _), ((λ plain. image _ _ _), tt))))))
+        (all_mapped OwnedOrOrphan (λ (p : Piece). extent_item 257 (source_block p) (regular_extent p.place p.count)) parts (all_true _ parts (λ p plain. image _ _ _)))
+
+    pub saved_inodes : (sup : Super) → AreInodes sup saved
+    saved_inodes sup =
+        let are : index_entries saved ≡ indexes = entries_are saved indexes names tells in
+        record {
+          root = root_is;
+          entries = subst (All (IsDirEntry saved)) (sym are) (All-cons (IsDirEntry saved) image_index [] entry_keeps (All-nil (IsDirEntry saved)));
+          once = subst (AllPairs (λ (e f : IndexEntry). ¬ SameName e f)) (sym are) (λ i j d l h. absurd (omega (arith, l, h)));
+          inodes = λ ino inode has.
+              ⊎_elim
+              (λ (is : inode_item FIRST_FREE_OBJECTID (root_inode now image_entries) ≡ (make_key ino INODE_ITEM 0, has.body)).
+              let number : 256 ≡ ino = ap (λ (i : Item). i.0.objectid) is in
+              let same : root_inode now image_entries ≡ inode = some_inode (root_inode now image_entries) inode (sym (root_reads now image_entries low (omega arith)) ∙ (ap (λ (i : Item). inode_of i.1) is ∙ has.reads)) in
+              subst (KeepsInode sup saved ino) same (subst (λ (k : ℕ). KeepsInode sup saved k (root_inode now image_entries)) number (root_inode_keeps now image_entries sup saved names tells refl)))
+              (λ (is : inode_item 257 own ≡ (make_key ino INODE_ITEM 0, has.body)).
+              let number : 257 ≡ ino = ap (λ (i : Item). i.0.objectid) is in
+              let same : own ≡ inode = some_inode own inode (sym (image_inode_reads blocks pieces datasum now few small low) ∙ (ap (λ (i : Item). inode_of i.1) is ∙ has.reads)) in
+              subst (KeepsInode sup saved ino) same (subst (λ (k : ℕ). KeepsInode sup saved k own) number (own_keeps sup)))
+              (all_in IsOne (image_items blocks pieces datasum now) (make_key ino INODE_ITEM 0, has.body) ones has.there refl);
+          owned = All-from_recursion OwnedOrOrphan (image_items blocks pieces datasum now) all_owned;
+        }

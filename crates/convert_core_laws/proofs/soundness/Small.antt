@@ -1,6 +1,7 @@
 -- The names of the image's tree and of the relocation tree.
-use Rattle.std.proofs.Common.{◌≡◌, ◌<◌, ℕ, ◌-◌, ◌*◌, ◌^◌, ◌==◌, Bool, true, List, [], ◌∷◌, length, map, filter, sum_by, Contains, Some, refl, sym, ap, subst, ◌∙◌, ⊎_elim, arith}
+use Rattle.std.proofs.Common.{◌≡◌, ◌<◌, ℕ, ◌-◌, ◌*◌, ◌^◌, ◌==◌, Bool, true, false, List, [], ◌∷◌, length, map, filter, count_by, sum_by, All, AllPairs, Contains, Some, refl, sym, ap, subst, ◌∙◌, ⊎_elim, arith}
 use Rattle.std.specs.List.{AllByRecursion}
+use Rattle.std.proofs.lemmas.List.Elements.{All-from_recursion, All-nil}
 use Rattle.std.proofs.lemmas.List.Sorted.{IsPermutation-refl}
 use Rattle.btrfs_format.specs.declared.key.TheConstants.{INODE_ITEM}
 use Rattle.btrfs_format.specs.declared.object.TheConstants.{DATA_RELOC_TREE, FIRST_FREE_OBJECTID}
@@ -10,16 +11,18 @@ use Rattle.btr_reader.specs.btr_keys.Key.{make_key}
 use Rattle.btr_reader.specs.btr_keys.declared.inode.Inode.{Inode}
 use Rattle.btr_reader.proofs.btr_keys.Records.{inodes_read_back}
 use Rattle.btr_reader.specs.btr_node.Leaf.{Item}
-use Rattle.btr_check_rules.specs.Names.{AreTreeNames, BackName, IndexEntry, IsInode, inode_nbytes, own_name}
+use Rattle.btr_check_rules.specs.Names.{AreTreeNames, BackName, IndexEntry, IsInode, IsThere, index_entries, inode_nbytes, own_name, ref_name_count}
+use Rattle.btr_check_rules.specs.Inodes.{AreInodes, IsDirEntry, IsOwned, KeepsInode, SameName, is_orphan}
 use Rattle.btr_check_rules.specs.Recount.{TreeOn}
 use Rattle.btr_reader.specs.btr_reader_walk.declared.tree.NodePointer.{NodePointer}
+use Rattle.btr_reader.specs.btr_super.declared.superblock.Super.{Super}
 use Rattle.convert_core.specs.file_items.Names.{Indexed, entry_items, letters, root_ref}
 use Rattle.convert_core.specs.file_items.Small.{relocation_items, root_directory_items}
 use Rattle.convert_trees_laws.proofs.Short.{sum_mapped}
 use Rattle.convert_core.specs.btr_item_list.Inodes.{inode_item, inode_made}
-use Rattle.reiser_volume.proofs.fs_paths.Lists.{from_map, head_or_tail}
+use Rattle.reiser_volume.proofs.fs_paths.Lists.{at_head, from_map, head_or_tail}
 use Rattle.convert_core_laws.proofs.soundness.Flags.{stamp_fits}
-use Rattle.convert_core_laws.proofs.soundness.Assembling.{Tells, have_names, size_is, tells_of}
+use Rattle.convert_core_laws.proofs.soundness.Assembling.{Tells, count_is, entries_are, have_names, size_is, tells_of}
 use Rattle.convert_core_laws.proofs.soundness.Inodes.{bytes_are}
 use Rattle.convert_core_laws.proofs.soundness.NameLists.{kept_all}
 use Rattle.convert_core_laws.proofs.soundness.Objects.{own_fits, own_ref}
@@ -60,6 +63,13 @@ root_inode_told now list t names tells none =
       files = λ is. absurd (cc is);
     }
 
+-- and keeps the rules of inodes, with one name
+pub root_inode_keeps : (now : ℕ) (list : List Indexed) (sup : Super) (t : TreeOn) (names : List BackName) → Tells t.items (map (index_by FIRST_FREE_OBJECTID) list) names → count_by (λ n. n.inode == FIRST_FREE_OBJECTID) names ≡ 1
+    → KeepsInode sup t FIRST_FREE_OBJECTID (root_inode now list)
+root_inode_keeps now list sup t names tells one =
+    let count : ref_name_count t FIRST_FREE_OBJECTID ≡ 1 = count_is t (map (index_by FIRST_FREE_OBJECTID) list) names tells FIRST_FREE_OBJECTID ∙ one in
+    record { kind = refl; bits = omega arith; generation = (omega arith, omega arith); links = sym count; orphan = λ none. absurd (omega (arith, none, count)) }
+
 -- ---- the relocation tree
 
 module _ (now : ℕ) (low : now < 2 ^ 63) (nodes : List NodePointer) (roots : List Item) where
@@ -89,3 +99,31 @@ module _ (now : ℕ) (low : now < 2 ^ 63) (nodes : List NodePointer) (roots : Li
       let number : 256 ≡ ino = ap (λ (i : Item). i.0.objectid) is in
       let same : root_inode now [] ≡ inode = some_inode (root_inode now []) inode (sym (root_reads now [] low (omega arith)) ∙ (ap (λ (i : Item). inode_of i.1) is ∙ read)) in
       subst (IsInode relocation ino) same (subst (λ (k : ℕ). IsInode relocation k (root_inode now [])) number (root_inode_told now [] relocation (own_name ∷ []) relocation_tells relocation_bytes)))
+
+  relocation_item : Contains (relocation_items now) (inode_item FIRST_FREE_OBJECTID (root_inode now []))
+  unfolding relocation_items
+  relocation_item = at_head (inode_item FIRST_FREE_OBJECTID (root_inode now [])) (root_ref ∷ [])
+
+  abbrev relocation_there : IsThere relocation FIRST_FREE_OBJECTID
+  relocation_there = (inode_bytes (root_inode now []), relocation_item)
+
+  relocation_owned : All (λ i. is_orphan i ≡ false → IsOwned relocation i) (relocation_items now)
+  unfolding relocation_items
+  relocation_owned =
+      All-from_recursion (λ (i : Item). is_orphan i ≡ false → IsOwned relocation i) (inode_item FIRST_FREE_OBJECTID (root_inode now []) ∷ (root_ref ∷ []))
+      ((λ plain. record { there = relocation_there; low = omega arith; high = omega arith }), ((λ plain. record { there = relocation_there; low = omega arith; high = omega arith }), tt))
+
+  pub relocation_inodes : (sup : Super) → AreInodes sup relocation
+  relocation_inodes sup =
+      let none : index_entries relocation ≡ [] = entries_are relocation [] (own_name ∷ []) relocation_tells in
+      record {
+        root = (root_inode now [], record { body = inode_bytes (root_inode now []); there = relocation_item; reads = root_reads now [] low (omega arith) }, refl);
+        entries = subst (All (IsDirEntry relocation)) (sym none) (All-nil (IsDirEntry relocation));
+        once = subst (AllPairs (λ (e f : IndexEntry). ¬ SameName e f)) (sym none) (λ i j d l h. absurd (omega (arith, h)));
+        inodes = λ ino inode has.
+            let is = relocation_inode ino has.body has.there in
+            let number : 256 ≡ ino = ap (λ (i : Item). i.0.objectid) is in
+            let same : root_inode now [] ≡ inode = some_inode (root_inode now []) inode (sym (root_reads now [] low (omega arith)) ∙ (ap (λ (i : Item). inode_of i.1) is ∙ has.reads)) in
+            subst (KeepsInode sup relocation ino) same (subst (λ (k : ℕ). KeepsInode sup relocation k (root_inode now [])) number (root_inode_keeps now [] sup relocation (own_name ∷ []) relocation_tells refl));
+        owned = relocation_owned;
+      }

@@ -9,17 +9,18 @@ use Rattle.btrfs_format.specs.declared.key.TheConstants.{DEV_EXTENT}
 use Rattle.reiser_volume.specs.outside.History.{Image}
 use Rattle.reiser_volume.specs.vol_block.declared.ids.Ids.{Ids}
 use Rattle.btr_reader.specs.btr_node.Leaf.{Item}
-use Rattle.btr_check_rules.specs.Groups.{Apart, AreStripes, IsExtentOf, dev_extents}
+use Rattle.btr_check_rules.specs.Groups.{Apart, AreStripes, IsChunkOn, IsExtentOf, dev_extents}
 use Rattle.btr_check_rules.specs.Recount.{Recount}
 use Rattle.btr_reader.specs.btr_space_items.DevExtent.{dev_extent_layout}
 use Rattle.btr_reader.proofs.btr_space_items.Records.{dev_extents_read_back}
+use Rattle.btr_reader.specs.btr_space_items.declared.device.Device.{Device}
 use Rattle.btr_reader.specs.declared.chunk.ChunkAt.{ChunkAt}
 use Rattle.convert_core.specs.convert_steps.Making.{IsMaking, Making, new_ids}
 use Rattle.convert_core.specs.convert_steps.declared.trees.VolumeTrees.{VolumeTrees}
 use Rattle.convert_core.proofs.Wholeness.{blocks_few}
 use Rattle.convert_core.specs.convert_steps.Superblock.{is_system_role}
 use Rattle.convert_core_laws.specs.reading.Identifiers.{NewIdsFit}
-use Rattle.convert_core_laws.specs.reading.Opened.{IsNewVolume, boot_part, chunk_at, other_part}
+use Rattle.convert_core_laws.specs.reading.Opened.{IsNewVolume, boot_part, chunk_at, other_part, super_for}
 use Rattle.convert_core.proofs.extent_pieces.Lists.{all_at, pairs_append, pairs_map}
 use Rattle.convert_core.proofs.extent_pieces.Owning.{two_cases}
 use Rattle.reiser_volume.proofs.fs_paths.Lists.{from_filter, from_map, in_filter, in_map}
@@ -28,12 +29,13 @@ use Rattle.convert_core.specs.space_items.Chunks.{dev_extent_body, dev_extent_it
 use Rattle.convert_core.specs.space_items.Laws.{AreIds}
 use Rattle.convert_core.specs.space_items.declared.node.TreeNode.{TreeNode}
 use Rattle.convert_core.proofs.space_items.ChunkLists.{chunk_ends}
+use Rattle.convert_core.specs.unit_plan.Chunks.{IsChunk, role_of, usable_end}
 use Rattle.convert_core.specs.unit_plan.declared.chunk.PlannedChunk.{PlannedChunk}
 use Rattle.convert_core.specs.convert_options.declared.options.Options.{Options}
 use Rattle.convert_core_laws.specs.soundness.Laws.{ConvertedChunksAreSound}
 use Rattle.convert_core_laws.specs.soundness.Recounted.{recount_for}
 use Rattle.convert_core_laws.proofs.soundness.Lists.{filter_all}
-use Rattle.convert_core_laws.proofs.soundness.Recounting.{in_parts, volume_for}
+use Rattle.convert_core_laws.proofs.soundness.Recounting.{device_is, in_parts, total_is, volume_for}
 
 -- ---- chunks lie apart
 
@@ -125,8 +127,34 @@ module _ (o : Options) (ids : Ids) (now : ℕ) (image other : Image) (m : Making
   apart_as_read =
       pairs_map (λ (c d : ChunkAt). Apart c.logical c.chunk.length d.logical d.chunk.length) (chunk_at (new_ids m)) (in_parts m.chunks) (parts_apart m.chunks making.chunks_are.ascending)
 
+  -- ---- each chunk is valid
+
+  is_valid : (c : PlannedChunk) → Contains m.chunks c → IsChunkOn (super_for m r nodes) (chunk_at (new_ids m) c)
+  is_valid c h =
+      let some = (all_at (IsChunk (role_of m.plan m.volume.sup.blocks) (usable_end m.volume.sup.blocks)) m.chunks c making.chunks_are.each h).not_empty in
+      let end = all_at (λ (d : PlannedChunk). d.start + d.length ≤ m.volume.sup.blocks) m.chunks c (chunk_ends m.plan m.volume.sup.blocks m.chunks making.chunks_are) h in
+      let total = total_is m r nodes in
+      record {
+        sectors = refl;
+        stripes = refl;
+        some = λ e. omega (arith, e, some);
+        whole = (omega arith, omega arith);
+        stripe = record {
+          device = (ap (λ (d : Device). d.devid) (sym (device_is m r nodes)), ap (λ (d : Device). d.uuid) (sym (device_is m r nodes)));
+          start = omega arith;
+          inside = omega (arith, end, total);
+        };
+        mirror = λ stripe e. absurd (cc e);
+      }
+
+  all_valid : All (IsChunkOn (super_for m r nodes)) k.chunks
+  all_valid =
+      all_from_contains (IsChunkOn (super_for m r nodes)) k.chunks
+      (λ c h. let at = chunk_from c h in subst (IsChunkOn (super_for m r nodes)) at.2 (is_valid at.0 at.1))
+
   pub stripes : AreStripes k
   stripes = record {
+    valid = all_valid;
     logical = apart_as_read;
     physical =
         pairs_map (λ (c d : ChunkAt). Apart c.chunk.stripe.offset c.chunk.length d.chunk.stripe.offset d.chunk.length) (chunk_at (new_ids m)) (in_parts m.chunks) (parts_apart m.chunks making.chunks_are.ascending);

@@ -42,7 +42,7 @@ use Rattle.convert_core.specs.convert_options.declared.options.Options.{Options}
 use Rattle.convert_core_laws.specs.soundness.Laws.{ConvertedTotalsAreSound}
 use Rattle.convert_core_laws.specs.soundness.Recounted.{recount_for}
 use Rattle.convert_core_laws.proofs.soundness.Lists.{filter_first, filter_none, filter_on, sum_parts}
-use Rattle.convert_core_laws.proofs.soundness.Recounting.{device_is, in_parts, total_is, used_is, volume_for}
+use Rattle.convert_core_laws.proofs.soundness.Recounting.{device_is, fsid_is, in_parts, total_is, used_is, volume_for}
 
 -- ---- block groups
 
@@ -107,7 +107,7 @@ module _ (o : Options) (ids : Ids) (now : ℕ) (image other : Image) (m : Making
   k = recount_for image other m r nodes
 
   tells : TellsDevice k (device_body (new_ids m) m.volume.sup.blocks m.chunks)
-  tells = record { total = sym (total_is m r nodes); used = sym (chunk_bytes_are (new_ids m) m.chunks) }
+  tells = record { fsid = sym (fsid_is m r nodes); total = sym (total_is m r nodes); used = sym (chunk_bytes_are (new_ids m) m.chunks) }
 
   pub totals : AreTotals k
   totals = record {
@@ -123,11 +123,12 @@ module _ (o : Options) (ids : Ids) (now : ℕ) (image other : Image) (m : Making
       filter_on (λ (i : Item). eqb i.0.kind DEV_ITEM) _ (map (chunk_item (new_ids m)) m.chunks) refl
           ∙ ap (λ (l : List Item). (make_key DEV_ITEMS_OBJECTID DEV_ITEM 1, device_bytes (device_body (new_ids m) m.volume.sup.blocks m.chunks)) ∷ l)
           (filter_none (λ (i : Item). eqb i.0.kind DEV_ITEM) (map (chunk_item (new_ids m)) m.chunks) (All-map (λ (i : Item). eqb i.0.kind DEV_ITEM ≡ false) (chunk_item (new_ids m)) m.chunks (λ n d h. refl))),
-      (
-        device_body (new_ids m) m.volume.sup.blocks m.chunks,
-        device_reads (new_ids m) m.volume.sup.blocks m.chunks v.ids_ (blocks_few m.volume image m.options m.plan m.pieces making.has_pieces) (chunk_blocks_fit m.plan m.volume.sup.blocks m.chunks making.chunks_are),
-        tells,
-      ),
+      record {
+        key = ap (λ (d : Device). make_key DEV_ITEMS_OBJECTID DEV_ITEM d.devid) (sym (device_is m r nodes));
+        body =
+            device_reads (new_ids m) m.volume.sup.blocks m.chunks v.ids_ (blocks_few m.volume image m.options m.plan m.pieces making.has_pieces) (chunk_blocks_fit m.plan m.volume.sup.blocks m.chunks making.chunks_are)
+            ∙ ap (λ (d : Device). let o : Option Device = Some d in o) (sym (device_is m r nodes));
+      },
     );
   }
 

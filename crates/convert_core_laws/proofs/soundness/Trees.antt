@@ -3,7 +3,7 @@ use Rattle.std.proofs.Common.{◌≡◌, ◌≤◌, ◌<◌, ℕ, zero, suc, ◌
 use Rattle.std.specs.Prelude.{All, AllPairs, Contains}
 use Rattle.std.specs.List.{list_any}
 use Rattle.std.proofs.lemmas.List.{map-append}
-use Rattle.std.proofs.lemmas.List.Elements.{All-cons, All-nil, Contains-append_cases}
+use Rattle.std.proofs.lemmas.List.Elements.{All-from_recursion, Contains-append_cases}
 use Rattle.btrfs_format.specs.declared.key.TheConstants.{ROOT_ITEM}
 use Rattle.btrfs_format.specs.declared.object.TheConstants.{CHUNK_TREE, CONV_IMAGE_SUBVOL, CSUM_TREE, DATA_RELOC_TREE, DEV_TREE, EXTENT_TREE, FS_TREE, ROOT_TREE}
 use Rattle.reiser_volume.proofs.fs_paths.Lists.{from_filter, from_map, in_filter, in_map}
@@ -15,7 +15,7 @@ use Rattle.btr_reader.specs.Chunks.{system_kind}
 use Rattle.btr_reader.specs.Opening.{IsBtrfsOpened, boot_chunks, boot_list, chunk_map, chunk_tree, form_of, root_tree}
 use Rattle.btr_reader.specs.declared.chunk.ChunkAt.{ChunkAt}
 use Rattle.btr_check_rules.specs.Recount.{IsRooted, IsTreeOn, Recount, TreeOn, chunks_on, root_items_on}
-use Rattle.btr_check_rules.specs.Trees.{AreTrees}
+use Rattle.btr_check_rules.specs.Trees.{AreTrees, KeepTreeRules}
 use Rattle.btr_reader.specs.btr_super.declared.superblock.Super.{Super}
 use Rattle.convert_core.specs.btr_tree.Laws.{GivesItself}
 use Rattle.convert_core.specs.btr_tree.declared.climb.Root.{Root}
@@ -30,7 +30,6 @@ use Rattle.convert_core.specs.file_items.Small.{relocation_items}
 use Rattle.convert_core.specs.space_items.Extents.{extent_items}
 use Rattle.convert_core.specs.convert_steps.declared.trees.VolumeTrees.{VolumeTrees}
 use Rattle.convert_core.specs.convert_steps.Superblock.{is_system_role, new_super}
-use Rattle.convert_core_laws.specs.reading.Identifiers.{NewIdsFit}
 use Rattle.convert_core_laws.specs.reading.Laws.{MapsChunks}
 use Rattle.convert_core_laws.specs.reading.Opened.{IsNewVolume, ReadsTree, ReadsTrees, boot_part, chunk_at, map_for, other_part, super_for}
 use Rattle.convert_core_laws.proofs.reading.Opening.{maps_chunks, opened}
@@ -47,10 +46,9 @@ use Rattle.convert_core.specs.unit_plan.declared.chunk.Role.{Role}
 use Rattle.convert_core.specs.unit_plan.declared.chunk.Role.TheVariants.{System, Metadata, Data}
 use Rattle.convert_core.specs.convert_options.declared.options.Options.{Options}
 use Rattle.convert_core.proofs.extent_pieces.Lists.{all_at}
-use Rattle.convert_core_laws.specs.soundness.Laws.{ConvertedTreesAreSound}
 use Rattle.convert_core_laws.specs.soundness.Recounted.{recount_for, tree_for, trees_for}
 use Rattle.convert_core_laws.proofs.soundness.ChunkList.{Known, chunks_added}
-use Rattle.convert_core_laws.proofs.soundness.Recounting.{form_is, volume_for}
+use Rattle.convert_core_laws.proofs.soundness.Recounting.{form_is}
 use Rattle.convert_core_laws.proofs.soundness.Stripes.{small}
 
 -- ---- numbers of trees
@@ -74,10 +72,8 @@ six_once a b c d e f p q x y z =
     let last : List TreeOn = f ∷ [] in
     two a b (c ∷ (d ∷ (e ∷ last))) p (two b c (d ∷ (e ∷ last)) q (two c d (e ∷ last) x (two d e last y (two e f [] z (one f)))))
 
-pub six_all : (P : TreeOn → Type 0) (a b c d e f : TreeOn) → P a → P b → P c → P d → P e → P f → All P (a ∷ (b ∷ (c ∷ (d ∷ (e ∷ (f ∷ []))))))
-six_all P a b c d e f p q x y z w =
-    let last : List TreeOn = f ∷ [] in
-    All-cons P a (b ∷ (c ∷ (d ∷ (e ∷ last)))) p (All-cons P b (c ∷ (d ∷ (e ∷ last))) q (All-cons P c (d ∷ (e ∷ last)) x (All-cons P d (e ∷ last) y (All-cons P e last z (All-cons P f [] w (All-nil P))))))
+pub six_all : {X : Type 0} (P : X → Type 0) (a b c d e f : X) → P a → P b → P c → P d → P e → P f → All P (a ∷ (b ∷ (c ∷ (d ∷ (e ∷ (f ∷ []))))))
+six_all P a b c d e f p q x y z w = All-from_recursion P (a ∷ (b ∷ (c ∷ (d ∷ (e ∷ (f ∷ [])))))) (p, (q, (x, (y, (z, (w, tt))))))
 
 -- which trees have a root item is told by the items without their leaves
 abbrev is_root : ℕ → Item → Bool
@@ -176,7 +172,7 @@ module _ (o : Options) (ids : Ids) (now : ℕ) (image other : Image) (m : Making
       (rooted_at FS_TREE r.files (file_tree_items image m) reads.files) (rooted_at CSUM_TREE r.sums (sum_tree_items other m) reads.sums) (rooted_at CONV_IMAGE_SUBVOL r.image (image_tree_items m) reads.saved)
       (rooted_at DATA_RELOC_TREE r.relocation (relocation_items m.now) reads.relocation)
 
-  all_once : AllPairs (λ t u. t.number < u.number) others
+  pub all_once : AllPairs (λ t u. t.number < u.number) others
   all_once =
       six_once (tree_for other s EXTENT_TREE r.extents (extent_items m.chunks m.pieces nodes m.options.nodesize)) (tree_for other s DEV_TREE r.device (device_items (new_ids m) m.chunks))
       (tree_for other s FS_TREE r.files (file_tree_items image m)) (tree_for other s CSUM_TREE r.sums (sum_tree_items other m)) (tree_for other s CONV_IMAGE_SUBVOL r.image (image_tree_items m)) (tree_for other s DATA_RELOC_TREE r.relocation (relocation_items m.now))
@@ -239,8 +235,8 @@ module _ (o : Options) (ids : Ids) (now : ℕ) (image other : Image) (m : Making
       no_system Metadata t e = omega (arith, e)
       no_system Data t e = omega (arith, e)
 
-  pub trees : AreTrees other k
-  trees = record {
+  pub trees : KeepTreeRules k → AreTrees other k
+  trees rules = record {
     opened = opens;
     chunk_number = refl;
     chunk_tree_is = chunk_tree_on;
@@ -251,8 +247,5 @@ module _ (o : Options) (ids : Ids) (now : ℕ) (image other : Image) (m : Making
     each = all_named;
     chunks_are = chunks_are;
     boot = system_booted;
+    rules = rules;
   }
-
-pub converted_trees_are_sound : NewIdsFit → ConvertedTreesAreSound
-converted_trees_are_sound fit = λ o ids now image other m r nodes is size low are has bytes.
-    trees o ids now image other m r nodes (volume_for fit o ids now image other m r nodes is size are has)

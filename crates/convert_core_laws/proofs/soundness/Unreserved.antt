@@ -58,6 +58,21 @@ module _ (n : ℕ) (fit : IsNodeSize n) where
           rest)
           fit
 
+  -- and so at one of 4096
+  pub place_whole : (units : List ℕ) (a : ℕ) → Contains (node_places n units) a → a % 4096 ≡ 0
+  place_whole units a h =
+      let whole = place_aligned units a h in
+      ⊎_elim (λ (e : n ≡ 4096). by 4096 e (λ w. omega (arith, w)) whole)
+      (λ rest. ⊎_elim (λ (e : n ≡ 8192). by 8192 e (λ w. omega (arith, w)) whole)
+      (λ rest'. ⊎_elim (λ (e : n ≡ 16384). by 16384 e (λ w. omega (arith, w)) whole)
+      (λ rest''. ⊎_elim (λ (e : n ≡ 32768). by 32768 e (λ w. omega (arith, w)) whole) (λ (e : n ≡ 65536). by 65536 e (λ w. omega (arith, w)) whole) rest'')
+      rest')
+      rest)
+      fit
+    where
+      by : (x : ℕ) → n ≡ x → (a % x ≡ 0 → a % 4096 ≡ 0) → a % n ≡ 0 → a % 4096 ≡ 0
+      by x e is whole = is (subst (λ (y : ℕ). a % y ≡ 0) e whole)
+
   -- an address in a node lies in one of its blocks
   pub node_block : (a b : ℕ) → a % n ≡ 0 → a ≤ b → b < a + n → IsInNode n a (b / 4096)
   node_block a b aligned low high =

@@ -14,7 +14,7 @@ use Rattle.btr_reader.specs.btr_reader_walk.Events.{TreeItem}
 use Rattle.btr_reader.specs.btr_reader_walk.Map.{place}
 use Rattle.btr_reader.specs.btr_reader_walk.declared.map.MapRange.{MapRange}
 use Rattle.btr_reader.specs.btr_reader_walk.declared.tree.NodePointer.{NodePointer}
-use Rattle.convert_core.specs.convert_steps.Switch.{IsMirror}
+use Rattle.convert_core.specs.convert_steps.Switch.{IsMirrorOf}
 use Rattle.reiser_volume.specs.fs_rows.Rows.{NameList}
 use Rattle.reiser_volume.specs.reiser_bitmap.Bits.{has}
 use Rattle.reiser_volume.specs.reiser_volume_names.Links.{AreLinks}
@@ -62,7 +62,7 @@ pub record StaysInPlace (image : Image) (ranges : List MapRange) (items : List T
 -- Each block that the old bitmap marks used holds what it held, but for block 16 and the places of the Btrfs superblock's copies. Each named
 -- object has an inode in the file tree by which its data is in place.
 pub record IsInPlace (image other : Image) : Type 0 where
-  pub used : (b : ℕ) → has (used_of image) b ≡ true → b ≢ 16 → ¬ IsMirror b → block_at other b ≡ block_at image b
+  pub used : (b : ℕ) → has (used_of image) b ≡ true → b ≢ 16 → ¬ IsMirrorOf (superblock image).blocks b → block_at other b ≡ block_at image b
   pub at : NodePointer
   pub has_root : file_pointer other (own_super other) (own_map other) ≡ Some at
   pub files : (key : ObjectKey) → IsNamed (volume_items image) key → StaysInPlace image (own_map other) (items_at other (own_super other) (own_map other) FS_TREE at) key

@@ -1,5 +1,5 @@
 -- What a converted volume is to whoever opens it.
-use Rattle.std.specs.Prelude.{◌≡◌, ◌≤◌, ◌<◌, ℕ, ◌+◌, ◌-◌, ◌*◌, ◌^◌, true, not, List, [], ◌++◌, map, filter, Contains, Some}
+use Rattle.std.specs.Prelude.{◌≡◌, ◌≤◌, ◌<◌, ℕ, ◌+◌, ◌-◌, ◌*◌, ◌^◌, true, not, List, [], ◌++◌, map, filter, Contains, Some, None}
 use Rattle.btrfs_format.specs.declared.object.TheConstants.{CONV_IMAGE_SUBVOL, CSUM_TREE, DATA_RELOC_TREE, DEV_TREE, EXTENT_TREE, FS_TREE}
 use Rattle.reiser_volume.specs.outside.History.{Image}
 use Rattle.reiser_volume.specs.vol_block.declared.ids.Ids.{Ids}
@@ -42,12 +42,12 @@ pub record IsNewVolume (o : Options) (ids : Ids) (now : ℕ) (image other : Imag
 -- the fields of its superblock
 abbrev pub super_for : Making → VolumeTrees → List TreeNode → Super
 super_for m r nodes =
-    new_super (new_ids m) m.volume.sup.blocks m.options.nodesize (label_field (label_by m.volume.sup m.options.label)) m.chunks
+    new_super (new_ids m) m.volume.sup.blocks m.options.nodesize m.options.sums (label_field (label_by m.volume.sup m.options.label)) m.chunks
     (record { chunk = r.chunk; root = r.root; used = used_bytes m nodes })
 
 -- a chunk, as it is read
 abbrev pub chunk_at : Ids → PlannedChunk → ChunkAt
-chunk_at ids c = record { logical = 4096 * c.start; chunk = chunk_body ids c }
+chunk_at ids c = record { logical = 4096 * c.start; chunk = chunk_body ids c; mirror = None }
 
 -- the chunks that the bootstrap array has, and the others
 abbrev pub boot_part : List PlannedChunk → List PlannedChunk
@@ -58,7 +58,7 @@ other_part chunks = filter (λ c. not (is_system_role c.role)) chunks
 
 -- a chunk maps its addresses to themselves
 abbrev pub range_for : PlannedChunk → MapRange
-range_for c = record { logical = 4096 * c.start; length = 4096 * c.length; physical = 4096 * c.start }
+range_for c = record { logical = 4096 * c.start; length = 4096 * c.length; physical = 4096 * c.start; mirror = None }
 
 -- the map of addresses: that of all chunks
 abbrev pub map_for : List PlannedChunk → List MapRange

@@ -4,6 +4,8 @@ use Rattle.reiser_volume.specs.outside.History.{Image}
 use Rattle.reiser_volume.specs.vol_block.declared.ids.Ids.{Ids}
 use Rattle.btr_reader.specs.btr_node.NodeSize.{IsNodeSize}
 use Rattle.btr_check_rules.specs.Groups.{AreBlockGroups, AreStripes, AreTotals}
+use Rattle.btr_check_rules.specs.Files.{HaveExtents}
+use Rattle.btr_check_rules.specs.Inodes.{HaveInodes}
 use Rattle.btr_check_rules.specs.Names.{HaveNames}
 use Rattle.btr_check_rules.specs.Places.{ArePlacesApart, AreUnreserved}
 use Rattle.btr_check_rules.specs.Recount.{Recount}
@@ -64,6 +66,14 @@ ConvertedChecksumsAreSound = OfConvertedRecount AreSums
 -- In each file tree the directory indexes, the dir items and the references of inodes tell the same names, and inodes their counts.
 abbrev pub ConvertedNamesAreSound : Type 0
 ConvertedNamesAreSound = OfConvertedRecount (λ other k. HaveNames k)
+
+-- In each file tree inodes and entries keep the rules of Linux.
+abbrev pub ConvertedInodesAreSound : Type 0
+ConvertedInodesAreSound = OfConvertedRecount (λ other k. HaveInodes k)
+
+-- So do file extents.
+abbrev pub ConvertedFileExtentsAreSound : Type 0
+ConvertedFileExtentsAreSound = OfConvertedRecount (λ other k. HaveExtents k)
 
 -- It is sound in all nine parts.
 abbrev pub ConvertedVolumesAreSound : Type 0

@@ -2,7 +2,7 @@ use Rattle.std.proofs.Common.{◌≡◌, ◌++◌, ℕ, List, length, drop, sym,
 use borrow.Rule.Slice.PartMut.{put_mid}
 use Rattle.btrfs_format.specs.declared.size.TheConstants.{CSUM_SIZE, HEADER_REST_SIZE}
 use Rattle.btr_node.proofs.Putting.{put_head_is, sum_place}
-use Rattle.btr_node.proofs.Spelled.{length-kind_sum}
+use Rattle.csum_kinds.proofs.Widths.{length-kind_sum}
 use Rattle.btr_node.proofs.put.put_head.Goals as goal
 
 pub slice_bounds-copy_from_slice-end-2 : goal.slice_bounds-copy_from_slice-end-2

@@ -1,4 +1,4 @@
-use Rattle.std.proofs.Common.{◌≡◌, ◌*◌, ◌++◌, ◌∷◌, [], List, Err, length, refl, sym, ◌∙◌, ap, subst}
+use Rattle.std.proofs.Common.{◌≡◌, ℕ, ◌*◌, ◌++◌, ◌∷◌, [], List, Err, length, refl, sym, ◌∙◌, ap, subst}
 use Rattle.std.specs.Prelude.{IsTrue}
 use Rattle.btr_tree.specs.outside.History.{History, Image, reads, WritesOnly}
 use Rattle.btr_tree.proofs.outside.Crash.{writes_none, writes_then}
@@ -7,8 +7,10 @@ use Rattle.btr_tree.specs.btr_node.Leaf.{Item}
 use Rattle.btr_tree.specs.Counting.{Counted}
 use Rattle.btr_tree.specs.Packing.{capacity}
 use Rattle.btr_tree.specs.Roots.{lengths_of}
+use Rattle.btr_tree.specs.Whole.{IsWholeTree}
 use Rattle.btr_tree.specs.Writing.{IsInSlots}
-use Rattle.btr_tree_writer.specs.Trees.{AreWritable, TreeStands, read_form}
+use Rattle.btr_tree.specs.btr_reader_walk.Map.{identity}
+use Rattle.btr_tree_writer.specs.Trees.{AreWritable, TreeStands, pointer_to_root, read_form}
 use Rattle.btr_tree_writer.specs.Writer.{StandsOn}
 use Rattle.btr_tree_writer.specs.declared.answer.WriteAnswer.{WriteAnswer}
 use Rattle.btr_tree_writer.proofs.Steps.{source_cause, source_fails, answer_fails, same_where, only_of, range_of, falls, next_of, pushed_of, last_of, answer_cause, ok_cause}
@@ -24,6 +26,7 @@ loop-writer-init g c = record {
   live = c.requires.live;
   reach = refl;
   needs = λ b needed. needed;
+  chunk_tree = c.in_ok-writer.ensures.chunk_tree;
   items = [];
   writes = c.in_ok-writer.ensures.writes;
   stands = λ tells. c.in_ok-writer.ensures.stands _;
@@ -93,6 +96,7 @@ loop-writer-preserved g c =
       live = c.in_ok-advance.ensures.live;
       reach = c.advance.ensures.reach ∙ before.reach;
       needs = λ b needed. before.needs b (c.advance.ensures.needs b needed);
+      chunk_tree = c.in_ok-push.ensures.chunk_tree ∙ before.chunk_tree;
       items = before.items ++ item ∷ [];
       writes = c.in_ok-push.ensures.writes _ _ _ _ before.writes;
       stands = λ tells. c.in_ok-push.ensures.stands before.items tells (subst (λ (h : History). StandsOn c.loop-writer.writer (reads h) before.items) (sym (held tells)) (before.stands tells));
@@ -240,3 +244,9 @@ returns-clause-only g c = λ tells.
 
 pub returns-clause-cause : goal.returns-clause-cause
 returns-clause-cause g c = ok_cause _ _ _ (c.in_ok-root.ensures.cause.kept (λ e. absurd cc) ∙ (c.in_ok-advance.ensures.cause.kept (λ e. absurd cc) ∙ c.loop-writer.invariant.same))
+
+pub returns-clause-whole : goal.returns-clause-whole
+returns-clause-whole g c = λ tells.
+    let before = c.loop-writer.invariant in
+    subst (λ (chunk_tree : List ℕ). IsWholeTree (reads (g.D.Disk.history c.finish.new.disk)) identity (read_form c.args.form) c.args.owner chunk_tree (pointer_to_root c.in_ok-root.root)) before.chunk_tree
+    (c.in_ok-root.ensures.whole _ _ _ _ tells before.writes)

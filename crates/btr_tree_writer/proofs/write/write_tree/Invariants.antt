@@ -19,6 +19,7 @@ invariant-loop-writer g l = record {
   live : g.I.ItemSource.is_live l.items;
   reach : g.I.ItemSource.reach l.items ≡ g.I.ItemSource.reach l.initial.items;
   needs : (b : ℕ) → g.I.ItemSource.needs l.items b → g.I.ItemSource.needs l.initial.items b;
+  chunk_tree : l.writer.builder.made.chunk_tree ≡ l.fn.form.ids.chunk_tree;
   items : List Item;
   writes : WritesTree l.writer (read_form l.fn.form) l.owner l.fn.slots items;
   stands : IsTrue g.D.BlockSource.tells → StandsOn l.writer (reads (g.D.Disk.history l.disk)) items;

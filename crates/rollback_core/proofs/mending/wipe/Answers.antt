@@ -1,4 +1,4 @@
-use Rattle.std.proofs.Common.{◌≡◌, ◌∙◌, ℕ, List, nat_lt, true, false, sym, ap, arith}
+use Rattle.std.proofs.Common.{◌≡◌, ◌∙◌, ℕ, ◌+◌, List, nat_lt, true, false, sym, ap, arith}
 use Rattle.std.specs.Prelude.{codes}
 use Rattle.std.proofs.lemmas.Bool.Decides.{nat_tests}
 use Rattle.btrfs_format.specs.declared.block.TheConstants.{SUPER_MAGIC_OFFSET}
@@ -13,7 +13,7 @@ pub returns-then-place-front-clause-gives : goal.returns-then-place-front-clause
 returns-then-place-front-clause-gives g c = λ tells image is.
     elim c.then-place-front.branch [
       | then-place-front-via-then-place-front w ↦
-          let high : nat_lt c.args.place c.args.front.now.sup.blocks ≡ false = grind (arith, nat_tests, w.if-place-front.true) in
+          let high : nat_lt (c.args.place + 1) c.args.front.now.sup.blocks ≡ false = grind (arith, nat_tests, w.if-place-front.true) in
           gives_same (block_at image c.args.place) _ (beyond_stays c.args.front.now.sup.blocks c.args.front.now.bitmap c.args.place (block_at image c.args.place) high)
       | then-place-front-via-else-place-front+then-is_used w ↦
           gives_same (block_at image c.args.place) _
@@ -22,7 +22,7 @@ returns-then-place-front-clause-gives g c = λ tells image is.
 
 pub returns-then-has_magic-clause-gives : goal.returns-then-has_magic-clause-gives
 returns-then-has_magic-clause-gives g c = λ tells image is.
-    let low : nat_lt c.args.place c.args.front.now.sup.blocks ≡ true = grind (arith, nat_tests, c.if-place-front.false) in
+    let low : nat_lt (c.args.place + 1) c.args.front.now.sup.blocks ≡ true = grind (arith, nat_tests, c.if-place-front.false) in
     let free : has c.args.front.now.bitmap c.args.place ≡ false = sym c.is_used.ensures ∙ c.if-is_used.false in
     let here = c.in_ok-read.ensures.block tells ∙ ap (λ (i : Image). block_at i c.args.place) is in
     let magic : has_bytes_at (block_at image c.args.place) SUPER_MAGIC_OFFSET (codes "_BHRfS_M") ≡ true =

@@ -6,6 +6,8 @@ use Rattle.convert_core.specs.command_answers.declared.answer.Answer.{Answer}
 use Rattle.convert_options.specs.declared.options.Options.{Options}
 use Rattle.trial_core.specs.Answers.{LeavesRound, RefusesRound}
 use Rattle.trial_core.proofs.Refusing.{convert_leaves, convert_refused}
+use Rattle.first_sync.specs.Synced.{synced_now}
+use Rattle.first_sync.proofs.Synced.{first_goes_on}
 use Rattle.trial_core.proofs.round.convert.Goals as goal
 
 pub returns-in-Ok-clause-told : goal.returns-in-Ok-clause-told
@@ -21,5 +23,11 @@ returns-in-Err-clause-told g c = λ tells image is accepted.
 
 pub returns-in-Err-clause-leaves : goal.returns-in-Err-clause-leaves
 returns-in-Err-clause-leaves g c = λ tells.
-    subst (λ (e : Answer). LeavesRound (g.D.Disk.history c.args.disk.now) (g.D.Disk.history c.convert.new.disk) e) (sym c.step_answer.ensures)
-    (convert_leaves (g.D.Disk.history c.args.disk.now) (g.D.Disk.history c.convert.new.disk) c.in-Err.answer (c.in-Err.ensures.refused tells))
+    subst (λ (e : Answer). LeavesRound (synced_now (g.D.Disk.history c.args.disk.now)) (g.D.Disk.history c.convert.new.disk) e) (sym c.step_answer.ensures)
+    (convert_leaves (synced_now (g.D.Disk.history c.args.disk.now)) (g.D.Disk.history c.convert.new.disk) c.in-Err.answer (c.in-Err.ensures.refused tells))
+
+pub returns-in-Ok-clause-grows : goal.returns-in-Ok-clause-grows
+returns-in-Ok-clause-grows g c = λ tells. first_goes_on _ _ (c.convert.ensures.crash tells).first
+
+pub returns-in-Err-clause-grows : goal.returns-in-Err-clause-grows
+returns-in-Err-clause-grows g c = λ tells. first_goes_on _ _ (c.convert.ensures.crash tells).first

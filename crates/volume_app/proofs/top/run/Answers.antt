@@ -25,9 +25,12 @@ returns-clause-changed g c = λ tells is.
 pub returns-clause-crash : goal.returns-clause-crash
 returns-clause-crash g c = c.perform-ending.ensures.performs.crash
 
+pub returns-clause-order : goal.returns-clause-order
+returns-clause-order g c = c.perform-ending.ensures.performs.order
+
 pub returns-clause-settled : goal.returns-clause-settled
-returns-clause-settled g c = λ tells settled is.
-    c.perform-ending.ensures.performs.settled tells settled (done_by c.perform-ending.result (subst (λ (n : ℕ). (n ≡ 0) ⊎ (n ≡ 5)) c.status.ensures is))
+returns-clause-settled g c = λ tells writes is.
+    c.perform-ending.ensures.performs.settled tells writes (done_by c.perform-ending.result (subst (λ (n : ℕ). (n ≡ 0) ⊎ (n ≡ 5)) c.status.ensures is))
 
 pub returns-clause-ends : goal.returns-clause-ends
 returns-clause-ends g c = record {

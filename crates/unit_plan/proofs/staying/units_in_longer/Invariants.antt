@@ -1,0 +1,7 @@
+use Rattle.std.proofs.Common.{◌≡◌, ℕ, ◌<◌, take, slice_index}
+use Rattle.unit_plan.specs.Staying.{is_longer}
+use Rattle.unit_plan.proofs.RunSums.{part}
+use Rattle.unit_plan.proofs.staying.units_in_longer.Given as goal
+
+abbrev pub invariant-loop-i : goal.invariant-loop-i
+invariant-loop-i l = (c : ℕ) → c < 256 → slice_index l.longer c ≡ part (is_longer c) (take l.i l.runs)
