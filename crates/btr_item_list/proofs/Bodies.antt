@@ -1,13 +1,7 @@
 -- Items as parts of one list of bytes.
-use Rattle.std.proofs.Common.{◌≡◌, ℕ, ◌+◌, ◌-◌, ◌≤◌, List, [], ◌∷◌, ◌++◌, length, take, drop, map, All, refl, ap, ◌∙◌, arith}
+use Rattle.btr_item_list.proofs.Imports.{◌≡◌, ℕ, ◌+◌, ◌-◌, ◌≤◌, List, [], ◌∷◌, ◌++◌, length, take, drop, map, All, refl, ap, ◌∙◌, arith, drop-append-le, take-append-le, length-drop, map-append, length-append, take_all, All-head, All-tail, Key, Item, ItemRange, item_by, IsBodyWithin}
 use Rattle.std.specs.List.{slice_range}
-use Rattle.std.proofs.lemmas.List.{drop-append-le, take-append-le, length-drop, map-append, length-append, take_all}
-use Rattle.std.proofs.lemmas.List.Elements.{All-head, All-tail}
 use Rattle.std.proofs.Math.Seq.{drop-append_seam}
-use Rattle.btr_node.specs.btr_keys.declared.key.Key.{Key}
-use Rattle.btr_node.specs.Leaf.{Item}
-use Rattle.btr_item_list.specs.declared.list.ItemRange.{ItemRange}
-use Rattle.btr_item_list.specs.Lists.{item_by, IsBodyWithin}
 
 -- a part of some bytes is the same with more behind them
 part_same : (xs ys : List ℕ) (a b : ℕ) → a ≤ b → b ≤ length xs → slice_range (xs ++ ys) a b ≡ slice_range xs a b

@@ -1,13 +1,7 @@
 -- Areas of data: that what descends lies apart, and that the tests say what the facts say.
-use Rattle.std.proofs.Common.{◌≡◌, ◌≤◌, ℕ, suc, ◌+◌, ◌⊎◌, inl, inr, max, Bool, true, false, List, [], ◌∷◌, refl, arith}
-use Rattle.std.specs.Prelude.{nat_le}
-use Rattle.std.specs.Bool.{Decides}
-use Rattle.std.specs.List.{All, AllPairs, list_all}
-use Rattle.std.proofs.lemmas.Bool.Decides.{nat_tests, Decides-and, Decides-or, Decides-eqb, Decides-like, not_from_Decides, Decides-by_and}
+use Rattle.btr_node.proofs.Imports.{◌≡◌, ◌≤◌, ℕ, suc, ◌+◌, ◌⊎◌, inl, inr, max, Bool, true, false, List, [], ◌∷◌, refl, arith, nat_le, Decides, All, AllPairs, list_all, nat_tests, Decides-and, Decides-or, Decides-eqb, Decides-like, not_from_Decides, Decides-by_and, BtrItemHead, IsWithin, AreBodiesApart, HasAreas, is_within, are_apart, all_apart, has_areas, descends}
 use Rattle.std.proofs.lemmas.List.Kept.{AllPairs-cons}
-use Rattle.btr_node.specs.declared.item.BtrItemHead.{BtrItemHead}
 use Rattle.btr_node.proofs.Rows.{both, joined}
-use Rattle.btr_node.specs.Areas.{IsWithin, AreBodiesApart, HasAreas, is_within, are_apart, all_apart, has_areas, descends}
 
 within_tells : (low high : ℕ) (head : BtrItemHead) → is_within low high head ≡ true → (low ≤ head.offset) × (head.offset + head.size ≤ high)
 within_tells low high head h =

@@ -1,22 +1,5 @@
 -- What a writer holds, from step to step.
-use Rattle.std.proofs.Common.{◌≡◌, ◌≤◌, ◌<◌, ◌^◌, ◌⊎◌, inl, inr, zero, suc, ℕ, ◌+◌, ◌-◌, ◌*◌, Bool, List, [], ◌∷◌, ◌++◌, length, drop, refl, sym, ap, ◌∙◌, arith, length-append}
-use Rattle.std.proofs.lemmas.List.{append-nil, drop-replicate, length-map, map-append}
-use Rattle.std.proofs.lemmas.List.Elements.{All-nil, All-push}
-use Rattle.std.proofs.lemmas.List.Sums.{sum_by_push}
-use Rattle.btrfs_format.specs.declared.size.TheConstants.{HEADER_SIZE, ITEM_SIZE, KEY_PTR_SIZE}
-use Rattle.btr_keys.specs.Key.{key_layout}
-use Rattle.btr_keys.specs.Layout.{spelling}
-use Rattle.btr_keys.specs.declared.key.Key.{Key}
-use Rattle.btr_node.specs.Draft.{Draft, IsDraft, room, contents, data_of, head_of, sealed, node_bytes}
-use Rattle.btr_node.specs.Head.{head_layout, behind_head}
-use Rattle.btr_node.specs.Inner.{child_layout, first_keys}
-use Rattle.btr_node.specs.Leaf.{Item, item_layout, item_of, keys_of}
-use Rattle.btr_node.specs.NodeSize.{IsNodeSize}
-use Rattle.btr_node.specs.Order.{ascends, Ascends}
-use Rattle.btr_node.specs.Records.{records_in}
-use Rattle.btr_node.specs.Writer.{stored_items, stored_children, held, HoldsDraft}
-use Rattle.btr_node.specs.declared.child.Child.{Child}
-use Rattle.btr_node.specs.declared.expect.Expect.{Expect}
+use Rattle.btr_node.proofs.Imports.{◌≡◌, ◌≤◌, ◌<◌, ◌^◌, ◌⊎◌, inl, inr, zero, suc, ℕ, ◌+◌, ◌-◌, ◌*◌, Bool, List, [], ◌∷◌, ◌++◌, length, drop, refl, sym, ap, ◌∙◌, arith, length-append, append-nil, drop-replicate, length-map, map-append, All-nil, All-push, sum_by_push, HEADER_SIZE, ITEM_SIZE, KEY_PTR_SIZE, key_layout, spelling, Key, Draft, IsDraft, room, contents, data_of, head_of, sealed, node_bytes, head_layout, behind_head, child_layout, first_keys, Item, item_layout, item_of, keys_of, IsNodeSize, ascends, Ascends, records_in, stored_items, stored_children, held, HoldsDraft, Child, Expect}
 use Rattle.btr_node.proofs.NodeBack.{size_within, node_behind_head, length-node_bytes}
 use Rattle.btr_node.proofs.Putting.{zeros, length-zeros, bytes_of-parts, data_of-append}
 use Rattle.btr_node.proofs.ReadBack.{items_back, children_back}

@@ -1,15 +1,5 @@
 -- What stands in an inner node.
-use Rattle.std.proofs.Common.{◌≡◌, ◌≤◌, ◌<◌, ℕ, zero, suc, ◌+◌, ◌*◌, List, ◌∷◌, length, drop, get_or, map, refl, ap, arith, length-drop}
-use Rattle.std.specs.Bool.{Decides}
-use Rattle.std.proofs.lemmas.Bool.Decides.{Decides-and, Decides-ltb, Decides-like}
-use Rattle.btrfs_format.specs.declared.size.TheConstants.{HEADER_SIZE, KEY_PTR_SIZE}
-use Rattle.btr_keys.specs.Key.{key_layout}
-use Rattle.btr_keys.specs.declared.key.Key.{Key}
-use Rattle.btr_node.specs.Head.{nritems, behind_head, HasHead}
-use Rattle.btr_node.specs.Inner.{child_layout, child_at, children_in, first_keys, HasInnerLayout, has_inner_layout, has_inner_head}
-use Rattle.btr_node.specs.Records.{records_in}
-use Rattle.btr_node.specs.declared.child.Child.{Child}
-use Rattle.btr_node.specs.declared.expect.Expect.{Expect}
+use Rattle.btr_node.proofs.Imports.{◌≡◌, ◌≤◌, ◌<◌, ℕ, zero, suc, ◌+◌, ◌*◌, List, ◌∷◌, length, drop, get_or, map, refl, ap, arith, length-drop, Decides, Decides-and, Decides-ltb, Decides-like, HEADER_SIZE, KEY_PTR_SIZE, key_layout, Key, nritems, behind_head, HasHead, child_layout, child_at, children_in, first_keys, HasInnerLayout, has_inner_layout, has_inner_head, records_in, Child, Expect}
 use Rattle.btr_node.proofs.Apart.{le_decides}
 use Rattle.btr_node.proofs.Breaks.{head_decides}
 use Rattle.btr_node.proofs.Rows.{length-records_in, record_at}

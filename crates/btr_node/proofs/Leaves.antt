@@ -1,16 +1,5 @@
 -- What stands in a leaf.
-use Rattle.std.proofs.Common.{◌≡◌, ◌≤◌, ◌<◌, ℕ, zero, suc, ◌+◌, ◌*◌, Bool, true, false, ◌&&◌, List, ◌∷◌, length, drop, get_or, map, refl, sym, ap, ◌∙◌, arith, length-drop}
-use Rattle.std.specs.Bool.{Decides}
-use Rattle.std.specs.Prelude.{nat_le}
-use Rattle.std.proofs.lemmas.Bool.Decides.{nat_tests, Decides-and, Decides-like}
-use Rattle.std.proofs.lemmas.List.{get_or-map, length-map}
-use Rattle.btrfs_format.specs.declared.size.TheConstants.{HEADER_SIZE, ITEM_SIZE}
-use Rattle.btr_keys.specs.Key.{key_layout}
-use Rattle.btr_keys.specs.declared.key.Key.{Key}
-use Rattle.btr_node.specs.Areas.{IsWithin, has_areas}
-use Rattle.btr_node.specs.Head.{nritems, behind_head}
-use Rattle.btr_node.specs.Leaf.{Item, item_layout, item_of, head_at, heads_in, items_in, keys_of, HasLeafLayout, has_leaf_layout}
-use Rattle.btr_node.specs.Records.{records_in}
+use Rattle.btr_node.proofs.Imports.{◌≡◌, ◌≤◌, ◌<◌, ℕ, zero, suc, ◌+◌, ◌*◌, Bool, true, false, ◌&&◌, List, ◌∷◌, length, drop, get_or, map, refl, sym, ap, ◌∙◌, arith, length-drop, Decides, nat_le, nat_tests, Decides-and, Decides-like, get_or-map, length-map, HEADER_SIZE, ITEM_SIZE, key_layout, Key, IsWithin, has_areas, nritems, behind_head, Item, item_layout, item_of, head_at, heads_in, items_in, keys_of, HasLeafLayout, has_leaf_layout, records_in}
 use Rattle.btr_node.proofs.Apart.{areas_decide, le_decides}
 use Rattle.btr_node.proofs.Rows.{length-records_in, record_at}
 

@@ -1,22 +1,5 @@
 -- The bytes of a node that was written are on the grammar, and read as what was put in.
-use Rattle.std.proofs.Common.{◌≡◌, ◌≤◌, inl, inr, ℕ, ◌+◌, ◌-◌, ◌*◌, List, ◌++◌, length, drop, sym, ap, ◌∙◌, arith, length-append}
-use Rattle.std.proofs.lemmas.List.{take_at, drop_at, drop-drop}
-use Rattle.btrfs_format.specs.declared.size.TheConstants.{CSUM_SIZE, HEADER_REST_SIZE, HEADER_SIZE, ITEM_SIZE, KEY_PTR_SIZE}
-use Rattle.btr_keys.specs.Layout.{spelling}
-use Rattle.csum_kinds.specs.Kind.{kind_sum}
-use Rattle.csum_kinds.proofs.Widths.{length-kind_sum}
-use Rattle.btr_node.specs.Areas.{HasAreas}
-use Rattle.btr_node.specs.Draft.{Draft, IsDraft, draft_bytes, contents, heads_of, head_of, sealed, node_bytes}
-use Rattle.btr_node.specs.Head.{head_layout, head_in, nritems, behind_head, expected, HasHead}
-use Rattle.btr_node.specs.Inner.{IsBtrfsInner, children_in, first_keys}
-use Rattle.btr_node.specs.Leaf.{IsBtrfsLeaf, HasLeafLayout, item_layout, heads_in, items_in, keys_of}
-use Rattle.btr_node.specs.NodeSize.{IsNodeSize}
-use Rattle.btr_node.specs.Order.{ascends}
-use Rattle.btr_node.specs.Records.{records_in}
-use Rattle.btr_node.specs.Sum.{HasSum}
-use Rattle.btr_node.specs.Writer.{stored_items, stored_children}
-use Rattle.btr_node.specs.declared.head.Head.{Head}
-use Rattle.btr_node.specs.declared.item.BtrItemHead.{BtrItemHead}
+use Rattle.btr_node.proofs.Imports.{◌≡◌, ◌≤◌, inl, inr, ℕ, ◌+◌, ◌-◌, ◌*◌, List, ◌++◌, length, drop, sym, ap, ◌∙◌, arith, length-append, take_at, drop_at, drop-drop, CSUM_SIZE, HEADER_REST_SIZE, HEADER_SIZE, ITEM_SIZE, KEY_PTR_SIZE, spelling, kind_sum, length-kind_sum, HasAreas, Draft, IsDraft, draft_bytes, contents, heads_of, head_of, sealed, node_bytes, head_layout, head_in, nritems, behind_head, expected, HasHead, IsBtrfsInner, children_in, first_keys, IsBtrfsLeaf, HasLeafLayout, item_layout, heads_in, items_in, keys_of, IsNodeSize, ascends, records_in, HasSum, stored_items, stored_children, Head, BtrItemHead}
 use Rattle.btr_node.proofs.Putting.{bytes_of-parts}
 use Rattle.btr_node.proofs.ReadBack.{length-contents, heads_back, items_back, children_back, heads_have_areas}
 use Rattle.btr_node.proofs.Spelled.{head_reads}

@@ -1,20 +1,7 @@
 -- Entries that are put behind those that are there.
-use Rattle.std.proofs.Common.{◌≡◌, ◌≤◌, ℕ, suc, ◌+◌, ◌-◌, ◌*◌, List, [], ◌∷◌, ◌++◌, length, take, drop, replicate, refl, sym, ap, ◌∙◌, arith, append_assoc, length-append, length-take}
-use Rattle.std.specs.List.{flat_map}
+use Rattle.btr_node.proofs.Imports.{◌≡◌, ◌≤◌, ℕ, suc, ◌+◌, ◌-◌, ◌*◌, List, [], ◌∷◌, ◌++◌, length, take, drop, replicate, refl, sym, ap, ◌∙◌, arith, append_assoc, length-append, length-take, flat_map, append-nil, drop-drop, take_rest, replicate-append-replicate, take_at, drop_at, length-replicate, sum_by-append, sum_by-cons, CSUM_SIZE, HEADER_REST_SIZE, HEADER_SIZE, ITEM_SIZE, KEY_PTR_SIZE, Key, spelling, SumKind, kind_sum, draft_bytes, room_in, heads_of, data_of, contents, sealed, child_layout, Item, item_layout, Child, BtrItemHead}
 use Rattle.std.proofs.lemmas.Grind.{flat_map-append}
-use Rattle.std.proofs.lemmas.List.{append-nil, drop-drop, take_rest, replicate-append-replicate, take_at, drop_at, length-replicate}
-use Rattle.std.proofs.lemmas.List.Sums.{sum_by-append, sum_by-cons}
 use borrow.Rule.Slice.PartMut.{put_mid}
-use Rattle.btrfs_format.specs.declared.size.TheConstants.{CSUM_SIZE, HEADER_REST_SIZE, HEADER_SIZE, ITEM_SIZE, KEY_PTR_SIZE}
-use Rattle.btr_keys.specs.declared.key.Key.{Key}
-use Rattle.btr_keys.specs.Layout.{spelling}
-use Rattle.csum_kinds.specs.declared.kind.SumKind.{SumKind}
-use Rattle.csum_kinds.specs.Kind.{kind_sum}
-use Rattle.btr_node.specs.Draft.{draft_bytes, room_in, heads_of, data_of, contents, sealed}
-use Rattle.btr_node.specs.Inner.{child_layout}
-use Rattle.btr_node.specs.Leaf.{Item, item_layout}
-use Rattle.btr_node.specs.declared.child.Child.{Child}
-use Rattle.btr_node.specs.declared.item.BtrItemHead.{BtrItemHead}
 use Rattle.btr_node.proofs.Spelled.{item_size, child_size, length-records}
 
 -- a part of a list, and other elements in its place

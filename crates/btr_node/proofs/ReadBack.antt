@@ -1,20 +1,5 @@
 -- What the bytes of a node read as.
-use Rattle.std.proofs.Common.{◌≡◌, ◌≤◌, ◌<◌, ◌^◌, ℕ, suc, ◌+◌, ◌-◌, ◌*◌, List, [], ◌∷◌, ◌++◌, length, take, drop, map, slice_range, true, refl, sym, ap, ◌∙◌, arith, append_assoc, length-append}
-use Rattle.std.specs.List.{All, flat_map}
-use Rattle.std.proofs.lemmas.List.{append-nil, take_at, drop_at}
-use Rattle.std.proofs.lemmas.List.Elements.{All-nil, All-cons, All-head, All-tail}
-use Rattle.btrfs_format.specs.declared.size.TheConstants.{ITEM_SIZE, KEY_PTR_SIZE}
-use Rattle.btr_keys.specs.Key.{key_layout}
-use Rattle.btr_keys.specs.Layout.{Layout, spelling}
-use Rattle.btr_keys.proofs.Layouts.{Reads}
-use Rattle.btr_node.specs.Areas.{descends, HasAreas}
-use Rattle.btr_node.specs.Draft.{draft_bytes, room_in, heads_of, data_of, contents}
-use Rattle.btr_node.specs.Head.{behind_head}
-use Rattle.btr_node.specs.Inner.{child_layout}
-use Rattle.btr_node.specs.Leaf.{Item, item_layout, item_of}
-use Rattle.btr_node.specs.Records.{records_in}
-use Rattle.btr_node.specs.Writer.{stored_items, stored_children}
-use Rattle.btr_node.specs.declared.child.Child.{Child}
+use Rattle.btr_node.proofs.Imports.{◌≡◌, ◌≤◌, ◌<◌, ◌^◌, ℕ, suc, ◌+◌, ◌-◌, ◌*◌, List, [], ◌∷◌, ◌++◌, length, take, drop, map, slice_range, true, refl, sym, ap, ◌∙◌, arith, append_assoc, length-append, All, flat_map, append-nil, take_at, drop_at, All-nil, All-cons, All-head, All-tail, ITEM_SIZE, KEY_PTR_SIZE, key_layout, Layout, spelling, Reads, descends, HasAreas, draft_bytes, room_in, heads_of, data_of, contents, behind_head, child_layout, Item, item_layout, item_of, records_in, stored_items, stored_children, Child}
 use Rattle.btr_node.proofs.Apart.{descends-has_areas, areas_decide, within_test}
 use Rattle.btr_node.proofs.Putting.{zeros, length-zeros, length-heads_of, bytes_of-parts, head_below}
 use Rattle.btr_node.proofs.Rows.{joined}

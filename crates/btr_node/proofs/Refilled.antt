@@ -1,9 +1,6 @@
 -- A buffer whose bytes behind the head were written through a slice.
-use Rattle.std.proofs.Common.{◌≡◌, ◌≤◌, ℕ, ◌-◌, List, [], ◌++◌, length, take, drop, ap, ◌∙◌, arith, length-append, length-take, length-drop}
-use Rattle.std.proofs.lemmas.List.{append-nil, take_at, drop_at, drop_all, take_rest}
+use Rattle.btr_node.proofs.Imports.{◌≡◌, ◌≤◌, ℕ, ◌-◌, List, [], ◌++◌, length, take, drop, ap, ◌∙◌, arith, length-append, length-take, length-drop, append-nil, take_at, drop_at, drop_all, take_rest, HEADER_SIZE, behind_head}
 use borrow.Rule.Slice.PartMut.{put_mid}
-use Rattle.btrfs_format.specs.declared.size.TheConstants.{HEADER_SIZE}
-use Rattle.btr_node.specs.Head.{behind_head}
 
 -- as many bytes as there were
 pub refilled : (len : ℕ) (new old : List ℕ) → length new ≡ len → take len (new ++ drop (length new) old) ≡ new

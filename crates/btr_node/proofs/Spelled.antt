@@ -1,18 +1,6 @@
 -- The bytes of heads, items and children: how many they are, and that they read as what they spell.
-use Rattle.std.proofs.Common.{◌≡◌, ◌<◌, ◌^◌, ℕ, ◌*◌, List, [], ◌∷◌, length, refl, arith, length-append}
-use Rattle.std.proofs.Math.Nat.{mul-suc}
-use Rattle.std.specs.List.{flat_map}
-use Rattle.btrfs_format.specs.declared.size.TheConstants.{ITEM_SIZE, KEY_PTR_SIZE}
-use Rattle.btr_keys.specs.Key.{key_layout}
-use Rattle.btr_keys.specs.declared.key.Key.{Key}
-use Rattle.btr_keys.specs.Layout.{spelling}
-use Rattle.btr_keys.proofs.Layouts.{Reads, start, ◌▹◌, array_reads, u8_reads, u32_reads, u64_reads, part_reads}
+use Rattle.btr_node.proofs.Imports.{◌≡◌, ◌<◌, ◌^◌, ℕ, ◌*◌, List, [], ◌∷◌, length, refl, arith, length-append, mul-suc, flat_map, ITEM_SIZE, KEY_PTR_SIZE, key_layout, Key, spelling, Reads, start, ◌▹◌, array_reads, u8_reads, u32_reads, u64_reads, part_reads, make_head, head_layout, make_child, child_layout, make_item_head, item_layout, Child, BtrItemHead}
 use Rattle.btr_keys.proofs.Records.{key_reads}
-use Rattle.btr_node.specs.Head.{make_head, head_layout}
-use Rattle.btr_node.specs.Inner.{make_child, child_layout}
-use Rattle.btr_node.specs.Leaf.{make_item_head, item_layout}
-use Rattle.btr_node.specs.declared.child.Child.{Child}
-use Rattle.btr_node.specs.declared.item.BtrItemHead.{BtrItemHead}
 
 pub item_size : (head : BtrItemHead) → length (spelling item_layout head) ≡ ITEM_SIZE
 unfolding item_layout key_layout

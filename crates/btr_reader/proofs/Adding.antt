@@ -1,17 +1,5 @@
 -- Chunks that are added to a map.
-use Rattle.std.proofs.Common.{◌≡◌, ℕ, ◌+◌, ◌<◌, true, false, List, [], ◌∷◌, ◌++◌, length, drop, get_or, Option, Some, None, if◌then◌else◌, refl, sym, ◌∙◌, ap, subst, append_assoc}
-use Rattle.std.specs.List.{list_any}
-use Rattle.std.specs.Option.{option_map}
-use Rattle.std.proofs.lemmas.List.{drop_more}
-use Rattle.btr_reader_walk.specs.refusals.declared.answer.BtrAnswer.{BtrAnswer}
-use Rattle.btr_reader_walk.specs.refusals.declared.refusal.BtrRefusal.{BtrRefusal}
-use Rattle.btr_reader_walk.specs.btr_keys.declared.key.Key.{Key}
-use Rattle.btr_reader_walk.specs.declared.map.MapRange.{MapRange}
-use Rattle.btr_reader_walk.specs.Events.{TreeItem}
-use Rattle.btr_reader_walk.proofs.Events.{none_both}
-use Rattle.btr_reader.specs.declared.chunk.ChunkAt.{ChunkAt}
-use Rattle.btr_reader.specs.Chunks.{placed_chunk, range_of, same_chunk, is_chunk_key, beside_refusals, chunks_refusals, chunk_in, new_chunk, with_chunk, chunk_item_refusals, with_items, items_refusals}
-use Rattle.btr_reader.specs.Opening.{IsAmong}
+use Rattle.btr_reader.proofs.Imports.{◌≡◌, ℕ, ◌+◌, ◌<◌, true, false, List, [], ◌∷◌, ◌++◌, length, drop, get_or, Option, Some, None, if◌then◌else◌, refl, sym, ◌∙◌, ap, subst, append_assoc, list_any, option_map, drop_more, BtrAnswer, BtrRefusal, Key, MapRange, TreeItem, none_both, ChunkAt, placed_chunk, range_of, same_chunk, is_chunk_key, beside_refusals, chunks_refusals, chunk_in, new_chunk, with_chunk, chunk_item_refusals, with_items, items_refusals, IsAmong}
 use Rattle.btr_reader.proofs.Among.{among_left, among_right}
 
 -- the next chunk of those that are left is refused

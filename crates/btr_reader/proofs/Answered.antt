@@ -1,35 +1,8 @@
 -- What is answered where the rows of a volume are read.
-use Rattle.std.proofs.Common.{◌≡◌, inl, inr, ℕ, Bool, List, [], map, Contains, Option, Some, None, ◌∙◌, ap, subst}
-use Rattle.std.specs.Prelude.{Result, Ok, Err, IfOk, OnOk, IfErr}
-use Rattle.std.specs.Result.{MatchResult}
-use Rattle.btrfs_format.specs.declared.object.TheConstants.{FS_TREE}
-use Rattle.btr_reader_walk.specs.outside.History.{Image}
-use Rattle.btr_reader_walk.specs.refusals.declared.answer.BtrAnswer.{BtrAnswer}
-use Rattle.btr_reader_walk.specs.refusals.declared.answer.BtrAnswer.TheVariants.{Refused, Fault, Memory}
-use Rattle.btr_reader_walk.specs.refusals.declared.refusal.BtrRefusal.{BtrRefusal}
-use Rattle.btr_super.specs.declared.superblock.Super.{Super}
-use Rattle.btr_reader_walk.specs.declared.map.MapRange.{MapRange}
-use Rattle.btr_reader_walk.specs.declared.tree.NodePointer.{NodePointer}
-use Rattle.btr_reader_walk.specs.declared.tree.Tree.{Tree}
-use Rattle.btr_reader_walk.specs.Events.{TreeItem}
-use Rattle.btr_reader_walk.specs.Walks.{found, wrong}
-use Rattle.fs_rows.specs.Rows.{WholeRow, row_of}
-use Rattle.fs_rows.specs.declared.row.Row.{Row}
-use Rattle.fs_paths.specs.declared.node.NodeId.{NodeId}
+use Rattle.btr_reader.proofs.Imports.{◌≡◌, inl, inr, ℕ, Bool, List, [], map, Contains, Option, Some, None, ◌∙◌, ap, subst, OnOk, MatchResult, FS_TREE, Image, BtrAnswer, Refused, Fault, Memory, BtrRefusal, Super, MapRange, NodePointer, Tree, TreeItem, found, wrong, WholeRow, row_of, Row, NodeId, has_root, BreaksNames, KeepsNames, NameTable, AreNamed, links_of, AreTreeLinks, AreSound, wanted_at, RefusesContents, IsChecked, IsMemory, RefusesChecked, RefusesRows, RefusesTree, tree_of, FindsTree, root_item, pointer_of, AreRows, AreBtrfsRows, BreaksExtents, CanBeRead, roots_on, IsFileTreeRefusal, no_root_item, bad_root_item, bad_tree, bad_names, bad_extents}
+use Rattle.std.specs.Prelude.{Result, Ok, Err, IfOk, IfErr}
 use Rattle.btr_reader_names.specs.Read.{BlamesTree}
-use Rattle.btr_reader_names.specs.Roots.{has_root}
-use Rattle.btr_reader_names.specs.Rules.{BreaksNames, KeepsNames}
-use Rattle.btr_reader_names.specs.declared.table.NameTable.{NameTable}
 use Rattle.btr_reader_names.specs.Refuses.{RefusesNames}
-use Rattle.btr_reader_names.specs.Steps.{AreNamed, links_of}
-use Rattle.btr_reader_names.specs.TreeLinks.{AreTreeLinks}
-use Rattle.btr_reader_contents.specs.Checked.{AreSound}
-use Rattle.btr_reader_contents.specs.Contents.{wanted_at, RefusesContents}
-use Rattle.btr_reader.specs.Made.{IsChecked, IsMemory, RefusesChecked, RefusesRows, RefusesTree}
-use Rattle.btr_reader.specs.Opening.{tree_of}
-use Rattle.btr_reader.specs.Reading.{FindsTree}
-use Rattle.btr_reader.specs.Roots.{root_item, pointer_of}
-use Rattle.btr_reader.specs.Rows.{AreRows, AreBtrfsRows, BreaksExtents, CanBeRead, roots_on, IsFileTreeRefusal, no_root_item, bad_root_item, bad_tree, bad_names, bad_extents}
 use Rattle.btr_reader.proofs.Bridging.{breaks_named, extents_right, none_among}
 
 some_none : {X : Type 0} (x : X) (o : Option X) → o ≡ Some x → o ≡ None → ⊥

@@ -1,26 +1,13 @@
 -- Chunks that were written into the bootstrap array read as these chunks.
-use Rattle.std.proofs.Common.{◌≡◌, ℕ, ◌+◌, ◌-◌, ◌^◌, ◌≤◌, ◌<◌, cond, ltb, Bool, false, List, [], ◌∷◌, ◌++◌, length, take, drop, Option, Some, None, refl, sym, ◌∙◌, ap, arith, append_assoc, length-append}
-use Rattle.std.specs.List.{flat_map, AllByRecursion}
-use Rattle.std.specs.Option.{option_map}
+use Rattle.btr_reader.proofs.Imports.{◌≡◌, ℕ, ◌+◌, ◌-◌, ◌^◌, ◌≤◌, ◌<◌, cond, ltb, Bool, false, List, [], ◌∷◌, ◌++◌, length, take, drop, Option, Some, None, refl, sym, ◌∙◌, ap, arith, append_assoc, length-append, flat_map, AllByRecursion, option_map, le-ltb, ne_eqb, take_at, drop_at, CHUNK_ITEM, FIRST_CHUNK_TREE_OBJECTID, field, Key, Super, ChunkAt, placed_chunk, entry_size, front_chunk, chunks_within, array_chunks, is_chunk_key, second_stripe, array_entry, FitsArray, boot_chunks}
 use Rattle.std.proofs.Math.Seq.{drop-append-add}
-use Rattle.std.proofs.lemmas.Bool.{le-ltb, ne_eqb}
-use Rattle.std.proofs.lemmas.List.{take_at, drop_at}
-use Rattle.btrfs_format.specs.declared.key.TheConstants.{CHUNK_ITEM}
-use Rattle.btrfs_format.specs.declared.object.TheConstants.{FIRST_CHUNK_TREE_OBJECTID}
-use Rattle.btr_reader_walk.specs.vol_block.Volume.{field}
 use Rattle.btr_reader_walk.specs.btr_keys.Key.{key_layout, key_bytes, make_key, key_in_bytes}
-use Rattle.btr_reader_walk.specs.btr_keys.declared.key.Key.{Key}
 use Rattle.btr_reader_walk.proofs.btr_keys.Records.{key_reads}
 use Rattle.btr_space_items.specs.Chunk.{chunk_bytes}
 use Rattle.btr_space_items.specs.Stripe.{stripe_at}
 use Rattle.btr_space_items.specs.declared.chunk.Chunk.{Chunk}
 use Rattle.btr_space_items.specs.declared.stripe.Stripe.{Stripe}
 use Rattle.btr_space_items.proofs.Records.{chunks_read_back, chunk_reads, chunk_width, stripes_at}
-use Rattle.btr_super.specs.declared.superblock.Super.{Super}
-use Rattle.btr_reader.specs.declared.chunk.ChunkAt.{ChunkAt}
-use Rattle.btr_reader.specs.Chunks.{placed_chunk, entry_size, front_chunk, chunks_within, array_chunks, is_chunk_key, second_stripe}
-use Rattle.btr_reader.specs.Laws.{array_entry, FitsArray}
-use Rattle.btr_reader.specs.Opening.{boot_chunks}
 use Rattle.btr_reader.proofs.Array.{with_first, more_chunks}
 
 key_width : key_layout.width ≡ 17

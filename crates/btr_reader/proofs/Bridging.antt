@@ -1,27 +1,6 @@
 -- What is wrong with the extents of what is kept, and with those of named files and symlinks.
-use Rattle.std.proofs.Common.{◌≡◌, ◌⊎◌, inl, inr, ⊎_elim, ℕ, ◌≤◌, nat_le, Bool, true, false, if◌then◌else◌, List, [], Contains, Option, Some, None, refl, sym, ◌∙◌, ap, subst, arith}
-use Rattle.std.proofs.lemmas.Bool.{cases_lt}
-use Rattle.std.proofs.lemmas.Bool.Decides.{nat_tests}
-use Rattle.std.specs.Option.{option_and_then}
-use Rattle.btr_reader_walk.specs.outside.History.{Image}
-use Rattle.btr_reader_walk.specs.refusals.declared.refusal.BtrRefusal.{BtrRefusal}
-use Rattle.btr_reader_walk.specs.btr_keys.declared.inode.Inode.{Inode}
-use Rattle.btr_reader_walk.specs.declared.map.MapRange.{MapRange}
-use Rattle.btr_reader_walk.specs.Events.{TreeItem}
-use Rattle.btr_reader_contents.specs.Extents.{extents_of, extents_refusals}
-use Rattle.fs_rows.specs.declared.row.Kind.{Kind}
-use Rattle.fs_rows.specs.declared.row.Kind.TheVariants.{Directory, File, Symlink, Character, Block, Fifo, Socket, Subvolume}
-use Rattle.fs_paths.specs.declared.node.NodeId.{NodeId}
-use Rattle.btr_reader_names.specs.Inodes.{inode_on, kind_of_mode, HasKind}
-use Rattle.btr_reader_names.specs.Links.{IsNamedInode}
-use Rattle.btr_reader_names.specs.Rules.{KeepsNames}
-use Rattle.btr_reader_names.specs.Steps.{inode_node, AreNamed}
-use Rattle.fs_rows.specs.declared.content.Content.{Content}
-use Rattle.btr_reader_contents.specs.declared.wanted.Wanted.{Wanted}
-use Rattle.btr_reader_contents.specs.Checked.{AreSound}
+use Rattle.btr_reader.proofs.Imports.{◌≡◌, ◌⊎◌, inl, inr, ⊎_elim, ℕ, ◌≤◌, nat_le, Bool, true, false, if◌then◌else◌, List, [], Contains, Option, Some, None, refl, sym, ◌∙◌, ap, subst, arith, cases_lt, nat_tests, option_and_then, Image, BtrRefusal, Inode, MapRange, TreeItem, extents_of, extents_refusals, Kind, Directory, File, Symlink, Character, Block, Fifo, Socket, Subvolume, NodeId, inode_on, kind_of_mode, HasKind, IsNamedInode, KeepsNames, inode_node, AreNamed, Content, Wanted, AreSound, wanted_by, wanted_inode, wanted_at, TellsContent, HasContents, BreaksExtents}
 use Rattle.btr_reader_contents.specs.Contents as kept
-use Rattle.btr_reader_contents.specs.Contents.{wanted_by, wanted_inode, wanted_at, TellsContent, HasContents}
-use Rattle.btr_reader.specs.Rows.{BreaksExtents}
 use Rattle.btr_reader.proofs.Known.{not_long}
 
 no_some : {A : Type 0} (x : A) → None ≡ Some x → ⊥

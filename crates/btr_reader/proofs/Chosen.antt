@@ -1,11 +1,5 @@
 -- What follows from an option is the same where it is the same of the value.
-use Rattle.std.proofs.Common.{◌≡◌, ℕ, List, Option, Some, None, refl}
-use Rattle.std.specs.Option.{option_and_then}
-use Rattle.btr_reader_walk.specs.refusals.declared.refusal.BtrRefusal.{BtrRefusal}
-use Rattle.btr_reader.specs.Image.{after_pointer, after_root, if_there, pointer_in}
-use Rattle.btr_reader.specs.Roots.{pointer_of}
-use Rattle.btr_reader_walk.specs.Events.{TreeItem}
-use Rattle.btr_reader_walk.specs.declared.tree.NodePointer.{NodePointer}
+use Rattle.btr_reader.proofs.Imports.{◌≡◌, ℕ, List, Option, Some, None, refl, option_and_then, BtrRefusal, after_pointer, after_root, if_there, pointer_in, pointer_of, TreeItem, NodePointer}
 
 pub and_then_same : {A B : Type 0} (f g : A → Option B) (x : Option A) → ((a : A) → x ≡ Some a → f a ≡ g a) → option_and_then f x ≡ option_and_then g x
 and_then_same f g None same = refl

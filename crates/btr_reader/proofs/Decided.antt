@@ -1,36 +1,12 @@
 -- What is read of a volume depends on the blocks of its nodes and of its files' extents alone.
-use Rattle.std.proofs.Common.{◌≡◌, ◌∙◌, ◌⊎◌, ⊎_elim, inl, inr, ℕ, ◌+◌, ◌/◌, ◌%◌, ◌<◌, ◌≤◌, eqb, Bool, true, not, false, ◌&&◌, ◌||◌, cond, List, [], ◌∷◌, length, nat_le, Option, Some, None, refl, sym, ap, subst, arith}
-use Rattle.std.specs.Prelude.{Contains, bytes_eq, slice_index}
-use Rattle.std.proofs.lemmas.Bool.Decides.{nat_tests}
+use Rattle.btr_reader.proofs.Imports.{◌≡◌, ◌∙◌, ◌⊎◌, ⊎_elim, inl, inr, ℕ, ◌+◌, ◌/◌, ◌%◌, ◌<◌, ◌≤◌, eqb, Bool, true, not, false, ◌&&◌, ◌||◌, cond, List, [], ◌∷◌, length, nat_le, Option, Some, None, refl, sym, ap, subst, arith, bytes_eq, slice_index, nat_tests, SUPER_BLOCK, FS_TREE, Image, block_at, BtrRefusal, WholeRow, has_bytes, Kind, Directory, File, Symlink, Character, Block, Fifo, Socket, Subvolume, at_head, head_or_tail, HasKind, aligned_of, form_of_sound, none_left, none_right, second, byte_of_place, bytes_of_inode, content_byte, covered_after, end_after, extent_length, extents_of, extents_refusals, is_aligned, is_hole, range_is_aligned, refusals_at, ContentValue, FileExtentValue, Inline, Prealloc, Regular, file_extent_of, DiskRange, items_at, pointer_in, AreRowsOfBtrfs, IsBtrfsRefusal, Opening, Part, SavedImage, Superblock, log_of, own_map, own_super, root_item, AreRows, BreaksExtents, bad_extents, roots_on, TreeItem, place, MapRange, Super, format, AreExtentsApart, IsApart, IsContentApart, IsSameOutside, IsVolumeApart, differs, is_spare, is_spare_in, root_of}
+use Rattle.std.specs.Prelude.{Contains}
+use Rattle.btr_reader.specs.Parts.{Tree}
 use Rattle.std.proofs.lemmas.Slice.Eq.{bytes_eq-Decides}
-use Rattle.btrfs_format.specs.declared.block.TheConstants.{SUPER_BLOCK}
-use Rattle.btrfs_format.specs.declared.object.TheConstants.{FS_TREE}
 use Rattle.btr_reader_walk.specs.outside.Format.{format_in}
-use Rattle.btr_reader_walk.specs.outside.History.{Image, block_at}
-use Rattle.btr_reader_walk.specs.refusals.declared.refusal.BtrRefusal.{BtrRefusal}
-use Rattle.fs_rows.specs.Rows.{WholeRow}
-use Rattle.fs_rows.specs.Kinds.{has_bytes}
-use Rattle.fs_rows.specs.declared.row.Kind.{Kind}
-use Rattle.fs_rows.specs.declared.row.Kind.TheVariants.{Directory, File, Symlink, Character, Block, Fifo, Socket, Subvolume}
-use Rattle.fs_paths.proofs.Lists.{at_head, head_or_tail}
-use Rattle.btr_reader_names.specs.Inodes.{HasKind}
-use Rattle.btr_reader_contents.proofs.ExtentLists.{aligned_of, form_of_sound, none_left, none_right, second}
-use Rattle.btr_reader_contents.specs.Extents.{byte_of_place, bytes_of_inode, content_byte, covered_after, end_after, extent_length, extents_of, extents_refusals, is_aligned, is_hole, range_is_aligned, refusals_at}
-use Rattle.btr_reader_walk.specs.btr_keys.FileExtent.{ContentValue, FileExtentValue, Inline, Prealloc, Regular, file_extent_of}
-use Rattle.btr_reader_walk.specs.btr_keys.declared.file_extent.DiskRange.{DiskRange}
-use Rattle.btr_reader.specs.Image.{items_at, pointer_in}
-use Rattle.btr_reader.specs.Parts.{AreRowsOfBtrfs, IsBtrfsRefusal, Opening, Part, SavedImage, Superblock, Tree, log_of, own_map, own_super}
-use Rattle.btr_reader.specs.Roots.{root_item}
-use Rattle.btr_reader.specs.Rows.{AreRows, BreaksExtents, bad_extents, roots_on}
-use Rattle.btr_reader.proofs.SameItems.{SameContents, rows_here, same_bytes}
-use Rattle.btr_reader_walk.specs.Events.{TreeItem}
-use Rattle.btr_reader_walk.specs.Map.{place}
-use Rattle.btr_reader_walk.specs.declared.map.MapRange.{MapRange}
-use Rattle.btr_super.specs.declared.superblock.Super.{Super}
-use Rattle.btr_reader_walk.specs.vol_block.Format.{format}
 use Rattle.btr_reader_walk.specs.vol_block.declared.format.Format.TheVariants.{Neither}
-use Rattle.btr_reader.specs.Apart.{AreExtentsApart, IsApart, IsContentApart, IsSameOutside, IsVolumeApart, differs, is_spare, is_spare_in, root_of}
 use Rattle.btr_reader.specs.MetadataLaws.{IsSameBtrfs, MetadataDecides, ReservedBlocksAreSpare, SamePartsDecide}
+use Rattle.btr_reader.proofs.SameItems.{SameContents, rows_here, same_bytes}
 use Rattle.btr_reader.proofs.Volumes.{apart_again, both, fields_same, image_same, items_same, map_same, opening_same, over, root_item_same, super_same, tree_refused, way_same}
 
 -- an extent that is aligned stays in its disk extent

@@ -1,19 +1,5 @@
 -- The extents of a file, one after the other.
-use Rattle.std.proofs.Common.{◌≡◌, ℕ, ◌+◌, ◌-◌, ◌*◌, ◌/◌, ◌%◌, ◌≤◌, ◌<◌, eqb, nat_lt, Bool, true, false, if◌then◌else◌, List, [], ◌∷◌, ◌++◌, Option, Some, None, refl, sym, ◌∙◌, ap, arith}
-use Rattle.std.proofs.lemmas.Bool.Decides.{nat_tests}
-use Rattle.std.proofs.lemmas.List.{append-nil}
-use Rattle.std.specs.Option.{option_map}
-use Rattle.btr_reader_walk.specs.refusals.declared.refusal.BtrRefusal.{BtrRefusal}
-use Rattle.btr_reader_walk.specs.btr_keys.FileExtent.{ContentValue, Inline, Regular, Prealloc, FileExtentValue, file_extent_of}
-use Rattle.btr_reader_walk.specs.btr_keys.declared.file_extent.DiskRange.{DiskRange}
-use Rattle.btr_reader_walk.specs.declared.map.MapRange.{MapRange}
-use Rattle.btr_reader_walk.specs.Map.{place}
-use Rattle.btr_reader_walk.specs.Events.{TreeItem}
-use Rattle.btr_reader_contents.proofs.ExtentLists.{none_right, first, second, end_grows, covers_at, past_end, before_start}
-use Rattle.btr_reader.specs.declared.mapped_extent.MappedExtent.{MappedExtent}
-use Rattle.btr_reader_contents.specs.Extents.{is_hole, covers, range_is_aligned, is_aligned, end_after, covered_after, refusals_at, extents_refusals, extents_end}
-use Rattle.btr_reader.specs.Image.{content_block, block_by_extent, file_block}
-use Rattle.btr_reader.specs.Pieces.{holds_block, block_in, or_else, pieces_place, range_piece, range_pieces, pieces_of}
+use Rattle.btr_reader.proofs.Imports.{◌≡◌, ℕ, ◌+◌, ◌-◌, ◌*◌, ◌/◌, ◌%◌, ◌≤◌, ◌<◌, eqb, nat_lt, Bool, true, false, if◌then◌else◌, List, [], ◌∷◌, ◌++◌, Option, Some, None, refl, sym, ◌∙◌, ap, arith, nat_tests, append-nil, option_map, BtrRefusal, ContentValue, Inline, Regular, Prealloc, FileExtentValue, file_extent_of, DiskRange, MapRange, place, TreeItem, none_right, first, second, end_grows, covers_at, past_end, before_start, MappedExtent, is_hole, covers, range_is_aligned, is_aligned, end_after, covered_after, refusals_at, extents_refusals, extents_end, content_block, block_by_extent, file_block, holds_block, block_in, or_else, pieces_place, range_piece, range_pieces, pieces_of}
 
 passes : (ranges : List MapRange) (i : TreeItem) (o : Option FileExtentValue) (b : ℕ) (other : Option ℕ) → covers_at i.key.offset (4096 * b) o ≡ false → block_by_extent ranges i o b other ≡ other
 passes ranges i None b other no_ = refl

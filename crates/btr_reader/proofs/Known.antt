@@ -1,19 +1,5 @@
 -- A named inode of a tree whose names keep the rules is there, and its kind is known.
-use Rattle.std.proofs.Common.{◌≡◌, ℕ, ◌<◌, Bool, List, [], ◌∷◌, Contains, Option, Some, None, refl, sym, ap, subst, ◌∙◌}
-use Rattle.std.specs.Option.{option_and_then}
-use Rattle.btrfs_format.specs.declared.object.TheConstants.{FIRST_FREE_OBJECTID}
-use Rattle.btr_reader_walk.specs.refusals.declared.refusal.BtrRefusal.TheVariants.{BadBtrfs}
-use Rattle.btr_reader_walk.specs.refusals.declared.rule.BtrRule.TheVariants.{Body, NoInode}
-use Rattle.btr_reader_walk.specs.btr_keys.Inode.{inode_of}
-use Rattle.btr_reader_walk.specs.btr_keys.declared.inode.Inode.{Inode}
-use Rattle.btr_reader_walk.specs.Events.{TreeItem}
-use Rattle.fs_rows.specs.Rows.{NameList}
-use Rattle.fs_rows.specs.declared.row.Kind.{Kind}
-use Rattle.fs_rows.specs.declared.row.Kind.TheVariants.{Symlink}
-use Rattle.btr_reader_names.specs.declared.dir_index.DirIndex.{DirIndex}
-use Rattle.btr_reader_names.specs.Inodes.{find_inode_item, inode_on, kind_of_mode, IsDirectoryInode}
-use Rattle.btr_reader_names.specs.Links.{followed, IsNamedInode, root, entry, Target, inode, tree, NamesTarget as IsNameOf, LeadsToTarget}
-use Rattle.btr_reader_names.specs.Rules.{KeepsNames, no_root_directory, no_inode, bad_inode, bad_mode, long_target}
+use Rattle.btr_reader.proofs.Imports.{◌≡◌, ℕ, ◌<◌, Bool, List, [], ◌∷◌, Contains, Option, Some, None, refl, sym, ap, subst, ◌∙◌, option_and_then, FIRST_FREE_OBJECTID, BadBtrfs, Body, NoInode, inode_of, Inode, TreeItem, NameList, Kind, Symlink, DirIndex, find_inode_item, inode_on, kind_of_mode, IsDirectoryInode, followed, IsNamedInode, root, entry, Target, inode, tree, NamesTarget as IsNameOf, LeadsToTarget, KeepsNames, no_root_directory, no_inode, bad_inode, bad_mode, long_target}
 
 -- an inode that is there, and its kind
 pub record IsKnown (items : List TreeItem) (ino : ℕ) : Type 0 where

@@ -14,6 +14,7 @@ pub mod Chosen
 pub mod Decided
 pub mod EntryItems
 pub mod Gathering
+pub mod Imports
 pub mod Known
 pub mod MapApart
 pub mod MapBlocks

@@ -1,22 +1,5 @@
 -- The ranges of a map have no address in common.
-use Rattle.std.proofs.Common.{◌≡◌, ℕ, zero, suc, ◌+◌, ◌<◌, Bool, true, false, ◌||◌, if◌then◌else◌, List, [], ◌∷◌, ◌++◌, length, map, get_or, AllPairs, Option, Some, None, ⊎_elim, true≢false, refl, sym, subst, arith, append_assoc, length-append}
-use Rattle.std.specs.List.{list_any}
-use Rattle.std.proofs.lemmas.Bool.{cases_lt}
-use Rattle.std.proofs.lemmas.Bool.Decides.{nat_tests}
-use Rattle.std.proofs.lemmas.List.{append-nil, get_or_append_left, get_or_at}
-use Rattle.btr_reader_walk.specs.outside.History.{Image}
-use Rattle.btr_reader_walk.specs.refusals.declared.refusal.BtrRefusal.{BtrRefusal}
-use Rattle.btr_reader_walk.specs.refusals.declared.refusal.BtrRefusal.TheVariants.{BadBtrfs}
-use Rattle.btr_reader_walk.specs.refusals.declared.rule.BtrRule.TheVariants.{ChunkForm}
-use Rattle.btr_super.specs.declared.superblock.Super.{Super}
-use Rattle.btr_reader_walk.specs.declared.map.MapRange.{MapRange}
-use Rattle.btr_reader_walk.specs.Events.{TreeItem}
-use Rattle.btr_reader_walk.specs.Walks.{found}
-use Rattle.btr_reader_contents.proofs.ExtentLists.{none_left, none_right}
-use Rattle.btr_reader.specs.declared.chunk.ChunkAt.{ChunkAt}
-use Rattle.btr_reader.specs.Chunks.{range_of, overlap, chunk_refusals, beside_refusals, chunks_refusals, chunk_in, with_chunk, chunk_item_refusals, with_items, items_refusals}
-use Rattle.btr_reader.specs.Laws.{AreRangesApart}
-use Rattle.btr_reader.specs.Opening.{chunk_tree, boot_chunks, boot_list, boot_refusals, IsBtrfsOpened}
+use Rattle.btr_reader.proofs.Imports.{◌≡◌, ℕ, zero, suc, ◌+◌, ◌<◌, Bool, true, false, ◌||◌, if◌then◌else◌, List, [], ◌∷◌, ◌++◌, length, map, get_or, AllPairs, Option, Some, None, ⊎_elim, true≢false, refl, sym, subst, arith, append_assoc, length-append, list_any, cases_lt, nat_tests, append-nil, get_or_append_left, get_or_at, Image, BtrRefusal, BadBtrfs, ChunkForm, Super, MapRange, TreeItem, found, none_left, none_right, ChunkAt, range_of, overlap, chunk_refusals, beside_refusals, chunks_refusals, chunk_in, with_chunk, chunk_item_refusals, with_items, items_refusals, AreRangesApart, chunk_tree, boot_chunks, boot_list, boot_refusals, IsBtrfsOpened}
 use Rattle.btr_reader.proofs.MapBlocks.{opened_sound}
 
 or_first : (a b : Bool) → (a || b) ≡ false → a ≡ false

@@ -1,22 +1,5 @@
 -- The ranges of a map begin and end with blocks.
-use Rattle.std.proofs.Common.{◌≡◌, ℕ, ◌+◌, ◌*◌, ◌%◌, ◌≤◌, eqb, nat_le, true, List, [], ◌∷◌, ◌++◌, length, map, Option, Some, None, refl, sym, ◌∙◌, subst, arith}
-use Rattle.std.proofs.lemmas.Bool.Decides.{nat_tests}
-use Rattle.std.proofs.lemmas.List.Elements.{All-nil, All-cons, All-append}
-use Rattle.btr_reader_walk.specs.outside.History.{Image}
-use Rattle.btr_reader_walk.specs.refusals.declared.refusal.BtrRefusal.{BtrRefusal}
-use Rattle.btr_reader_walk.specs.refusals.declared.refusal.BtrRefusal.TheVariants.{BadBtrfs, Unsupported}
-use Rattle.btr_reader_walk.specs.refusals.declared.rule.BtrRule.TheVariants.{ChunkForm}
-use Rattle.btr_reader_walk.specs.refusals.declared.rule.Feature.TheVariants.{ChunkType}
-use Rattle.btr_super.specs.declared.superblock.Super.{Super}
-use Rattle.btr_reader_walk.specs.declared.map.MapRange.{MapRange}
-use Rattle.btr_reader_walk.specs.Events.{TreeItem}
-use Rattle.btr_reader_walk.specs.Walks.{LieOn, wrong, found}
-use Rattle.btr_reader_contents.specs.Blocks.{IsInBlocks, AreInBlocks}
-use Rattle.btr_reader_contents.specs.Extents.{refused_unless}
-use Rattle.btr_reader_contents.proofs.ExtentLists.{none_left, none_right, holds_unless, first, second}
-use Rattle.btr_reader.specs.declared.chunk.ChunkAt.{ChunkAt}
-use Rattle.btr_reader.specs.Chunks.{range_of, is_read_kind, lies_on, stripe_lies_on, stripes_of, chunk_refusals, beside_refusals, chunks_refusals, chunk_in, with_chunk, chunk_item_refusals, with_items, items_refusals}
-use Rattle.btr_reader.specs.Opening.{chunk_tree, root_tree, boot_chunks, boot_list, boot_refusals, map_from, or_later, trees_refusals, IsBtrfsOpened}
+use Rattle.btr_reader.proofs.Imports.{◌≡◌, ℕ, ◌+◌, ◌*◌, ◌%◌, ◌≤◌, eqb, nat_le, true, List, [], ◌∷◌, ◌++◌, length, map, Option, Some, None, refl, sym, ◌∙◌, subst, arith, nat_tests, All-nil, All-cons, All-append, Image, BtrRefusal, BadBtrfs, Unsupported, ChunkForm, ChunkType, Super, MapRange, TreeItem, LieOn, wrong, found, IsInBlocks, AreInBlocks, refused_unless, none_left, none_right, holds_unless, first, second, ChunkAt, range_of, is_read_kind, lies_on, stripe_lies_on, stripes_of, chunk_refusals, beside_refusals, chunks_refusals, chunk_in, with_chunk, chunk_item_refusals, with_items, items_refusals, chunk_tree, root_tree, boot_chunks, boot_list, boot_refusals, map_from, or_later, trees_refusals, IsBtrfsOpened}
 use Rattle.btr_reader.proofs.Opens.{opening_is}
 
 on_device : (device : ℕ) (c : ChunkAt) → chunk_refusals device c ≡ [] → lies_on device c ≡ true

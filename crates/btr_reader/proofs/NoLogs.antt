@@ -1,16 +1,5 @@
 -- Refusals that name no log tree.
-use Rattle.std.proofs.Common.{◌==◌, ℕ, zero, suc, ◌+◌, ◌/◌, Bool, true, false, cond, List, [], ◌∷◌, ◌++◌, Contains, Option, Some, None}
-use Rattle.std.specs.List.{All}
-use Rattle.std.proofs.lemmas.List.Elements.{All-nil, All-cons, All-append, All-contains}
-use Rattle.btr_reader_walk.specs.refusals.declared.refusal.BtrRefusal.{BtrRefusal}
-use Rattle.btr_reader_walk.specs.refusals.declared.refusal.BtrRefusal.TheVariants.{BadBtrfs, Unsupported}
-use Rattle.btr_reader_walk.specs.refusals.declared.rule.BtrRule.TheVariants.{ExtentForm}
-use Rattle.btr_reader_walk.specs.refusals.declared.rule.Feature.TheVariants.{Compression, Encryption}
-use Rattle.btr_reader_walk.specs.btr_keys.FileExtent.{ContentValue, Inline, Regular, Prealloc, FileExtentValue}
-use Rattle.btr_super.specs.Rules.{NamesNoLog}
-use Rattle.btr_reader_walk.specs.declared.map.MapRange.{MapRange}
-use Rattle.btr_reader_walk.specs.Map.{place}
-use Rattle.btr_reader_contents.specs.Extents.{refused_unless, at_unmapped, unmapped_in, place_refusals, has_form, is_hole, extent_refusals}
+use Rattle.btr_reader.proofs.Imports.{◌==◌, ℕ, zero, suc, ◌+◌, ◌/◌, Bool, true, false, cond, List, [], ◌∷◌, ◌++◌, Contains, Option, Some, None, All, All-nil, All-cons, All-append, All-contains, BtrRefusal, BadBtrfs, Unsupported, ExtentForm, Compression, Encryption, ContentValue, Inline, Regular, Prealloc, FileExtentValue, NamesNoLog, MapRange, place, refused_unless, at_unmapped, unmapped_in, place_refusals, has_form, is_hole, extent_refusals}
 
 abbrev NoneNamesLog : List BtrRefusal → Type 0
 NoneNamesLog rs = All NamesNoLog rs

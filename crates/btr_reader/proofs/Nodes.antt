@@ -1,22 +1,10 @@
 -- What a tree gives depends on the blocks of its nodes alone.
-use Rattle.std.proofs.Common.{◌≡◌, ◌∙◌, ℕ, zero, suc, ◌+◌, ◌*◌, ◌/◌, ◌<◌, Bool, List, [], ◌∷◌, ◌++◌, Option, Some, None, refl, sym, ap, subst, arith, if◌then◌else◌}
-use Rattle.std.specs.List.{All, flat_map}
-use Rattle.std.proofs.lemmas.List.Elements.{All-nil, All-cons, All-head, All-tail}
-use Rattle.btr_reader_walk.specs.outside.History.{Image}
-use Rattle.btr_reader_walk.specs.refusals.declared.refusal.BtrRefusal.{BtrRefusal}
+use Rattle.btr_reader.proofs.Imports.{◌≡◌, ◌∙◌, ℕ, zero, suc, ◌+◌, ◌*◌, ◌/◌, ◌<◌, Bool, List, [], ◌∷◌, ◌++◌, Option, Some, None, refl, sym, ap, subst, arith, if◌then◌else◌, All, flat_map, All-nil, All-cons, All-head, All-tail, Image, BtrRefusal, Unmapped, TreeEvent, items_in_events, may_be_bare, nodes_in, block_of_place, blocks_at, is_mapped, node_at, place, found, met, wrong, MapRange, NodePointer, Tree, AreNodesApart, IsApart, IsNodeApart, IsSameOutside}
 use Rattle.btr_reader_walk.specs.refusals.declared.rule.BtrRule.{BtrRule}
-use Rattle.btr_reader_walk.specs.refusals.declared.rule.BtrRule.TheVariants.{Unmapped}
-use Rattle.btr_reader_walk.specs.Events.{TreeEvent, items_in_events, may_be_bare, nodes_in}
-use Rattle.btr_reader_walk.specs.Map.{block_of_place, blocks_at, is_mapped, node_at, place}
 use Rattle.btr_reader_walk.specs.Node.{content_damages, node_damages, want}
 use Rattle.btr_reader_walk.specs.Tree.{at_address, node_faults, order_damages, pointer_damages}
-use Rattle.btr_reader_walk.specs.Walks.{found, met, wrong}
-use Rattle.btr_reader_walk.specs.declared.map.MapRange.{MapRange}
 use Rattle.btr_reader_walk.specs.declared.tree.Form.{Form}
-use Rattle.btr_reader_walk.specs.declared.tree.NodePointer.{NodePointer}
-use Rattle.btr_reader_walk.specs.declared.tree.Tree.{Tree}
 use Rattle.btr_reader_walk.proofs.Decides.{nodes_decide}
-use Rattle.btr_reader.specs.Apart.{AreNodesApart, IsApart, IsNodeApart, IsSameOutside}
 
 all_weaker : {X : Type 0} (P Q : X → Type 0) → ((x : X) → P x → Q x) → (xs : List X) → All P xs → All Q xs
 all_weaker P Q turn [] all = All-nil Q

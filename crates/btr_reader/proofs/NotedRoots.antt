@@ -1,14 +1,7 @@
 -- The root item of a tree, found as the items go by.
-use Rattle.std.proofs.Common.{◌≡◌, ℕ, nat_eq, Bool, true, false, ◌&&◌, ◌||◌, eqb, List, [], ◌∷◌, ◌++◌, Option, Some, None, if◌then◌else◌, refl, sym, ◌∙◌, ap, subst}
-use Rattle.btrfs_format.specs.declared.key.TheConstants.{ROOT_ITEM}
-use Rattle.indexmap.specs.IndexSet.{contains}
-use Rattle.btr_reader_walk.specs.btr_keys.declared.key.Key.{Key}
-use Rattle.btr_reader_walk.specs.Events.{TreeItem}
-use Rattle.btr_reader_names.specs.Roots.{is_root_of}
+use Rattle.btr_reader.proofs.Imports.{◌≡◌, ℕ, nat_eq, Bool, true, false, ◌&&◌, ◌||◌, eqb, List, [], ◌∷◌, ◌++◌, Option, Some, None, if◌then◌else◌, refl, sym, ◌∙◌, ap, subst, ROOT_ITEM, contains, Key, TreeItem, is_root_of, RootItems, last_or, root_item, pointer_of, TellsRoot, HasRoots, found_root}
 use Rattle.btr_reader_names.proofs.Walking.{root_push, root_other, root_own}
 use Rattle.btr_reader.specs.declared.roots.RootFound.{RootFound}
-use Rattle.btr_reader.specs.declared.roots.RootItems.{RootItems}
-use Rattle.btr_reader.specs.Roots.{last_or, root_item, pointer_of, TellsRoot, HasRoots, found_root}
 
 abbrev here : ℕ → TreeItem → Option TreeItem
 here number i = if is_root_of number i then Some i else None

@@ -1,21 +1,7 @@
 -- What is gathered of a file after one more item of its tree.
-use Rattle.std.proofs.Common.{◌≡◌, ℕ, ◌+◌, ◌≤◌, Bool, true, false, ◌||◌, List, [], ◌∷◌, ◌++◌, Option, Some, Contains, refl, sym, ◌∙◌, ap, subst}
-use Rattle.std.proofs.lemmas.List.Elements.{Contains-append_left, Contains-append_right, filter-append}
+use Rattle.btr_reader.proofs.Imports.{◌≡◌, ℕ, ◌+◌, ◌≤◌, Bool, true, false, ◌||◌, List, [], ◌∷◌, ◌++◌, Option, Some, Contains, refl, sym, ◌∙◌, ap, subst, Contains-append_left, Contains-append_right, filter-append, BtrAnswer, BtrRefusal, FileExtentValue, file_extent_of, MapRange, TreeItem, none_both, Gathered, MappedExtent, is_extent_of, extents_of, extent_length, covered_by, end_after, covered_after, has_form, extent_refusals, refusals_at, extents_refusals, extents_end, extents_covered, content_is_inline, is_inline, IsAmong, pieces_place, pieces_of, any_inline, GathersExtents, extents_refusals-append, extents_end-append, extents_covered-append, form_of_sound, behind_end, aligned_of, extents_of-one}
 use Rattle.std.proofs.lemmas.List.Folds.{list_any-append}
-use Rattle.btr_reader_walk.specs.refusals.declared.answer.BtrAnswer.{BtrAnswer}
-use Rattle.btr_reader_walk.specs.refusals.declared.refusal.BtrRefusal.{BtrRefusal}
-use Rattle.btr_reader_walk.specs.btr_keys.FileExtent.{FileExtentValue, file_extent_of}
-use Rattle.btr_reader_walk.specs.declared.map.MapRange.{MapRange}
-use Rattle.btr_reader_walk.specs.Events.{TreeItem}
-use Rattle.btr_reader_walk.proofs.Events.{none_both}
-use Rattle.btr_reader.specs.declared.gathered.Gathered.{Gathered}
-use Rattle.btr_reader.specs.declared.mapped_extent.MappedExtent.{MappedExtent}
-use Rattle.btr_reader_contents.specs.Extents.{is_extent_of, extents_of, extent_length, covered_by, end_after, covered_after, has_form, extent_refusals, refusals_at, extents_refusals, extents_end, extents_covered}
-use Rattle.btr_reader.specs.Image.{content_is_inline, is_inline}
-use Rattle.btr_reader.specs.Opening.{IsAmong}
-use Rattle.btr_reader.specs.Pieces.{pieces_place, pieces_of, any_inline, GathersExtents}
 use Rattle.btr_reader.proofs.Among.{among_left}
-use Rattle.btr_reader_contents.proofs.ExtentLists.{extents_refusals-append, extents_end-append, extents_covered-append, form_of_sound, behind_end, aligned_of, extents_of-one}
 use Rattle.btr_reader.proofs.Gathering.{one_more}
 
 -- what is wrong with an extent behind others is wrong with all

@@ -1,32 +1,8 @@
 -- The rows of a volume are one list.
-use Rattle.std.proofs.Common.{◌≡◌, ℕ, ◌+◌, ◌<◌, Bool, append_assoc, length-take-le, List, [], ◌∷◌, ◌++◌, length, get_or, take, drop, Contains, Some, ⊎_elim, refl, sym, ap, subst, ◌∙◌, arith}
-use Rattle.std.proofs.lemmas.Bool.{cases_lt}
-use Rattle.std.proofs.lemmas.Bool.Decides.{nat_tests}
-use Rattle.std.proofs.lemmas.List.{get_or_default}
+use Rattle.btr_reader.proofs.Imports.{◌≡◌, ℕ, ◌+◌, ◌<◌, Bool, append_assoc, length-take-le, List, [], ◌∷◌, ◌++◌, length, get_or, take, drop, Contains, Some, ⊎_elim, refl, sym, ap, subst, ◌∙◌, arith, cases_lt, nat_tests, get_or_default, FS_TREE, Image, Inode, MapRange, NodePointer, TreeItem, found, NameList, WholeRow, name_count, Kind, neither_above, DirIndex, kind_of_mode, IsDirectoryInode, dir_indexes, followed, is_followed, IsNamedInode, root, entry, Target, inode, tree, NamesTarget, LeadsToTarget, has_root, AreIn, IsOpen, KeepsNames, twice, from_filter, BtrfsRowsAreOne, row_by, bytes_at, tree_of, pointer_of, top, IsLeastPath, IsInodeRow, IsRowOf, AreRows, roots_on, bad_names, subvolume_row}
 use Rattle.std.proofs.Math.ListN.{get_or-append}
-use Rattle.btrfs_format.specs.declared.object.TheConstants.{FS_TREE}
-use Rattle.btr_reader_walk.specs.outside.History.{Image}
-use Rattle.btr_reader_walk.specs.btr_keys.declared.inode.Inode.{Inode}
-use Rattle.btr_reader_walk.specs.declared.map.MapRange.{MapRange}
-use Rattle.btr_reader_walk.specs.declared.tree.NodePointer.{NodePointer}
-use Rattle.btr_reader_walk.specs.Events.{TreeItem}
-use Rattle.btr_reader_walk.specs.Walks.{found}
-use Rattle.fs_rows.specs.Rows.{NameList, WholeRow, name_count}
-use Rattle.fs_rows.specs.declared.row.Kind.{Kind}
-use Rattle.fs_paths.proofs.FirstPlaces.{neither_above}
 use Rattle.fs_paths.proofs.OneList.{rows_one}
-use Rattle.btr_reader_names.specs.declared.dir_index.DirIndex.{DirIndex}
-use Rattle.btr_reader_names.specs.Inodes.{kind_of_mode, IsDirectoryInode}
-use Rattle.btr_reader_names.specs.Links.{dir_indexes, followed, is_followed, IsNamedInode, root, entry, Target, inode, tree, NamesTarget, LeadsToTarget}
-use Rattle.btr_reader_names.specs.Roots.{has_root}
-use Rattle.btr_reader_names.specs.Rules.{AreIn, IsOpen, KeepsNames, twice}
 use Rattle.btr_reader_names.proofs.Members.{with_rest}
-use Rattle.fs_paths.proofs.Lists.{from_filter}
-use Rattle.btr_reader.specs.Laws.{BtrfsRowsAreOne}
-use Rattle.btr_reader.specs.Made.{row_by, bytes_at}
-use Rattle.btr_reader.specs.Opening.{tree_of}
-use Rattle.btr_reader.specs.Roots.{pointer_of}
-use Rattle.btr_reader.specs.Rows.{top, IsLeastPath, IsInodeRow, IsRowOf, AreRows, roots_on, bad_names, subvolume_row}
 
 -- two elements at places one behind the other
 in_order : {X : Type 0} (xs : List X) (x y : X) (i j : ℕ) → i < j → j < length xs → get_or xs i x ≡ x → get_or xs j y ≡ y → AreIn xs x y

@@ -1,17 +1,7 @@
 -- The pieces that are gathered stay in order.
-use Rattle.std.proofs.Common.{◌≡◌, ℕ, ◌+◌, ◌*◌, ◌%◌, ◌≤◌, ◌==◌, Bool, true, false, List, [], ◌∷◌, ◌++◌, length, get_or, All, if◌then◌else◌, refl, sym, subst, arith}
-use Rattle.std.proofs.lemmas.Bool.{and_parts}
-use Rattle.std.proofs.lemmas.Bool.Decides.{nat_tests}
-use Rattle.std.proofs.lemmas.List.{append-nil}
-use Rattle.std.proofs.lemmas.List.Elements.{All-push, All-weaker, All-get_or}
+use Rattle.btr_reader.proofs.Imports.{◌≡◌, ℕ, ◌+◌, ◌*◌, ◌%◌, ◌≤◌, ◌==◌, Bool, true, false, List, [], ◌∷◌, ◌++◌, length, get_or, if◌then◌else◌, refl, sym, subst, arith, and_parts, nat_tests, append-nil, All-push, All-weaker, All-get_or, ContentValue, Inline, Regular, Prealloc, DiskRange, is_hole, extent_length, range_is_aligned, is_aligned, MappedExtent, Gathered, IsExtentBefore, AscendApart, AreGatheredInOrder, range_piece, range_pieces, pieces_of}
+use Rattle.std.proofs.Common.{All}
 use Rattle.std.proofs.lemmas.List.Quantifiers.{all_pairs_push}
-use Rattle.btr_reader_walk.specs.btr_keys.FileExtent.{ContentValue, Inline, Regular, Prealloc}
-use Rattle.btr_reader_walk.specs.btr_keys.declared.file_extent.DiskRange.{DiskRange}
-use Rattle.btr_reader_contents.specs.Extents.{is_hole, extent_length, range_is_aligned, is_aligned}
-use Rattle.btr_reader.specs.declared.mapped_extent.MappedExtent.{MappedExtent}
-use Rattle.btr_reader.specs.declared.gathered.Gathered.{Gathered}
-use Rattle.btr_reader.specs.Ascending.{IsExtentBefore, AscendApart}
-use Rattle.btr_reader.specs.Pieces.{AreGatheredInOrder, range_piece, range_pieces, pieces_of}
 
 -- a piece ends at a byte of the file, or before
 abbrev Ends : ℕ → MappedExtent → Type 0

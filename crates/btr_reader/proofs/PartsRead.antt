@@ -1,23 +1,7 @@
 -- What the rows of a volume are refused by, and its parts.
-use Rattle.std.proofs.Common.{◌≡◌, inl, inr, ℕ, ◌==◌, Bool, false, cond, List, [], ◌∷◌, length, map, Some, None, Result, Ok, Err, Contains, refl, sym, ◌∙◌, ap, subst, arith}
-use Rattle.std.specs.Result.{MatchResult}
-use Rattle.std.proofs.lemmas.Bool.Decides.{nat_tests}
-use Rattle.btrfs_format.specs.declared.block.TheConstants.{SUPER_BLOCK}
-use Rattle.fs_rows.specs.Rows.{WholeRow, row_of}
-use Rattle.fs_rows.specs.declared.row.Row.{Row}
-use Rattle.btr_reader_walk.specs.outside.History.{Image, block_at}
-use Rattle.btr_reader_walk.specs.refusals.declared.answer.BtrAnswer.{BtrAnswer}
-use Rattle.btr_reader_walk.specs.refusals.declared.answer.BtrAnswer.TheVariants.{Refused, Fault, Memory}
-use Rattle.btr_reader_walk.specs.refusals.declared.refusal.BtrRefusal.{BtrRefusal}
-use Rattle.btr_super.specs.declared.superblock.Super.{Super}
-use Rattle.btr_super.specs.Rules.{super_refusals, super_of, unless_refused}
-use Rattle.btr_super.specs.Super.{super_in}
-use Rattle.btr_reader_walk.specs.declared.map.MapRange.{MapRange}
+use Rattle.btr_reader.proofs.Imports.{◌≡◌, inl, inr, ℕ, ◌==◌, Bool, false, cond, List, [], ◌∷◌, length, map, Some, None, Result, Ok, Err, Contains, refl, sym, ◌∙◌, ap, subst, arith, MatchResult, nat_tests, SUPER_BLOCK, WholeRow, row_of, Row, Image, block_at, BtrAnswer, Refused, Fault, Memory, BtrRefusal, Super, super_refusals, super_of, unless_refused, super_in, MapRange, RefusesRows, super_on, chunk_map, opening_refusals, IsBtrfsOpened, IsAmong, IsSuperAnswer, own_super, own_map, log_of, log_tree, IsBtrfsRefusal, HasBtrfsRows, IsRowsRefusal, has_log, unreadable, ListsBtrfs, RefusesBtrfsRows, AreBtrfsRows, CanBeRead, IsFileTreeRefusal}
+use Rattle.btr_reader.specs.Parts.{Tree}
 use Rattle.btr_reader.specs.declared.volume.Btrfs.{Btrfs}
-use Rattle.btr_reader.specs.Made.{RefusesRows}
-use Rattle.btr_reader.specs.Opening.{super_on, chunk_map, opening_refusals, IsBtrfsOpened, IsAmong, IsSuperAnswer}
-use Rattle.btr_reader.specs.Parts.{own_super, own_map, log_of, log_tree, Tree, IsBtrfsRefusal, HasBtrfsRows, IsRowsRefusal, has_log, unreadable, ListsBtrfs, RefusesBtrfsRows}
-use Rattle.btr_reader.specs.Rows.{AreBtrfsRows, CanBeRead, IsFileTreeRefusal}
 use Rattle.btr_reader.specs.Volume.{IsVolumeOn}
 use Rattle.btr_reader.proofs.Opens.{super_refused}
 

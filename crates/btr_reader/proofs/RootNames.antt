@@ -1,29 +1,8 @@
 -- The names of a root directory that were seen, and what is refused of them.
-use Rattle.std.proofs.Common.{◌≡◌, ℕ, suc, ◌==◌, Bool, true, false, ◌&&◌, nat_eq, List, [], ◌∷◌, ◌++◌, map, filter, Contains, AllPairs, Option, Some, None, Result, Ok, Err, OnOk, IfErr, if◌then◌else◌, ⊎_elim, refl, sym, ap, subst, ◌∙◌, arith}
-use Rattle.std.specs.Result.{MatchResult}
+use Rattle.btr_reader.proofs.Imports.{◌≡◌, ℕ, suc, ◌==◌, Bool, true, false, ◌&&◌, nat_eq, List, [], ◌∷◌, ◌++◌, map, filter, Contains, AllPairs, Option, Some, None, Result, Ok, Err, IfErr, if◌then◌else◌, ⊎_elim, refl, sym, ap, subst, ◌∙◌, arith, MatchResult, eqb-true, and_parts, nat_tests, append-nil, Contains-append_left, Contains-append_right, Contains-append_cases, IndexSet, BtrAnswer, Refused, Fault, Memory, BtrRefusal, BadBtrfs, NameForm, DirEntryValue, TreeItem, none_both, at_head, head_or_tail, in_map, in_filter, from_map, from_filter, same_name-true, DirIndex, is_index, index_entry, naming_of, naming_at, own_naming, dir_indexes, DifferInName, HasSeen, BlamesTwice, closed_more, is_root_directory, is_again, naming_refusals, index_refusals_at, own_index_refusals, twice_refusals, index_refusals, root_refusals, IsAmong}
+use Rattle.std.proofs.Common.{OnOk}
 use Rattle.std.specs.Cmp.Lexicographic.{pointwise}
-use Rattle.std.proofs.lemmas.Bool.{eqb-true, and_parts}
-use Rattle.std.proofs.lemmas.Bool.Decides.{nat_tests}
-use Rattle.std.proofs.lemmas.List.{append-nil}
-use Rattle.std.proofs.lemmas.List.Elements.{Contains-append_left, Contains-append_right, Contains-append_cases}
-use Rattle.indexmap.specs.IndexSet.{IndexSet}
-use Rattle.btr_reader_walk.specs.refusals.declared.answer.BtrAnswer.{BtrAnswer}
-use Rattle.btr_reader_walk.specs.refusals.declared.answer.BtrAnswer.TheVariants.{Refused, Fault, Memory}
-use Rattle.btr_reader_walk.specs.refusals.declared.refusal.BtrRefusal.{BtrRefusal}
-use Rattle.btr_reader_walk.specs.refusals.declared.refusal.BtrRefusal.TheVariants.{BadBtrfs}
-use Rattle.btr_reader_walk.specs.refusals.declared.rule.BtrRule.TheVariants.{NameForm}
-use Rattle.btr_reader_walk.specs.btr_keys.DirEntry.{DirEntryValue}
-use Rattle.btr_reader_walk.specs.Events.{TreeItem}
-use Rattle.btr_reader_walk.proofs.Events.{none_both}
-use Rattle.fs_paths.proofs.Lists.{at_head, head_or_tail, in_map, in_filter, from_map, from_filter}
-use Rattle.fs_paths.proofs.Nodes.{same_name-true}
-use Rattle.btr_reader_names.specs.declared.dir_index.DirIndex.{DirIndex}
 use Rattle.btr_reader_names.specs.declared.seen.NameIn.{NameIn}
-use Rattle.btr_reader_names.specs.Links.{is_index, index_entry, naming_of, naming_at, own_naming, dir_indexes}
-use Rattle.btr_reader_names.specs.Passes.{DifferInName, HasSeen, BlamesTwice}
-use Rattle.btr_reader_names.proofs.Seeing.{closed_more}
-use Rattle.btr_reader.specs.Image.{is_root_directory, is_again, naming_refusals, index_refusals_at, own_index_refusals, twice_refusals, index_refusals, root_refusals}
-use Rattle.btr_reader.specs.Opening.{IsAmong}
 use Rattle.btr_reader.proofs.Among.{among_right}
 use Rattle.btr_reader.proofs.EntryItems.{namings-append, index_refused}
 

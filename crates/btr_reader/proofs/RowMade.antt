@@ -1,31 +1,6 @@
 -- The row that is made for a path of a file tree.
-use Rattle.std.proofs.Common.{◌≡◌, ℕ, ◌<◌, ◌≤◌, ◌==◌, Bool, true, false, List, map, length, get_or, take, Contains, Option, Some, None, unwrap_or, if◌then◌else◌, ⊎_elim, refl, sym, ap, subst, ◌∙◌, arith}
-use Rattle.std.specs.Prelude.{slice_get}
-use Rattle.std.specs.Option.{option_and_then}
-use Rattle.std.proofs.lemmas.Bool.{cases_lt}
-use Rattle.std.proofs.lemmas.List.{get_or-map, length-map, length-take, get_or-take}
-use Rattle.std.proofs.lemmas.Option.{slice_get_within, get_or_from_slice_get, slice_get-get_or}
-use Rattle.btrfs_format.specs.declared.object.TheConstants.{FIRST_FREE_OBJECTID}
-use Rattle.btr_reader_walk.specs.outside.History.{Image}
-use Rattle.btr_reader_walk.specs.btr_keys.declared.inode.Inode.{Inode}
-use Rattle.btr_reader_walk.specs.declared.map.MapRange.{MapRange}
-use Rattle.btr_reader_walk.specs.Events.{TreeItem}
-use Rattle.fs_rows.specs.Rows.{NameList, row_of}
-use Rattle.fs_rows.specs.declared.row.Kind.{Kind}
-use Rattle.fs_rows.specs.declared.row.Kind.TheVariants.{File, Symlink}
-use Rattle.fs_rows.specs.declared.row.Row.{Row}
-use Rattle.fs_paths.specs.declared.node_link.PathTo.{PathTo}
-use Rattle.fs_paths.specs.declared.node.NodeId.{NodeId}
-use Rattle.fs_paths.specs.Paths.{ArePaths, first_path}
-use Rattle.btr_reader_names.specs.declared.table.NameTable.{NameTable}
-use Rattle.btr_reader_names.specs.Inodes.{inode_on, kind_of_mode}
-use Rattle.btr_reader_names.specs.Links.{IsNamedInode, Target, inode, tree, LeadsToTarget}
-use Rattle.btr_reader_names.specs.Steps.{inode_node, node_of_target, links_of}
-use Rattle.fs_rows.specs.declared.content.Content.{Content}
-use Rattle.btr_reader_contents.specs.Contents.{wanted_inode, wanted_at}
-use Rattle.btr_reader.specs.Made.{IsReadTree, bytes_at, kind_by_inode, made_inode, made_row, no_inode, own_at, row_by}
-use Rattle.btr_reader.specs.Rows.{subvolume_row}
-use Rattle.fs_paths.proofs.FirstPlaces.{first_before}
+use Rattle.btr_reader.proofs.Imports.{◌≡◌, ℕ, ◌<◌, ◌≤◌, ◌==◌, Bool, true, false, List, map, length, get_or, take, Contains, Option, Some, None, unwrap_or, if◌then◌else◌, ⊎_elim, refl, sym, ap, subst, ◌∙◌, arith, slice_get, option_and_then, cases_lt, get_or-map, length-map, length-take, get_or-take, slice_get_within, get_or_from_slice_get, slice_get-get_or, FIRST_FREE_OBJECTID, Image, Inode, MapRange, TreeItem, NameList, row_of, Kind, File, Symlink, Row, PathTo, NodeId, ArePaths, first_path, NameTable, inode_on, kind_of_mode, IsNamedInode, Target, inode, tree, LeadsToTarget, inode_node, node_of_target, links_of, Content, wanted_inode, wanted_at, IsReadTree, bytes_at, kind_by_inode, made_inode, made_row, own_at, row_by, subvolume_row, first_before}
+use Rattle.btr_reader.specs.Made.{no_inode}
 use Rattle.btr_reader.proofs.Known.{IsKnown, own_on, is_known, not_long, leads_named}
 
 no_some : {X : Type 0} (x : X) → None ≡ Some x → ⊥

@@ -1,34 +1,10 @@
 -- The rows that are made for the paths of a file tree are its rows.
-use Rattle.std.proofs.Common.{◌≡◌, ℕ, ◌+◌, ◌<◌, ◌≤◌, ◌==◌, Bool, true, false, List, [], ◌∷◌, ◌++◌, map, length, get_or, take, count_by, Contains, Some, refl, sym, ap, subst, ◌∙◌, true≢false, if◌then◌else◌, arith}
+use Rattle.btr_reader.proofs.Imports.{◌≡◌, ℕ, ◌+◌, ◌<◌, ◌≤◌, ◌==◌, Bool, true, false, List, [], ◌∷◌, ◌++◌, map, length, get_or, take, count_by, Contains, Some, refl, sym, ap, subst, ◌∙◌, true≢false, if◌then◌else◌, arith, get_or-map, length-map, map-append, take_more, take_all, get_or_default, FIRST_FREE_OBJECTID, Image, Inode, MapRange, TreeItem, NameList, WholeRow, AscendsByPath, path_cmp, is_same_path, name_count, row_of, Row, Kind, PathTo, NodeId, AreNamedOnce, ArePaths, leads_to, first_path, in_map, from_map, same_node-true, inode_on, kind_of_mode, is_directory, Target, inode, tree, LeadsToTarget, KeepsNames, inode_node, tree_node, node_of_target, AreTreeLinks, row_by, bytes_at, made_inode, made_row, IsLeastPath, IsInodeRow, IsTreeRow, IsRowOf, AreRows, subvolume_row, top, both_ways, count_among, same_names, one_place, first_within, first_in, first_leads, is_least, same_first}
 use Rattle.std.specs.Ordering.{is_le}
 use Rattle.std.proofs.lemmas.Simd.{map-map}
-use Rattle.std.proofs.lemmas.List.{get_or-map, length-map, map-append, take_more, take_all, get_or_default}
-use Rattle.btrfs_format.specs.declared.object.TheConstants.{FIRST_FREE_OBJECTID}
-use Rattle.btr_reader_walk.specs.outside.History.{Image}
-use Rattle.btr_reader_walk.specs.btr_keys.declared.inode.Inode.{Inode}
-use Rattle.btr_reader_walk.specs.declared.map.MapRange.{MapRange}
-use Rattle.btr_reader_walk.specs.Events.{TreeItem}
-use Rattle.fs_rows.specs.Rows.{NameList, WholeRow, AscendsByPath, path_cmp, is_same_path, name_count, row_of}
-use Rattle.fs_rows.specs.declared.row.Row.{Row}
-use Rattle.fs_rows.specs.declared.row.Kind.{Kind}
 use Rattle.fs_paths.specs.declared.node_link.NodeLink.{NodeLink}
-use Rattle.fs_paths.specs.declared.node_link.PathTo.{PathTo}
-use Rattle.fs_paths.specs.declared.node.NodeId.{NodeId}
-use Rattle.fs_paths.specs.Links.{AreNamedOnce}
-use Rattle.fs_paths.specs.Paths.{ArePaths, leads_to, first_path}
 use Rattle.fs_paths.proofs.Counts.{count_map}
-use Rattle.fs_paths.proofs.Lists.{in_map, from_map}
-use Rattle.fs_paths.proofs.Nodes.{same_node-true}
-use Rattle.btr_reader_names.specs.Inodes.{inode_on, kind_of_mode}
-use Rattle.fs_rows.specs.Kinds.{is_directory}
-use Rattle.btr_reader_names.specs.Links.{Target, inode, tree, LeadsToTarget}
-use Rattle.btr_reader_names.specs.Rules.{KeepsNames}
-use Rattle.btr_reader_names.specs.Steps.{inode_node, tree_node, node_of_target}
-use Rattle.btr_reader_names.specs.TreeLinks.{AreTreeLinks}
-use Rattle.btr_reader.specs.Made.{row_by, bytes_at, made_inode, made_row}
-use Rattle.btr_reader.specs.Rows.{IsLeastPath, IsInodeRow, IsTreeRow, IsRowOf, AreRows, subvolume_row, top}
 use Rattle.btr_reader.proofs.Known.{own_on, is_known, leads_named}
-use Rattle.fs_paths.proofs.FirstPlaces.{both_ways, count_among, same_names, one_place, first_within, first_in, first_leads, is_least, same_first}
 use Rattle.btr_reader.proofs.RowMade.{path_is, tree_is, inode_is}
 
 -- a node of an inode is no other tree

@@ -1,26 +1,5 @@
 -- What the items of a file tree say does not depend on the leaves that they lie in, and of the disk on the bytes of extents alone.
-use Rattle.std.proofs.Common.{◌≡◌, ℕ, ◌+◌, ◌-◌, ◌<◌, nat_lt, nat_le, Bool, true, false, cond, ◌&&◌, List, [], ◌∷◌, ◌++◌, map, filter, Contains, Option, Some, None, if◌then◌else◌, refl, sym, ap, subst, ◌∙◌, arith}
-use Rattle.std.specs.List.{range_with_len}
-use Rattle.std.specs.Option.{option_map, option_and_then}
-use Rattle.std.proofs.lemmas.Bool.Decides.{nat_tests}
-use Rattle.std.proofs.lemmas.List.{map-append}
-use Rattle.btr_reader_walk.specs.outside.History.{Image}
-use Rattle.btr_reader_walk.specs.btr_keys.DirEntry.{DirEntryValue}
-use Rattle.btr_reader_walk.specs.btr_keys.FileExtent.{FileExtentValue, file_extent_of}
-use Rattle.btr_reader_walk.specs.btr_keys.Inode.{inode_of}
-use Rattle.btr_reader_walk.specs.btr_keys.declared.inode.Inode.{Inode}
-use Rattle.btr_reader_walk.specs.declared.map.MapRange.{MapRange}
-use Rattle.btr_reader_walk.specs.Events.{TreeItem}
-use Rattle.fs_rows.specs.Rows.{NameList, WholeRow}
-use Rattle.fs_rows.specs.declared.row.Kind.{Kind}
-use Rattle.fs_paths.proofs.Lists.{in_map, from_map, at_head, in_tail}
-use Rattle.btr_reader_contents.specs.Extents.{extents_of, is_extent_of, extent_length, content_byte, covers, byte_from, file_byte, bytes_of_inode}
-use Rattle.btr_reader_names.specs.declared.dir_index.DirIndex.{DirIndex}
-use Rattle.btr_reader_names.specs.Inodes.{is_inode_of, find_inode_item, inode_on, kind_of_mode, IsDirectoryInode}
-use Rattle.btr_reader_names.specs.Links.{is_index, index_entry, naming_at, own_naming, dir_indexes, is_followed, followed, IsNamedInode, root, entry, Target, inode, tree, NamesTarget, LeadsToTarget}
-use Rattle.btr_reader.specs.Laws.{unplaced, SameExtents, ItemsDecideBtrfsRows}
-use Rattle.btr_reader.specs.Rows.{top, IsRowOf, AreRows}
-use Rattle.fs_rows.specs.Kinds.{has_bytes}
+use Rattle.btr_reader.proofs.Imports.{◌≡◌, ℕ, ◌+◌, ◌-◌, ◌<◌, nat_lt, nat_le, Bool, true, false, cond, ◌&&◌, List, [], ◌∷◌, ◌++◌, map, filter, Contains, Option, Some, None, if◌then◌else◌, refl, sym, ap, subst, ◌∙◌, arith, range_with_len, option_map, option_and_then, nat_tests, map-append, Image, DirEntryValue, FileExtentValue, file_extent_of, inode_of, Inode, MapRange, TreeItem, NameList, WholeRow, Kind, in_map, from_map, at_head, in_tail, extents_of, is_extent_of, extent_length, content_byte, covers, byte_from, file_byte, bytes_of_inode, DirIndex, is_inode_of, find_inode_item, inode_on, kind_of_mode, IsDirectoryInode, is_index, index_entry, naming_at, own_naming, dir_indexes, is_followed, followed, IsNamedInode, root, entry, Target, inode, tree, NamesTarget, LeadsToTarget, unplaced, SameExtents, ItemsDecideBtrfsRows, top, IsRowOf, AreRows, has_bytes}
 
 -- what rows need of two trees, each over a disk and a map
 record Agree (image : Image) (ranges : List MapRange) (items : List TreeItem) (other : Image) (elsewhere : List MapRange) (others : List TreeItem) : Type 0 where

@@ -1,15 +1,6 @@
 -- The piece that holds a block, found by halves.
-use Rattle.std.proofs.Common.{◌≡◌, ℕ, zero, suc, ◌+◌, ◌-◌, ◌*◌, ◌/◌, ◌<◌, ◌≤◌, Bool, true, false, List, [], ◌∷◌, length, get_or, Option, Some, None, if◌then◌else◌, leb, ⊎_elim, refl, ap, ◌∙◌, arith}
-use Rattle.std.specs.Option.{option_map}
+use Rattle.btr_reader.proofs.Imports.{◌≡◌, ℕ, zero, suc, ◌+◌, ◌-◌, ◌*◌, ◌/◌, ◌<◌, ◌≤◌, Bool, true, false, List, [], ◌∷◌, length, get_or, Option, Some, None, if◌then◌else◌, leb, ⊎_elim, refl, ap, ◌∙◌, arith, option_map, cases_lt, nat_tests, IsPartitionedBy-leb, MapRange, place, MappedExtent, IsExtentBefore, AscendApart, holds_block, block_in, or_else, pieces_place}
 use Rattle.std.specs.List.Sorted.{IsPartitionedBy, IsPartitionPoint, IsNonDecreasingBy}
-use Rattle.std.proofs.lemmas.Bool.{cases_lt}
-use Rattle.std.proofs.lemmas.Bool.Decides.{nat_tests}
-use Rattle.std.proofs.lemmas.List.Sorted.{IsPartitionedBy-leb}
-use Rattle.btr_reader_walk.specs.declared.map.MapRange.{MapRange}
-use Rattle.btr_reader_walk.specs.Map.{place}
-use Rattle.btr_reader.specs.declared.mapped_extent.MappedExtent.{MappedExtent}
-use Rattle.btr_reader.specs.Ascending.{IsExtentBefore, AscendApart}
-use Rattle.btr_reader.specs.Pieces.{holds_block, block_in, or_else, pieces_place}
 
 rises : (ps : List MappedExtent) → AscendApart ps → IsNonDecreasingBy (λ (p : MappedExtent). p.first) ps
 rises ps apart i j d ordered within =

@@ -1,34 +1,6 @@
 -- The steps on the way to the saved image.
-use Rattle.std.proofs.Common.{◌≡◌, ⊎_elim, ℕ, true, List, [], ◌∷◌, ◌++◌, length, codes, if◌then◌else◌, Option, Some, None, Result, Ok, Err, refl, sym, ◌∙◌, ap, subst, arith}
-use Rattle.std.specs.Option.{option_and_then}
-use Rattle.btrfs_format.specs.declared.object.TheConstants.{FS_TREE}
-use Rattle.btr_reader_walk.specs.outside.History.{Image}
-use Rattle.btr_reader_walk.specs.refusals.declared.answer.BtrAnswer.{BtrAnswer}
-use Rattle.btr_reader_walk.specs.refusals.declared.answer.BtrAnswer.TheVariants.{Refused, Fault, Memory}
-use Rattle.btr_reader_walk.specs.refusals.declared.refusal.BtrRefusal.{BtrRefusal}
-use Rattle.btr_reader_walk.specs.refusals.declared.refusal.BtrRefusal.TheVariants.{BadBtrfs}
-use Rattle.btr_reader_walk.specs.refusals.declared.rule.BtrRule.TheVariants.{Body}
-use Rattle.btr_reader_walk.specs.btr_keys.Inode.{inode_of}
-use Rattle.btr_reader_walk.specs.btr_keys.declared.inode.Inode.{Inode}
-use Rattle.btr_reader_walk.specs.btr_keys.declared.key.Key.{Key}
-use Rattle.btr_super.specs.declared.superblock.Super.{Super}
-use Rattle.btr_reader_walk.specs.declared.map.MapRange.{MapRange}
-use Rattle.btr_reader_walk.specs.declared.tree.NodePointer.{NodePointer}
-use Rattle.btr_reader_walk.specs.declared.tree.Tree.{Tree}
-use Rattle.btr_reader_walk.specs.Events.{TreeItem}
-use Rattle.btr_reader_walk.specs.Walks.{found, wrong}
-use Rattle.btr_reader.specs.declared.gathered.Gathered.{Gathered}
+use Rattle.btr_reader.proofs.Imports.{◌≡◌, ⊎_elim, ℕ, true, List, [], ◌∷◌, ◌++◌, length, codes, if◌then◌else◌, Option, Some, None, Result, Ok, Err, refl, sym, ◌∙◌, ap, subst, arith, option_and_then, FS_TREE, Image, BtrAnswer, Refused, Fault, Memory, BtrRefusal, BadBtrfs, Body, inode_of, Inode, Key, Super, MapRange, NodePointer, Tree, TreeItem, found, wrong, Gathered, extents_of, extents_refusals, ImageFile, is_file_mode, is_called, entry_named, image_entry, saved_location, pointer_in, tree_number, inode_number, file_if_image, image_at, image_in, items_at, image_below, saved_image, entry_refusals, after_pointer, after_root, if_there, own_refusals, file_refusals, image_refusals_in, refusals_below, saved_refusals, image_refusals, find_inode_item, dir_indexes, ChunkAt, tree_of, root_tree, boot_chunks, boot_list, boot_refusals, map_from, or_later, trees_refusals, IsBtrfsOpened, IsAmong, GathersExtents, MapsImage, FindsTree, FindsNumbered, FindsSaved, FindsFile, ReadsImage, root_item, pointer_of, roots_on}
 use Rattle.btr_reader.specs.declared.image_map.ImageMap.{ImageMap}
-use Rattle.btr_reader_contents.specs.Extents.{extents_of, extents_refusals}
-use Rattle.btr_reader.specs.Image.{ImageFile, is_file_mode, is_called, entry_named, image_entry, saved_location, pointer_in, tree_number, inode_number, file_if_image, image_at, image_in, items_at, image_below, saved_image, entry_refusals, after_pointer, after_root, if_there, own_refusals, file_refusals, image_refusals_in, refusals_below, saved_refusals, image_refusals}
-use Rattle.btr_reader_names.specs.Inodes.{find_inode_item}
-use Rattle.btr_reader_names.specs.Links.{dir_indexes}
-use Rattle.btr_reader.specs.declared.chunk.ChunkAt.{ChunkAt}
-use Rattle.btr_reader.specs.Opening.{tree_of, root_tree, boot_chunks, boot_list, boot_refusals, map_from, or_later, trees_refusals, IsBtrfsOpened, IsAmong}
-use Rattle.btr_reader.specs.Pieces.{GathersExtents, MapsImage}
-use Rattle.btr_reader.specs.Reading.{FindsTree, FindsNumbered, FindsSaved, FindsFile, ReadsImage}
-use Rattle.btr_reader.specs.Roots.{root_item, pointer_of}
-use Rattle.btr_reader.specs.Rows.{roots_on}
 use Rattle.btr_reader.proofs.Among.{among_none, among_first, among_later}
 use Rattle.btr_reader.proofs.Opens.{opening_is}
 

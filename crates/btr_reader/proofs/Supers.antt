@@ -1,21 +1,8 @@
 -- What is known of a superblock that is read.
-use Rattle.std.proofs.Common.{◌≡◌, ℕ, ◌*◌, ◌≤◌, eqb, nat_lt, nat_le, Bool, true, false, ◌&&◌, List, [], ◌∷◌, Result, Ok, Err, IfOk, codes, is_some, IsSome, refl, sym, ap, subst, arith}
-use Rattle.std.proofs.lemmas.Bool.Decides.{nat_tests}
-use Rattle.std.proofs.lemmas.List.{drop-drop}
-use Rattle.btrfs_format.specs.declared.block.TheConstants.{SUPER_BLOCK, SUPER_INFO_OFFSET, SUPER_MAGIC_OFFSET}
-use Rattle.btr_reader_walk.specs.refusals.declared.refusal.BtrRefusal.{BtrRefusal}
-use Rattle.btr_reader_walk.specs.refusals.declared.refusal.BtrRefusal.TheVariants.{BadBtrfs, Unsupported}
-use Rattle.btr_reader_walk.specs.refusals.declared.rule.BtrRule.TheVariants.{SuperCsum, SuperField}
-use Rattle.btr_reader_walk.specs.refusals.declared.rule.Feature.TheVariants.{Incompat, ChecksumType, SectorSize, NodeSize, DeviceCount}
-use Rattle.btr_reader_walk.specs.vol_block.Format.{has_bytes_at}
-use Rattle.btr_reader_walk.specs.vol_block.Volume.{field}
-use Rattle.btr_super.specs.declared.superblock.Super.{Super}
+use Rattle.btr_reader.proofs.Imports.{◌≡◌, ℕ, ◌*◌, ◌≤◌, eqb, nat_lt, nat_le, Bool, true, false, ◌&&◌, List, [], ◌∷◌, Result, Ok, Err, IfOk, codes, is_some, IsSome, refl, sym, ap, subst, arith, nat_tests, drop-drop, SUPER_BLOCK, SUPER_INFO_OFFSET, SUPER_MAGIC_OFFSET, BtrRefusal, BadBtrfs, Unsupported, SuperCsum, SuperField, Incompat, ChecksumType, SectorSize, NodeSize, DeviceCount, has_bytes_at, field, Super, super_in, super_layout, bad_field, is_super, has_fields, unread_bits, is_node_size, field_rules, feature_rules, failing, unless_refused, super_refusals, super_of, IsSuperInBounds}
 use Rattle.btr_super.specs.Sums.{known_kind, csum_type_of, has_sum}
-use Rattle.btr_super.specs.Super.{super_in, super_layout}
-use Rattle.btr_super.specs.Rules.{bad_field, is_super, has_fields, unread_bits, is_node_size, field_rules, feature_rules, failing, unless_refused, super_refusals, super_of}
 use Rattle.btr_reader_walk.proofs.btr_node.Rows.{both}
 use Rattle.btr_reader_walk.proofs.Stacks.{sized}
-use Rattle.btr_reader.specs.Opening.{IsSuperInBounds}
 
 -- a device that has no block 16 has no superblock
 pub no_super : (block : List ℕ) (device : ℕ) → device ≤ 16 → super_of block SUPER_BLOCK device ≡ Err (BadBtrfs SUPER_INFO_OFFSET SuperField)

@@ -1,27 +1,6 @@
 -- What is found of a volume depends on the blocks of its nodes alone.
-use Rattle.std.proofs.Common.{◌≡◌, ◌∙◌, ℕ, Bool, List, [], ◌∷◌, ◌++◌, length, Option, Some, Result, Ok, Err, refl, sym, ap, subst}
+use Rattle.btr_reader.proofs.Imports.{◌≡◌, ◌∙◌, ℕ, Bool, List, [], ◌∷◌, ◌++◌, length, Option, Some, Result, Ok, Err, refl, sym, ap, subst, option_and_then, SUPER_BLOCK, FS_TREE, Image, block_at, BtrRefusal, has_root, BreaksNames, items_refusals, with_items, entry_refusals, image_below, image_from, image_in, image_place, image_refusals, image_refusals_in, items_at, pointer_in, refusals_below, refusals_from, root_refusals, saved_location, saved_image, tree_number, if_there, boot_chunks, boot_list, boot_refusals, chunk_map, chunk_tree, map_from, opening_refusals, or_later, refusals_after, root_tree, super_on, tree_of, trees_refusals, own_map, own_super, way_refusals, root_item, BreaksExtents, IsFileTreeRefusal, bad_extents, bad_names, bad_root_item, bad_tree, no_root_item, roots_on, super_of, super_refusals, unless_refused, super_in, Super, TreeItem, found, wrong, MapRange, NodePointer, AreExtentsApart, AreNodesApart, IsSameOutside, IsVolumeApart, boot_map, root_of, saved_tree}
 use Rattle.std.specs.Prelude.{Contains}
-use Rattle.std.specs.Option.{option_and_then}
-use Rattle.btrfs_format.specs.declared.block.TheConstants.{SUPER_BLOCK}
-use Rattle.btrfs_format.specs.declared.object.TheConstants.{FS_TREE}
-use Rattle.btr_reader_walk.specs.outside.History.{Image, block_at}
-use Rattle.btr_reader_walk.specs.refusals.declared.refusal.BtrRefusal.{BtrRefusal}
-use Rattle.btr_reader_names.specs.Roots.{has_root}
-use Rattle.btr_reader_names.specs.Rules.{BreaksNames}
-use Rattle.btr_reader.specs.Chunks.{items_refusals, with_items}
-use Rattle.btr_reader.specs.Image.{entry_refusals, image_below, image_from, image_in, image_place, image_refusals, image_refusals_in, items_at, pointer_in, refusals_below, refusals_from, root_refusals, saved_location, saved_image, tree_number, if_there}
-use Rattle.btr_reader.specs.Opening.{boot_chunks, boot_list, boot_refusals, chunk_map, chunk_tree, map_from, opening_refusals, or_later, refusals_after, root_tree, super_on, tree_of, trees_refusals}
-use Rattle.btr_reader.specs.Parts.{own_map, own_super, way_refusals}
-use Rattle.btr_reader.specs.Roots.{root_item}
-use Rattle.btr_reader.specs.Rows.{BreaksExtents, IsFileTreeRefusal, bad_extents, bad_names, bad_root_item, bad_tree, no_root_item, roots_on}
-use Rattle.btr_super.specs.Rules.{super_of, super_refusals, unless_refused}
-use Rattle.btr_super.specs.Super.{super_in}
-use Rattle.btr_super.specs.declared.superblock.Super.{Super}
-use Rattle.btr_reader_walk.specs.Events.{TreeItem}
-use Rattle.btr_reader_walk.specs.Walks.{found, wrong}
-use Rattle.btr_reader_walk.specs.declared.map.MapRange.{MapRange}
-use Rattle.btr_reader_walk.specs.declared.tree.NodePointer.{NodePointer}
-use Rattle.btr_reader.specs.Apart.{AreExtentsApart, AreNodesApart, IsSameOutside, IsVolumeApart, boot_map, root_of, saved_tree}
 use Rattle.btr_reader.proofs.Chosen.{after_root_same, and_then_same, if_there_same}
 use Rattle.btr_reader.proofs.Nodes.{apart_same, found_same, wrong_same}
 

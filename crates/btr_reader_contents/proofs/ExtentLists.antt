@@ -1,16 +1,6 @@
 -- The extents of a file, one after the other.
-use Rattle.std.proofs.Common.{◌≡◌, ℕ, ◌+◌, ◌^◌, ◌≤◌, ◌<◌, eqb, nat_lt, nat_le, Bool, true, false, ◌&&◌, if◌then◌else◌, List, [], ◌∷◌, ◌++◌, Option, Some, None, refl, sym, ◌∙◌, ap, arith, append_assoc}
-use Rattle.std.proofs.lemmas.Bool.Decides.{nat_tests}
-use Rattle.std.proofs.lemmas.List.{append-nil}
-use Rattle.std.proofs.lemmas.List.Elements.{filter-append}
-use Rattle.btr_reader_walk.specs.refusals.declared.refusal.BtrRefusal.{BtrRefusal}
-use Rattle.btr_reader_walk.specs.refusals.declared.refusal.BtrRefusal.TheVariants.{BadBtrfs, Unsupported}
-use Rattle.btr_reader_walk.specs.refusals.declared.rule.BtrRule.TheVariants.{ExtentForm}
+use Rattle.btr_reader_contents.proofs.Imports.{◌≡◌, ℕ, ◌+◌, ◌^◌, ◌≤◌, ◌<◌, eqb, nat_lt, nat_le, Bool, true, false, ◌&&◌, if◌then◌else◌, List, [], ◌∷◌, ◌++◌, Option, Some, None, refl, sym, ◌∙◌, ap, arith, append_assoc, nat_tests, append-nil, filter-append, BtrRefusal, BadBtrfs, Unsupported, ExtentForm, ContentValue, FileExtentValue, file_extent_of, MapRange, TreeItem, refused_unless, is_extent_of, extents_of, covers, covered_by, is_aligned, has_form, place_refusals, end_after, covered_after, extent_refusals, refusals_at, extents_refusals, extents_end, extents_covered}
 use Rattle.btr_reader_walk.specs.refusals.declared.rule.Feature.TheVariants.{Compression, Encryption}
-use Rattle.btr_reader_walk.specs.btr_keys.FileExtent.{ContentValue, FileExtentValue, file_extent_of}
-use Rattle.btr_reader_walk.specs.declared.map.MapRange.{MapRange}
-use Rattle.btr_reader_walk.specs.Events.{TreeItem}
-use Rattle.btr_reader_contents.specs.Extents.{refused_unless, is_extent_of, extents_of, covers, covered_by, is_aligned, has_form, place_refusals, end_after, covered_after, extent_refusals, refusals_at, extents_refusals, extents_end, extents_covered}
 
 -- parts of a list that is empty
 pub none_left : {A : Type 0} (xs ys : List A) → xs ++ ys ≡ [] → xs ≡ []

@@ -1,29 +1,9 @@
 -- What is gathered, with one more item.
-use Rattle.std.proofs.Common.{◌≡◌, inl, inr, ℕ, ◌≤◌, ◌<◌, ◌==◌, nat_eq, Bool, true, false, ◌&&◌, if◌then◌else◌, is_some, List, [], ◌∷◌, ◌++◌, length, replicate, map, Contains, Option, Some, None, refl, sym, ◌∙◌, ap, subst, arith}
-use Rattle.std.specs.List.{range_with_len}
-use Rattle.std.proofs.lemmas.Bool.{eqb-true}
-use Rattle.std.proofs.lemmas.Bool.Decides.{nat_tests}
-use Rattle.std.proofs.lemmas.List.Elements.{Contains-append_left, filter-append}
+use Rattle.btr_reader_contents.proofs.Imports.{◌≡◌, inl, inr, ℕ, ◌≤◌, ◌<◌, ◌==◌, nat_eq, Bool, true, false, ◌&&◌, if◌then◌else◌, is_some, List, [], ◌∷◌, ◌++◌, length, replicate, map, Contains, Option, Some, None, refl, sym, ◌∙◌, ap, subst, arith, range_with_len, eqb-true, nat_tests, Contains-append_left, filter-append, Image, Refused, Fault, Memory, BtrRefusal, mark_of_bytes, Key, MapRange, Tree, TreeItem, Blames, found, wrong, is_extent_of, extents_of, extents_refusals, file_byte, bytes_of_inode, MarksExtents, Content, Hand, Wanted, content_of, content_in, TellsContent, HasContents, RefusesExtents, RefusesContents, item_wanted, HoldsHand, AllBefore, HandAt, HasGathered}
 use Rattle.std.proofs.lemmas.List.FromFn.{length-map-range_with_len}
 use Rattle.btrfs_format.specs.declared.key.TheConstants.{EXTENT_DATA}
-use Rattle.btr_reader_walk.specs.outside.History.{Image}
 use Rattle.btr_reader_walk.specs.refusals.declared.answer.BtrAnswer.{BtrAnswer}
-use Rattle.btr_reader_walk.specs.refusals.declared.answer.BtrAnswer.TheVariants.{Refused, Fault, Memory}
-use Rattle.btr_reader_walk.specs.refusals.declared.refusal.BtrRefusal.{BtrRefusal}
-use Rattle.fs_rows.specs.Mark.{mark_of_bytes}
-use Rattle.btr_reader_walk.specs.btr_keys.declared.key.Key.{Key}
-use Rattle.btr_reader_walk.specs.declared.map.MapRange.{MapRange}
-use Rattle.btr_reader_walk.specs.declared.tree.Tree.{Tree}
-use Rattle.btr_reader_walk.specs.Events.{TreeItem}
-use Rattle.btr_reader_walk.specs.Walks.{Blames, found, wrong}
-use Rattle.btr_reader_contents.specs.Extents.{is_extent_of, extents_of, extents_refusals, file_byte, bytes_of_inode}
-use Rattle.btr_reader_contents.specs.States.{MarksExtents}
 use Rattle.btr_reader_contents.proofs.ExtentLists.{extents_of-one, extents_of-other, extents_refusals-append}
-use Rattle.fs_rows.specs.declared.content.Content.{Content}
-use Rattle.btr_reader_contents.specs.declared.hand.Hand.{Hand}
-use Rattle.btr_reader_contents.specs.declared.wanted.Wanted.{Wanted}
-use Rattle.btr_reader_contents.specs.Contents.{content_of, content_in, TellsContent, HasContents, RefusesExtents, RefusesContents}
-use Rattle.btr_reader_contents.specs.Gathering.{item_wanted, HoldsHand, AllBefore, HandAt, HasGathered}
 
 -- a content by its parts
 abbrev made : ℕ → List ℕ → List ℕ → Content

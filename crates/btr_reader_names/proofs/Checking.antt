@@ -1,22 +1,6 @@
 -- All looks together.
-use Rattle.std.proofs.Common.{◌≡◌, ℕ, Bool, true, List, Contains, AllPairs, ap, ◌∙◌}
-use Rattle.std.specs.List.{list_any}
-use Rattle.std.proofs.lemmas.List.Folds.{list_any_at}
+use Rattle.btr_reader_names.proofs.Imports.{◌≡◌, ℕ, Bool, true, List, Contains, AllPairs, ap, ◌∙◌, list_any, list_any_at, BtrAnswer, Refused, Fault, Memory, BtrRefusal, TreeItem, NodeId, same_node, same_node-true, same_node-self, DirIndex, NameTable, AreGood, BlamesOne, by_root, by_inode, by_form, by_entry, DifferInName, BlamesTwice, LeadApart, BlamesAgain, RefusesNames, IsNoFault, BreaksNames, KeepsNames, AreNamed, is_open, HasNotedNames}
 use Rattle.indexmap.proofs.CallerLemmas.{Contains-list_any}
-use Rattle.btr_reader_walk.specs.refusals.declared.answer.BtrAnswer.{BtrAnswer}
-use Rattle.btr_reader_walk.specs.refusals.declared.answer.BtrAnswer.TheVariants.{Refused, Fault, Memory}
-use Rattle.btr_reader_walk.specs.refusals.declared.refusal.BtrRefusal.{BtrRefusal}
-use Rattle.btr_reader_walk.specs.Events.{TreeItem}
-use Rattle.fs_paths.specs.declared.node.NodeId.{NodeId}
-use Rattle.fs_paths.specs.Links.{same_node}
-use Rattle.fs_paths.proofs.Nodes.{same_node-true, same_node-self}
-use Rattle.btr_reader_names.specs.declared.dir_index.DirIndex.{DirIndex}
-use Rattle.btr_reader_names.specs.declared.table.NameTable.{NameTable}
-use Rattle.btr_reader_names.specs.Passes.{AreGood, BlamesOne, by_root, by_inode, by_form, by_entry, DifferInName, BlamesTwice, LeadApart, BlamesAgain}
-use Rattle.btr_reader_names.specs.Refuses.{RefusesNames, IsNoFault}
-use Rattle.btr_reader_names.specs.Rules.{BreaksNames, KeepsNames}
-use Rattle.btr_reader_names.specs.Steps.{AreNamed, is_open}
-use Rattle.btr_reader_names.specs.Table.{HasNotedNames}
 use Rattle.btr_reader_names.proofs.Keeping.{keeps}
 use Rattle.btr_reader_names.proofs.Refusing.{item_refused, root_refused, form_refused, entry_refused, twice_refused, again_refused}
 

@@ -1,7 +1,5 @@
 -- The item of an inode, found as the items go by.
-use Rattle.std.proofs.Common.{◌≡◌, ℕ, Bool, true, false, List, [], ◌∷◌, ◌++◌, Option, Some, None, if◌then◌else◌, refl}
-use Rattle.btr_reader_walk.specs.Events.{TreeItem}
-use Rattle.btr_reader_names.specs.Inodes.{is_inode_of, find_inode_item, first_item}
+use Rattle.btr_reader_names.proofs.Imports.{◌≡◌, ℕ, Bool, true, false, List, [], ◌∷◌, ◌++◌, Option, Some, None, if◌then◌else◌, refl, TreeItem, is_inode_of, find_inode_item, first_item}
 
 abbrev own : ℕ → TreeItem → Option TreeItem
 own number i = if is_inode_of number i then Some i else None

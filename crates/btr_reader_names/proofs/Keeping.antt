@@ -1,31 +1,5 @@
 -- Where no look blames anything, no rule is broken.
-use Rattle.std.proofs.Common.{◌≡◌, ℕ, ◌==◌, Bool, true, false, not, ◌&&◌, nat_lt, List, ◌∷◌, Contains, AllPairs, Option, Some, None, is_some, if◌then◌else◌, refl, sym, ap, subst, ◌∙◌, true≢false, arith}
-use Rattle.std.specs.Option.{option_and_then, option_map_or}
-use Rattle.std.proofs.lemmas.Bool.{and_from}
-use Rattle.std.proofs.lemmas.Bool.Decides.{nat_tests}
-use Rattle.std.proofs.lemmas.List.Elements.{Contains-append_left, Contains-append_right}
-use Rattle.std.proofs.lemmas.List.Kept.{AllPairs-filter}
-use Rattle.btrfs_format.specs.declared.object.TheConstants.{FIRST_FREE_OBJECTID}
-use Rattle.btr_reader_walk.specs.refusals.declared.rule.BtrRule.{BtrRule}
-use Rattle.btr_reader_walk.specs.refusals.declared.rule.BtrRule.TheVariants.{Body, NoInode, NameForm, DirTwice}
-use Rattle.btr_reader_walk.specs.btr_keys.Inode.{inode_of}
-use Rattle.btr_reader_walk.specs.btr_keys.declared.inode.Inode.{Inode}
-use Rattle.btr_reader_walk.specs.Events.{TreeItem}
-use Rattle.fs_rows.specs.declared.row.Kind.{Kind}
-use Rattle.fs_rows.specs.declared.row.Kind.TheVariants.{Directory}
-use Rattle.fs_paths.specs.declared.node.NodeId.{NodeId}
-use Rattle.fs_paths.proofs.Lists.{at_head}
-use Rattle.btr_reader_names.specs.declared.inodes.InodeFound.{InodeFound}
-use Rattle.btr_reader_names.specs.declared.dir_index.DirIndex.{DirIndex}
-use Rattle.btr_reader_names.specs.declared.dir_index.OffForm.{OffForm}
-use Rattle.btr_reader_names.specs.declared.table.NameTable.{NameTable}
-use Rattle.btr_reader_names.specs.Inodes.{find_inode_item, kind_of_mode}
-use Rattle.fs_rows.specs.Kinds.{is_directory}
-use Rattle.btr_reader_names.specs.Links.{dir_indexes, followed, is_followed, is_name, names_inode, names_tree, IsNamedInode}
-use Rattle.btr_reader_names.specs.Passes.{fits_size, is_good, IsGoodNode, inode_rule, tree_rule, target_rule, entry_rule, IsGoodEntry, DifferInName, leads_down, LeadApart}
-use Rattle.btr_reader_names.specs.Rules.{AreIn, IsOpen, KeepsNames, no_root_directory, root_is_none, bad_inode, bad_mode, long_target, bad_index, bad_name, twice, bad_location, no_inode, no_tree, directory_twice, root_named}
-use Rattle.btr_reader_names.specs.Steps.{inode_node, AreNamed, is_open, is_link}
-use Rattle.btr_reader_names.specs.Table.{kind_found, has_item, is_dir, HasNotedNames}
+use Rattle.btr_reader_names.proofs.Imports.{◌≡◌, ℕ, ◌==◌, Bool, true, false, not, ◌&&◌, nat_lt, List, ◌∷◌, Contains, AllPairs, Option, Some, None, is_some, if◌then◌else◌, refl, sym, ap, subst, ◌∙◌, true≢false, arith, option_and_then, option_map_or, and_from, nat_tests, Contains-append_left, Contains-append_right, AllPairs-filter, FIRST_FREE_OBJECTID, BtrRule, Body, NoInode, NameForm, DirTwice, inode_of, Inode, TreeItem, Kind, Directory, NodeId, at_head, InodeFound, DirIndex, OffForm, NameTable, find_inode_item, kind_of_mode, is_directory, dir_indexes, followed, is_followed, is_name, names_inode, names_tree, IsNamedInode, fits_size, is_good, IsGoodNode, inode_rule, tree_rule, target_rule, entry_rule, IsGoodEntry, DifferInName, leads_down, LeadApart, AreIn, IsOpen, KeepsNames, no_root_directory, root_is_none, bad_inode, bad_mode, long_target, bad_index, bad_name, twice, bad_location, no_inode, no_tree, directory_twice, root_named, inode_node, AreNamed, is_open, is_link, kind_found, has_item, is_dir, HasNotedNames}
 use Rattle.btr_reader_names.proofs.Members.{pair_of}
 use Rattle.btr_reader_names.proofs.Told.{dir_from, dir_to, absent_to, item_to, same_some}
 use Rattle.btr_reader_names.proofs.Refusing.{to_off_forms}

@@ -1,27 +1,6 @@
 -- The links of a tree whose names keep the rules: they make a tree, and lead where the names do.
-use Rattle.std.proofs.Common.{◌≡◌, ◌≢◌, ℕ, Bool, true, false, ◌&&◌, List, [], ◌∷◌, map, filter, get_or, Contains, AllPairs, if◌then◌else◌, refl, sym, ap, subst, ◌∙◌, arith}
-use Rattle.std.proofs.lemmas.Bool.{and_parts, and_from}
-use Rattle.std.proofs.lemmas.Bool.Decides.{nat_tests}
-use Rattle.std.proofs.lemmas.List.{length-map, get_or-map}
-use Rattle.std.proofs.lemmas.List.Elements.{Contains-get_or, filter_passes}
-use Rattle.std.proofs.lemmas.List.Kept.{AllPairs-filter}
-use Rattle.btrfs_format.specs.declared.object.TheConstants.{FIRST_FREE_OBJECTID}
-use Rattle.btr_reader_walk.specs.refusals.declared.refusal.BtrRefusal.TheVariants.{BadBtrfs}
-use Rattle.btr_reader_walk.specs.refusals.declared.rule.BtrRule.TheVariants.{Body, DirTwice}
-use Rattle.btr_reader_walk.specs.Events.{TreeItem}
+use Rattle.btr_reader_names.proofs.Imports.{◌≡◌, ◌≢◌, ℕ, Bool, true, false, ◌&&◌, List, [], ◌∷◌, map, filter, get_or, Contains, AllPairs, if◌then◌else◌, refl, sym, ap, subst, ◌∙◌, arith, and_parts, and_from, nat_tests, length-map, get_or-map, Contains-get_or, filter_passes, AllPairs-filter, FIRST_FREE_OBJECTID, BadBtrfs, Body, DirTwice, TreeItem, NodeLink, NodeId, AreNamedOnce, Leads as LinksLead, in_map, in_filter, from_map, from_filter, DirIndex, NameTable, IsDirectoryInode, followed, is_followed, names_inode, names_tree, IsNamedInode, root, entry, Target, inode, tree, NamesTarget as IsNameOf, LeadsToTarget, DifferInName, leads_down, LeadApart, IsOpen, KeepsNames, bad_location, root_named, inode_node, tree_node, node_of_target, target_node, AreNamed, is_open, is_link, link_of, links_of, HasNotedNames, is_dir}
 use Rattle.fs_rows.specs.Rows.{NameList}
-use Rattle.fs_paths.specs.declared.node_link.NodeLink.{NodeLink}
-use Rattle.fs_paths.specs.declared.node.NodeId.{NodeId}
-use Rattle.fs_paths.specs.Links.{AreNamedOnce, Leads as LinksLead}
-use Rattle.fs_paths.proofs.Lists.{in_map, in_filter, from_map, from_filter}
-use Rattle.btr_reader_names.specs.declared.dir_index.DirIndex.{DirIndex}
-use Rattle.btr_reader_names.specs.declared.table.NameTable.{NameTable}
-use Rattle.btr_reader_names.specs.Inodes.{IsDirectoryInode}
-use Rattle.btr_reader_names.specs.Links.{followed, is_followed, names_inode, names_tree, IsNamedInode, root, entry, Target, inode, tree, NamesTarget as IsNameOf, LeadsToTarget}
-use Rattle.btr_reader_names.specs.Passes.{DifferInName, leads_down, LeadApart}
-use Rattle.btr_reader_names.specs.Rules.{IsOpen, KeepsNames, bad_location, root_named}
-use Rattle.btr_reader_names.specs.Steps.{inode_node, tree_node, node_of_target, target_node, AreNamed, is_open, is_link, link_of, links_of}
-use Rattle.btr_reader_names.specs.Table.{HasNotedNames, is_dir}
 use Rattle.btr_reader_names.specs.TreeLinks.{AreTreeLinks}
 use Rattle.btr_reader_names.proofs.Reaching.{followed_from, followed_to, open_from, open_to}
 

@@ -1,18 +1,5 @@
 -- The named inodes, as what the root reaches over the steps.
-use Rattle.std.proofs.Common.{◌≡◌, ℕ, zero, suc, Bool, true, ◌&&◌, List, map, filter, Contains, refl, sym, ap, subst, ◌∙◌}
-use Rattle.std.proofs.lemmas.Bool.{and_parts, and_from}
-use Rattle.btrfs_format.specs.declared.object.TheConstants.{FIRST_FREE_OBJECTID}
-use Rattle.btr_reader_walk.specs.Events.{TreeItem}
-use Rattle.fs_paths.specs.declared.node_link.NodeLink.{NodeLink}
-use Rattle.fs_paths.specs.declared.node.NodeId.{NodeId}
-use Rattle.fs_paths.specs.Reached.{IsReachedBy, IsReached, AreReached}
-use Rattle.fs_paths.proofs.Lists.{in_map, in_filter, from_map, from_filter}
-use Rattle.btr_reader_names.specs.declared.dir_index.DirIndex.{DirIndex}
-use Rattle.btr_reader_names.specs.declared.table.NameTable.{NameTable}
-use Rattle.btr_reader_names.specs.Links.{dir_indexes, followed, is_followed, names_inode, IsNamedInode, root, entry}
-use Rattle.btr_reader_names.specs.Rules.{IsOpen}
-use Rattle.btr_reader_names.specs.Steps.{inode_node, is_step, step_of, AreNamed, is_open}
-use Rattle.btr_reader_names.specs.Table.{HasNotedNames, is_dir}
+use Rattle.btr_reader_names.proofs.Imports.{◌≡◌, ℕ, zero, suc, Bool, true, ◌&&◌, List, map, filter, Contains, refl, sym, ap, subst, ◌∙◌, and_parts, and_from, FIRST_FREE_OBJECTID, TreeItem, NodeLink, NodeId, IsReachedBy, IsReached, AreReached, in_map, in_filter, from_map, from_filter, DirIndex, NameTable, dir_indexes, followed, is_followed, names_inode, IsNamedInode, root, entry, IsOpen, inode_node, is_step, step_of, AreNamed, is_open, HasNotedNames, is_dir}
 use Rattle.btr_reader_names.proofs.Told.{dir_from, dir_to}
 
 module _ (t : NameTable) (items : List TreeItem) (noted : HasNotedNames t items) where

@@ -1,32 +1,6 @@
 -- What each look blames is a rule that is broken.
-use Rattle.std.proofs.Common.{◌≡◌, ℕ, ◌==◌, Bool, true, false, not, ◌&&◌, nat_lt, List, [], ◌∷◌, Contains, Option, Some, None, is_some, if◌then◌else◌, ⊎_elim, refl, sym, ap, subst, ◌∙◌, true≢false, arith}
-use Rattle.std.specs.Option.{option_and_then, option_map_or}
-use Rattle.std.proofs.lemmas.Bool.{and_parts, eqb-true}
-use Rattle.std.proofs.lemmas.Bool.Decides.{nat_tests}
-use Rattle.std.proofs.lemmas.List.Elements.{Contains-append_cases, Contains-append_left, Contains-append_right}
-use Rattle.btrfs_format.specs.declared.object.TheConstants.{FIRST_FREE_OBJECTID}
-use Rattle.btr_reader_walk.specs.refusals.declared.refusal.BtrRefusal.{BtrRefusal}
-use Rattle.btr_reader_walk.specs.refusals.declared.refusal.BtrRefusal.TheVariants.{BadBtrfs}
-use Rattle.btr_reader_walk.specs.refusals.declared.rule.BtrRule.{BtrRule}
-use Rattle.btr_reader_walk.specs.refusals.declared.rule.BtrRule.TheVariants.{Body, NoInode, NameForm, DirTwice}
+use Rattle.btr_reader_names.proofs.Imports.{◌≡◌, ℕ, ◌==◌, Bool, true, false, not, ◌&&◌, nat_lt, List, [], ◌∷◌, Contains, Option, Some, None, is_some, if◌then◌else◌, ⊎_elim, refl, sym, ap, subst, ◌∙◌, true≢false, arith, option_and_then, option_map_or, and_parts, eqb-true, nat_tests, Contains-append_cases, Contains-append_left, Contains-append_right, FIRST_FREE_OBJECTID, BtrRefusal, BadBtrfs, BtrRule, Body, NoInode, NameForm, DirTwice, inode_of, Inode, TreeItem, Kind, NodeId, head_or_tail, in_tail, at_head, InodeFound, DirIndex, OffForm, NameTable, find_inode_item, inode_on, kind_of_mode, is_symlink, dir_indexes, is_followed, is_index, index_entry, is_name, names_inode, names_tree, IsNamedInode, root, BlamesRoot, root_absent, root_off, root_other, fits_size, is_good, is_good_item, BlamesForm, inode_rule, tree_rule, target_rule, BlamesEntry, leads_down, AreIn, IsOpen, BreaksNames, no_root_directory, root_is_none, bad_inode, bad_mode, long_target, bad_index, bad_name, twice, bad_location, no_inode, no_tree, directory_twice, root_named, AreNamed, is_open, is_link, own_off_form, off_form_at, off_forms, told, has_item, is_dir, HasNotedNames}
 use Rattle.btr_reader_walk.specs.btr_keys.DirEntry.{DirEntryValue}
-use Rattle.btr_reader_walk.specs.btr_keys.Inode.{inode_of}
-use Rattle.btr_reader_walk.specs.btr_keys.declared.inode.Inode.{Inode}
-use Rattle.btr_reader_walk.specs.Events.{TreeItem}
-use Rattle.fs_rows.specs.declared.row.Kind.{Kind}
-use Rattle.fs_paths.specs.declared.node.NodeId.{NodeId}
-use Rattle.fs_paths.proofs.Lists.{head_or_tail, in_tail, at_head}
-use Rattle.btr_reader_names.specs.declared.inodes.InodeFound.{InodeFound}
-use Rattle.btr_reader_names.specs.declared.dir_index.DirIndex.{DirIndex}
-use Rattle.btr_reader_names.specs.declared.dir_index.OffForm.{OffForm}
-use Rattle.btr_reader_names.specs.declared.table.NameTable.{NameTable}
-use Rattle.btr_reader_names.specs.Inodes.{find_inode_item, inode_on, kind_of_mode}
-use Rattle.fs_rows.specs.Kinds.{is_symlink}
-use Rattle.btr_reader_names.specs.Links.{dir_indexes, is_followed, is_index, index_entry, is_name, names_inode, names_tree, IsNamedInode, root}
-use Rattle.btr_reader_names.specs.Passes.{BlamesRoot, root_absent, root_off, root_other, fits_size, is_good, is_good_item, BlamesForm, inode_rule, tree_rule, target_rule, BlamesEntry, leads_down}
-use Rattle.btr_reader_names.specs.Rules.{AreIn, IsOpen, BreaksNames, no_root_directory, root_is_none, bad_inode, bad_mode, long_target, bad_index, bad_name, twice, bad_location, no_inode, no_tree, directory_twice, root_named}
-use Rattle.btr_reader_names.specs.Steps.{AreNamed, is_open, is_link}
-use Rattle.btr_reader_names.specs.Table.{own_off_form, off_form_at, off_forms, told, has_item, is_dir, HasNotedNames}
 use Rattle.btr_reader_names.proofs.Members.{filter_in}
 use Rattle.btr_reader_names.proofs.Told.{dir_from, absent_from, item_from, symlink_is, not_directory, same_some}
 use Rattle.btr_reader_names.proofs.Reaching.{naming_from, followed_from, open_from}

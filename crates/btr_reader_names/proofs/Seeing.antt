@@ -1,22 +1,8 @@
 -- The names and the directories that were seen, with one more entry.
-use Rattle.std.proofs.Common.{◌≡◌, ℕ, ◌==◌, Bool, true, false, not, ◌&&◌, ◌||◌, nat_eq, List, [], ◌∷◌, ◌++◌, get_or, refl, sym, ap, ◌∙◌, true≢false, arith}
-use Rattle.std.specs.List.{list_any}
+use Rattle.btr_reader_names.proofs.Imports.{◌≡◌, ℕ, ◌==◌, Bool, true, false, not, ◌&&◌, ◌||◌, nat_eq, List, [], ◌∷◌, ◌++◌, get_or, refl, sym, ap, ◌∙◌, true≢false, arith, list_any, eqb-true, and_parts, nat_tests, list_any-append, list_any_at, Any-from_list_any, IndexSet, contains, BtrAnswer, Refused, Fault, Memory, BadBtrfs, NameForm, DirTwice, NodeId, same_name-true, DirIndex, NameTable, same_name, names_as, DifferInName, HasSeen, BlamesTwice, leads_down, leads_into, LeadApart, HasDirectories, BlamesAgain}
 use Rattle.std.specs.Cmp.Lexicographic.{pointwise}
-use Rattle.std.proofs.lemmas.Bool.{eqb-true, and_parts}
-use Rattle.std.proofs.lemmas.Bool.Decides.{nat_tests}
-use Rattle.std.proofs.lemmas.List.Folds.{list_any-append, list_any_at, Any-from_list_any}
 use Rattle.std.proofs.lemmas.List.Quantifiers.{all_pairs_push}
-use Rattle.indexmap.specs.IndexSet.{IndexSet, contains}
-use Rattle.btr_reader_walk.specs.refusals.declared.answer.BtrAnswer.{BtrAnswer}
-use Rattle.btr_reader_walk.specs.refusals.declared.answer.BtrAnswer.TheVariants.{Refused, Fault, Memory}
-use Rattle.btr_reader_walk.specs.refusals.declared.refusal.BtrRefusal.TheVariants.{BadBtrfs}
-use Rattle.btr_reader_walk.specs.refusals.declared.rule.BtrRule.TheVariants.{NameForm, DirTwice}
-use Rattle.fs_paths.specs.declared.node.NodeId.{NodeId}
-use Rattle.fs_paths.proofs.Nodes.{same_name-true}
-use Rattle.btr_reader_names.specs.declared.dir_index.DirIndex.{DirIndex}
 use Rattle.btr_reader_names.specs.declared.seen.NameIn.{NameIn}
-use Rattle.btr_reader_names.specs.declared.table.NameTable.{NameTable}
-use Rattle.btr_reader_names.specs.Passes.{same_name, names_as, DifferInName, HasSeen, BlamesTwice, leads_down, leads_into, LeadApart, HasDirectories, BlamesAgain}
 use Rattle.btr_reader_names.proofs.Members.{in_more}
 
 eq-self : (n : ℕ) → (n == n) ≡ true

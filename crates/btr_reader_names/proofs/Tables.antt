@@ -1,16 +1,5 @@
 -- The table of names, with one more item.
-use Rattle.std.proofs.Common.{◌≡◌, ℕ, ◌==◌, Bool, true, false, ◌&&◌, List, [], ◌∷◌, ◌++◌, Option, Some, None, unwrap_or, if◌then◌else◌, refl, sym, ◌∙◌, ap, subst, append_assoc}
-use Rattle.std.proofs.lemmas.Bool.{eqb-true}
-use Rattle.std.proofs.lemmas.List.{append-nil}
-use Rattle.btrfs_format.specs.declared.key.TheConstants.{INODE_ITEM}
-use Rattle.btr_reader_walk.specs.btr_keys.Inode.{inode_of}
-use Rattle.btr_reader_walk.specs.Events.{TreeItem}
-use Rattle.btr_reader_names.specs.declared.inodes.InodeFound.{InodeFound}
-use Rattle.btr_reader_names.specs.declared.dir_index.DirIndex.{DirIndex}
-use Rattle.btr_reader_names.specs.declared.dir_index.OffForm.{OffForm}
-use Rattle.btr_reader_names.specs.Inodes.{is_inode_of, find_inode_item, first_item, TellsInode}
-use Rattle.btr_reader_names.specs.Links.{own_naming, dir_indexes}
-use Rattle.btr_reader_names.specs.Table.{own_off_form, off_forms, AreNoted}
+use Rattle.btr_reader_names.proofs.Imports.{◌≡◌, ℕ, ◌==◌, Bool, true, false, ◌&&◌, List, [], ◌∷◌, ◌++◌, Option, Some, None, unwrap_or, if◌then◌else◌, refl, sym, ◌∙◌, ap, subst, append_assoc, eqb-true, append-nil, INODE_ITEM, inode_of, TreeItem, InodeFound, DirIndex, OffForm, is_inode_of, find_inode_item, first_item, TellsInode, own_naming, dir_indexes, own_off_form, off_forms, AreNoted}
 use Rattle.btr_reader_names.proofs.InodeItems.{inode_item-push}
 
 and_false_right : (a b : Bool) → b ≡ false → (a && b) ≡ false

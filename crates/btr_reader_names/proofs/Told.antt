@@ -1,16 +1,5 @@
 -- What the table tells of an inode, and what its item says.
-use Rattle.std.proofs.Common.{◌≡◌, ℕ, true, false, List, Option, Some, None, refl, sym, ap, subst, ◌∙◌, true≢false}
-use Rattle.std.specs.Option.{option_and_then, option_map_or}
-use Rattle.btr_reader_walk.specs.btr_keys.Inode.{inode_of}
-use Rattle.btr_reader_walk.specs.btr_keys.declared.inode.Inode.{Inode}
-use Rattle.btr_reader_walk.specs.Events.{TreeItem}
-use Rattle.fs_rows.specs.declared.row.Kind.{Kind}
-use Rattle.fs_rows.specs.declared.row.Kind.TheVariants.{Directory, File, Symlink, Character, Block, Fifo, Socket, Subvolume}
-use Rattle.btr_reader_names.specs.declared.inodes.InodeFound.{InodeFound}
-use Rattle.btr_reader_names.specs.declared.table.NameTable.{NameTable}
-use Rattle.btr_reader_names.specs.Inodes.{find_inode_item, inode_on, kind_of_mode, IsDirectoryInode, TellsInode}
-use Rattle.fs_rows.specs.Kinds.{is_directory, is_symlink}
-use Rattle.btr_reader_names.specs.Table.{told, kind_found, kind_told, is_dir, HasNotedNames}
+use Rattle.btr_reader_names.proofs.Imports.{◌≡◌, ℕ, true, false, List, Option, Some, None, refl, sym, ap, subst, ◌∙◌, true≢false, option_and_then, option_map_or, inode_of, Inode, TreeItem, Kind, Directory, File, Symlink, Character, Block, Fifo, Socket, Subvolume, InodeFound, NameTable, find_inode_item, inode_on, kind_of_mode, IsDirectoryInode, TellsInode, is_directory, is_symlink, told, kind_found, kind_told, is_dir, HasNotedNames}
 
 abbrev kind_in : Option Inode → Option Kind
 kind_in own = option_and_then (λ i. kind_of_mode i.mode) own

@@ -1,8 +1,5 @@
 -- One more item of a walk.
-use Rattle.std.proofs.Common.{◌≡◌, ℕ, ◌==◌, nat_eq, Bool, true, false, ◌&&◌, ◌||◌, List, [], ◌∷◌, ◌++◌, refl, sym, ◌∙◌, ap}
-use Rattle.std.proofs.lemmas.List.Folds.{list_any-append}
-use Rattle.btrfs_format.specs.declared.key.TheConstants.{ROOT_ITEM}
-use Rattle.btr_reader_walk.specs.Events.{TreeItem}
+use Rattle.btr_reader_names.proofs.Imports.{◌≡◌, ℕ, ◌==◌, nat_eq, Bool, true, false, ◌&&◌, ◌||◌, List, [], ◌∷◌, ◌++◌, refl, sym, ◌∙◌, ap, list_any-append, ROOT_ITEM, TreeItem}
 use Rattle.btr_reader_names.specs.Roots.{is_root_of, has_root}
 
 pub or_none : (b : Bool) → (b || false) ≡ b

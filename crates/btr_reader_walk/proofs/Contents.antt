@@ -1,21 +1,6 @@
 -- What a node that was read breaks, and its children on the stack.
-use Rattle.std.proofs.Common.{◌≡◌, ℕ, ◌+◌, ◌-◌, ◌≤◌, ◌<◌, eqb, nat_lt, Bool, true, false, ◌||◌, List, [], ◌∷◌, ◌++◌, length, drop, get_or, map, reverse, Contains, if◌then◌else◌, ◌⊎◌, inl, inr, refl, sym, ◌∙◌, ap, subst, arith, append_assoc}
-use Rattle.std.proofs.lemmas.List.{drop_more, reverse-append, length-map}
-use Rattle.std.proofs.lemmas.List.Elements.{Contains-append_left, Contains-append_right}
-use Rattle.std.proofs.lemmas.Bool.Decides.{nat_tests}
+use Rattle.btr_reader_walk.proofs.Imports.{◌≡◌, ℕ, ◌+◌, ◌-◌, ◌≤◌, ◌<◌, eqb, nat_lt, Bool, true, false, ◌||◌, List, [], ◌∷◌, ◌++◌, length, drop, get_or, map, reverse, Contains, if◌then◌else◌, ◌⊎◌, inl, inr, refl, sym, ◌∙◌, ap, subst, arith, append_assoc, drop_more, reverse-append, length-map, Contains-append_left, Contains-append_right, nat_tests, BtrRule, NodeHead, nritems, behind_head, items_in, heads_in, item_of, item_layout, HasInnerLayout, children_in, child_layout, broken, leaf_damages, inner_damages, Child, Expect, length-records_in, NodePointer, child_pointer, content_damages, fan_out}
 use Rattle.btrfs_format.specs.declared.size.TheConstants.{ITEM_SIZE, KEY_PTR_SIZE}
-use Rattle.btr_node.specs.refusals.declared.rule.BtrRule.{BtrRule}
-use Rattle.btr_node.specs.refusals.declared.rule.BtrRule.TheVariants.{NodeHead}
-use Rattle.btr_node.specs.Head.{nritems, behind_head}
-use Rattle.btr_node.specs.Leaf.{items_in, heads_in, item_of, item_layout}
-use Rattle.btr_node.specs.Inner.{HasInnerLayout, children_in, child_layout}
-use Rattle.btr_node.specs.Rules.{broken, leaf_damages, inner_damages}
-use Rattle.btr_node.specs.declared.child.Child.{Child}
-use Rattle.btr_node.specs.declared.expect.Expect.{Expect}
-use Rattle.btr_node.proofs.Rows.{length-records_in}
-use Rattle.btr_reader_walk.specs.declared.tree.NodePointer.{NodePointer}
-use Rattle.btr_reader_walk.specs.Node.{child_pointer, content_damages}
-use Rattle.btr_reader_walk.specs.Stack.{fan_out}
 use Rattle.btr_reader_walk.proofs.Events.{none_both}
 
 pub count_items : (bytes : List ℕ) → length (items_in bytes) ≡ nritems bytes

@@ -1,20 +1,5 @@
 -- The bytes of the nodes that are met decide what is met.
-use Rattle.std.proofs.Common.{◌≡◌, ℕ, zero, suc, Bool, List, [], ◌∷◌, ◌++◌, if◌then◌else◌, refl, ◌∙◌, ap, subst}
-use Rattle.std.specs.List.{All, flat_map}
-use Rattle.std.proofs.lemmas.List.Elements.{All-nil, All-cons, All-head, All-tail}
-use Rattle.btr_node.specs.outside.History.{Image}
-use Rattle.btr_node.specs.refusals.declared.rule.BtrRule.{BtrRule}
-use Rattle.btr_node.specs.refusals.declared.rule.BtrRule.TheVariants.{Unmapped}
-use Rattle.btr_node.specs.Leaf.{items_in}
-use Rattle.btr_node.specs.Inner.{children_in}
-use Rattle.btr_node.specs.declared.child.Child.{Child}
-use Rattle.btr_reader_walk.specs.declared.tree.Form.{Form}
-use Rattle.btr_reader_walk.specs.declared.tree.NodePointer.{NodePointer}
-use Rattle.btr_reader_walk.specs.declared.map.MapRange.{MapRange}
-use Rattle.btr_reader_walk.specs.Map.{is_mapped, node_at}
-use Rattle.btr_reader_walk.specs.Node.{want, content_damages, node_damages}
-use Rattle.btr_reader_walk.specs.Events.{TreeEvent, node, leaf_events, unless_damaged, node_events, nodes_in}
-use Rattle.btr_reader_walk.specs.Laws.{NodesDecide}
+use Rattle.btr_reader_walk.proofs.Imports.{◌≡◌, ℕ, zero, suc, Bool, List, [], ◌∷◌, ◌++◌, if◌then◌else◌, refl, ◌∙◌, ap, subst, All, flat_map, All-nil, All-cons, All-head, All-tail, Image, BtrRule, Unmapped, items_in, children_in, Child, Form, NodePointer, MapRange, is_mapped, node_at, want, content_damages, node_damages, TreeEvent, node, leaf_events, unless_damaged, node_events, nodes_in, NodesDecide}
 use Rattle.btr_reader_walk.proofs.Events.{nodes_in-append}
 use Rattle.btr_reader_walk.proofs.Subtrees.{to}
 

@@ -1,18 +1,6 @@
 -- Events in parts.
-use Rattle.std.proofs.Common.{◌≡◌, ℕ, Bool, List, [], ◌∷◌, ◌++◌, map, Option, Some, if◌then◌else◌, refl, sym, ◌∙◌, ap, append_assoc}
-use Rattle.std.specs.List.{flat_map}
+use Rattle.btr_reader_walk.proofs.Imports.{◌≡◌, ℕ, Bool, List, [], ◌∷◌, ◌++◌, map, Option, Some, if◌then◌else◌, refl, sym, ◌∙◌, ap, append_assoc, flat_map, Image, BtrRefusal, KeyOrder, Key, Item, Form, NodePointer, MapRange, TreeItem, TreeEvent, node, item, leaf_events, nodes_in, items_in_events, last_after, bare_item, node_faults, pointer_damages, at_address, is_above, order_damages}
 use Rattle.std.proofs.lemmas.List.Concat.{flat_map-append}
-use Rattle.btr_node.specs.outside.History.{Image}
-use Rattle.btr_node.specs.refusals.declared.refusal.BtrRefusal.{BtrRefusal}
-use Rattle.btr_node.specs.refusals.declared.rule.BtrRule.TheVariants.{KeyOrder}
-use Rattle.btr_node.specs.btr_keys.declared.key.Key.{Key}
-use Rattle.btr_node.specs.Leaf.{Item}
-use Rattle.btr_reader_walk.specs.declared.tree.Form.{Form}
-use Rattle.btr_reader_walk.specs.declared.tree.NodePointer.{NodePointer}
-use Rattle.btr_reader_walk.specs.declared.map.MapRange.{MapRange}
-use Rattle.btr_reader_walk.specs.Events.{TreeItem, TreeEvent, node, item, leaf_events, nodes_in, items_in_events}
-use Rattle.btr_reader_walk.specs.Walks.{last_after}
-use Rattle.btr_reader_walk.specs.Tree.{bare_item, node_faults, pointer_damages, at_address, is_above, order_damages}
 
 pub nodes_in-append : (xs ys : List TreeEvent) → nodes_in (xs ++ ys) ≡ nodes_in xs ++ nodes_in ys
 nodes_in-append [] ys = refl

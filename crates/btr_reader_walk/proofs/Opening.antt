@@ -1,22 +1,5 @@
 -- A node that was read into the buffer.
-use Rattle.std.proofs.Common.{◌≡◌, ℕ, zero, suc, ◌+◌, ◌-◌, ◌*◌, ◌≤◌, ◌<◌, Bool, true, List, ◌++◌, length, Result, Ok, Err, OnOk, OnErr, Contains, sym, ◌∙◌, ap, subst, arith}
-use Rattle.btr_node.specs.outside.History.{Image}
-use Rattle.btr_node.specs.refusals.declared.answer.BtrAnswer.{BtrAnswer}
-use Rattle.btr_node.specs.refusals.declared.answer.BtrAnswer.TheVariants.{Refused, Fault, Memory}
-use Rattle.btr_node.specs.refusals.declared.rule.BtrRule.TheVariants.{Unmapped}
-use Rattle.btr_node.specs.refusals.declared.refusal.BtrRefusal.TheVariants.{BadBtrfs}
-use Rattle.btr_node.specs.refusals.declared.rule.BtrRule.{BtrRule}
-use Rattle.btr_node.specs.Leaf.{HasLeafLayout, items_in}
-use Rattle.btr_node.specs.declared.child.Child.{Child}
-use Rattle.btr_node.specs.declared.expect.Expect.{Expect}
-use Rattle.btr_reader_walk.specs.declared.map.MapRange.{MapRange}
-use Rattle.btr_reader_walk.specs.declared.tree.NodePointer.{NodePointer}
-use Rattle.btr_reader_walk.specs.declared.walker.TreeWalker.{TreeWalker}
-use Rattle.btr_reader_walk.specs.Map.{is_mapped, node_at}
-use Rattle.btr_reader_walk.specs.Node.{want, content_damages}
-use Rattle.btr_reader_walk.specs.Events.{TreeItem, may_be_bare}
-use Rattle.btr_reader_walk.specs.Stack.{is_stack, stack_weight, weight}
-use Rattle.btr_reader_walk.specs.Walks.{IsAt, IsReadFault, Blames, wrong}
+use Rattle.btr_reader_walk.proofs.Imports.{◌≡◌, ℕ, zero, suc, ◌+◌, ◌-◌, ◌*◌, ◌≤◌, ◌<◌, Bool, true, List, ◌++◌, length, Result, Ok, Err, OnOk, OnErr, Contains, sym, ◌∙◌, ap, subst, arith, Image, BtrAnswer, Refused, Fault, Memory, Unmapped, BadBtrfs, BtrRule, HasLeafLayout, items_in, Child, Expect, MapRange, NodePointer, TreeWalker, is_mapped, node_at, want, content_damages, TreeItem, may_be_bare, is_stack, stack_weight, weight, IsAt, IsReadFault, Blames, wrong}
 use Rattle.btr_reader_walk.proofs.Contents.{count_items}
 use Rattle.btr_reader_walk.proofs.Stacks.{turned, stack_with_children, weight_children, children_lighter}
 use Rattle.btr_reader_walk.proofs.Walking.{breaks, mapped_breaks, unmapped_breaks, node_blamed}

@@ -1,17 +1,8 @@
 -- A stack of pointers as its top goes and as a node's children come.
-use Rattle.std.proofs.Common.{◌≡◌, ℕ, zero, suc, ◌+◌, ◌*◌, ◌≤◌, ◌<◌, eqb, nat_le, Bool, true, false, ◌||◌, List, [], ◌∷◌, ◌++◌, length, map, reverse, refl, sym, ◌∙◌, ap, arith, append_assoc, inl, inr}
-use Rattle.std.specs.List.{flat_map}
-use Rattle.std.proofs.lemmas.List.{append-nil, reverse-append}
+use Rattle.btr_reader_walk.proofs.Imports.{◌≡◌, ℕ, zero, suc, ◌+◌, ◌*◌, ◌≤◌, ◌<◌, eqb, nat_le, Bool, true, false, ◌||◌, List, [], ◌∷◌, ◌++◌, length, map, reverse, refl, sym, ◌∙◌, ap, arith, append_assoc, inl, inr, flat_map, append-nil, reverse-append, nat_tests, Child, both, joined, NodePointer, child_pointer, TreeEvent, stack_events, is_stack, is_node_size, weight, stack_weight}
 use Rattle.std.proofs.lemmas.Nat.{mul-le}
 use Rattle.std.proofs.Math.Nat.{suc-mul}
-use Rattle.std.proofs.lemmas.Bool.Decides.{nat_tests}
 use Rattle.btr_node.specs.NodeSize.{IsNodeSize}
-use Rattle.btr_node.specs.declared.child.Child.{Child}
-use Rattle.btr_node.proofs.Rows.{both, joined}
-use Rattle.btr_reader_walk.specs.declared.tree.NodePointer.{NodePointer}
-use Rattle.btr_reader_walk.specs.Node.{child_pointer}
-use Rattle.btr_reader_walk.specs.Events.{TreeEvent}
-use Rattle.btr_reader_walk.specs.Stack.{stack_events, is_stack, is_node_size, weight, stack_weight}
 
 pub stack_push : (f : NodePointer → List TreeEvent) (ps : List NodePointer) (p : NodePointer) → stack_events f (ps ++ p ∷ []) ≡ f p ++ stack_events f ps
 stack_push f [] p = sym (append-nil (f p))

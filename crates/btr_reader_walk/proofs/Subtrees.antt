@@ -1,30 +1,7 @@
 -- A tree from its leaves up.
-use Rattle.std.proofs.Common.{◌≡◌, ℕ, zero, suc, nat_lt, eqb, Bool, true, false, ◌||◌, List, [], ◌∷◌, ◌++◌, map, Option, Some, None, if◌then◌else◌, refl, sym, ◌∙◌, ap, subst, arith}
-use Rattle.std.specs.List.{flat_map}
-use Rattle.std.proofs.lemmas.List.{map-append}
-use Rattle.std.proofs.lemmas.Bool.Decides.{nat_tests}
-use Rattle.btr_node.specs.outside.History.{Image}
-use Rattle.btr_node.specs.refusals.declared.refusal.BtrRefusal.{BtrRefusal}
-use Rattle.btr_node.specs.refusals.declared.rule.BtrRule.{BtrRule}
-use Rattle.btr_node.specs.refusals.declared.rule.BtrRule.TheVariants.{KeyOrder, Unmapped, NodeHead}
-use Rattle.btr_node.specs.btr_keys.declared.key.Key.{Key}
-use Rattle.btr_node.specs.Head.{nritems}
+use Rattle.btr_reader_walk.proofs.Imports.{◌≡◌, ℕ, zero, suc, nat_lt, eqb, Bool, true, false, ◌||◌, List, [], ◌∷◌, ◌++◌, map, Option, Some, None, if◌then◌else◌, refl, sym, ◌∙◌, ap, subst, arith, flat_map, map-append, nat_tests, Image, BtrRefusal, BtrRule, KeyOrder, Unmapped, NodeHead, Key, nritems, Item, IsBtrfsLeaf, items_in, keys_of, IsBtrfsInner, children_in, broken, leaf_damages, inner_damages, Child, Expect, both, Form, NodePointer, MapRange, is_mapped, node_at, want, child_pointer, content_damages, node_damages, TreeItem, TreeEvent, leaf_events, unless_damaged, node_events, nodes_in, items_in_events, at_address, bare_item, node_faults, pointer_damages, is_above, order_damages, tree_refusals, when_sound, leaf_items, IsSubtree, AreSubtrees, LeavesGiveItems, ChildrenGiveItems, SubtreesAreTrees}
 use Rattle.btr_node.specs.Laws.{DamagesTell}
-use Rattle.btr_node.specs.Leaf.{Item, IsBtrfsLeaf, items_in, keys_of}
-use Rattle.btr_node.specs.Inner.{IsBtrfsInner, children_in}
 use Rattle.btr_node.specs.Order.{ascends, is_before_first}
-use Rattle.btr_node.specs.Rules.{broken, leaf_damages, inner_damages}
-use Rattle.btr_node.specs.declared.child.Child.{Child}
-use Rattle.btr_node.specs.declared.expect.Expect.{Expect}
-use Rattle.btr_node.proofs.Rows.{both}
-use Rattle.btr_reader_walk.specs.declared.tree.Form.{Form}
-use Rattle.btr_reader_walk.specs.declared.tree.NodePointer.{NodePointer}
-use Rattle.btr_reader_walk.specs.declared.map.MapRange.{MapRange}
-use Rattle.btr_reader_walk.specs.Map.{is_mapped, node_at}
-use Rattle.btr_reader_walk.specs.Node.{want, child_pointer, content_damages, node_damages}
-use Rattle.btr_reader_walk.specs.Events.{TreeItem, TreeEvent, leaf_events, unless_damaged, node_events, nodes_in, items_in_events}
-use Rattle.btr_reader_walk.specs.Tree.{at_address, bare_item, node_faults, pointer_damages, is_above, order_damages, tree_refusals, when_sound, leaf_items}
-use Rattle.btr_reader_walk.specs.Laws.{IsSubtree, AreSubtrees, LeavesGiveItems, ChildrenGiveItems, SubtreesAreTrees}
 use Rattle.btr_reader_walk.proofs.Events.{items_in-append, leaf_nodes, leaf_own, none_both, node_faults-append}
 
 -- the pointer with these three

@@ -1,29 +1,5 @@
 -- Steps of a walk.
-use Rattle.std.proofs.Common.{◌≡◌, ℕ, zero, suc, ◌+◌, ◌-◌, ◌≤◌, ◌<◌, Bool, true, false, List, [], ◌∷◌, ◌++◌, length, take, drop, get_or, Option, Some, None, Contains, if◌then◌else◌, refl, sym, ◌∙◌, ap, subst, arith, append_assoc}
-use Rattle.std.specs.List.{flat_map}
-use Rattle.std.proofs.lemmas.List.{append-nil, take_all, drop_more, get_or-map, length-map}
-use Rattle.std.proofs.lemmas.List.Elements.{Contains-append_left, Contains-append_right}
-use Rattle.btr_node.specs.outside.History.{Image}
-use Rattle.btr_node.specs.refusals.declared.answer.BtrAnswer.{BtrAnswer}
-use Rattle.btr_node.specs.refusals.declared.answer.BtrAnswer.TheVariants.{Refused, Fault, Memory}
-use Rattle.btr_node.specs.refusals.declared.refusal.BtrRefusal.{BtrRefusal}
-use Rattle.btr_node.specs.refusals.declared.refusal.BtrRefusal.TheVariants.{BadBtrfs}
-use Rattle.btr_node.specs.refusals.declared.rule.BtrRule.{BtrRule}
-use Rattle.btr_node.specs.refusals.declared.rule.BtrRule.TheVariants.{KeyOrder, Unmapped}
-use Rattle.btr_node.specs.btr_keys.declared.key.Key.{Key}
-use Rattle.btr_node.specs.Leaf.{Item, items_in}
-use Rattle.btr_node.specs.Inner.{children_in}
-use Rattle.btr_node.specs.declared.child.Child.{Child}
-use Rattle.btr_reader_walk.specs.declared.tree.NodePointer.{NodePointer}
-use Rattle.btr_reader_walk.specs.declared.tree.Tree.{Tree}
-use Rattle.btr_reader_walk.specs.declared.map.MapRange.{MapRange}
-use Rattle.btr_reader_walk.specs.declared.walker.TreeWalker.{TreeWalker}
-use Rattle.btr_reader_walk.specs.Map.{is_mapped, node_at}
-use Rattle.btr_reader_walk.specs.Node.{want, child_pointer, content_damages, node_damages}
-use Rattle.btr_reader_walk.specs.Events.{TreeItem, TreeEvent, node, item, in_leaf, leaf_events, unless_damaged, node_events, items_in_events, may_be_bare}
-use Rattle.btr_reader_walk.specs.Tree.{at_address, is_above, order_damages}
-use Rattle.btr_reader_walk.specs.Stack.{stack_events}
-use Rattle.btr_reader_walk.specs.Walks.{met, wrong, found, below, met_faults, hand_events, behind, rest, last_after, Walks, IsAt, IsOver, StandsLast, Blames, IsAmong}
+use Rattle.btr_reader_walk.proofs.Imports.{◌≡◌, ℕ, zero, suc, ◌+◌, ◌-◌, ◌≤◌, ◌<◌, Bool, true, false, List, [], ◌∷◌, ◌++◌, length, take, drop, get_or, Option, Some, None, Contains, if◌then◌else◌, refl, sym, ◌∙◌, ap, subst, arith, append_assoc, flat_map, append-nil, take_all, drop_more, get_or-map, length-map, Contains-append_left, Contains-append_right, Image, BtrAnswer, Refused, Fault, Memory, BtrRefusal, BadBtrfs, BtrRule, KeyOrder, Unmapped, Key, Item, items_in, children_in, Child, NodePointer, Tree, MapRange, TreeWalker, is_mapped, node_at, want, child_pointer, content_damages, node_damages, TreeItem, TreeEvent, node, item, in_leaf, leaf_events, unless_damaged, node_events, items_in_events, may_be_bare, at_address, is_above, order_damages, stack_events, met, wrong, found, below, met_faults, hand_events, behind, rest, last_after, Walks, IsAt, IsOver, StandsLast, Blames, IsAmong}
 use Rattle.btr_reader_walk.proofs.Events.{items_in-append, node_faults-append, last_after-append, order_damages-append, none_both}
 use Rattle.btr_reader_walk.proofs.Stacks.{stack_push, stack_children, turned}
 

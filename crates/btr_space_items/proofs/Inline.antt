@@ -1,10 +1,7 @@
 -- Steps over the references of an extent.
-use Rattle.std.proofs.Common.{◌≡◌, ◌<◌, ◌≤◌, ℕ, List, length, drop, Some, None, cond, ltb, ◌==◌, Bool, true, false, refl, arith, subst, length-drop, slice_index_or}
-use Rattle.std.proofs.lemmas.Bool.{ltb-false}
+use Rattle.btr_space_items.proofs.Imports.{◌≡◌, ◌<◌, ◌≤◌, ℕ, List, length, drop, Some, None, cond, ltb, ◌==◌, Bool, true, false, refl, arith, subst, length-drop, slice_index_or, ltb-false, Shrinks, behind_inline, rest_of}
 use Rattle.btrfs_format.specs.declared.key.TheConstants.{EXTENT_DATA_REF, TREE_BLOCK_REF}
 use Rattle.btrfs_format.specs.declared.size.TheConstants.{INLINE_BLOCK_REF_SIZE, INLINE_DATA_REF_SIZE}
-use Rattle.btr_keys.proofs.Starts.{Shrinks}
-use Rattle.btr_space_items.specs.InlineRef.{behind_inline, rest_of}
 
 rest_shrinks : (n : ℕ) → 0 < n → Shrinks (rest_of n)
 rest_shrinks n some bytes rest e =

@@ -1,8 +1,6 @@
 -- The first rule that fails.
-use Rattle.std.proofs.Common.{◌≡◌, ◌↔◌, ℕ, Bool, true, false, List, [], ◌∷◌, ◌++◌, length, Result, Ok, Err, cond, refl, ap, sym, subst}
+use Rattle.btr_super.proofs.Imports.{◌≡◌, ◌↔◌, ℕ, Bool, true, false, List, [], ◌∷◌, ◌++◌, length, Result, Ok, Err, cond, refl, ap, sym, subst, BtrRefusal, failing, unless_refused}
 use Rattle.std.specs.Prelude.{IsOk}
-use Rattle.refusals.specs.declared.refusal.BtrRefusal.{BtrRefusal}
-use Rattle.btr_super.specs.Rules.{failing, unless_refused}
 
 abbrev ok : {A : Type 0} → A → Result A BtrRefusal
 ok x = Ok x

@@ -1,26 +1,9 @@
 -- The copy of a superblock at another place is read there.
-use Rattle.std.proofs.Common.{◌≡◌, ◌<◌, ◌≤◌, ◌+◌, ◌*◌, ◌^◌, ◌%◌, ◌==◌, ℕ, Bool, true, false, ◌&&◌, List, [], ◌∷◌, ◌++◌, length, take, drop, slice_index, codes, nat_eq, nat_lt, nat_le, Ok, Option, Some, None, is_some, refl, ap, sym, ◌∙◌, arith, eq-eqb, length-take, length-drop}
-use Rattle.std.proofs.lemmas.Bool.{lt-ltb}
-use Rattle.std.proofs.lemmas.List.{take_at, drop_at, drop-drop, drop-append-le, drop-take}
-use Rattle.std.specs.List.{starts_with}
-use Rattle.btrfs_format.specs.declared.block.TheConstants.{SUPER_INFO_OFFSET, SUPER_MAGIC_OFFSET}
-use Rattle.byteorder.specs.Endian.{little_number, little_bytes}
+use Rattle.btr_super.proofs.Imports.{◌≡◌, ◌<◌, ◌≤◌, ◌+◌, ◌*◌, ◌^◌, ◌%◌, ◌==◌, ℕ, Bool, true, false, ◌&&◌, List, [], ◌∷◌, ◌++◌, length, take, drop, slice_index, codes, nat_eq, nat_lt, nat_le, Ok, Option, Some, None, is_some, refl, ap, sym, ◌∙◌, arith, eq-eqb, length-take, length-drop, lt-ltb, take_at, drop_at, drop-drop, drop-append-le, drop-take, starts_with, SUPER_INFO_OFFSET, SUPER_MAGIC_OFFSET, little_number, little_bytes, put_field, has_bytes_at, kind_sum, SumKind, BtrRefusal, device_layout, Super, known_kind, csum_type_of, has_sum, sealed_by, super_layout, super_in, mirror_bytes, is_super, has_fields, bad_field, block_rules, feature_rules, field_rules, failing, super_refusals, unless_refused, super_of, MirrorsRead, length-kind_sum}
 use Rattle.byteorder.specs.Numbers.{little_number-reads_back}
-use Rattle.refusals.specs.vol_block.Volume.{put_field}
-use Rattle.refusals.specs.vol_block.Format.{has_bytes_at}
-use Rattle.csum_kinds.specs.Kind.{kind_sum}
-use Rattle.csum_kinds.specs.declared.kind.SumKind.{SumKind}
-use Rattle.refusals.specs.declared.refusal.BtrRefusal.{BtrRefusal}
 use Rattle.refusals.specs.declared.refusal.BtrRefusal.TheVariants.{BadBtrfs, Unsupported}
 use Rattle.refusals.specs.declared.rule.BtrRule.TheVariants.{SuperCsum}
 use Rattle.refusals.specs.declared.rule.Feature.TheVariants.{ChecksumType}
-use Rattle.btr_space_items.specs.Device.{device_layout}
-use Rattle.btr_super.specs.declared.superblock.Super.{Super}
-use Rattle.btr_super.specs.Sums.{known_kind, csum_type_of, has_sum, sealed_by}
-use Rattle.btr_super.specs.Super.{super_layout, super_in, mirror_bytes}
-use Rattle.btr_super.specs.Rules.{is_super, has_fields, bad_field, block_rules, feature_rules, field_rules, failing, super_refusals, unless_refused, super_of}
-use Rattle.btr_super.specs.Laws.{MirrorsRead}
-use Rattle.csum_kinds.proofs.Widths.{length-kind_sum}
 use Rattle.btr_super.proofs.ReadBack.{starts_with_front, three_hold}
 
 moved_rest : (c : List ℕ) (x : ℕ) → 24 ≤ length c → drop 24 (take 16 c ++ (little_bytes 8 x ++ drop 24 c)) ≡ drop 24 c

@@ -1,23 +1,6 @@
 -- A superblock that is written is read again.
-use Rattle.std.proofs.Common.{◌≡◌, ℕ, Bool, true, ◌&&◌, List, [], ◌∷◌, ◌++◌, length, drop, replicate, codes, nat_eq, nat_lt, Ok, Some, is_some, refl, ap, sym, ◌∙◌, eq-eqb}
-use Rattle.std.proofs.lemmas.Bool.{lt-ltb}
-use Rattle.std.proofs.lemmas.List.{drop_at, drop-drop}
-use Rattle.std.specs.List.{starts_with}
-use Rattle.btrfs_format.specs.declared.block.TheConstants.{SUPER_MAGIC_OFFSET}
-use Rattle.byteorder.specs.Endian.{little_number, little_bytes}
-use Rattle.refusals.specs.vol_block.Volume.{field}
-use Rattle.refusals.specs.vol_block.Format.{has_bytes_at}
-use Rattle.csum_kinds.specs.Kind.{kind_sum}
-use Rattle.refusals.specs.declared.refusal.BtrRefusal.{BtrRefusal}
-use Rattle.btr_space_items.specs.btr_keys.Layout.{spelling}
-use Rattle.btr_space_items.proofs.btr_keys.Layouts.{Reads, start, ◌▹◌, u8_reads, u16_reads, u32_reads, u64_reads, array_reads, part_reads}
+use Rattle.btr_super.proofs.Imports.{◌≡◌, ℕ, Bool, true, ◌&&◌, List, [], ◌∷◌, ◌++◌, length, drop, replicate, codes, nat_eq, nat_lt, Ok, Some, is_some, refl, ap, sym, ◌∙◌, eq-eqb, lt-ltb, drop_at, drop-drop, starts_with, SUPER_MAGIC_OFFSET, little_number, little_bytes, field, has_bytes_at, kind_sum, BtrRefusal, spelling, Reads, start, ◌▹◌, u8_reads, u16_reads, u32_reads, u64_reads, array_reads, part_reads, Super, known_kind, csum_type_of, has_sum, sealed_by, super_layout, make_super, super_in, super_bytes, is_super, block_rules, field_rules, failing, unless_refused, super_of, SupersReadBack, length-kind_sum}
 use Rattle.btr_space_items.proofs.Records.{device_reads}
-use Rattle.btr_super.specs.declared.superblock.Super.{Super}
-use Rattle.btr_super.specs.Sums.{known_kind, csum_type_of, has_sum, sealed_by}
-use Rattle.btr_super.specs.Super.{super_layout, make_super, super_in, super_bytes}
-use Rattle.btr_super.specs.Rules.{is_super, block_rules, field_rules, failing, unless_refused, super_of}
-use Rattle.btr_super.specs.Laws.{SupersReadBack}
-use Rattle.csum_kinds.proofs.Widths.{length-kind_sum}
 use Rattle.btr_super.proofs.Constants.{◌▹▹◌}
 
 pub super_reads : Reads super_layout (λ s. s)

@@ -1,8 +1,6 @@
 -- The kinds of checksums by their numbers.
-use Rattle.std.proofs.Common.{◌≡◌, ◌<◌, ◌^◌, Some, refl, arith}
-use Rattle.csum_kinds.specs.declared.kind.SumKind.{SumKind}
+use Rattle.btr_super.proofs.Imports.{◌≡◌, ◌<◌, ◌^◌, Some, refl, arith, SumKind, known_kind, csum_number}
 use Rattle.csum_kinds.specs.declared.kind.SumKind.TheVariants.{Crc32c, Sha256}
-use Rattle.btr_super.specs.Sums.{known_kind, csum_number}
 
 -- the number of a kind names it
 pub known-number : (kind : SumKind) → known_kind (csum_number kind) ≡ Some kind

@@ -1,23 +1,7 @@
 -- A tree on two disks, or by two maps, that have the same nodes.
-use Rattle.std.proofs.Common.{◌≡◌, ℕ, zero, suc, Bool, List, [], ◌∷◌, ◌++◌, if◌then◌else◌, map, None, refl, ◌∙◌, ap, subst}
-use Rattle.std.specs.List.{All, flat_map}
-use Rattle.std.proofs.lemmas.List.Elements.{All-head, All-tail}
-use Rattle.btr_node.specs.outside.History.{Image}
-use Rattle.btr_node.specs.refusals.declared.refusal.BtrRefusal.{BtrRefusal}
-use Rattle.btr_node.specs.refusals.declared.rule.BtrRule.{BtrRule}
+use Rattle.btr_tree.proofs.Imports.{◌≡◌, ℕ, zero, suc, Bool, List, [], ◌∷◌, ◌++◌, if◌then◌else◌, map, None, refl, ◌∙◌, ap, subst, flat_map, All-head, All-tail, Image, BtrRefusal, BtrRule, items_in, children_in, Child, Form, NodePointer, MapRange, is_mapped, node_at, want, content_damages, node_damages, TreeEvent, node, leaf_events, unless_damaged, node_events, nodes_in, walk_events, may_be_bare, items_in_events, tree_items, pointer_damages, at_address, node_faults, order_damages, when_sound, bare_item, nodes_in-append, to}
+use Rattle.std.specs.List.{All}
 use Rattle.btr_node.specs.refusals.declared.rule.BtrRule.TheVariants.{Unmapped}
-use Rattle.btr_node.specs.Leaf.{items_in}
-use Rattle.btr_node.specs.Inner.{children_in}
-use Rattle.btr_node.specs.declared.child.Child.{Child}
-use Rattle.btr_reader_walk.specs.declared.tree.Form.{Form}
-use Rattle.btr_reader_walk.specs.declared.tree.NodePointer.{NodePointer}
-use Rattle.btr_reader_walk.specs.declared.map.MapRange.{MapRange}
-use Rattle.btr_reader_walk.specs.Map.{is_mapped, node_at}
-use Rattle.btr_reader_walk.specs.Node.{want, content_damages, node_damages}
-use Rattle.btr_reader_walk.specs.Events.{TreeEvent, node, leaf_events, unless_damaged, node_events, nodes_in, walk_events, may_be_bare, items_in_events}
-use Rattle.btr_reader_walk.specs.Tree.{tree_items, pointer_damages, at_address, node_faults, order_damages, when_sound, bare_item}
-use Rattle.btr_reader_walk.proofs.Events.{nodes_in-append}
-use Rattle.btr_reader_walk.proofs.Subtrees.{to}
 use Rattle.btr_tree.proofs.Wholes.{all_first, all_second}
 
 children_same : (P : NodePointer → Type 0) (f g : Child → List TreeEvent) → ((c : Child) → All P (nodes_in (f c)) → g c ≡ f c) → (children : List Child)

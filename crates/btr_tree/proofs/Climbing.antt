@@ -1,28 +1,6 @@
 -- From the leaves of a tree up to its root.
-use Rattle.std.proofs.Common.{◌≡◌, ℕ, zero, suc, ◌+◌, ◌^◌, ◌<◌, ◌≤◌, Bool, List, [], ◌∷◌, ◌++◌, length, map, get_or, refl, sym, ◌∙◌, ap, subst, arith, append_assoc, ⊎_elim}
-use Rattle.std.specs.List.{All, flat_map, sum}
-use Rattle.std.specs.Int.{div_ceil}
-use Rattle.std.proofs.Math.Nat.{pow-suc}
-use Rattle.std.proofs.lemmas.Bool.{cases_lt}
-use Rattle.std.proofs.lemmas.List.{append-nil, length_push}
-use Rattle.btr_node.specs.Inner.{first_keys}
-use Rattle.btr_node.specs.Leaf.{Item, keys_of}
-use Rattle.btr_node.specs.NodeSize.{IsNodeSize}
-use Rattle.btr_node.specs.Order.{Ascends, ascends}
-use Rattle.btr_node.specs.declared.child.Child.{Child}
-use Rattle.btr_reader_walk.specs.Laws.{IsSubtree, SubtreesAreTrees}
-use Rattle.btr_reader_walk.specs.Events.{may_be_bare, nodes_in, pointer_events}
-use Rattle.btr_reader_walk.specs.Map.{identity}
-use Rattle.btr_reader_walk.specs.Node.{child_pointer}
-use Rattle.btr_reader_walk.specs.declared.tree.NodePointer.{NodePointer}
-use Rattle.btr_tree.specs.Building.{Made, StandAt, pointer_to}
-use Rattle.btr_tree.specs.Packing.{fan_out, level_sizes}
-use Rattle.btr_tree.specs.Whole.{IsWhole}
-use Rattle.btr_tree.specs.Roots.{AreRoots, IsExtended, HasSubtreeRoots, IsRaised, IsRoot, HasNodes, HasWholeNodes, AreFirst, nodes_below, pointers_to, level_pointers}
-use Rattle.std.specs.List.Sorted.{IsPermutation}
-use Rattle.std.proofs.lemmas.List.Sorted.{IsPermutation-refl, IsPermutation-trans, IsPermutation-append_right, IsPermutation-append_comm}
-use Rattle.std.proofs.lemmas.List.Sums.{sum_by_push}
-use Rattle.btr_node.specs.outside.History.{Image}
+use Rattle.btr_tree.proofs.Imports.{◌≡◌, ℕ, zero, suc, ◌+◌, ◌^◌, ◌<◌, ◌≤◌, Bool, List, [], ◌∷◌, ◌++◌, length, map, get_or, refl, sym, ◌∙◌, ap, subst, arith, append_assoc, ⊎_elim, flat_map, sum, div_ceil, pow-suc, cases_lt, append-nil, length_push, first_keys, Item, keys_of, IsNodeSize, Ascends, ascends, Child, IsSubtree, SubtreesAreTrees, may_be_bare, nodes_in, pointer_events, identity, child_pointer, NodePointer, Made, StandAt, pointer_to, fan_out, level_sizes, IsWhole, AreRoots, IsExtended, HasSubtreeRoots, IsRaised, IsRoot, HasNodes, HasWholeNodes, AreFirst, nodes_below, pointers_to, level_pointers, IsPermutation, IsPermutation-refl, IsPermutation-trans, IsPermutation-append_right, IsPermutation-append_comm, sum_by_push, Image}
+use Rattle.std.specs.List.{All}
 use Rattle.btr_tree.proofs.Meeting.{below_one, levels_more}
 use Rattle.btr_tree.proofs.KeyOrder.{heads_ascend}
 use Rattle.btr_tree.proofs.RaisingLoop.{extended_none, stand_front}

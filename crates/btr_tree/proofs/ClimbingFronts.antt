@@ -1,16 +1,5 @@
 -- From the leaves of a tree up to its root, where nodes are written on the way.
-use Rattle.std.proofs.Common.{◌≡◌, ℕ, ◌+◌, ◌^◌, ◌<◌, ◌≤◌, Bool, List, length, get_or, sym, ◌∙◌, subst, arith}
-use Rattle.std.specs.List.{sum}
-use Rattle.std.specs.Int.{div_ceil}
-use Rattle.btr_node.specs.outside.History.{Image}
-use Rattle.btr_node.specs.Inner.{first_keys}
-use Rattle.btr_node.specs.Order.{Ascends}
-use Rattle.btr_node.specs.declared.child.Child.{Child}
-use Rattle.btr_reader_walk.specs.Laws.{SubtreesAreTrees}
-use Rattle.btr_tree.specs.Building.{Made, Goes, HasBack, taken, with_written}
-use Rattle.btr_tree.specs.Packing.{fan_out, tree_levels}
-use Rattle.btr_tree.specs.Roots.{IsRaised, IsClimbed, HasForest, IsRoot, HasNodes, HasWholeNodes}
-use Rattle.btr_tree.specs.declared.climb.Root.{Root}
+use Rattle.btr_tree.proofs.Imports.{◌≡◌, ℕ, ◌+◌, ◌^◌, ◌<◌, ◌≤◌, Bool, List, length, get_or, sym, ◌∙◌, subst, arith, sum, div_ceil, Image, first_keys, Ascends, Child, SubtreesAreTrees, Made, Goes, HasBack, taken, with_written, fan_out, tree_levels, IsRaised, IsClimbed, HasForest, IsRoot, HasNodes, HasWholeNodes, Root}
 use Rattle.btr_tree.proofs.Climbing.{IsClimbing, roots_ascend, climbing_begins, climbing_below, climbing_goes_on, climbing_short, climbing_count, climbing_nodes, root_of, whole_of}
 use Rattle.btr_tree.proofs.RaisingFronts.{blanks, length-blanks, whole_count}
 

@@ -1,18 +1,5 @@
 -- The last leaf is made, and the levels above the leaves.
-use Rattle.std.proofs.Common.{◌≡◌, ℕ, ◌<◌, Bool, List, [], ◌∷◌, ◌++◌, length, Some, None, Result, Ok, Err, sym, ◌∙◌, ap, subst, arith, append_assoc, length-append}
-use Rattle.std.specs.Prelude.{MatchOption, IfOk}
-use Rattle.std.specs.List.{flat_map}
-use Rattle.std.proofs.lemmas.List.{length_push}
-use Rattle.btr_node.specs.outside.History.{Image}
-use Rattle.btr_node.specs.Draft.{node_bytes}
-use Rattle.btr_node.specs.Leaf.{Item, items_in}
-use Rattle.btr_node.specs.declared.child.Child.{Child}
-use Rattle.btr_reader_walk.specs.Laws.{LeavesGiveItems}
-use Rattle.btr_tree.specs.Building.{NodeReadsBack, Goes, HasBack, taken, with_written}
-use Rattle.btr_tree.specs.Builder.{Building, Standing, Holds, IsIdle, IsInHand, all_made, leaf_closed}
-use Rattle.btr_tree.specs.Counting.{tree_nodes, nodes_above}
-use Rattle.btr_tree.specs.Roots.{IsForest, HasForest, IsClimbed, IsCompleted, lengths_of}
-use Rattle.btr_tree.specs.declared.climb.Root.{Root}
+use Rattle.btr_tree.proofs.Imports.{◌≡◌, ℕ, ◌<◌, Bool, List, [], ◌∷◌, ◌++◌, length, Some, None, Result, Ok, Err, sym, ◌∙◌, ap, subst, arith, append_assoc, length-append, MatchOption, IfOk, flat_map, length_push, Image, node_bytes, Item, items_in, Child, LeavesGiveItems, NodeReadsBack, Goes, HasBack, taken, with_written, Building, Standing, Holds, IsIdle, IsInHand, all_made, leaf_closed, tree_nodes, nodes_above, IsForest, HasForest, IsClimbed, IsCompleted, lengths_of, Root}
 use Rattle.btr_tree.proofs.Completing.{closed_made, closed_forest, closed_count, completed}
 use Rattle.btr_tree.proofs.Leaves.{empty_nodes}
 

@@ -1,18 +1,5 @@
 -- A tree is complete.
-use Rattle.std.proofs.Common.{◌≡◌, ℕ, ◌+◌, ◌≤◌, ◌++◌, ◌∷◌, [], List, length, sym, ◌∙◌, ap, subst, arith}
-use Rattle.std.specs.List.{flat_map}
-use Rattle.std.proofs.lemmas.List.{length_push}
-use Rattle.btr_node.specs.Draft.{node_bytes}
-use Rattle.btr_node.specs.Leaf.{items_in}
-use Rattle.btr_node.specs.NodeSize.{IsNodeSize}
-use Rattle.btr_node.specs.declared.child.Child.{Child}
-use Rattle.btr_reader_walk.specs.Laws.{LeavesGiveItems, SubtreesAreTrees}
-use Rattle.btr_tree.specs.Building.{Made, AreSlots, begun_at, with_node, NodeReadsBack}
-use Rattle.btr_tree.specs.Builder.{Building, pushed, leaf_closed, IsInHand, IsNextSlot, Standing}
-use Rattle.btr_tree.specs.Counting.{tree_nodes, nodes_above}
-use Rattle.btr_tree.specs.Packing.{capacity, packed_leaves, tree_levels}
-use Rattle.btr_tree.specs.Roots.{IsForest, IsClimbed, IsCompleted, IsRoot, HasNodes, HasWholeNodes, lengths_of}
-use Rattle.btr_tree.specs.declared.climb.Root.{Root}
+use Rattle.btr_tree.proofs.Imports.{◌≡◌, ℕ, ◌+◌, ◌≤◌, ◌++◌, ◌∷◌, [], List, length, sym, ◌∙◌, ap, subst, arith, flat_map, length_push, node_bytes, items_in, IsNodeSize, Child, LeavesGiveItems, SubtreesAreTrees, Made, AreSlots, begun_at, with_node, NodeReadsBack, Building, pushed, leaf_closed, IsInHand, IsNextSlot, Standing, tree_nodes, nodes_above, capacity, packed_leaves, tree_levels, IsForest, IsClimbed, IsCompleted, IsRoot, HasNodes, HasWholeNodes, lengths_of, Root}
 use Rattle.btr_tree.proofs.Climbing.{extended_then}
 use Rattle.btr_tree.proofs.Leaves.{leaf_roots, leaves_first, empty_met, empty_whole, leaf_count, packed_count, packed_same, empty_nodes, empty_root, extended_node}
 use Rattle.btr_tree.proofs.Standing.{next_is}

@@ -1,23 +1,7 @@
 -- What is written of a node can be written.
-use Rattle.std.proofs.Common.{◌≡◌, ◌≤◌, ◌<◌, ◌^◌, ℕ, ◌+◌, List, [], ◌∷◌, ◌++◌, length, true, Result, Ok, Err, refl, ap, ◌∙◌, arith}
-use Rattle.std.specs.Prelude.{◌↔◌, IsErr, OnOk}
-use Rattle.std.proofs.lemmas.List.{map-append, length_push}
-use Rattle.std.proofs.lemmas.List.Elements.{All-nil, All-push}
-use Rattle.std.proofs.lemmas.List.Sums.{sum_by_push}
-use Rattle.btrfs_format.specs.declared.size.TheConstants.{ITEM_SIZE, KEY_PTR_SIZE}
+use Rattle.btr_tree.proofs.Imports.{◌≡◌, ◌≤◌, ◌<◌, ◌^◌, ℕ, ◌+◌, List, [], ◌∷◌, ◌++◌, length, true, Result, Ok, Err, refl, ap, ◌∙◌, arith, ◌↔◌, IsErr, OnOk, map-append, length_push, All-nil, All-push, sum_by_push, ITEM_SIZE, KEY_PTR_SIZE, Key, Draft, IsDraft, room, head_of, started_for, head_layout, child_layout, first_keys, Item, keys_of, IsNodeSize, ascends, Ascends, Child, Expect, size_within, bytes_of-parts}
 use Rattle.btr_node.specs.btr_keys.Key.{key_layout}
-use Rattle.btr_node.specs.btr_keys.declared.key.Key.{Key}
-use Rattle.btr_node.specs.Draft.{Draft, IsDraft, room, head_of, started_for}
-use Rattle.btr_node.specs.Head.{head_layout}
-use Rattle.btr_node.specs.Inner.{child_layout, first_keys}
-use Rattle.btr_node.specs.Leaf.{Item, keys_of}
-use Rattle.btr_node.specs.NodeSize.{IsNodeSize}
-use Rattle.btr_node.specs.Order.{ascends, Ascends}
-use Rattle.btr_node.specs.declared.child.Child.{Child}
-use Rattle.btr_node.specs.declared.expect.Expect.{Expect}
 use Rattle.btr_node.proofs.Holding.{head_spelled}
-use Rattle.btr_node.proofs.NodeBack.{size_within}
-use Rattle.btr_node.proofs.Putting.{bytes_of-parts}
 
 -- what was not refused was done
 pub was_done : {T E : Type 0} (r : Result T E) (P Q : Type 0) → (IsErr r ↔ Q) → (Q → ⊥) → OnOk r P → P

@@ -1,17 +1,5 @@
 -- A tree is written whole.
-use Rattle.std.proofs.Common.{◌≡◌, ℕ, Bool, List, [], ◌++◌, length, IsTrue, sym, ◌∙◌, ap, subst, arith}
-use Rattle.std.proofs.lemmas.List.{append-nil}
-use Rattle.std.specs.List.Sorted.{IsPermutation}
-use Rattle.btr_node.specs.outside.History.{Image}
-use Rattle.btr_node.specs.Leaf.{Item}
-use Rattle.btr_reader_walk.specs.Events.{nodes_in, walk_events}
-use Rattle.btr_reader_walk.specs.Map.{identity}
-use Rattle.btr_tree.specs.Building.{Made, StandAt, Goes, HasBack, pointer_to, taken, with_written}
-use Rattle.btr_tree.specs.Builder.{Building, Standing, Holds, pushed, all_made, HasTree, HasWhole}
-use Rattle.btr_tree.specs.Counting.{tree_nodes}
-use Rattle.btr_tree.specs.Packing.{packed_leaves as leaves_by, tree_levels}
-use Rattle.btr_tree.specs.Roots.{IsCompleted, IsFinished, MeetsNodes, level_pointers, lengths_of}
-use Rattle.btr_tree.specs.declared.climb.Root.{Root}
+use Rattle.btr_tree.proofs.Imports.{◌≡◌, ℕ, Bool, List, [], ◌++◌, length, IsTrue, sym, ◌∙◌, ap, subst, arith, append-nil, IsPermutation, Image, Item, nodes_in, walk_events, identity, Made, StandAt, Goes, HasBack, pointer_to, taken, with_written, Building, Standing, Holds, pushed, all_made, HasTree, HasWhole, tree_nodes, packed_leaves as leaves_by, tree_levels, IsCompleted, IsFinished, MeetsNodes, level_pointers, lengths_of, Root}
 use Rattle.btr_tree.proofs.Going.{HasFront, goes_then}
 use Rattle.btr_tree.proofs.RaisingFronts.{whole_count}
 

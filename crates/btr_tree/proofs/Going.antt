@@ -1,16 +1,5 @@
 -- A builder goes on, and nodes are written on the way.
-use Rattle.std.proofs.Common.{◌≡◌, ℕ, zero, suc, ◌+◌, ◌<◌, ◌≤◌, Option, Some, None, Bool, List, [], ◌∷◌, ◌++◌, length, map, take, get_or, IsTrue, refl, sym, ◌∙◌, ap, subst, arith, length-append}
-use Rattle.std.specs.List.{flat_map}
-use Rattle.std.specs.Prelude.{MatchOption}
-use Rattle.std.proofs.lemmas.List.{length-map, length-take, length_push}
-use Rattle.btr_node.specs.outside.History.{Image}
-use Rattle.btr_node.specs.Leaf.{Item, items_in}
-use Rattle.btr_node.specs.declared.child.Child.{Child}
-use Rattle.btr_reader_walk.specs.Map.{identity, node_at}
-use Rattle.btr_reader_walk.specs.declared.tree.Form.{Form}
-use Rattle.btr_tree.specs.Building.{Made, StandAt, Goes, HasBack, IsLater, slot, with_written, nodes_on}
-use Rattle.btr_tree.specs.Builder.{Building, Standing, Stands, Holds, IsReady, IsPushed, HasPut, IsIdle, IsInHand, pushed, pushed_on, told_nodes, all_made, leaves_of}
-use Rattle.btr_tree.specs.Laws.{StandsBySlots}
+use Rattle.btr_tree.proofs.Imports.{◌≡◌, ℕ, zero, suc, ◌+◌, ◌<◌, ◌≤◌, Option, Some, None, Bool, List, [], ◌∷◌, ◌++◌, length, map, take, get_or, IsTrue, refl, sym, ◌∙◌, ap, subst, arith, length-append, flat_map, MatchOption, length-map, length-take, length_push, Image, Item, items_in, Child, identity, node_at, Form, Made, StandAt, Goes, HasBack, IsLater, slot, with_written, nodes_on, Building, Standing, Stands, Holds, IsReady, IsPushed, HasPut, IsIdle, IsInHand, pushed, pushed_on, told_nodes, all_made, leaves_of, StandsBySlots}
 use Rattle.btr_tree.proofs.OnDisk.{nodes_same}
 
 pub goes_then : (tells : Bool) (first second third : Image) (old mid new : Made) (R S T : Made → Made → Type 0) → ((m n o : Made) → R m n → S n o → T m o)

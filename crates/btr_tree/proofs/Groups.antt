@@ -1,11 +1,5 @@
 -- Entries in groups, one entry more.
-use Rattle.std.proofs.Common.{◌≡◌, ℕ, ◌+◌, ◌-◌, ◌<◌, ◌≤◌, List, [], ◌∷◌, ◌++◌, length, get_or, refl, sym, ◌∙◌, ap, arith, append_assoc, length-append, zero-add, ⊎_elim}
-use Rattle.std.specs.List.{sum_by}
-use Rattle.std.proofs.lemmas.Bool.{cases_lt, le-leb, lt-leb}
-use Rattle.std.proofs.lemmas.List.{get_or_at, length_push}
-use Rattle.std.proofs.lemmas.List.Sums.{sum_by_push}
-use Rattle.btr_tree.specs.Packing.{packed_from, packed, weight, capacity, packed_leaves}
-use Rattle.btr_tree.specs.Counting.{Tally, Counted, bytes_of}
+use Rattle.btr_tree.proofs.Imports.{◌≡◌, ℕ, ◌+◌, ◌-◌, ◌<◌, ◌≤◌, List, [], ◌∷◌, ◌++◌, length, get_or, refl, sym, ◌∙◌, ap, arith, append_assoc, length-append, zero-add, ⊎_elim, sum_by, cases_lt, le-leb, lt-leb, get_or_at, length_push, sum_by_push, packed_from, packed, weight, capacity, packed_leaves, Tally, Counted, bytes_of}
 
 -- an entry that fits goes into the group that is begun
 pub packed-fits : {E : Type 0} (size : E → ℕ) (room : ℕ) (begun : List E) (e : E) (es : List E) → sum_by size begun + size e ≤ room

@@ -1,23 +1,7 @@
 -- What a builder holds, and what a disk has of it.
-use Rattle.std.proofs.Common.{◌≡◌, ℕ, ◌+◌, ◌<◌, ◌≤◌, true, false, List, [], ◌∷◌, ◌++◌, length, Some, None, refl, sym, ◌∙◌, ap, subst, arith, append_assoc, length-append}
-use Rattle.std.specs.Prelude.{MatchOption}
-use Rattle.std.specs.List.{flat_map, slice_get}
-use Rattle.std.proofs.lemmas.List.{length-map, length_push}
-use Rattle.btrfs_format.specs.declared.size.TheConstants.{ITEM_SIZE}
-use Rattle.btr_node.specs.outside.History.{Image}
-use Rattle.btr_node.specs.btr_keys.declared.key.Key.{Key}
-use Rattle.btr_node.specs.Draft.{node_bytes, room}
-use Rattle.btr_node.specs.Leaf.{Item, items_in, keys_of}
-use Rattle.btr_node.specs.NodeSize.{IsNodeSize}
-use Rattle.btr_node.specs.Order.{Ascends, ascends, is_before_first}
-use Rattle.btr_node.specs.declared.child.Child.{Child}
-use Rattle.btr_node.proofs.Rows.{both, joined}
-use Rattle.btr_reader_walk.specs.declared.tree.Form.{Form}
-use Rattle.btr_tree.specs.Building.{Made, AreSlots, IsFresh, NodeReadsBack, taken, with_written, with_item, begun_at, nodes_on}
-use Rattle.btr_tree.specs.Builder.{Building, Standing, Stands, Holds, HasPut, IsIdle, IsInHand, IsNextTaken, pushed, pushed_on, told_nodes, all_made, leaf_begun, leaf_closed, leaves_of}
+use Rattle.btr_tree.proofs.Imports.{◌≡◌, ℕ, ◌+◌, ◌<◌, ◌≤◌, true, false, List, [], ◌∷◌, ◌++◌, length, Some, None, refl, sym, ◌∙◌, ap, subst, arith, append_assoc, length-append, MatchOption, flat_map, slice_get, length-map, length_push, map-append, ITEM_SIZE, Image, Key, node_bytes, room, Item, items_in, keys_of, IsNodeSize, Ascends, ascends, is_before_first, Child, both, joined, Form, Made, AreSlots, IsFresh, NodeReadsBack, taken, with_written, with_item, begun_at, nodes_on, Building, Standing, Stands, Holds, HasPut, IsIdle, IsInHand, IsNextTaken, pushed, pushed_on, told_nodes, all_made, leaf_begun, leaf_closed, leaves_of}
 use Rattle.btr_tree.proofs.RaisingFronts.{whole_count}
 use Rattle.btr_tree.proofs.Standing.{stands_new, fresh_whole, stands_first, stands_next, stands_fits, leaves_next, some_leaf, pushed_same}
-use Rattle.std.proofs.lemmas.List.{map-append}
 
 -- nothing was pushed
 module _ (m : Made) (form : Form) (owner generation : ℕ) (chunk_tree slots : List ℕ) (size : IsNodeSize form.nodesize) (right : AreSlots form.nodesize slots) (fresh : IsFresh form owner generation chunk_tree slots m) where

@@ -1,35 +1,5 @@
 -- The leaves that were made are subtrees.
-use Rattle.std.proofs.Common.{◌≡◌, ℕ, suc, ◌+◌, ◌%◌, ◌^◌, ◌<◌, ◌≤◌, ◌||◌, ltb, Bool, true, List, [], ◌∷◌, ◌++◌, length, map, take, get_or, refl, sym, ◌∙◌, ap, subst, arith, ⊎_elim}
-use Rattle.std.specs.Prelude.{All}
-use Rattle.std.specs.List.{flat_map, sum_by}
-use Rattle.std.proofs.lemmas.Bool.{or_right, lt-ltb, cases_lt}
-use Rattle.std.proofs.lemmas.List.{append-nil, take_more, length-map, length_push, map-append}
-use Rattle.std.proofs.lemmas.List.Sums.{sum_by-cons}
-use Rattle.std.proofs.lemmas.List.Elements.{All-nil, All-cons, All-head, All-tail}
-use Rattle.btrfs_format.specs.declared.size.TheConstants.{ITEM_SIZE}
-use Rattle.btr_node.specs.outside.History.{Image}
-use Rattle.btr_node.specs.Draft.{node_bytes}
-use Rattle.btr_node.specs.Head.{nritems, behind_head}
-use Rattle.btr_node.specs.Inner.{first_keys}
-use Rattle.btr_node.specs.Leaf.{Item, IsBtrfsLeaf, item_layout, heads_in, items_in}
-use Rattle.btr_node.specs.NodeSize.{IsNodeSize}
-use Rattle.btr_node.specs.Records.{records_in}
-use Rattle.btr_node.specs.declared.child.Child.{Child}
-use Rattle.btr_node.proofs.Rows.{length-records_in}
-use Rattle.btr_reader_walk.specs.Laws.{IsSubtree, AreSubtrees, LeavesGiveItems, SubtreesAreTrees}
-use Rattle.btr_reader_walk.specs.Map.{identity, is_mapped, node_at}
-use Rattle.btr_reader_walk.specs.Node.{want, child_pointer}
-use Rattle.btr_reader_walk.specs.declared.tree.Form.{Form}
-use Rattle.btr_reader_walk.specs.declared.tree.NodePointer.{NodePointer}
-use Rattle.btr_tree.specs.Building.{Made, AreSlots, slot, pointer_to, begun_at, with_node, NodeReadsBack}
-use Rattle.btr_tree.specs.Builder.{Building, pushed, first_key, child_of, children_of, IsInHand, IsNextSlot, Standing, item_size}
-use Rattle.btr_tree.specs.Counting.{tree_nodes}
-use Rattle.btr_tree.specs.Packing.{packed_from, packed, weight, capacity, level_sizes, packed_leaves, tree_levels}
-use Rattle.btr_tree.specs.Whole.{IsWhole}
-use Rattle.btr_tree.specs.Roots.{HasSubtreeRoots, IsExtended, IsRoot, HasNodes, HasWholeNodes, AreFirst, nodes_below, pointers_to, level_pointers, lengths_of}
-use Rattle.btr_reader_walk.specs.Events.{may_be_bare, nodes_in, pointer_events}
-use Rattle.std.specs.List.Sorted.{IsPermutation}
-use Rattle.std.proofs.lemmas.List.Sorted.{IsPermutation-refl}
+use Rattle.btr_tree.proofs.Imports.{◌≡◌, ℕ, suc, ◌+◌, ◌%◌, ◌^◌, ◌<◌, ◌≤◌, ◌||◌, ltb, Bool, true, List, [], ◌∷◌, ◌++◌, length, map, take, get_or, refl, sym, ◌∙◌, ap, subst, arith, ⊎_elim, All, flat_map, sum_by, or_right, lt-ltb, cases_lt, append-nil, take_more, length-map, length_push, map-append, sum_by-cons, All-nil, All-cons, All-head, All-tail, ITEM_SIZE, Image, node_bytes, nritems, behind_head, first_keys, Item, IsBtrfsLeaf, item_layout, heads_in, items_in, IsNodeSize, records_in, Child, length-records_in, IsSubtree, AreSubtrees, LeavesGiveItems, SubtreesAreTrees, identity, is_mapped, node_at, want, child_pointer, Form, NodePointer, Made, AreSlots, slot, pointer_to, begun_at, with_node, NodeReadsBack, Building, pushed, first_key, child_of, children_of, IsInHand, IsNextSlot, Standing, item_size, tree_nodes, packed_from, packed, weight, capacity, level_sizes, packed_leaves, tree_levels, IsWhole, HasSubtreeRoots, IsExtended, IsRoot, HasNodes, HasWholeNodes, AreFirst, nodes_below, pointers_to, level_pointers, lengths_of, may_be_bare, nodes_in, pointer_events, IsPermutation, IsPermutation-refl}
 use Rattle.btr_tree.proofs.Meeting.{leaf_met}
 use Rattle.btr_tree.proofs.Groups.{packed-fits, packed-next, packed-none}
 use Rattle.btr_tree.proofs.Raising.{slot_mapped, stand_last}

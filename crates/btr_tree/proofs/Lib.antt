@@ -14,6 +14,7 @@ pub mod FullGroups
 pub mod Going
 pub mod Groups
 pub mod Holding
+pub mod Imports
 pub mod KeyOrder
 pub mod Leaves
 pub mod LinuxForm

@@ -1,19 +1,7 @@
 -- What was written whole has the form that Linux wants.
-use Rattle.std.proofs.Common.{◌≡◌, ◌≤◌, inl, ℕ, ◌+◌, ◌-◌, ◌*◌, List, [], ◌∷◌, length, refl, sym, ap, subst, ◌∙◌, arith, length-append}
-use Rattle.std.proofs.lemmas.List.Elements.{All-weaker}
-use Rattle.btrfs_format.specs.declared.size.TheConstants.{HEADER_SIZE, ITEM_SIZE, KEY_PTR_SIZE}
-use Rattle.btr_node.specs.Draft.{Draft, draft_bytes, contents, data_of, heads_of, head_of}
-use Rattle.btr_node.specs.Head.{head_in, nritems, behind_head}
-use Rattle.btr_node.specs.Leaf.{Item, item_layout, heads_in}
-use Rattle.btr_node.specs.Records.{records_in}
-use Rattle.btr_node.specs.declared.expect.Expect.{Expect}
+use Rattle.btr_tree.proofs.Imports.{◌≡◌, ◌≤◌, inl, ℕ, ◌+◌, ◌-◌, ◌*◌, List, [], ◌∷◌, length, refl, sym, ap, subst, ◌∙◌, arith, length-append, All-weaker, HEADER_SIZE, ITEM_SIZE, KEY_PTR_SIZE, Draft, draft_bytes, contents, data_of, heads_of, head_of, head_in, nritems, behind_head, Item, item_layout, heads_in, records_in, Expect, size_within, node_head, node_behind_head, bytes_of-parts, nodes_in, walk_events, NodesHaveLinuxForm, IsExact, IsWhole, IsWritten, ArePacked, IsPacked, HasLinuxForm}
 use Rattle.btr_node.specs.declared.head.Head.{Head}
-use Rattle.btr_node.proofs.NodeBack.{size_within, node_head, node_behind_head}
-use Rattle.btr_node.proofs.Putting.{bytes_of-parts}
 use Rattle.btr_node.proofs.ReadBack.{heads_back, length-contents}
-use Rattle.btr_reader_walk.specs.Events.{nodes_in, walk_events}
-use Rattle.btr_tree.specs.Laws.{NodesHaveLinuxForm}
-use Rattle.btr_tree.specs.Whole.{IsExact, IsWhole, IsWritten, ArePacked, IsPacked, HasLinuxForm}
 
 module _ (nodesize : ℕ) (want : Expect) (chunk_tree bytes : List ℕ) (is : IsExact nodesize want chunk_tree bytes) where
   head_is : head_in bytes ≡ head_of is.draft

@@ -1,13 +1,5 @@
 -- A tree by two maps that agree on its nodes.
-use Rattle.std.proofs.Common.{◌≡◌, ℕ, zero, suc, ◌+◌, ◌-◌, ◌*◌, ◌/◌, ◌%◌, ◌^◌, ◌<◌, leb, ltb, eqb, Bool, true, ◌&&◌, List, ◌++◌, None, Some, Option, refl, sym, ◌∙◌, ap, arith}
-use Rattle.std.specs.Prelude.{is_some}
-use Rattle.std.proofs.lemmas.Bool.{and_from, le-leb, lt-ltb}
-use Rattle.btr_node.specs.outside.History.{Image}
-use Rattle.btr_reader_walk.specs.declared.tree.Form.{Form}
-use Rattle.btr_reader_walk.specs.declared.tree.NodePointer.{NodePointer}
-use Rattle.btr_reader_walk.specs.declared.map.MapRange.{MapRange}
-use Rattle.btr_reader_walk.specs.Map.{place, holds, identity, are_mapped, is_mapped, block_of_place, blocks_at, node_at}
-use Rattle.btr_tree.specs.Laws.{GivesItself, MapsAgree}
+use Rattle.btr_tree.proofs.Imports.{◌≡◌, ℕ, zero, suc, ◌+◌, ◌-◌, ◌*◌, ◌/◌, ◌%◌, ◌^◌, ◌<◌, leb, ltb, eqb, Bool, true, ◌&&◌, List, ◌++◌, None, Some, Option, refl, sym, ◌∙◌, ap, arith, is_some, and_from, le-leb, lt-ltb, Image, Form, NodePointer, MapRange, place, holds, identity, are_mapped, is_mapped, block_of_place, blocks_at, node_at, GivesItself, MapsAgree}
 use Rattle.btr_tree.proofs.Alike.{events_alike, items_alike}
 use Rattle.btr_tree.proofs.WholesAlike.{whole_alike}
 

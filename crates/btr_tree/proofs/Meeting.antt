@@ -1,27 +1,5 @@
 -- The nodes that a walk meets.
-use Rattle.std.proofs.Common.{◌≡◌, ℕ, suc, ◌+◌, Bool, List, [], ◌∷◌, ◌++◌, length, map, refl, sym, ◌∙◌, ap, subst, arith, append_assoc}
-use Rattle.std.specs.List.{flat_map, sum}
-use Rattle.std.specs.List.Sorted.{IsPermutation}
-use Rattle.std.proofs.lemmas.List.{append-nil, map-append}
-use Rattle.std.proofs.lemmas.List.Concat.{flat_map-append}
-use Rattle.std.proofs.lemmas.List.Sorted.{IsPermutation-append_left, IsPermutation-append_right, IsPermutation-append_comm}
-use Rattle.std.proofs.lemmas.List.Sums.{sum_by-cons}
-use Rattle.btr_node.specs.outside.History.{Image}
-use Rattle.btr_node.specs.refusals.declared.refusal.BtrRefusal.{BtrRefusal}
-use Rattle.btr_node.specs.refusals.declared.rule.BtrRule.{BtrRule}
-use Rattle.btr_node.specs.Inner.{children_in}
-use Rattle.btr_node.specs.Leaf.{Item, items_in}
-use Rattle.btr_node.specs.declared.child.Child.{Child}
-use Rattle.btr_reader_walk.specs.declared.tree.Form.{Form}
-use Rattle.btr_reader_walk.specs.declared.tree.NodePointer.{NodePointer}
-use Rattle.btr_reader_walk.specs.Map.{identity, node_at}
-use Rattle.btr_reader_walk.specs.Node.{child_pointer, node_damages}
-use Rattle.btr_reader_walk.specs.Events.{TreeEvent, leaf_events, unless_damaged, node_events, nodes_in, pointer_events}
-use Rattle.btr_reader_walk.specs.Tree.{at_address}
-use Rattle.btr_reader_walk.specs.Laws.{IsSubtree}
-use Rattle.btr_reader_walk.proofs.Events.{nodes_in-append, leaf_nodes}
-use Rattle.btr_tree.specs.Building.{Made, pointer_to}
-use Rattle.btr_tree.specs.Roots.{nodes_below, pointers_to, level_pointers}
+use Rattle.btr_tree.proofs.Imports.{◌≡◌, ℕ, suc, ◌+◌, Bool, List, [], ◌∷◌, ◌++◌, length, map, refl, sym, ◌∙◌, ap, subst, arith, append_assoc, flat_map, sum, IsPermutation, append-nil, map-append, flat_map-append, IsPermutation-append_left, IsPermutation-append_right, IsPermutation-append_comm, sum_by-cons, Image, BtrRefusal, BtrRule, children_in, Item, items_in, Child, Form, NodePointer, identity, node_at, child_pointer, node_damages, TreeEvent, leaf_events, unless_damaged, node_events, nodes_in, pointer_events, at_address, IsSubtree, nodes_in-append, leaf_nodes, Made, pointer_to, nodes_below, pointers_to, level_pointers}
 
 module _ (image : Image) (form : Form) (owner : ℕ) (bare : Bool) where
   abbrev met : NodePointer → List NodePointer

@@ -1,16 +1,8 @@
 -- Items and slots that are numbered.
-use Rattle.std.proofs.Common.{◌≡◌, ℕ, zero, suc, ◌+◌, ◌*◌, ◌%◌, ◌<◌, ◌≤◌, ◌^◌, Bool, true, false, List, [], ◌∷◌, ◌++◌, map, nat_cmp, Ordering, Less, is_lt, All, IsTrue, refl, sym, ◌∙◌, ap, subst, arith}
-use Rattle.std.specs.List.{range_with_len}
-use Rattle.std.specs.Cmp.{nat_cmp_is}
-use Rattle.std.specs.Ordering.{ordering_then}
+use Rattle.btr_tree.proofs.Imports.{◌≡◌, ℕ, zero, suc, ◌+◌, ◌*◌, ◌%◌, ◌<◌, ◌≤◌, ◌^◌, Bool, true, false, List, [], ◌∷◌, ◌++◌, map, Ordering, Less, IsTrue, refl, sym, ◌∙◌, ap, subst, arith, range_with_len, nat_cmp_is, ordering_then, Key, Item, keys_of, ascends, is_before, Ascends, joined, AreSlots, Building, Holds, IsSameBuilding, all_made}
+use Rattle.std.proofs.Common.{nat_cmp, is_lt, All}
 use Rattle.std.proofs.lemmas.List.FromFn.{get_or-map-range_with_len, length-map-range_with_len, map-range_with_len_more}
 use Rattle.btrfs_format.specs.declared.key.TheConstants.{INODE_ITEM}
-use Rattle.btr_node.specs.btr_keys.declared.key.Key.{Key}
-use Rattle.btr_node.specs.Leaf.{Item, keys_of}
-use Rattle.btr_node.specs.Order.{ascends, is_before, Ascends}
-use Rattle.btr_node.proofs.Rows.{joined}
-use Rattle.btr_tree.specs.Building.{AreSlots}
-use Rattle.btr_tree.specs.Builder.{Building, Holds, IsSameBuilding, all_made}
 use Rattle.btr_tree.proofs.Standing.{hand_order}
 
 -- what holds of each value of a function holds of each in a list of these

@@ -1,32 +1,8 @@
 -- A level of a tree from the one below it.
-use Rattle.std.proofs.Common.{◌≡◌, ℕ, zero, suc, ◌+◌, ◌*◌, ◌/◌, ◌%◌, ◌^◌, ◌<◌, ◌≤◌, leb, ltb, eqb, Bool, true, List, [], ◌∷◌, ◌++◌, length, map, take, drop, get_or, None, refl, sym, ◌∙◌, ap, subst, arith, ⊎_elim}
-use Rattle.std.specs.Prelude.{All}
-use Rattle.std.specs.List.{flat_map}
-use Rattle.std.proofs.lemmas.Bool.{and_from, le-leb, lt-ltb, eq-eqb}
-use Rattle.std.proofs.lemmas.List.{take-append-drop, take_more, map-append, take-map, drop-map, length_push, get_or_append_left, get_or_push, get_or-take, get_or-drop, length-take, length-drop}
-use Rattle.btr_node.specs.outside.History.{Image}
-use Rattle.btr_node.specs.Inner.{IsBtrfsInner, children_in, first_keys}
-use Rattle.btr_node.specs.Leaf.{Item}
-use Rattle.btr_node.specs.NodeSize.{IsNodeSize}
-use Rattle.btr_node.specs.Order.{Ascends, ascends}
-use Rattle.btr_node.specs.declared.child.Child.{Child}
-use Rattle.btr_node.proofs.Ascending.{first_ascends, second_ascends}
-use Rattle.btr_reader_walk.specs.Laws.{IsSubtree, AreSubtrees, ChildrenGiveItems}
-use Rattle.btr_node.specs.btr_keys.declared.key.Key.{Key}
-use Rattle.std.proofs.lemmas.Option.{get_or_from_slice_get, slice_get_within}
+use Rattle.btr_tree.proofs.Imports.{◌≡◌, ℕ, zero, suc, ◌+◌, ◌*◌, ◌/◌, ◌%◌, ◌^◌, ◌<◌, ◌≤◌, leb, ltb, eqb, Bool, true, List, [], ◌∷◌, ◌++◌, length, map, take, drop, get_or, None, refl, sym, ◌∙◌, ap, subst, arith, ⊎_elim, All, flat_map, and_from, le-leb, lt-ltb, eq-eqb, take-append-drop, take_more, map-append, take-map, drop-map, length_push, get_or_append_left, get_or_push, get_or-take, get_or-drop, length-take, length-drop, Image, IsBtrfsInner, children_in, first_keys, Item, IsNodeSize, Ascends, ascends, Child, first_ascends, second_ascends, IsSubtree, AreSubtrees, ChildrenGiveItems, Key, get_or_from_slice_get, slice_get_within, holds, identity, are_mapped, is_mapped, node_at, want, child_pointer, Form, NodePointer, Made, AreSlots, slot, StandAt, pointer_to, IsParent, first_key, AreRoots, nodes_below, AreWhole, nodes_in, pointer_events, IsExact, IsWhole, HasFirstKey, first_key_in, All-nil, All-cons}
 use Rattle.btr_tree.proofs.Standing.{all_push}
-use Rattle.btr_reader_walk.specs.Map.{holds, identity, are_mapped, is_mapped, node_at}
-use Rattle.btr_reader_walk.specs.Node.{want, child_pointer}
-use Rattle.btr_reader_walk.specs.declared.tree.Form.{Form}
-use Rattle.btr_reader_walk.specs.declared.tree.NodePointer.{NodePointer}
-use Rattle.btr_tree.specs.Building.{Made, AreSlots, slot, StandAt, pointer_to, IsParent}
-use Rattle.btr_tree.specs.Builder.{first_key}
-use Rattle.btr_tree.specs.Roots.{AreRoots, nodes_below, AreWhole}
-use Rattle.btr_reader_walk.specs.Events.{nodes_in, pointer_events}
 use Rattle.btr_tree.proofs.Meeting.{inner_met, below_one}
-use Rattle.btr_tree.specs.Whole.{IsExact, IsWhole, HasFirstKey, first_key_in}
 use Rattle.btr_tree.proofs.Wholes.{Node, First, first_child, whole_part, whole_append}
-use Rattle.std.proofs.lemmas.List.Elements.{All-nil, All-cons}
 
 -- the keys of the first children ascend, and of any part
 pub front_ascends : (part : List Child) (i : ℕ) (d : Child) → Ascends (first_keys part) → i < length part → Ascends (first_keys (take i part) ++ (get_or part i d).key ∷ [])

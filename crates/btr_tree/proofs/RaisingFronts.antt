@@ -1,14 +1,5 @@
 -- A level of a tree, where nodes are written on the way.
-use Rattle.std.proofs.Common.{◌≡◌, ℕ, zero, suc, ◌+◌, ◌-◌, ◌<◌, ◌≤◌, min, Bool, List, [], ◌∷◌, ◌++◌, length, take, drop, None, refl, sym, ◌∙◌, ap, subst, arith, append_assoc, length-append}
-use Rattle.std.specs.Int.{div_ceil}
-use Rattle.std.specs.List.{slice_get}
-use Rattle.btr_node.specs.outside.History.{Image}
-use Rattle.btr_node.specs.NodeSize.{IsNodeSize}
-use Rattle.btr_node.specs.declared.child.Child.{Child}
-use Rattle.btr_reader_walk.specs.Laws.{ChildrenGiveItems}
-use Rattle.btr_tree.specs.Building.{Made, AreSlots, StandAt, Goes, HasBack, IsParentAt, IsParent, taken, with_written}
-use Rattle.btr_tree.specs.Packing.{fan_out}
-use Rattle.btr_tree.specs.Roots.{IsRaised}
+use Rattle.btr_tree.proofs.Imports.{◌≡◌, ℕ, zero, suc, ◌+◌, ◌-◌, ◌<◌, ◌≤◌, min, Bool, List, [], ◌∷◌, ◌++◌, length, take, drop, None, refl, sym, ◌∙◌, ap, subst, arith, append_assoc, length-append, div_ceil, slice_get, Image, IsNodeSize, Child, ChildrenGiveItems, Made, AreSlots, StandAt, Goes, HasBack, IsParentAt, IsParent, taken, with_written, fan_out, IsRaised}
 use Rattle.btr_tree.proofs.RaisingLoop.{IsRaising, raising_begins, raising_goes_on, raising_ends, raising_short}
 
 -- some nodes, so many

@@ -1,28 +1,5 @@
 -- A level of a tree, one node after the other.
-use Rattle.std.proofs.Common.{◌≡◌, ℕ, zero, suc, ◌+◌, ◌-◌, ◌*◌, ◌<◌, ◌≤◌, min, Bool, List, [], ◌∷◌, ◌++◌, length, map, take, drop, get_or, Some, None, refl, sym, ◌∙◌, ap, subst, arith, append_assoc, length-append, ⊎_elim}
-use Rattle.std.specs.List.{flat_map, slice_get}
-use Rattle.std.specs.Int.{div_ceil}
-use Rattle.std.proofs.Math.Nat.{mul-suc, mul_comm}
-use Rattle.std.proofs.lemmas.Bool.{cases_lt}
-use Rattle.std.proofs.lemmas.Grind.{div_ceil_times}
-use Rattle.std.proofs.lemmas.List.{append-nil, map-append, take_all, take_more, length-map, length-drop, length_push, get_or_append_left, get_or-drop}
-use Rattle.std.proofs.lemmas.List.Concat.{flat_map-append}
-use Rattle.std.proofs.lemmas.List.Elements.{All-nil}
-use Rattle.std.proofs.lemmas.Nat.{mul-le}
-use Rattle.std.proofs.lemmas.Option.{slice_get_within, slice_get-get_or, get_or_from_slice_get}
-use Rattle.btr_node.specs.outside.History.{Image}
-use Rattle.btr_node.specs.Leaf.{Item}
-use Rattle.btr_node.specs.NodeSize.{IsNodeSize}
-use Rattle.btr_node.specs.declared.child.Child.{Child}
-use Rattle.btr_reader_walk.specs.Laws.{ChildrenGiveItems}
-use Rattle.btr_tree.specs.Building.{Made, AreSlots, StandAt, IsParent, pointer_to}
-use Rattle.btr_tree.specs.Builder.{first_key}
-use Rattle.btr_tree.specs.Packing.{fan_out}
-use Rattle.btr_tree.specs.Roots.{AreRoots, AreWhole, IsExtended, HasSubtreeRoots, IsRaised, nodes_below, pointers_to}
-use Rattle.btr_reader_walk.specs.Node.{child_pointer}
-use Rattle.btr_reader_walk.specs.declared.tree.NodePointer.{NodePointer}
-use Rattle.std.specs.List.Sorted.{IsPermutation}
-use Rattle.std.proofs.lemmas.List.Sorted.{IsPermutation-refl, IsPermutation-trans, IsPermutation-append_left}
+use Rattle.btr_tree.proofs.Imports.{◌≡◌, ℕ, zero, suc, ◌+◌, ◌-◌, ◌*◌, ◌<◌, ◌≤◌, min, Bool, List, [], ◌∷◌, ◌++◌, length, map, take, drop, get_or, Some, None, refl, sym, ◌∙◌, ap, subst, arith, append_assoc, length-append, ⊎_elim, flat_map, slice_get, div_ceil, mul-suc, mul_comm, cases_lt, div_ceil_times, append-nil, map-append, take_all, take_more, length-map, length-drop, length_push, get_or_append_left, get_or-drop, flat_map-append, All-nil, mul-le, slice_get_within, slice_get-get_or, get_or_from_slice_get, Image, Item, IsNodeSize, Child, ChildrenGiveItems, Made, AreSlots, StandAt, IsParent, pointer_to, first_key, fan_out, AreRoots, AreWhole, IsExtended, HasSubtreeRoots, IsRaised, nodes_below, pointers_to, child_pointer, NodePointer, IsPermutation, IsPermutation-refl, IsPermutation-trans, IsPermutation-append_left}
 use Rattle.btr_tree.proofs.Meeting.{perm_more, below_append}
 use Rattle.btr_tree.proofs.Wholes.{whole_none}
 use Rattle.btr_tree.proofs.Raising.{flat, flat-is, part_roots, roots_more, parent_met, stand_fewer}

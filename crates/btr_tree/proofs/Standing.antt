@@ -1,26 +1,5 @@
 -- What holds of a builder, one item on.
-use Rattle.std.proofs.Common.{◌≡◌, ℕ, ◌+◌, ◌<◌, ◌≤◌, false, List, [], ◌∷◌, ◌++◌, length, map, get_or, Bool, Option, Some, None, refl, sym, ◌∙◌, ap, subst, arith, append_assoc, ⊎_elim}
-use Rattle.std.specs.Prelude.{All, MatchOption}
-use Rattle.std.specs.List.{flat_map, sum_by}
-use Rattle.std.proofs.lemmas.Bool.{cases_lt}
-use Rattle.std.proofs.lemmas.List.{append-nil, map-append, length-map, get_or_append_left, get_or_push, length_push}
-use Rattle.std.proofs.lemmas.List.Concat.{flat_map-append}
-use Rattle.std.proofs.lemmas.List.Elements.{All-nil, All-cons, All-head, All-tail}
-use Rattle.std.proofs.lemmas.Option.{get_or_from_slice_get, slice_get_within}
-use Rattle.btrfs_format.specs.declared.size.TheConstants.{ITEM_SIZE}
-use Rattle.btr_node.specs.btr_keys.declared.key.Key.{Key}
-use Rattle.btr_node.specs.Draft.{node_bytes, room}
-use Rattle.btr_node.specs.Leaf.{Item, IsBtrfsLeaf, items_in, keys_of}
-use Rattle.btr_node.specs.NodeSize.{IsNodeSize}
-use Rattle.btr_reader_walk.specs.declared.tree.Form.{Form}
-use Rattle.btr_node.specs.Order.{Ascends, ascends}
-use Rattle.btr_node.specs.declared.child.Child.{Child}
-use Rattle.btr_node.specs.declared.expect.Expect.{Expect}
-use Rattle.btr_node.proofs.Ascending.{second_ascends}
-use Rattle.btr_tree.specs.Building.{Made, with_written, AreSlots, slot, expected_at, with_node, with_item, NodeReadsBack, IsFresh}
-use Rattle.btr_tree.specs.Builder.{Building, pushed, first_key, child_of, children_of, leaf_closed, leaf_begun, IsNextSlot, item_size, IsInHand, IsIdle, Standing, leaves_of}
-use Rattle.btr_tree.specs.Packing.{capacity, packed}
-use Rattle.btr_tree.specs.Whole.{IsExact}
+use Rattle.btr_tree.proofs.Imports.{◌≡◌, ℕ, ◌+◌, ◌<◌, ◌≤◌, false, List, [], ◌∷◌, ◌++◌, length, map, get_or, Bool, Option, Some, None, refl, sym, ◌∙◌, ap, subst, arith, append_assoc, ⊎_elim, All, MatchOption, flat_map, sum_by, cases_lt, append-nil, map-append, length-map, get_or_append_left, get_or_push, length_push, flat_map-append, All-nil, All-cons, All-head, All-tail, get_or_from_slice_get, slice_get_within, ITEM_SIZE, Key, node_bytes, room, Item, IsBtrfsLeaf, items_in, keys_of, IsNodeSize, Form, Ascends, ascends, Child, Expect, second_ascends, Made, with_written, AreSlots, slot, expected_at, with_node, with_item, NodeReadsBack, IsFresh, Building, pushed, first_key, child_of, children_of, leaf_closed, leaf_begun, IsNextSlot, item_size, IsInHand, IsIdle, Standing, leaves_of, capacity, packed, IsExact}
 use Rattle.btr_tree.proofs.Groups.{packed-fits, packed-none, one_more_fits, one_more_next, ends_in}
 
 -- the keys of the leaf in hand, with the next

@@ -1,21 +1,6 @@
 -- Nodes of a tree that are exactly those of their drafts.
-use Rattle.std.proofs.Common.{◌≡◌, ◌≤◌, ◌<◌, ℕ, zero, suc, Bool, List, [], ◌∷◌, ◌++◌, length, map, take, drop, get_or, refl, sym, ◌∙◌, ap, subst, arith}
+use Rattle.btr_tree.proofs.Imports.{◌≡◌, ◌≤◌, ◌<◌, ℕ, zero, suc, Bool, List, [], ◌∷◌, ◌++◌, length, map, take, drop, get_or, refl, sym, ◌∙◌, ap, subst, arith, take-append-drop, All-nil, All-cons, All-head, All-tail, All-append, ITEM_SIZE, KEY_PTR_SIZE, Image, nritems, behind_head, child_layout, children_in, item_layout, item_of, heads_in, items_in, records_in, Child, identity, node_at, NodePointer, Made, slot, expected_at, pointer_to, first_key, child_of, children_of, AreWhole, nodes_below, IsExact, IsWhole, HasFirstKey, first_key_in}
 use Rattle.std.specs.List.{All}
-use Rattle.std.proofs.lemmas.List.{take-append-drop}
-use Rattle.std.proofs.lemmas.List.Elements.{All-nil, All-cons, All-head, All-tail, All-append}
-use Rattle.btrfs_format.specs.declared.size.TheConstants.{ITEM_SIZE, KEY_PTR_SIZE}
-use Rattle.btr_node.specs.outside.History.{Image}
-use Rattle.btr_node.specs.Head.{nritems, behind_head}
-use Rattle.btr_node.specs.Inner.{child_layout, children_in}
-use Rattle.btr_node.specs.Leaf.{item_layout, item_of, heads_in, items_in}
-use Rattle.btr_node.specs.Records.{records_in}
-use Rattle.btr_node.specs.declared.child.Child.{Child}
-use Rattle.btr_reader_walk.specs.Map.{identity, node_at}
-use Rattle.btr_reader_walk.specs.declared.tree.NodePointer.{NodePointer}
-use Rattle.btr_tree.specs.Building.{Made, slot, expected_at, pointer_to}
-use Rattle.btr_tree.specs.Builder.{first_key, child_of, children_of}
-use Rattle.btr_tree.specs.Roots.{AreWhole, nodes_below}
-use Rattle.btr_tree.specs.Whole.{IsExact, IsWhole, HasFirstKey, first_key_in}
 use Rattle.btr_tree.proofs.Meeting.{leaf_met, below_append, below_one}
 
 pub all_first : {X : Type 0} (P : X → Type 0) (xs ys : List X) → All P (xs ++ ys) → All P xs

@@ -1,23 +1,6 @@
 -- A tree that was written whole, on another disk or by another map that have the same nodes.
-use Rattle.std.proofs.Common.{◌≡◌, ◌≤◌, ℕ, zero, suc, Bool, List, [], ◌∷◌, ◌++◌, length, map, Some, refl, sym, ◌∙◌, ap, subst, arith}
-use Rattle.std.specs.List.{All, flat_map}
-use Rattle.std.proofs.lemmas.List.Elements.{All-nil, All-cons, All-head, All-tail, All-append}
-use Rattle.btr_node.specs.outside.History.{Image}
-use Rattle.btr_node.specs.refusals.declared.refusal.BtrRefusal.{BtrRefusal}
-use Rattle.btr_node.specs.refusals.declared.rule.BtrRule.{BtrRule}
-use Rattle.btr_node.specs.Leaf.{Item, items_in}
-use Rattle.btr_node.specs.Inner.{children_in}
-use Rattle.btr_node.specs.declared.child.Child.{Child}
-use Rattle.btr_reader_walk.specs.declared.tree.Form.{Form}
-use Rattle.btr_reader_walk.specs.declared.tree.NodePointer.{NodePointer}
-use Rattle.btr_reader_walk.specs.declared.map.MapRange.{MapRange}
-use Rattle.btr_reader_walk.specs.Map.{is_mapped, node_at}
-use Rattle.btr_reader_walk.specs.Node.{want, node_damages}
-use Rattle.btr_reader_walk.specs.Events.{TreeEvent, leaf_events, unless_damaged, node_events, nodes_in, walk_events, may_be_bare}
-use Rattle.btr_reader_walk.specs.Tree.{tree_items, tree_refusals, pointer_damages, at_address, when_sound, bare_item, leaf_items}
-use Rattle.btr_reader_walk.proofs.Events.{nodes_in-append, leaf_nodes}
-use Rattle.btr_reader_walk.proofs.Subtrees.{to}
-use Rattle.btr_tree.specs.Whole.{IsExact, IsWhole, IsWholeTree, HasFirstKeys, first_key_in}
+use Rattle.btr_tree.proofs.Imports.{◌≡◌, ◌≤◌, ℕ, zero, suc, Bool, List, [], ◌∷◌, ◌++◌, length, map, Some, refl, sym, ◌∙◌, ap, subst, arith, flat_map, All-nil, All-cons, All-head, All-tail, All-append, Image, BtrRefusal, BtrRule, Item, items_in, children_in, Child, Form, NodePointer, MapRange, is_mapped, node_at, want, node_damages, TreeEvent, leaf_events, unless_damaged, node_events, nodes_in, walk_events, may_be_bare, tree_items, tree_refusals, pointer_damages, at_address, when_sound, bare_item, leaf_items, nodes_in-append, leaf_nodes, to, IsExact, IsWhole, IsWholeTree, HasFirstKeys, first_key_in}
+use Rattle.std.specs.List.{All}
 use Rattle.btr_tree.proofs.Alike.{events_alike}
 use Rattle.btr_tree.proofs.Wholes.{all_first, all_second}
 

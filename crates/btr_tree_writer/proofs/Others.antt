@@ -1,22 +1,8 @@
 -- A tree on another disk that has the same blocks where its nodes lie.
-use Rattle.std.proofs.Common.{◌≡◌, ℕ, zero, suc, ◌+◌, ◌-◌, ◌/◌, ◌^◌, ◌<◌, Bool, true, false, List, [], ◌∷◌, ◌++◌, if◌then◌else◌, length, take, drop, get_or, Some, None, refl, sym, ◌∙◌, ap, subst, arith, length-drop}
-use Rattle.std.specs.List.{All, sum}
-use Rattle.std.specs.List.Sorted.{IsPermutation}
-use Rattle.std.proofs.lemmas.List.{length-take, get_or-take, get_or-drop, get_or_default}
-use Rattle.std.proofs.lemmas.List.Elements.{All-nil, All-append, All-map}
+use Rattle.btr_tree_writer.proofs.Imports.{◌≡◌, ℕ, zero, suc, ◌+◌, ◌-◌, ◌/◌, ◌^◌, ◌<◌, Bool, true, false, List, [], ◌∷◌, ◌++◌, if◌then◌else◌, length, take, drop, get_or, Some, None, refl, sym, ◌∙◌, ap, subst, arith, length-drop, All, sum, IsPermutation, length-take, get_or-take, get_or-drop, get_or_default, All-nil, All-append, All-map, sum_by-cons, Image, block_at, Form, place, holds, identity, block_of_place, blocks_at, node_at, TreeEvent, nodes_in, walk_events, tree_items, pointer_to, packed_leaves, tree_levels, level_pointers, pointers_to, lengths_of, TreesStandByNodes, pointer_to_root}
 use Rattle.std.proofs.lemmas.List.Sorted.{All-permutation, IsPermutation-sym}
-use Rattle.std.proofs.lemmas.List.Sums.{sum_by-cons}
-use Rattle.btr_tree.specs.outside.History.{Image, block_at}
-use Rattle.btr_tree.specs.btr_reader_walk.declared.tree.Form.{Form}
 use Rattle.btr_tree.specs.btr_reader_walk.declared.tree.NodePointer.{NodePointer}
-use Rattle.btr_tree.specs.btr_reader_walk.Map.{place, holds, identity, block_of_place, blocks_at, node_at}
-use Rattle.btr_tree.specs.btr_reader_walk.Events.{TreeEvent, nodes_in, walk_events}
-use Rattle.btr_tree.specs.btr_reader_walk.Tree.{tree_items}
-use Rattle.btr_tree.specs.Building.{pointer_to}
-use Rattle.btr_tree.specs.Packing.{packed_leaves, tree_levels}
-use Rattle.btr_tree.specs.Roots.{level_pointers, pointers_to, lengths_of}
 use Rattle.btr_tree.proofs.Alike.{events_alike, items_alike}
-use Rattle.btr_tree_writer.specs.Trees.{TreesStandByNodes, pointer_to_root}
 use Rattle.btr_tree.proofs.WholesAlike.{whole_alike}
 
 module _ (image other : Image) where

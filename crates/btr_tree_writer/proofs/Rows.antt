@@ -1,21 +1,6 @@
 -- Trees in one row of slots.
-use Rattle.std.proofs.Common.{◌≡◌, ◌≢◌, ℕ, ◌+◌, ◌-◌, ◌<◌, ◌≤◌, ◌%◌, ◌^◌, List, ◌++◌, length, map, take, drop, get_or, Result, Ok, Err, sym, ap, ap₂, subst, ◌∙◌, arith, length-drop}
-use Rattle.std.specs.List.{AllPairs}
-use Rattle.std.specs.Result.{IsErrAnd}
-use Rattle.std.proofs.Math.Seq.{take-add}
-use Rattle.std.proofs.lemmas.List.{map-append, get_or-drop}
-use Rattle.std.proofs.lemmas.List.Elements.{All-drop}
-use Rattle.btr_tree.specs.outside.Fault.{HasCauseOf}
-use Rattle.btr_tree.specs.btr_node.NodeSize.{IsNodeSize}
-use Rattle.btr_tree.specs.Building.{AreSlots}
-use Rattle.btr_tree.specs.Counting.{Counted, Tally, tree_nodes}
-use Rattle.btr_tree.specs.Packing.{packed_leaves, tree_levels}
-use Rattle.btr_tree.specs.Writing.{IsInSlots}
+use Rattle.btr_tree_writer.proofs.Imports.{◌≡◌, ◌≢◌, ℕ, ◌+◌, ◌-◌, ◌<◌, ◌≤◌, ◌%◌, ◌^◌, List, ◌++◌, length, map, take, drop, get_or, Result, Ok, Err, sym, ap, ap₂, subst, ◌∙◌, arith, length-drop, AllPairs, IsErrAnd, take-add, map-append, get_or-drop, All-drop, HasCauseOf, IsNodeSize, AreSlots, Counted, Tally, tree_nodes, packed_leaves, tree_levels, IsInSlots, TreeNode, upper_at, LieApart, WriteAnswer}
 use Rattle.space_items.specs.Nodes.{HasSlots, nodes_of_tree}
-use Rattle.space_items.specs.declared.node.TreeNode.{TreeNode}
-use Rattle.space_items.proofs.Ascending.{upper_at}
-use Rattle.btr_tree_writer.specs.Source.{LieApart}
-use Rattle.btr_tree_writer.specs.declared.answer.WriteAnswer.{WriteAnswer}
 use Rattle.btr_tree_writer.specs.declared.answer.WriteAnswer.TheVariants as answer
 
 -- the nodes of a tree lie at the first slots

@@ -1,33 +1,9 @@
 -- A step of writing a tree: the next item comes, and is pushed.
-use Rattle.std.proofs.Common.{◌≡◌, inl, inr, ⊎_elim, ℕ, ◌+◌, ◌-◌, ◌*◌, ◌<◌, ◌≤◌, List, [], ◌∷◌, ◌++◌, length, Some, Result, Ok, Err, refl, sym, ap, subst, ◌∙◌, arith, append_assoc}
-use Rattle.std.specs.List.{All}
-use Rattle.std.specs.Result.{IsErrAnd, MatchResult}
-use Rattle.std.proofs.lemmas.List.{append-nil}
-use Rattle.std.specs.List.Sorted.{IsPermutation}
-use Rattle.btr_tree.specs.outside.Fault.{HasCauseOf, Rose}
-use Rattle.btr_tree.specs.outside.History.{Image, History, reads, block_at, WritesOnly}
-use Rattle.btr_tree.proofs.outside.Crash.{writes_length}
+use Rattle.btr_tree_writer.proofs.Imports.{◌≡◌, inl, inr, ⊎_elim, ℕ, ◌+◌, ◌-◌, ◌*◌, ◌<◌, ◌≤◌, List, [], ◌∷◌, ◌++◌, length, Some, Result, Ok, Err, refl, sym, ap, subst, ◌∙◌, arith, append_assoc, All, IsErrAnd, MatchResult, append-nil, IsPermutation, HasCauseOf, Rose, Image, History, reads, block_at, WritesOnly, writes_length, Key, Item, Made, pointer_to, HasTree, HasWhole, tree_nodes, packed_leaves, tree_levels, MeetsNodes, level_pointers, lengths_of, IsWholeTree, IsInSlots, nodes_in, walk_events, identity, tree_items, Form, of_source, IsFailure, IsSourceFailure, IsWriteAnswer, LieApart, SameWhere, TreeStands, pointer_to_root, WriteAnswer}
 use Rattle.btr_tree.proofs.outside.Phases.{reads_outside}
 use Rattle.btr_tree.specs.refusals.declared.answer.VolAnswer.{VolAnswer}
-use Rattle.btr_tree.specs.refusals.declared.answer.VolAnswer.TheVariants as source
-use Rattle.btr_tree.specs.btr_keys.declared.key.Key.{Key}
-use Rattle.btr_tree.specs.btr_node.Leaf.{Item}
-use Rattle.btr_tree.specs.Building.{Made, pointer_to}
-use Rattle.btr_tree.specs.Builder.{HasTree, HasWhole}
-use Rattle.btr_tree.specs.Counting.{tree_nodes}
-use Rattle.btr_tree.specs.Packing.{packed_leaves, tree_levels}
-use Rattle.btr_tree.specs.Roots.{MeetsNodes, level_pointers, lengths_of}
-use Rattle.btr_tree.specs.Whole.{IsWholeTree}
-use Rattle.btr_tree.specs.Writing.{IsInSlots}
 use Rattle.btr_tree.specs.declared.climb.Root.{Root}
-use Rattle.btr_tree.specs.btr_reader_walk.Events.{nodes_in, walk_events}
-use Rattle.btr_tree.specs.btr_reader_walk.Map.{identity}
-use Rattle.btr_tree.specs.btr_reader_walk.Tree.{tree_items}
-use Rattle.btr_tree.specs.btr_reader_walk.declared.tree.Form.{Form}
-use Rattle.btr_tree_writer.specs.Answers.{of_source, IsFailure, IsSourceFailure, IsWriteAnswer}
-use Rattle.btr_tree_writer.specs.Source.{LieApart, SameWhere}
-use Rattle.btr_tree_writer.specs.Trees.{TreeStands, pointer_to_root}
-use Rattle.btr_tree_writer.specs.declared.answer.WriteAnswer.{WriteAnswer}
+use Rattle.btr_tree.specs.refusals.declared.answer.VolAnswer.TheVariants as source
 use Rattle.btr_tree_writer.specs.declared.answer.WriteAnswer.TheVariants as answer
 
 fault_back : {T : Type 0} (r : Result T WriteAnswer) (a : VolAnswer) → IsErrAnd r (λ e. e ≡ of_source a) → r ≡ Err answer.Fault → a ≡ source.Fault

@@ -1,25 +1,8 @@
 -- What a crash leaves in each phase of a conversion.
-use Rattle.std.proofs.Common.{◌≡◌, ◌≢◌, ◌∙◌, ◌⊎◌, inl, inr, ⊎_elim, ℕ, ◌≤◌, ◌<◌, ◌+◌, List, length, refl, sym, ap, subst, arith}
-use Rattle.reiser_volume.specs.vol_block.declared.format.Format.TheVariants.{Btrfs}
-use Rattle.reiser_volume.specs.vol_block.declared.ids.Ids.{Ids}
-use Rattle.reiser_volume.specs.outside.Format.{format_in}
-use Rattle.reiser_volume.specs.outside.History.{Image, History, IsSettled, LeftSince, WritesOnly, block_at, clock, reads}
-use Rattle.reiser_volume.proofs.outside.Crash.{left_each, writes_length, writes_none}
-use Rattle.reiser_volume.proofs.outside.Phases.{left_outside, left_then, left_unwritten, reads_outside}
-use Rattle.unit_plan.specs.btr_node.NodeSize.{IsNodeSize}
-use Rattle.convert_steps.specs.Source.{HasPieces}
-use Rattle.convert_steps.specs.Switch.{HasCopies, IsMirror, IsSwitchPart, IsSwitched}
-use Rattle.reiser_volume.specs.reiser_super.declared.superblock.Super.{Super}
-use Rattle.reiser_volume.specs.Volume.{superblock, used_of}
-use Rattle.reiser_volume.proofs.Holding.{used_length}
-use Rattle.convert_options.specs.declared.options.Options.{Options}
-use Rattle.convert_core.specs.Converted.{DiffersInFree, KeepsOldVolume, IsConverted, IsConvertible, IsEither, IsFree, IsNew, IsPutDown}
-use Rattle.convert_core.specs.declared.volume.Written.{Written}
+use Rattle.convert_core.proofs.Imports.{◌≡◌, ◌≢◌, ◌∙◌, ◌⊎◌, inl, inr, ⊎_elim, ℕ, ◌≤◌, ◌<◌, ◌+◌, List, length, refl, sym, ap, subst, arith, Btrfs, Ids, format_in, Image, History, IsSettled, LeftSince, WritesOnly, block_at, clock, reads, left_each, writes_length, writes_none, left_outside, left_then, left_unwritten, reads_outside, IsNodeSize, HasPieces, HasCopies, IsMirror, IsSwitchPart, IsSwitched, Super, superblock, used_of, used_length, Options, DiffersInFree, KeepsOldVolume, IsConverted, IsConvertible, IsEither, IsFree, IsNew, IsPutDown, Written, GoesOn, goes_on}
 use Rattle.convert_core.proofs.Putting.{convertible, free_before, node_free, piece_some, used_not_free}
 use Rattle.convert_core.proofs.Reserved.{free_apart, piece_apart, switch_reserved}
 use Rattle.convert_core.proofs.Standing.{InNodes, InPieces, stands_stay}
-use Rattle.first_sync.specs.Synced.{GoesOn}
-use Rattle.first_sync.proofs.Synced.{goes_on}
 
 -- while free blocks alone are written, a crash leaves the old volume
 pub free_crash : (h₀ h₁ : History) → IsSettled h₀ → WritesOnly (λ b _. IsFree (reads h₀) b) h₀ h₁ → (other : Image) → LeftSince (clock h₀) h₁ other → KeepsOldVolume (reads h₀) other

@@ -1,16 +1,8 @@
 -- The answers of a conversion.
-use Rattle.std.proofs.Common.{◌≡◌, ◌≢◌, ◌⊎◌, ℕ, Ok, Err, sym, subst, ⊎_elim, rules}
-use Rattle.std.specs.Prelude.{IfErr, Result}
+use Rattle.convert_core.proofs.Imports.{◌≡◌, ◌≢◌, ◌⊎◌, ℕ, Ok, Err, sym, subst, ⊎_elim, rules, IfErr, Result, Btrfs, format_in, Image, Answer, IsPrepareAnswer, RefusesConversion, Options, IsConvertAnswer, RefusesConvert}
 use Rattle.std.specs.Result.{MatchResult}
 use Rattle.reiser_volume.specs.outside.Fault.{HasCauseOf}
-use Rattle.reiser_volume.specs.vol_block.declared.format.Format.TheVariants.{Btrfs}
-use Rattle.reiser_volume.specs.outside.Format.{format_in}
-use Rattle.reiser_volume.specs.outside.History.{Image}
-use Rattle.convert_steps.specs.command_answers.declared.answer.Answer.{Answer}
 use Rattle.convert_steps.specs.command_answers.declared.answer.Answer.TheVariants as answer
-use Rattle.convert_steps.specs.Prepared.{IsPrepareAnswer, RefusesConversion}
-use Rattle.convert_options.specs.declared.options.Options.{Options}
-use Rattle.convert_core.specs.Answers.{IsConvertAnswer, RefusesConvert}
 
 -- a volume that is not prepared is not converted
 pub refuses : (o : Options) (image : Image) (a : Answer) → format_in image ≢ Btrfs → RefusesConversion image o a → RefusesConvert o image a

@@ -1,44 +1,12 @@
 -- The pieces of a volume with a plan: where they lie, and that they can be written.
-use Rattle.std.proofs.Common.{◌≡◌, ◌≢◌, ◌⊎◌, ◌≤◌, ◌<◌, ℕ, ◌+◌, ◌-◌, ◌/◌, ◌^◌, inl, inr, ◌||◌, Bool, true, false, List, [], ◌∷◌, ◌++◌, length, map, filter, take, drop, Option, Some, None, if◌then◌else◌, refl, sym, ap, subst, ◌∙◌, ⊎_elim, arith}
-use Rattle.std.specs.Prelude.{All, Contains, MatchOption}
-use Rattle.std.proofs.lemmas.Bool.{both_ways, cases_eq, or_cases, or_left, or_right}
-use Rattle.std.proofs.lemmas.List.Elements.{All-append, All-cons, All-contains, All-drop, All-head, All-nil, All-tail, All-take, All-weaker}
-use Rattle.std.proofs.lemmas.List.Sorted.{Contains-permutation, IsPermutation-sym}
-use Rattle.indexmap.specs.IndexMap.{keys}
-use Rattle.reiser_volume.proofs.fs_paths.Lists.{from_flat_map, from_map}
-use Rattle.reiser_volume.specs.outside.History.{Image}
-use Rattle.reiser_volume.specs.reiser_bitmap.Bits.{has}
-use Rattle.reiser_volume.specs.reiser_bitmap.Units.{IsFreeUnit}
-use Rattle.reiser_volume.proofs.reiser_bitmap.Ranges.{all_from_contains}
+use Rattle.convert_core.proofs.Imports.{◌≡◌, ◌≢◌, ◌⊎◌, ◌≤◌, ◌<◌, ℕ, ◌+◌, ◌-◌, ◌/◌, ◌^◌, inl, inr, ◌||◌, Bool, true, false, List, [], ◌∷◌, ◌++◌, length, map, filter, take, drop, Option, Some, None, refl, sym, ap, subst, ◌∙◌, ⊎_elim, arith, All, Contains, MatchOption, both_ways, cases_eq, or_cases, or_left, or_right, All-append, All-cons, All-contains, All-drop, All-head, All-nil, All-tail, All-take, All-weaker, Contains-permutation, IsPermutation-sym, keys, from_flat_map, from_map, Image, has, IsFreeUnit, all_from_contains, ObjectKey, used_of, volume_items, Volume, used_length, is_among, is_chosen, AreUnitsApart, IsSoundPlan, need, Options, Piece, Plan, plans_sound, FileAt, file_blocks, file_tails, has_tail, is_file_inline, owner, tails, files_of, CoverUsed, HoldsUsed, IsKeptPiece, LieWell, LiesInUnit, Owners, copied_pieces, kept_pieces, tail_piece, WerePlaced, at_place, at_places, blocks_of_units, all_at, all_map, kept_are_maximal, at_second, at_third, HasPieces, CanMove, HasOwner, IsMovedTo, IsMovedPlace, IsMirror, IsFree, IsTaken}
+use Rattle.std.proofs.Common.{if◌then◌else◌}
 use Rattle.reiser_volume.specs.reiser_volume_names.Names.{ino_of_key}
-use Rattle.reiser_volume.specs.reiser_volume_objects.declared.key.ObjectKey.{ObjectKey}
-use Rattle.reiser_volume.specs.Volume.{used_of, volume_items}
-use Rattle.reiser_volume.specs.declared.volume.Volume.{Volume}
-use Rattle.reiser_volume.proofs.Holding.{used_length}
-use Rattle.unit_plan.specs.Choice.{is_among, is_chosen}
-use Rattle.unit_plan.specs.Laws.{AreUnitsApart, IsSoundPlan}
-use Rattle.unit_plan.specs.Needed.{need}
-use Rattle.convert_options.specs.declared.options.Options.{Options}
-use Rattle.unit_plan.specs.declared.piece.Piece.{Piece}
-use Rattle.unit_plan.specs.declared.plan.Plan.{Plan}
-use Rattle.unit_plan.proofs.Sound.{plans_sound}
 use Rattle.unit_plan.proofs.Starts.{among_contains, contains_among}
-use Rattle.extent_pieces.specs.Files.{FileAt, file_blocks, file_tails, has_tail, is_file_inline, owner, tails}
-use Rattle.extent_pieces.specs.Found.{files_of}
-use Rattle.extent_pieces.specs.Laws.{CoverUsed, HoldsUsed, IsKeptPiece, LieWell, LiesInUnit}
-use Rattle.extent_pieces.specs.Pieces.{Owners, copied_pieces, kept_pieces, tail_piece}
-use Rattle.extent_pieces.specs.Placed.{WerePlaced, at_place, at_places, blocks_of_units}
 use Rattle.extent_pieces.specs.declared.tail.Tail.{Tail}
 use Rattle.extent_pieces.proofs.Apart.{places_are_apart}
 use Rattle.extent_pieces.proofs.Covering.{IsCopied, is_copied_piece, pieces_cover_used}
-use Rattle.extent_pieces.proofs.Lists.{all_at, all_map}
-use Rattle.extent_pieces.proofs.Maximal.{kept_are_maximal}
 use Rattle.extent_pieces.proofs.Once.{IsFileOf, file_of}
-use Rattle.extent_pieces.proofs.Reserving.{at_second, at_third}
-use Rattle.convert_steps.specs.Source.{HasPieces}
-use Rattle.convert_steps.specs.Moved.{CanMove, HasOwner, IsMovedTo, IsMovedPlace}
-use Rattle.convert_steps.specs.Switch.{IsMirror}
-use Rattle.convert_core.specs.Converted.{IsFree, IsTaken}
 use Rattle.convert_core.proofs.One.{ascending_one}
 
 -- ---- what holds of pieces wherever they lie

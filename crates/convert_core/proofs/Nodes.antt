@@ -1,22 +1,9 @@
 -- What the trees of what was prepared may be written by.
-use Rattle.std.proofs.Common.{◌≤◌, ℕ, ◌+◌, Bool, List, [], ◌∷◌, length, subst, arith}
-use Rattle.std.specs.Prelude.{All}
-use Rattle.std.specs.List.{range_with_len}
+use Rattle.convert_core.proofs.Imports.{◌≤◌, ℕ, ◌+◌, Bool, List, [], ◌∷◌, length, subst, arith, All, range_with_len, All-head, All-tail, free_units, is_free_unit, unit_count, IsSmallNeed, FitsVolume, IsSoundPlan, Need, Piece, plans_sound, HasPlanFor, Prepared, IsWhole}
 use Rattle.std.proofs.lemmas.List.FromFn.{length-range_with_len}
-use Rattle.std.proofs.lemmas.List.Elements.{All-head, All-tail}
 use Rattle.extent_pieces.proofs.Bounding.{filter_few}
-use Rattle.reiser_volume.specs.reiser_bitmap.Units.{free_units, is_free_unit, unit_count}
-use Rattle.unit_plan.specs.Choice.{IsSmallNeed}
-use Rattle.unit_plan.specs.Chunks.{FitsVolume}
-use Rattle.unit_plan.specs.Laws.{IsSoundPlan}
-use Rattle.unit_plan.specs.declared.need.Need.{Need}
-use Rattle.unit_plan.specs.declared.piece.Piece.{Piece}
-use Rattle.unit_plan.proofs.Sound.{plans_sound}
 use Rattle.unit_plan.proofs.Uses.{plans_fit}
 use Rattle.convert_trees.specs.Sources.{pieces_end}
-use Rattle.convert_steps.specs.Prepared.{HasPlanFor}
-use Rattle.convert_steps.specs.declared.prepared.Prepared.{Prepared}
-use Rattle.convert_core.specs.Whole.{IsWhole}
 
 -- pieces that lie below a number end there or before
 end_low : (n : ℕ) (pieces : List Piece) → All (λ q. q.place + q.count ≤ n) pieces → pieces_end pieces ≤ n

@@ -1,39 +1,9 @@
 -- All of a new volume is written but its superblock.
-use Rattle.std.proofs.Common.{◌≡◌, ◌∙◌, ◌⊎◌, ℕ, ◌+◌, ◌≤◌, ◌<◌, List, length, refl, sym, ap, subst, ⊎_elim, true≢false}
-use Rattle.std.specs.Prelude.{Contains, true}
-use Rattle.indexmap.specs.IndexMap.{keys}
-use Rattle.reiser_volume.specs.vol_block.declared.ids.Ids.{Ids}
-use Rattle.reiser_volume.specs.outside.History.{Image, History, WritesOnly, block_at, reads}
-use Rattle.reiser_volume.proofs.outside.Crash.{writes_length, writes_weaker}
-use Rattle.reiser_volume.proofs.outside.Phases.{reads_outside}
-use Rattle.unit_plan.specs.btr_node.NodeSize.{IsNodeSize}
+use Rattle.convert_core.proofs.Imports.{◌≡◌, ◌∙◌, ◌⊎◌, ℕ, ◌+◌, ◌≤◌, ◌<◌, List, length, refl, sym, ap, subst, ⊎_elim, true≢false, Contains, keys, Ids, Image, History, WritesOnly, block_at, reads, writes_length, writes_weaker, reads_outside, IsNodeSize, IsInSlots, IsMaking, Making, label_by, label_field, new_ids, HasPieces, AllFit, HasTrees, IsFor, SameVolume, used_bytes, VolumeTrees, HoldMoved, IsMovedPlace, IsPrepared, new_super, Prepared, all_at, has, links_in, used_of, Volume, TreeNode, AreChunks, node_places, PlannedChunk, Options, Piece, Plan, KeepsOldVolume, IsConvertible, IsFree, IsPutDown, IsTaken, StandsConverted, IsSummary, summary_by, Written}
+use Rattle.std.specs.Prelude.{true}
 use Rattle.convert_steps.specs.btr_super.Super.{super_bytes}
-use Rattle.unit_plan.specs.btr_tree.Writing.{IsInSlots}
-use Rattle.convert_steps.specs.Making.{IsMaking, Making, label_by, label_field, new_ids}
-use Rattle.convert_steps.specs.Source.{HasPieces}
-use Rattle.convert_steps.specs.Standing.{AllFit, HasTrees, IsFor, SameVolume, used_bytes}
-use Rattle.convert_steps.specs.declared.trees.VolumeTrees.{VolumeTrees}
-use Rattle.convert_steps.specs.Moved.{HoldMoved, IsMovedPlace}
-use Rattle.convert_steps.specs.Prepared.{IsPrepared}
-use Rattle.convert_steps.specs.Superblock.{new_super}
-use Rattle.convert_steps.specs.declared.prepared.Prepared.{Prepared}
-use Rattle.extent_pieces.proofs.Lists.{all_at}
-use Rattle.reiser_volume.specs.reiser_bitmap.Bits.{has}
-use Rattle.reiser_volume.specs.Opened.{links_in}
-use Rattle.reiser_volume.specs.Volume.{used_of}
-use Rattle.reiser_volume.specs.declared.volume.Volume.{Volume}
 use Rattle.convert_steps.specs.space_items.Laws.{AreIds}
-use Rattle.convert_steps.specs.space_items.declared.node.TreeNode.{TreeNode}
 use Rattle.convert_trees_laws.specs.Bounds.{PlansSuffice}
-use Rattle.unit_plan.specs.Chunks.{AreChunks}
-use Rattle.unit_plan.specs.Places.{node_places}
-use Rattle.unit_plan.specs.declared.chunk.PlannedChunk.{PlannedChunk}
-use Rattle.convert_options.specs.declared.options.Options.{Options}
-use Rattle.unit_plan.specs.declared.piece.Piece.{Piece}
-use Rattle.unit_plan.specs.declared.plan.Plan.{Plan}
-use Rattle.convert_core.specs.Converted.{KeepsOldVolume, IsConvertible, IsFree, IsPutDown, IsTaken, StandsConverted}
-use Rattle.convert_core.specs.Surveyed.{IsSummary, summary_by}
-use Rattle.convert_core.specs.declared.volume.Written.{Written}
 use Rattle.convert_core.proofs.Moving.{metadata_free, metadata_taken, piece_not_metadata, piece_not_system, place_free, place_taken, system_free, system_taken, well}
 use Rattle.convert_core.proofs.Slots.{slot_unit}
 use Rattle.convert_core.proofs.Standing.{InPieces, other_sums, pieces_stay, sums_stay}

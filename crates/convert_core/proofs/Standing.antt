@@ -1,27 +1,14 @@
 -- What stands on a disk goes on standing while none of its blocks is written.
-use Rattle.std.proofs.Common.{◌≡◌, ◌∙◌, ◌⊎◌, inl, inr, ℕ, ◌+◌, ◌-◌, ◌^◌, ◌<◌, ◌≤◌, List, [], ◌++◌, length, take, drop, sym, ap, subst, arith, length-drop}
-use Rattle.std.specs.Prelude.{Contains, if◌then◌else◌}
+use Rattle.convert_core.proofs.Imports.{◌≡◌, ◌∙◌, ◌⊎◌, inl, inr, ℕ, ◌+◌, ◌-◌, ◌^◌, ◌<◌, ◌≤◌, List, [], ◌++◌, length, take, drop, sym, ap, subst, arith, length-drop, Contains, if◌then◌else◌, CHUNK_TREE, CONV_IMAGE_SUBVOL, CSUM_TREE, DATA_RELOC_TREE, DEV_TREE, EXTENT_TREE, FS_TREE, ROOT_TREE, Image, block_at, Item, IsInSlots, Making, new_ids, chunk_slots, slots, HasTrees, device_from, extents_from, file_tree_items, form, image_from, image_tree_items, nodes_from, relocation_from, root_from, root_tree_items, sum_tree_items, sums_from, VolumeTrees, HoldMoved, chunk_items, device_items, TreeNode, Piece, StandsConverted}
 use Rattle.std.proofs.lemmas.List.{get_or-drop}
-use Rattle.btrfs_format.specs.declared.object.TheConstants.{CHUNK_TREE, CONV_IMAGE_SUBVOL, CSUM_TREE, DATA_RELOC_TREE, DEV_TREE, EXTENT_TREE, FS_TREE, ROOT_TREE}
-use Rattle.reiser_volume.specs.outside.History.{Image, block_at}
-use Rattle.unit_plan.specs.btr_node.Leaf.{Item}
 use Rattle.unit_plan.specs.btr_tree.Roots.{lengths_of}
-use Rattle.unit_plan.specs.btr_tree.Writing.{IsInSlots}
 use Rattle.unit_plan.specs.btr_tree.declared.climb.Root.{Root}
-use Rattle.convert_steps.specs.Making.{Making, new_ids, chunk_slots, slots}
-use Rattle.convert_steps.specs.Standing.{HasTrees, device_from, extents_from, file_tree_items, form, image_from, image_tree_items, nodes_from, relocation_from, root_from, root_tree_items, sum_tree_items, sums_from}
-use Rattle.convert_steps.specs.declared.trees.VolumeTrees.{VolumeTrees}
-use Rattle.convert_steps.specs.Moved.{HoldMoved}
 use Rattle.convert_steps.specs.file_items.Small.{relocation_items}
-use Rattle.convert_steps.specs.space_items.Chunks.{chunk_items, device_items}
 use Rattle.convert_steps.specs.space_items.Extents.{extent_items}
 use Rattle.convert_steps.specs.space_items.Nodes.{merged_nodes, nodes_of_tree}
-use Rattle.convert_steps.specs.space_items.declared.node.TreeNode.{TreeNode}
 use Rattle.btr_tree_writer.specs.Trees.{TreeStands}
 use Rattle.btr_tree_writer.proofs.Others.{by_nodes}
 use Rattle.btr_tree_writer.proofs.Pushing.{in_all}
-use Rattle.unit_plan.specs.declared.piece.Piece.{Piece}
-use Rattle.convert_core.specs.Converted.{StandsConverted}
 use Rattle.convert_core.proofs.Sums.{sums_same}
 
 -- a block of later slots is one of all

@@ -1,39 +1,14 @@
 -- What the ReiserFS volume has for a file or a symlink, by where its blocks lie.
-use Rattle.std.proofs.Common.{◌≡◌, ◌≤◌, ◌<◌, ℕ, ◌+◌, ◌-◌, ◌*◌, ◌/◌, ◌%◌, ◌^◌, ◌&&◌, nat_le, Bool, true, false, List, ◌++◌, length, get_or, take, All, Option, Some, None, if◌then◌else◌, refl, sym, ap, subst, ◌∙◌, ⊎_elim, true≢false, arith}
-use Rattle.std.proofs.lemmas.Bool.{and_parts, cases_lt, false≢true, le-ltb, leb-true}
-use Rattle.std.proofs.lemmas.List.{get_or_append_left, get_or-append_right, get_or_past, get_or-replicate, get_or-take, length-take}
-use Rattle.std.proofs.lemmas.List.Elements.{All-contains}
-use Rattle.reiser_volume.specs.outside.History.{Image}
-use Rattle.reiser_volume.specs.vol_block.Volume.{zeros}
-use Rattle.reiser_volume.specs.fs_rows.Kinds.{has_bytes}
-use Rattle.reiser_volume.specs.fs_rows.declared.row.Kind.{Kind}
-use Rattle.reiser_volume.specs.fs_rows.declared.row.Kind.TheVariants.{Directory, File, Symlink, Character, Block, Fifo, Socket, Subvolume}
+use Rattle.convert_core_laws.proofs.Imports.{◌≡◌, ◌≤◌, ◌<◌, ℕ, ◌+◌, ◌-◌, ◌*◌, ◌/◌, ◌%◌, ◌^◌, ◌&&◌, nat_le, Bool, true, false, List, ◌++◌, length, get_or, take, Option, Some, None, refl, sym, ap, subst, ◌∙◌, ⊎_elim, true≢false, arith, and_parts, cases_lt, false≢true, le-ltb, leb-true, get_or_append_left, get_or-append_right, get_or_past, get_or-replicate, get_or-take, length-take, All-contains, Image, zeros, has_bytes, Kind, Directory, File, Symlink, Character, Block, Fifo, Socket, Subvolume, byte_at, from_filter, ReiserItem, RunFrom, Disk, Tail, IsAligned, content, file_byte, file_bytes, named_block, tail_block, target_bytes, IsNoIndirect, held_from, up_to_size, block_from, disk_or_hole, is_held, ObjectKey, ObjectStat, items_of, object_key_of, same_key, fits_size, may_have, IsNamed, IsObject, kind_there, stat_there, stays_in_tree, is_tail, kind_by, stat_at, IsAccepted, superblock, reiser_tree_of, used_of, volume_items, used_length}
+use Rattle.std.proofs.Common.{All, if◌then◌else◌}
+use Rattle.reiser_volume.specs.reiser_volume_files.Bytes.{file_block}
 use Rattle.reiser_volume.proofs.fs_rows.FileMarks.{below_size, short_is}
-use Rattle.reiser_volume.proofs.fs_rows.Functions.{byte_at}
-use Rattle.reiser_volume.proofs.fs_paths.Lists.{from_filter}
 use Rattle.reiser_volume.specs.reiser_node.declared.head.ItemKind.TheVariants.{Indirect}
-use Rattle.reiser_volume.specs.reiser_walk.Items.{ReiserItem}
 use Rattle.reiser_volume.specs.reiser_walk.Laws.{FitsHead}
 use Rattle.reiser_volume.specs.reiser_walk.Tree.{items_of_tree}
 use Rattle.reiser_volume.proofs.reiser_walk.Rules.{sound_exactly}
-use Rattle.reiser_volume.specs.reiser_volume_files.declared.map.RunFrom.{RunFrom}
-use Rattle.reiser_volume.specs.reiser_volume_files.declared.map.RunFrom.TheVariants.{Disk, Tail}
-use Rattle.reiser_volume.specs.reiser_volume_files.Bytes.{IsAligned, content, file_block, file_byte, file_bytes, named_block, tail_block, target_bytes}
-use Rattle.reiser_volume.specs.reiser_volume_files.Laws.{IsNoIndirect, held_from, up_to_size}
-use Rattle.reiser_volume.specs.reiser_volume_files.Runs.{block_from, disk_or_hole, is_held}
 use Rattle.reiser_volume.proofs.reiser_volume_files.Sorts.{blocks_held, target_is}
 use Rattle.reiser_volume.proofs.reiser_volume_contents.Files.{aligned_by}
-use Rattle.reiser_volume.specs.reiser_volume_objects.declared.key.ObjectKey.{ObjectKey}
-use Rattle.reiser_volume.specs.reiser_volume_objects.declared.stat.ObjectStat.{ObjectStat}
-use Rattle.reiser_volume.specs.reiser_volume_objects.Keys.{items_of, object_key_of, same_key}
-use Rattle.reiser_volume.specs.reiser_volume_objects.Kinds.{fits_size, may_have}
-use Rattle.reiser_volume.specs.reiser_volume_objects.Names.{IsNamed}
-use Rattle.reiser_volume.specs.reiser_volume_objects.Rules.{IsObject}
-use Rattle.convert_core.proofs.extent_pieces.Once.{kind_there, stat_there}
-use Rattle.reiser_volume.specs.Inline.{stays_in_tree, is_tail}
-use Rattle.reiser_volume.specs.Made.{kind_by, stat_at}
-use Rattle.reiser_volume.specs.Volume.{IsAccepted, superblock, reiser_tree_of, used_of, volume_items}
-use Rattle.reiser_volume.proofs.Holding.{used_length}
 use Rattle.reiser_volume.proofs.Leading.{all_of, fits_each}
 use Rattle.reiser_volume.proofs.SameRows.{none_saves}
 

@@ -1,53 +1,9 @@
 -- The bytes of a named file or symlink are those that the volume had.
-use Rattle.std.proofs.Common.{◌≡◌, ◌≢◌, ◌≤◌, ◌<◌, ℕ, ◌+◌, ◌-◌, ◌*◌, ◌/◌, ◌%◌, ◌^◌, ◌==◌, ◌&&◌, nat_le, nat_lt, inl, Bool, true, false, List, [], ◌∷◌, length, map, filter, get_or, Option, Some, None, refl, sym, ap, subst, ◌∙◌, ⊎_elim, if◌then◌else◌, arith}
-use Rattle.std.specs.Prelude.{Contains, MatchOption}
-use Rattle.std.specs.List.{AllByRecursion, range_with_len}
-use Rattle.std.specs.Option.{option_map_or}
-use Rattle.std.proofs.lemmas.Bool.{cases_lt}
-use Rattle.std.proofs.lemmas.Bool.Decides.{nat_tests}
-use Rattle.std.proofs.lemmas.List.{get_or-replicate}
-use Rattle.indexmap.specs.IndexMap.{keys}
-use Rattle.reiser_volume.specs.outside.History.{Image, block_at}
-use Rattle.btr_reader.specs.btr_reader_contents.Extents.{extents_of, file_byte as byte_on}
-use Rattle.btr_reader.specs.btr_node.Leaf.{Item}
-use Rattle.btr_reader.specs.btr_reader_walk.Tree.{bare_item}
-use Rattle.btr_reader.specs.btr_reader_walk.declared.map.MapRange.{MapRange}
-use Rattle.convert_core.specs.convert_steps.Source.{HasExtents, HasPieces, HoldFiles, ComesFrom, in_piece, made_from}
+use Rattle.convert_core_laws.proofs.Imports.{◌≡◌, ◌≢◌, ◌≤◌, ◌<◌, ℕ, ◌+◌, ◌-◌, ◌*◌, ◌/◌, ◌%◌, ◌^◌, ◌==◌, ◌&&◌, nat_le, nat_lt, inl, Bool, true, false, List, [], ◌∷◌, length, map, filter, get_or, Option, Some, None, refl, sym, ap, subst, ◌∙◌, ⊎_elim, arith, Contains, MatchOption, AllByRecursion, range_with_len, option_map_or, cases_lt, nat_tests, get_or-replicate, keys, Image, block_at, extents_of, Item, bare_item, MapRange, HasExtents, HasPieces, HoldFiles, ComesFrom, in_piece, made_from, can_move, well, piece_apart, AreSortedKeys, all_at, numbered, inodes_apart, two_cases, extents_at, file_block, is_owned_by, pieces_of, Source, file_extent_items, inline_in, kind_in, ino_of, size_in, fs_tree_items, FilesAreHeld, has_bytes, File, byte_at, length_bytes, same_bytes, extent_item, inline_extent, RunFrom, Disk, Tail, file_byte, tail_block, target_bytes, held_from, block_from, ino_of_key, ObjectKey, items_of, IsNamed, used_of, volume_items, Volume, accepted_is_small, used_length, ReiserItem, Options, Piece, Plan, BytesAreKept, MapsPieces, PiecesStand, ExtentsKeepRules}
+use Rattle.std.proofs.Common.{if◌then◌else◌}
+use Rattle.btr_reader.specs.btr_reader_contents.Extents.{file_byte as byte_on}
 use Rattle.convert_core.specs.convert_steps.Moved.{HoldMoved}
-use Rattle.convert_core.proofs.Moving.{can_move, well}
-use Rattle.convert_core.proofs.Reserved.{piece_apart}
-use Rattle.convert_core.specs.extent_pieces.Laws.{AreSortedKeys}
-use Rattle.convert_core.proofs.extent_pieces.Lists.{all_at}
-use Rattle.convert_core.proofs.extent_pieces.Named.{numbered}
-use Rattle.convert_core.proofs.extent_pieces.Once.{inodes_apart}
-use Rattle.convert_core.proofs.extent_pieces.Owning.{two_cases}
-use Rattle.convert_core.specs.file_items.Extents.{extents_at, file_block, is_owned_by, pieces_of}
-use Rattle.convert_core.specs.file_items.Tree.{Source, file_extent_items, inline_in, kind_in, ino_of, size_in, fs_tree_items}
-use Rattle.convert_trees_laws.specs.Held.{FilesAreHeld}
 use Rattle.reiser_volume.specs.fs_rows.Bytes.{bytes_by}
-use Rattle.reiser_volume.specs.fs_rows.Kinds.{has_bytes}
-use Rattle.reiser_volume.specs.fs_rows.declared.row.Kind.TheVariants.{File}
-use Rattle.reiser_volume.proofs.fs_rows.Functions.{byte_at, length_bytes, same_bytes}
-use Rattle.convert_core.specs.btr_item_list.Extents.{extent_item, inline_extent}
-use Rattle.reiser_volume.specs.reiser_volume_files.declared.map.RunFrom.{RunFrom}
-use Rattle.reiser_volume.specs.reiser_volume_files.declared.map.RunFrom.TheVariants.{Disk, Tail}
-use Rattle.reiser_volume.specs.reiser_volume_files.Bytes.{file_byte, tail_block, target_bytes}
-use Rattle.reiser_volume.specs.reiser_volume_files.Laws.{held_from}
-use Rattle.reiser_volume.specs.reiser_volume_files.Runs.{block_from}
-use Rattle.reiser_volume.specs.reiser_volume_names.Names.{ino_of_key}
-use Rattle.reiser_volume.specs.reiser_volume_objects.declared.key.ObjectKey.{ObjectKey}
-use Rattle.reiser_volume.specs.reiser_volume_objects.Keys.{items_of}
-use Rattle.reiser_volume.specs.reiser_volume_objects.Names.{IsNamed}
-use Rattle.reiser_volume.specs.Volume.{used_of, volume_items}
-use Rattle.reiser_volume.specs.declared.volume.Volume.{Volume}
-use Rattle.reiser_volume.proofs.Bounds.{accepted_is_small}
-use Rattle.reiser_volume.proofs.Holding.{used_length}
-use Rattle.reiser_volume.specs.reiser_walk.Items.{ReiserItem}
-use Rattle.convert_core.specs.convert_options.declared.options.Options.{Options}
-use Rattle.convert_core.specs.unit_plan.declared.piece.Piece.{Piece}
-use Rattle.convert_core.specs.unit_plan.declared.plan.Plan.{Plan}
-use Rattle.convert_core_laws.specs.Kept.{BytesAreKept, MapsPieces, PiecesStand}
-use Rattle.convert_core_laws.specs.Sound.{ExtentsKeepRules}
 use Rattle.convert_core_laws.proofs.Holding.{StaysInTree, held_byte, other_is_file, stays, up_to_byte}
 use Rattle.convert_core_laws.proofs.Owned.{any_extents, extents_found}
 use Rattle.convert_core_laws.proofs.Pieces.{Fits, all_of_inode, covers_byte, one_of_inode, piece_byte, placed_byte, read_pieces}

@@ -1,37 +1,7 @@
 -- The chunks of a conversion map each address of a piece to its place.
-use Rattle.std.proofs.Common.{◌≡◌, ◌≤◌, ◌<◌, ℕ, ◌+◌, ◌-◌, ◌*◌, ◌/◌, ◌&&◌, ◌||◌, not, nat_le, nat_lt, inl, inr, Bool, true, false, List, [], ◌∷◌, length, Option, Some, None, if◌then◌else◌, refl, sym, ap, subst, ◌∙◌, ⊎_elim, arith}
-use Rattle.std.specs.Prelude.{Contains}
-use Rattle.std.specs.List.{range_with_len}
-use Rattle.std.proofs.lemmas.Bool.{and_from, cases_lt, not_from_false, or_left, or_right}
-use Rattle.std.proofs.lemmas.Bool.Decides.{nat_tests}
-use Rattle.std.proofs.lemmas.List.Folds.{list_any-from_Any}
-use Rattle.reiser_volume.specs.outside.History.{Image}
-use Rattle.reiser_volume.specs.vol_block.Volume.{is_reserved}
-use Rattle.btr_reader.specs.btr_reader_walk.Map.{holds, place}
-use Rattle.btr_reader.specs.btr_reader_walk.declared.map.MapRange.{MapRange}
-use Rattle.convert_core.specs.convert_steps.Source.{HasPieces}
-use Rattle.convert_core.proofs.Moving.{can_move, stays_or_moves, well}
-use Rattle.convert_core.proofs.Reserved.{piece_apart}
-use Rattle.convert_core.specs.extent_pieces.Laws.{LiesInUnit}
-use Rattle.convert_core.proofs.extent_pieces.Lists.{all_at}
-use Rattle.convert_core.proofs.extent_pieces.Reserving.{reserved_no}
-use Rattle.reiser_volume.specs.reiser_bitmap.Bits.{has}
-use Rattle.reiser_volume.proofs.reiser_bitmap.Ranges.{contains_cases, contains_head, contains_range, contains_tail}
+use Rattle.convert_core_laws.proofs.Imports.{◌≡◌, ◌≤◌, ◌<◌, ℕ, ◌+◌, ◌-◌, ◌*◌, ◌/◌, ◌&&◌, ◌||◌, not, nat_le, nat_lt, inl, inr, Bool, true, false, List, [], ◌∷◌, length, Option, Some, None, refl, sym, ap, subst, ◌∙◌, ⊎_elim, arith, Contains, range_with_len, and_from, cases_lt, not_from_false, or_left, or_right, nat_tests, list_any-from_Any, Image, is_reserved, holds, place, MapRange, HasPieces, can_move, stays_or_moves, well, piece_apart, LiesInUnit, all_at, reserved_no, has, contains_cases, contains_head, contains_range, contains_tail, used_of, Volume, used_length, holds_data, is_among, is_data, AreChunks, HoldsUnit, IsChunk, is_data_unit, is_filler, role_of, usable_end, use_of, need, PlannedChunk, Role, System, Metadata, Data, Options, Piece, Plan, roles_uses, ChunksMapPieces, identity_range}
+use Rattle.std.proofs.Common.{if◌then◌else◌}
 use Rattle.reiser_volume.specs.reiser_super.declared.superblock.Super.{Super}
-use Rattle.reiser_volume.specs.Volume.{used_of}
-use Rattle.reiser_volume.specs.declared.volume.Volume.{Volume}
-use Rattle.reiser_volume.proofs.Holding.{used_length}
-use Rattle.convert_core.specs.unit_plan.Choice.{holds_data, is_among, is_data}
-use Rattle.convert_core.specs.unit_plan.Chunks.{AreChunks, HoldsUnit, IsChunk, is_data_unit, is_filler, role_of, usable_end, use_of}
-use Rattle.convert_core.specs.unit_plan.Needed.{need}
-use Rattle.convert_core.specs.unit_plan.declared.chunk.PlannedChunk.{PlannedChunk}
-use Rattle.convert_core.specs.unit_plan.declared.chunk.Role.{Role}
-use Rattle.convert_core.specs.unit_plan.declared.chunk.Role.TheVariants.{System, Metadata, Data}
-use Rattle.convert_core.specs.convert_options.declared.options.Options.{Options}
-use Rattle.convert_core.specs.unit_plan.declared.piece.Piece.{Piece}
-use Rattle.convert_core.specs.unit_plan.declared.plan.Plan.{Plan}
-use Rattle.convert_core.proofs.unit_plan.Uses.{roles_uses}
-use Rattle.convert_core_laws.specs.Mapped.{ChunksMapPieces, identity_range}
 
 -- a map that gives each of its addresses itself
 own_address : (ranges : List MapRange) (r : MapRange) (a : ℕ) → ((x : MapRange) → Contains ranges x → x.physical ≡ x.logical) → Contains ranges r → holds r a ≡ true → place ranges a ≡ Some a

@@ -1,38 +1,7 @@
 -- The extents of one object among the items of the file tree.
-use Rattle.std.proofs.Common.{◌≡◌, ◌≢◌, ◌<◌, ℕ, ◌*◌, ◌==◌, ◌&&◌, not, inl, inr, ◌⊎◌, Bool, true, false, List, [], ◌∷◌, ◌++◌, map, filter, refl, sym, ap, subst, ◌∙◌, ⊎_elim, if◌then◌else◌, arith}
-use Rattle.std.specs.Prelude.{Contains}
-use Rattle.std.specs.List.{AllByRecursion, flat_map}
-use Rattle.std.proofs.lemmas.Bool.{cases_Bool, cases_eq, not_from_false}
-use Rattle.std.proofs.lemmas.Bool.Decides.{nat_tests}
-use Rattle.std.proofs.lemmas.List.{append-nil}
-use Rattle.std.proofs.lemmas.List.Elements.{filter-append}
+use Rattle.convert_core_laws.proofs.Imports.{◌≡◌, ◌≢◌, ◌<◌, ℕ, ◌*◌, ◌==◌, ◌&&◌, not, inl, inr, ◌⊎◌, Bool, true, false, List, [], ◌∷◌, ◌++◌, map, filter, refl, sym, ap, subst, ◌∙◌, ⊎_elim, arith, Contains, AllByRecursion, flat_map, cases_Bool, cases_eq, not_from_false, nat_tests, append-nil, filter-append, DIR_INDEX, DIR_ITEM, EXTENT_DATA, INODE_EXTREF, INODE_REF, extref_hash, name_hash, dir_entry_bytes, extref_bytes, inode_ref_bytes, make_key, Item, extents_at, file_block, pieces_of, IndexedLink, Indexed, extref, extrefs, indexed_in, inode_ref, inode_refs, names_of, parent_of, root_ref, Source, content_items, file_extent_items, inline_in, inode_in, kind_in, name_items, ino_of, object_items, size_in, fs_tree_items, inodes_climb, root_first, Climb, all_append, all_each, all_mapped, all_true, has_bytes, Kind, Directory, File, Symlink, Character, Block, Fifo, Socket, Subvolume, extent_item, inline_extent, regular_extent, ascending, grouped, inode_item, from_filter, in_filter, contains_cases, contains_head, contains_tail, target_bytes, ObjectKey, items_of, root, same_key, same_key-true, AreNumbered, by_inode, Piece}
+use Rattle.std.proofs.Common.{if◌then◌else◌}
 use Rattle.std.proofs.lemmas.Option.{get_or_from_slice_get, slice_get_within}
-use Rattle.btrfs_format.specs.declared.key.TheConstants.{DIR_INDEX, DIR_ITEM, EXTENT_DATA, INODE_EXTREF, INODE_REF}
-use Rattle.reiser_volume.specs.castagnoli.Castagnoli.{extref_hash, name_hash}
-use Rattle.btr_reader.specs.btr_keys.DirEntry.{dir_entry_bytes}
-use Rattle.btr_reader.specs.btr_keys.Extref.{extref_bytes}
-use Rattle.btr_reader.specs.btr_keys.InodeRef.{inode_ref_bytes}
-use Rattle.btr_reader.specs.btr_keys.Key.{make_key}
-use Rattle.btr_reader.specs.btr_node.Leaf.{Item}
-use Rattle.convert_core.specs.file_items.Extents.{extents_at, file_block, pieces_of}
-use Rattle.convert_core.specs.file_items.Names.{IndexedLink, Indexed, extref, extrefs, indexed_in, inode_ref, inode_refs, names_of, parent_of, root_ref}
-use Rattle.convert_core.specs.file_items.Tree.{Source, content_items, file_extent_items, inline_in, inode_in, kind_in, name_items, ino_of, object_items, size_in, fs_tree_items}
-use Rattle.convert_trees_laws.proofs.Keys.{inodes_climb, root_first}
-use Rattle.convert_trees_laws.proofs.Rising.{Climb, all_append, all_each, all_mapped, all_true}
-use Rattle.reiser_volume.specs.fs_rows.Kinds.{has_bytes}
-use Rattle.reiser_volume.specs.fs_rows.declared.row.Kind.{Kind}
-use Rattle.reiser_volume.specs.fs_rows.declared.row.Kind.TheVariants.{Directory, File, Symlink, Character, Block, Fifo, Socket, Subvolume}
-use Rattle.convert_core.specs.btr_item_list.Extents.{extent_item, inline_extent, regular_extent}
-use Rattle.convert_core.specs.btr_item_list.Groups.{ascending, grouped}
-use Rattle.convert_core.specs.btr_item_list.Inodes.{inode_item}
-use Rattle.reiser_volume.proofs.fs_paths.Lists.{from_filter, in_filter}
-use Rattle.reiser_volume.proofs.reiser_bitmap.Ranges.{contains_cases, contains_head, contains_tail}
-use Rattle.reiser_volume.specs.reiser_volume_files.Bytes.{target_bytes}
-use Rattle.reiser_volume.specs.reiser_volume_objects.declared.key.ObjectKey.{ObjectKey}
-use Rattle.reiser_volume.specs.reiser_volume_objects.Keys.{items_of, root, same_key}
-use Rattle.reiser_volume.proofs.reiser_volume_objects.Tables.{same_key-true}
-use Rattle.reiser_volume.specs.Numbers.{AreNumbered, by_inode}
-use Rattle.convert_core.specs.unit_plan.declared.piece.Piece.{Piece}
 use Rattle.convert_core_laws.proofs.ByteReading.{filter_all, filter_none, is_extent}
 
 no_and : (b : Bool) → (b && false) ≡ false

@@ -1,22 +1,14 @@
 -- The bootstrap array, one chunk after the other.
-use Rattle.std.proofs.Common.{◌≡◌, ℕ, suc, ◌+◌, ◌-◌, ◌≤◌, Bool, true, false, cond, List, [], ◌∷◌, ◌++◌, length, take, drop, replicate, filter, Some, refl, sym, ◌∙◌, ap, arith, append_assoc, length-append, take-suc}
-use Rattle.std.specs.Prelude.{slice_get}
+use Rattle.convert_steps.proofs.Imports.{◌≡◌, ℕ, suc, ◌+◌, ◌-◌, ◌≤◌, Bool, true, false, cond, List, [], ◌∷◌, ◌++◌, length, take, drop, replicate, filter, Some, refl, sym, ◌∙◌, ap, arith, append_assoc, length-append, take-suc, slice_get, append-nil, length-replicate, replicate-append-replicate, take-append-drop, take_all, slice_get_within, get_or_from_slice_get, chunk_bytes, chunk_layout, chunk_body, chunk_item, PlannedChunk, Ids, boot_bytes, is_system_role, record_bytes}
 use Rattle.std.specs.List.{flat_map}
 use Rattle.std.proofs.lemmas.Grind.{flat_map-append}
-use Rattle.std.proofs.lemmas.List.{append-nil, length-replicate, replicate-append-replicate, take-append-drop, take_all}
 use Rattle.std.proofs.lemmas.List.Elements.{filter-append}
-use Rattle.std.proofs.lemmas.Option.{slice_get_within, get_or_from_slice_get}
-use borrow.Rule.Slice.PartMut.{put_mid}
 use Rattle.btr_tree.specs.btr_keys.Key.{key_bytes, key_layout}
 use Rattle.btr_tree.specs.btr_keys.declared.key.Key.{Key}
 use Rattle.btr_tree.proofs.btr_node.Putting.{put_is}
-use Rattle.btr_tree_writer.specs.btr_space_items.Chunk.{chunk_bytes, chunk_layout}
 use Rattle.btr_tree_writer.specs.btr_space_items.Stripe.{stripe_layout}
 use Rattle.btr_tree_writer.specs.btr_space_items.declared.chunk.Chunk.{Chunk}
-use Rattle.space_items.specs.Chunks.{chunk_body, chunk_item}
-use Rattle.unit_plan.specs.declared.chunk.PlannedChunk.{PlannedChunk}
-use Rattle.command_answers.specs.vol_block.declared.ids.Ids.{Ids}
-use Rattle.convert_steps.specs.Superblock.{boot_bytes, is_system_role, record_bytes}
+use borrow.Rule.Slice.PartMut.{put_mid}
 
 pub length_key : (key : Key) → length (key_bytes key) ≡ 17
 unfolding key_layout

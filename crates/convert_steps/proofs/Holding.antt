@@ -1,20 +1,5 @@
 -- What a piece holds once it was written.
-use Rattle.std.proofs.Common.{◌≡◌, ◌<◌, ℕ, ◌+◌, ◌^◌, [], length, set, Option, Some, None, Result, Ok, Err, sym, ap, ◌∙◌, get_or-set_same, arith}
-use Rattle.std.specs.Prelude.{Contains}
-use Rattle.std.specs.Result.{MatchResult}
-use Rattle.indexmap.specs.IndexMap.{keys}
-use Rattle.reiser_volume.specs.reiser_volume_contents.Answers.{IsFault}
-use Rattle.command_answers.specs.outside.History.{Image, block_at}
-use Rattle.command_answers.specs.refusals.declared.answer.VolAnswer.{VolAnswer}
-use Rattle.reiser_volume.specs.reiser_volume_files.Bytes.{tail_block}
-use Rattle.reiser_volume.specs.reiser_volume_names.Names.{ino_of_key}
-use Rattle.reiser_volume.specs.reiser_volume_objects.Keys.{items_of}
-use Rattle.reiser_volume.specs.reiser_volume_objects.declared.key.ObjectKey.{ObjectKey}
-use Rattle.reiser_volume.specs.Made.{stat_at}
-use Rattle.reiser_volume.specs.Volume.{volume_items}
-use Rattle.reiser_volume.specs.declared.volume.Volume.{Volume}
-use Rattle.unit_plan.specs.declared.piece.Piece.{Piece}
-use Rattle.convert_steps.specs.Moved.{HasOwner, HoldsPiece}
+use Rattle.convert_steps.proofs.Imports.{◌≡◌, ◌<◌, ℕ, ◌+◌, ◌^◌, [], length, set, Option, Some, None, Result, Ok, Err, sym, ap, ◌∙◌, get_or-set_same, arith, Contains, MatchResult, keys, IsFault, Image, block_at, VolAnswer, tail_block, ino_of_key, items_of, ObjectKey, stat_at, volume_items, Volume, Piece, HasOwner, HoldsPiece}
 
 some_same : (a b : ℕ) → (let o : Option ℕ = Some a in o) ≡ Some b → a ≡ b
 some_same a b is = cc

@@ -1,6 +1,5 @@
 -- The fields of a new superblock.
-use Rattle.std.proofs.Common.{◌≡◌, ℕ, ◌*◌, ◌-◌, ◌++◌, List, length, replicate, ◌∙◌, ap}
-use Rattle.btrfs_format.specs.declared.block.TheConstants.{SUPER_INFO_OFFSET}
+use Rattle.convert_steps.proofs.Imports.{◌≡◌, ℕ, ◌*◌, ◌-◌, ◌++◌, List, length, replicate, ◌∙◌, ap, SUPER_INFO_OFFSET, device_body, PlannedChunk, Ids, boot_bytes, features, new_super}
 use Rattle.btrfs_format.specs.declared.flag.TheConstants.{HEADER_FLAG_WRITTEN}
 use Rattle.btrfs_format.specs.declared.object.TheConstants.{ROOT_TREE_DIR_OBJECTID}
 use Rattle.btrfs_format.specs.declared.size.TheConstants.{SYSTEM_CHUNK_ARRAY_SIZE}
@@ -8,10 +7,6 @@ use Rattle.btr_tree_writer.specs.btr_space_items.declared.device.Device.{Device}
 use Rattle.btr_super.specs.declared.superblock.Super.{Super}
 use Rattle.btr_super.specs.Sums.{csum_number}
 use Rattle.btr_tree.specs.csum_kinds.declared.kind.SumKind.{SumKind}
-use Rattle.space_items.specs.Chunks.{device_body}
-use Rattle.unit_plan.specs.declared.chunk.PlannedChunk.{PlannedChunk}
-use Rattle.command_answers.specs.vol_block.declared.ids.Ids.{Ids}
-use Rattle.convert_steps.specs.Superblock.{boot_bytes, features, new_super}
 use Rattle.convert_steps.specs.declared.fields.NewRoots.{NewRoots}
 
 module _ (ids : Ids) (blocks nodesize : ℕ) (sums : SumKind) (label : List ℕ) (roots : NewRoots) where

@@ -1,12 +1,5 @@
 -- What a crash leaves in each phase of the switch.
-use Rattle.std.proofs.Common.{◌≡◌, ◌≢◌, ◌⊎◌, inl, inr, ⊎_elim, ℕ, ◌+◌, ◌<◌, List, [], length, set, Result, Ok, Err, OnOk, refl, sym, ◌∙◌, ap, subst, arith, get_or-set_same, get_or-set_other}
-use Rattle.std.proofs.lemmas.List.{length-set, ext_get_or}
-use Rattle.btrfs_format.specs.declared.block.TheConstants.{FIRST_MIRROR, SECOND_MIRROR, SUPER_BLOCK}
-use Rattle.command_answers.specs.outside.History.{Image, History, block_at, reads, clock, IsSettled, IsBlock, LeftSince, WritesBlock, WritesOnly}
-use Rattle.command_answers.proofs.outside.Crash.{left_each, reads_only, write_only, writes_length, writes_then, writes_weaker}
-use Rattle.command_answers.proofs.outside.Phases.{only_not, set_stands, write_reads}
-use Rattle.btr_super.specs.Super.{mirror_bytes}
-use Rattle.convert_steps.specs.Switch.{IsMirror, IsMirrorOf, IsCopy, IsCopyAt, IsSwitchPart, IsSwitched, HasCopies}
+use Rattle.convert_steps.proofs.Imports.{◌≡◌, ◌≢◌, ◌⊎◌, inl, inr, ⊎_elim, ℕ, ◌+◌, ◌<◌, List, [], length, set, Result, Ok, Err, OnOk, refl, sym, ◌∙◌, ap, subst, arith, get_or-set_same, get_or-set_other, length-set, ext_get_or, FIRST_MIRROR, SECOND_MIRROR, SUPER_BLOCK, Image, History, block_at, reads, clock, IsSettled, IsBlock, LeftSince, WritesBlock, WritesOnly, left_each, reads_only, write_only, writes_length, writes_then, writes_weaker, only_not, set_stands, write_reads, mirror_bytes, IsMirror, IsMirrorOf, IsCopy, IsCopyAt, IsSwitchPart, IsSwitched, HasCopies}
 
 not_mirror : ¬ IsMirror 16
 not_mirror mirror = ⊎_elim (λ eq. omega (arith, eq)) (λ eq. omega (arith, eq)) mirror

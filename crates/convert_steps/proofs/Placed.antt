@@ -1,18 +1,6 @@
 -- The object that has an inode number.
-use Rattle.std.proofs.Common.{◌≡◌, ◌<◌, ◌≤◌, ℕ, ◌+◌, ◌-◌, List, length, Option, Some, sym, ap, subst, ◌∙◌, ⊎_elim, arith}
-use Rattle.std.specs.Prelude.{Contains, slice_get}
-use Rattle.std.proofs.lemmas.Bool.{cases_lt}
-use Rattle.std.proofs.lemmas.Option.{slice_get-get_or, slice_get_within}
-use Rattle.indexmap.specs.IndexMap.{keys}
-use Rattle.command_answers.specs.outside.History.{Image}
+use Rattle.convert_steps.proofs.Imports.{◌≡◌, ◌<◌, ◌≤◌, ℕ, ◌+◌, ◌-◌, List, length, Option, Some, sym, ap, subst, ◌∙◌, ⊎_elim, arith, Contains, slice_get, cases_lt, slice_get-get_or, slice_get_within, keys, Image, ino_of_key, ObjectKey, root, AreNumbered, by_inode, IsOpened, IsAccepted, Volume}
 use Rattle.extent_pieces.proofs.Named.{numbered}
-use Rattle.reiser_volume.specs.reiser_volume_names.Names.{ino_of_key}
-use Rattle.reiser_volume.specs.reiser_volume_objects.declared.key.ObjectKey.{ObjectKey}
-use Rattle.reiser_volume.specs.reiser_volume_objects.Keys.{root}
-use Rattle.reiser_volume.specs.Numbers.{AreNumbered, by_inode}
-use Rattle.reiser_volume.specs.Opened.{IsOpened}
-use Rattle.reiser_volume.specs.Volume.{IsAccepted}
-use Rattle.reiser_volume.specs.declared.volume.Volume.{Volume}
 use Rattle.reiser_volume.proofs.Numbered.{inode_of_root, inode_before, inode_behind, place_before, place_behind}
 
 -- a named key has an inode, and by that its place

@@ -1,26 +1,11 @@
 -- Pieces that are written one after the other hold what they are to hold.
-use Rattle.std.proofs.Common.{◌≡◌, ◌≢◌, ◌<◌, ◌≤◌, ◌⊎◌, ℕ, ◌+◌, Bool, true, false, List, length, get_or, Option, Some, refl, sym, ap, subst, ◌∙◌, true≢false, ⊎_elim, inl, inr, arith}
-use Rattle.std.specs.Prelude.{Contains, slice_get}
-use Rattle.std.proofs.lemmas.Bool.{cases_lt}
-use Rattle.std.proofs.lemmas.List.{get_or_past}
-use Rattle.std.proofs.lemmas.Option.{slice_get_within, slice_get-get_or, get_or_from_slice_get}
+use Rattle.convert_steps.proofs.Imports.{◌≡◌, ◌≢◌, ◌<◌, ◌≤◌, ◌⊎◌, ℕ, ◌+◌, Bool, true, false, List, length, get_or, Option, Some, refl, sym, ap, subst, ◌∙◌, true≢false, ⊎_elim, inl, inr, arith, Contains, slice_get, cases_lt, get_or_past, slice_get_within, slice_get-get_or, get_or_from_slice_get, Image, History, WritesOnly, block_at, reads, writes_length, reads_outside, tail_block, items_of, stat_at, IsOpened, used_of, Volume, Piece, CanMove, CanWrite, HoldMoved, HoldsPiece, IsMovedTo, IsMovedPlace}
 use Rattle.reiser_volume.specs.reiser_volume_contents.Laws.{SameUsed}
-use Rattle.command_answers.specs.outside.History.{Image, History, WritesOnly, block_at, reads}
-use Rattle.command_answers.proofs.outside.Crash.{writes_length}
-use Rattle.command_answers.proofs.outside.Phases.{reads_outside}
 use Rattle.reiser_volume.specs.reiser_bitmap.Bits.{has}
-use Rattle.reiser_volume.specs.reiser_volume_files.Bytes.{tail_block}
-use Rattle.reiser_volume.specs.reiser_volume_objects.Keys.{items_of}
 use Rattle.reiser_volume.specs.Laws.{IsSameVolume}
-use Rattle.reiser_volume.specs.Made.{stat_at}
-use Rattle.reiser_volume.specs.Opened.{IsOpened}
-use Rattle.reiser_volume.specs.Volume.{used_of}
-use Rattle.reiser_volume.specs.declared.volume.Volume.{Volume}
 use Rattle.reiser_volume.proofs.Holding.{used_length}
 use Rattle.reiser_volume.proofs.Unchanged.{opened_same, same_volume}
 use Rattle.reiser_volume.specs.reiser_walk.Items.{ReiserItem}
-use Rattle.unit_plan.specs.declared.piece.Piece.{Piece}
-use Rattle.convert_steps.specs.Moved.{CanMove, CanWrite, HoldMoved, HoldsPiece, IsMovedTo, IsMovedPlace}
 use Rattle.convert_steps.proofs.Moving.{copy_moves, tail_moves}
 
 has_within : (set : List Bool) (b : ℕ) → has set b ≡ true → b < length set

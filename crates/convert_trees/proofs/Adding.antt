@@ -1,24 +1,5 @@
 -- One more tree stands.
-use Rattle.std.proofs.Common.{◌≡◌, ◌∙◌, ℕ, ◌++◌, Bool, true, false, List, [], if◌then◌else◌, drop, Result, Ok, Err, sym, ap, subst}
-use Rattle.std.specs.Prelude.{IfErr}
-use Rattle.std.specs.Result.{IsErrAnd, MatchResult}
-use Rattle.btr_tree.specs.outside.History.{Image}
-use Rattle.btr_tree.specs.btr_node.Leaf.{Item}
-use Rattle.btr_tree.specs.Roots.{lengths_of}
-use Rattle.btr_tree.specs.declared.climb.Root.{Root}
-use Rattle.file_items.specs.Stream.{FitsBlocks}
-use Rattle.file_items.specs.declared.items.Items.{Items}
-use Rattle.reiser_volume.specs.reiser_super.declared.superblock.Super.{Super}
-use Rattle.reiser_volume.specs.declared.volume.Volume.{Volume}
-use Rattle.space_items.specs.Nodes.{nodes_of_tree}
-use Rattle.btr_tree_writer.specs.Answers.{IsFailure}
-use Rattle.btr_tree_writer.specs.Trees.{TreeStands, read_form}
-use Rattle.btr_tree_writer.specs.declared.answer.WriteAnswer.{WriteAnswer}
-use Rattle.btr_tree_writer.specs.declared.trees.Trees.{Trees}
-use Rattle.unit_plan.specs.Pieces.{ArePlaced}
-use Rattle.unit_plan.specs.declared.piece.Piece.{Piece}
-use Rattle.convert_trees.specs.Adding.{Adds}
-use Rattle.convert_trees.specs.Sources.{FitsFiles, HasPlacedPieces}
+use Rattle.convert_trees.proofs.Imports.{◌≡◌, ◌∙◌, ℕ, ◌++◌, Bool, true, false, List, [], if◌then◌else◌, drop, Result, Ok, Err, sym, ap, subst, IfErr, IsErrAnd, MatchResult, Image, Item, lengths_of, Root, FitsBlocks, Items, Super, Volume, nodes_of_tree, IsFailure, TreeStands, read_form, WriteAnswer, Trees, ArePlaced, Piece, Adds, FitsFiles, HasPlacedPieces}
 use Rattle.convert_trees.proofs.Staying.{files_fit}
 
 pub adds_of : (r : Result Root WriteAnswer) (image : Image) (old new : Trees) (owner : ℕ) (items : List Item)

@@ -1,22 +1,9 @@
 -- The next item of a stream comes.
-use Rattle.std.proofs.Common.{ℕ, ◌+◌, ◌≤◌, Bool, true, false, List, [], ◌∷◌, Result, Ok, Err, inl, inr, refl, arith}
-use Rattle.std.specs.List.{All}
-use Rattle.std.specs.Result.{MatchResult}
-use Rattle.std.proofs.Math.Nat.{le-max_left, le-max_right}
-use Rattle.std.proofs.lemmas.List.Elements.{All-nil, All-cons}
-use Rattle.btr_tree.specs.outside.History.{Image}
+use Rattle.convert_trees.proofs.Imports.{ℕ, ◌+◌, ◌≤◌, Bool, true, false, List, [], ◌∷◌, Result, Ok, Err, inl, inr, refl, arith, All, MatchResult, le-max_left, le-max_right, All-nil, All-cons, Image, Item, ahead, Comes, FitsBlocks, StandsNext, Items, Volume, ComesTo as ComesAfter, IsSourceFailure, Piece, FitsFiles, pieces_end}
 use Rattle.btr_tree.specs.refusals.declared.answer.VolAnswer.{VolAnswer}
-use Rattle.btr_tree.specs.refusals.declared.answer.VolAnswer.TheVariants as source
-use Rattle.btr_tree.specs.btr_node.Leaf.{Item}
-use Rattle.file_items.specs.Stream.{ahead, Comes, FitsBlocks, StandsNext}
-use Rattle.file_items.specs.declared.items.Items.{Items}
 use Rattle.reiser_volume.specs.reiser_volume_contents.Answers.{IsFaultOrMemory}
-use Rattle.reiser_volume.specs.declared.volume.Volume.{Volume}
-use Rattle.space_items.specs.Stream.{ComesTo as ComesAfter}
-use Rattle.btr_tree_writer.specs.Answers.{IsSourceFailure}
 use Rattle.btr_tree_writer.specs.Source.{ComesTo}
-use Rattle.unit_plan.specs.declared.piece.Piece.{Piece}
-use Rattle.convert_trees.specs.Sources.{FitsFiles, pieces_end}
+use Rattle.btr_tree.specs.refusals.declared.answer.VolAnswer.TheVariants as source
 use Rattle.convert_trees.proofs.Staying.{files_fit}
 
 fails : (e : VolAnswer) → IsFaultOrMemory e → IsSourceFailure e

@@ -1,38 +1,6 @@
 -- All trees stand in the end.
-use Rattle.std.proofs.Common.{◌≡◌, ◌∙◌, ℕ, ◌+◌, ◌-◌, ◌^◌, ◌≤◌, ◌++◌, List, [], append_assoc, drop, length, sym, ap, subst, arith}
-use Rattle.std.proofs.lemmas.List.{drop-drop}
-use Rattle.btrfs_format.specs.declared.object.TheConstants.{CHUNK_TREE, CONV_IMAGE_SUBVOL, CSUM_TREE, DATA_RELOC_TREE, DEV_TREE, EXTENT_TREE, FS_TREE, ROOT_TREE}
-use Rattle.btr_tree.specs.outside.History.{Image, History, reads, WritesOnly}
-use Rattle.btr_tree.specs.btr_node.Leaf.{Item}
-use Rattle.btr_tree.specs.btr_node.NodeSize.{IsNodeSize}
-use Rattle.btr_tree.specs.Building.{AreSlots}
-use Rattle.btr_tree.specs.Roots.{lengths_of}
-use Rattle.btr_tree.specs.Writing.{IsInSlots}
-use Rattle.btr_tree.specs.declared.climb.Root.{Root}
-use Rattle.convert_steps.specs.Making.{Making, chunk_slots, new_ids, slots}
-use Rattle.convert_steps.specs.Standing.{HasTrees, IsFor, file_tree_items, form, image_from, nodes_from, relocation_from, root_from, root_tree_items, sums_from, device_from, image_tree_items, sum_tree_items, used_bytes}
-use Rattle.convert_steps.specs.declared.trees.VolumeTrees.{VolumeTrees}
-use Rattle.file_items.specs.Small.{relocation_items}
-use Rattle.reiser_volume.specs.declared.volume.Volume.{Volume}
-use Rattle.space_items.specs.Chunks.{chunk_items, device_items}
-use Rattle.space_items.specs.Extents.{extent_items}
-use Rattle.space_items.specs.Nodes.{merged_nodes, nodes_of_tree}
-use Rattle.space_items.specs.declared.node.TreeNode.{TreeNode}
-use Rattle.btr_tree_writer.specs.Trees.{TreeStands}
-use Rattle.btr_tree_writer.specs.declared.form.NodeForm.{NodeForm}
-use Rattle.btr_tree_writer.specs.declared.trees.Trees.{Trees}
-use Rattle.btr_tree_writer.proofs.Rows.{slots_left}
-use Rattle.unit_plan.specs.Laws.{AreUnitsApart}
-use Rattle.unit_plan.specs.Places.{node_places}
-use Rattle.unit_plan.specs.declared.chunk.PlannedChunk.{PlannedChunk}
-use Rattle.convert_options.specs.declared.options.Options.{Options}
-use Rattle.unit_plan.specs.declared.piece.Piece.{Piece}
-use Rattle.unit_plan.specs.declared.plan.Plan.{Plan}
-use Rattle.btr_tree.specs.vol_block.declared.ids.Ids.{Ids}
-use Rattle.convert_trees.specs.Adding.{Adds}
-use Rattle.convert_trees.specs.First.{AddsFirst, FirstItems, first_count, first_items}
-use Rattle.convert_trees.specs.RootTree.{AddsLast, root_count, saved_in, slots_needed}
-use Rattle.convert_trees.specs.declared.roots.FirstRoots.{FirstRoots}
+use Rattle.convert_trees.proofs.Imports.{◌≡◌, ◌∙◌, ℕ, ◌+◌, ◌-◌, ◌^◌, ◌≤◌, ◌++◌, List, [], append_assoc, drop, length, sym, ap, subst, arith, drop-drop, CHUNK_TREE, CONV_IMAGE_SUBVOL, CSUM_TREE, DATA_RELOC_TREE, DEV_TREE, EXTENT_TREE, FS_TREE, ROOT_TREE, Image, History, reads, WritesOnly, Item, IsNodeSize, AreSlots, lengths_of, IsInSlots, Root, Making, chunk_slots, new_ids, slots, HasTrees, IsFor, file_tree_items, form, root_from, root_tree_items, image_tree_items, sum_tree_items, used_bytes, VolumeTrees, relocation_items, Volume, chunk_items, device_items, extent_items, merged_nodes, nodes_of_tree, TreeNode, TreeStands, NodeForm, Trees, slots_left, AreUnitsApart, node_places, PlannedChunk, Options, Piece, Plan, Ids, Adds, AddsFirst, FirstItems, first_count, first_items, AddsLast, root_count, saved_in, slots_needed, FirstRoots}
+use Rattle.convert_steps.specs.Standing.{image_from, nodes_from, relocation_from, sums_from, device_from}
 use Rattle.convert_trees.proofs.Behind.{IsInRest, writes_behind}
 use Rattle.convert_trees.proofs.Front.{in_front}
 use Rattle.convert_trees.proofs.Opening.{files_in}

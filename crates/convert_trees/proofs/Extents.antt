@@ -1,27 +1,6 @@
 -- The extent tree stands behind the others.
-use Rattle.std.proofs.Common.{◌≡◌, ◌∙◌, ℕ, ◌+◌, ◌≤◌, ◌++◌, List, [], ◌∷◌, length, map, drop, refl, sym, ap, subst, arith}
-use Rattle.std.specs.List.{sum_by}
-use Rattle.std.proofs.lemmas.List.Sums.{sum_by-cons}
-use Rattle.btrfs_format.specs.declared.object.TheConstants.{EXTENT_TREE}
-use Rattle.btr_tree.specs.outside.History.{Image}
-use Rattle.btr_tree.specs.btr_node.NodeSize.{IsNodeSize}
-use Rattle.btr_tree.specs.Counting.{tree_nodes}
-use Rattle.btr_tree.specs.Roots.{lengths_of}
-use Rattle.space_items.specs.Extents.{extent_items, used_in}
-use Rattle.space_items.specs.Nodes.{AreNodes, merged_nodes, nodes_of_tree}
-use Rattle.space_items.specs.Stream.{ArePieces, group_of}
+use Rattle.convert_trees.proofs.Imports.{◌≡◌, ◌∙◌, ℕ, ◌+◌, ◌≤◌, ◌++◌, List, [], ◌∷◌, length, map, drop, refl, sym, ap, subst, arith, sum_by, sum_by-cons, EXTENT_TREE, Image, IsNodeSize, tree_nodes, lengths_of, extent_items, used_in, AreNodes, merged_nodes, nodes_of_tree, ArePieces, group_of, TreeNode, roomy, extent_items_fit, AreWritable, TreeStands, read_form, Trees, AreChunks, PlannedChunk, Piece, Plan, AddsExtents, WrittenExtents}
 use Rattle.space_items.specs.declared.groups.Group.{Group}
-use Rattle.space_items.specs.declared.node.TreeNode.{TreeNode}
-use Rattle.space_items.proofs.OwnBound.{roomy}
-use Rattle.space_items.proofs.StreamOrder.{extent_items_fit}
-use Rattle.btr_tree_writer.specs.Trees.{AreWritable, TreeStands, read_form}
-use Rattle.btr_tree_writer.specs.declared.trees.Trees.{Trees}
-use Rattle.unit_plan.specs.Chunks.{AreChunks}
-use Rattle.unit_plan.specs.declared.chunk.PlannedChunk.{PlannedChunk}
-use Rattle.unit_plan.specs.declared.piece.Piece.{Piece}
-use Rattle.unit_plan.specs.declared.plan.Plan.{Plan}
-use Rattle.convert_trees.specs.Adding.{AddsExtents}
-use Rattle.convert_trees.specs.declared.last.WrittenExtents.{WrittenExtents}
 
 -- a tree of the items can be written where there are slots for its nodes
 pub extents_writable : (plan : Plan) (blocks : ℕ) (chunks : List PlannedChunk) (pieces : List Piece) (nodes : List TreeNode) (nodesize : ℕ) (rest : List ℕ) → IsNodeSize nodesize → AreChunks plan blocks chunks → ArePieces pieces → AreNodes nodes

@@ -1,20 +1,7 @@
 -- Lists that ascend are no longer than their bound.
-use Rattle.std.proofs.Common.{◌≡◌, ◌∙◌, ℕ, zero, suc, ◌+◌, ◌^◌, ◌<◌, ◌≤◌, List, [], ◌∷◌, length, get_or, sym, ap, subst, arith}
-use Rattle.std.specs.List.{All, AllPairs}
-use Rattle.std.proofs.lemmas.List.{length-map, length-take}
-use Rattle.btrfs_format.specs.declared.object.TheConstants.{EXTENT_TREE}
-use Rattle.btr_tree.specs.Roots.{lengths_of}
-use Rattle.space_items.specs.Extents.{extent_items}
-use Rattle.space_items.specs.Nodes.{AreNodes, merged_nodes, nodes_of_tree}
-use Rattle.space_items.specs.Stream.{ArePieces}
-use Rattle.space_items.specs.declared.node.TreeNode.{TreeNode}
+use Rattle.convert_trees.proofs.Imports.{◌≡◌, ◌∙◌, ℕ, zero, suc, ◌+◌, ◌^◌, ◌<◌, ◌≤◌, List, [], ◌∷◌, length, get_or, sym, ap, subst, arith, All, AllPairs, length-map, length-take, EXTENT_TREE, lengths_of, extent_items, AreNodes, merged_nodes, nodes_of_tree, ArePieces, TreeNode, length-merge, IsSlotRow, Trees, PlannedChunk, Piece}
 use Rattle.space_items.proofs.Ascending.{merged_are_nodes}
-use Rattle.space_items.proofs.Merges.{length-merge}
 use Rattle.space_items.proofs.NodeMerge.{node_cmp}
-use Rattle.btr_tree_writer.specs.Row.{IsSlotRow}
-use Rattle.btr_tree_writer.specs.declared.trees.Trees.{Trees}
-use Rattle.unit_plan.specs.declared.chunk.PlannedChunk.{PlannedChunk}
-use Rattle.unit_plan.specs.declared.piece.Piece.{Piece}
 
 module _ {A : Type 0} (f : A → ℕ) where
   rises : (xs : List A) → AllPairs (λ a b. f a < f b) xs → (d : A) (i : ℕ) → i < length xs → i ≤ f (get_or xs i d)

@@ -1,23 +1,5 @@
 -- The first slots that are left, and those behind them: they share no block.
-use Rattle.std.proofs.Common.{◌≡◌, ◌≢◌, ◌∙◌, inl, inr, ℕ, ◌+◌, ◌*◌, ◌%◌, ◌^◌, ◌<◌, ◌≤◌, List, length, take, drop, get_or, sym, subst, arith}
-use Rattle.std.specs.List.{All}
-use Rattle.std.proofs.lemmas.List.{get_or-drop, get_or-take, get_or_default, length-drop, length-take}
-use Rattle.std.proofs.lemmas.List.Elements.{All-drop, All-take}
-use Rattle.btr_tree.specs.outside.History.{History, reads, WritesOnly}
-use Rattle.btr_tree.proofs.outside.Crash.{writes_weaker}
-use Rattle.btr_tree.proofs.outside.Phases.{reads_outside}
-use Rattle.btr_tree.specs.btr_node.Leaf.{Item}
-use Rattle.btr_tree.specs.btr_node.NodeSize.{IsNodeSize}
-use Rattle.btr_tree.specs.Building.{AreSlots}
-use Rattle.btr_tree.specs.Writing.{IsInNode, IsInSlots}
-use Rattle.btr_tree.specs.declared.climb.Root.{Root}
-use Rattle.btr_tree.specs.btr_reader_walk.declared.tree.Form.{Form}
-use Rattle.btr_tree_writer.specs.Row.{IsSlotRow}
-use Rattle.btr_tree_writer.specs.Trees.{TreeStands}
-use Rattle.btr_tree_writer.specs.declared.form.NodeForm.{NodeForm}
-use Rattle.btr_tree_writer.specs.declared.trees.Trees.{Trees}
-use Rattle.btr_tree_writer.proofs.Others.{by_nodes}
-use Rattle.btr_tree_writer.proofs.Rows.{slots_left}
+use Rattle.convert_trees.proofs.Imports.{◌≡◌, ◌≢◌, ◌∙◌, inl, inr, ℕ, ◌+◌, ◌*◌, ◌%◌, ◌^◌, ◌<◌, ◌≤◌, List, length, take, drop, get_or, sym, subst, arith, All, get_or-drop, get_or-take, get_or_default, length-drop, length-take, All-drop, All-take, History, reads, WritesOnly, writes_weaker, reads_outside, Item, IsNodeSize, AreSlots, IsInNode, IsInSlots, Root, Form, IsSlotRow, TreeStands, NodeForm, Trees, by_nodes, slots_left}
 use Rattle.convert_trees.proofs.Behind.{IsInRest, IsLater, still_in_rest}
 
 by_size : (P : ℕ → Type 0) → P 4096 → P 8192 → P 16384 → P 32768 → P 65536 → (n : ℕ) → IsNodeSize n → P n

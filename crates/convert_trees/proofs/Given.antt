@@ -1,35 +1,7 @@
 -- What a conversion gives to the writing of its trees, told of its arguments.
-use Rattle.std.proofs.Common.{◌≡◌, ◌∙◌, ℕ, ◌+◌, ◌<◌, ◌≤◌, Bool, true, List, length, Some, sym, ap, subst}
-use Rattle.std.specs.Prelude.{Contains}
-use Rattle.btr_tree.specs.outside.History.{Image}
-use Rattle.btr_tree.specs.btr_node.Leaf.{Item}
-use Rattle.btr_tree.specs.Counting.{tree_nodes}
-use Rattle.btr_tree.specs.Roots.{lengths_of}
-use Rattle.convert_steps.specs.Making.{IsMaking, Making, new_ids, slots}
-use Rattle.convert_steps.specs.Standing.{AllFit, IsFor, SameVolume, chunk_count, image_tree_items, no_trees, nodes_for, root_tree_items, sum_tree_items}
-use Rattle.convert_steps.specs.extent_pieces.Laws.{LiesInUnit}
+use Rattle.convert_trees.proofs.Imports.{◌≡◌, ◌∙◌, ℕ, ◌+◌, ◌<◌, ◌≤◌, Bool, true, List, length, Some, sym, ap, subst, Contains, Image, Item, tree_nodes, lengths_of, IsMaking, Making, new_ids, slots, AllFit, IsFor, SameVolume, chunk_count, image_tree_items, no_trees, nodes_for, root_tree_items, sum_tree_items, LiesInUnit, all_at, image_items, relocation_items, has, IsOpened, superblock, used_of, Volume, chunk_items, device_items, FitLeaves, NodeForm, AreChunks, ArePlaced, node_places, PlannedChunk, Options, Piece, Plan, Ids, first_count, first_items, root_count, saved_in, slots_needed, HasPlacedPieces}
 use Rattle.convert_steps.proofs.extent_pieces.Apart.{places_are_apart}
-use Rattle.convert_steps.proofs.extent_pieces.Lists.{all_at}
-use Rattle.file_items.specs.Small.{image_items, relocation_items}
-use Rattle.reiser_volume.specs.reiser_bitmap.Bits.{has}
-use Rattle.reiser_volume.specs.Opened.{IsOpened}
-use Rattle.reiser_volume.specs.Volume.{superblock, used_of}
-use Rattle.reiser_volume.specs.declared.volume.Volume.{Volume}
 use Rattle.reiser_volume.proofs.Holding.{used_length}
-use Rattle.space_items.specs.Chunks.{chunk_items, device_items}
-use Rattle.space_items.specs.StreamLaws.{FitLeaves}
-use Rattle.btr_tree_writer.specs.declared.form.NodeForm.{NodeForm}
-use Rattle.unit_plan.specs.Chunks.{AreChunks}
-use Rattle.unit_plan.specs.Pieces.{ArePlaced}
-use Rattle.unit_plan.specs.Places.{node_places}
-use Rattle.unit_plan.specs.declared.chunk.PlannedChunk.{PlannedChunk}
-use Rattle.convert_options.specs.declared.options.Options.{Options}
-use Rattle.unit_plan.specs.declared.piece.Piece.{Piece}
-use Rattle.unit_plan.specs.declared.plan.Plan.{Plan}
-use Rattle.btr_tree.specs.vol_block.declared.ids.Ids.{Ids}
-use Rattle.convert_trees.specs.First.{first_count, first_items}
-use Rattle.convert_trees.specs.RootTree.{root_count, saved_in, slots_needed}
-use Rattle.convert_trees.specs.Sources.{HasPlacedPieces}
 use Rattle.convert_trees.proofs.Staying.{volume_stays}
 use Rattle.convert_trees.proofs.Opening.{files_in, files_same}
 use Rattle.convert_trees.proofs.Untouched.{stays_used}

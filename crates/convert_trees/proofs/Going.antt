@@ -1,27 +1,5 @@
 -- A row of slots goes on: the trees behind leave those before as they are, and what the trees are made from.
-use Rattle.std.proofs.Common.{◌≡◌, ◌∙◌, ℕ, ◌+◌, ◌%◌, ◌<◌, ◌≤◌, ◌++◌, List, drop, take, length, sym, ap, subst, arith}
-use Rattle.std.proofs.lemmas.List.{drop-drop, get_or-drop, get_or-take, get_or_default, length-drop, length-take}
-use Rattle.btr_tree.specs.outside.History.{Image, History, block_at, reads, WritesOnly}
-use Rattle.btr_tree.proofs.outside.Crash.{writes_length}
-use Rattle.btr_tree.proofs.outside.Phases.{reads_outside}
-use Rattle.btr_tree.specs.btr_node.Leaf.{Item}
-use Rattle.btr_tree.specs.btr_node.NodeSize.{IsNodeSize}
-use Rattle.btr_tree.specs.Building.{AreSlots}
-use Rattle.btr_tree.specs.Roots.{lengths_of}
-use Rattle.btr_tree.specs.Writing.{IsInSlots}
-use Rattle.btr_tree.specs.declared.climb.Root.{Root}
-use Rattle.btr_tree.specs.btr_reader_walk.declared.tree.Form.{Form}
-use Rattle.space_items.specs.Nodes.{nodes_of_tree}
-use Rattle.space_items.specs.declared.node.TreeNode.{TreeNode}
-use Rattle.btr_tree_writer.specs.Row.{IsSlotRow}
-use Rattle.btr_tree_writer.specs.Source.{LieApart, SameWhere}
-use Rattle.btr_tree_writer.specs.Trees.{TreeStands, read_form}
-use Rattle.btr_tree_writer.specs.declared.form.NodeForm.{NodeForm}
-use Rattle.btr_tree_writer.specs.declared.trees.Trees.{Trees}
-use Rattle.btr_tree_writer.proofs.Others.{by_nodes}
-use Rattle.btr_tree_writer.proofs.Rows.{slots_left}
-use Rattle.convert_trees.specs.Adding.{Adds}
-use Rattle.convert_trees.specs.First.{left_from}
+use Rattle.convert_trees.proofs.Imports.{◌≡◌, ◌∙◌, ℕ, ◌+◌, ◌%◌, ◌<◌, ◌≤◌, ◌++◌, List, drop, take, length, sym, ap, subst, arith, drop-drop, get_or-drop, get_or-take, get_or_default, length-drop, length-take, Image, History, block_at, reads, WritesOnly, writes_length, reads_outside, Item, IsNodeSize, AreSlots, lengths_of, IsInSlots, Root, Form, nodes_of_tree, TreeNode, IsSlotRow, LieApart, SameWhere, TreeStands, read_form, NodeForm, Trees, by_nodes, slots_left, Adds, left_from}
 use Rattle.convert_trees.proofs.Behind.{IsInRest, IsLater, later_by, writes_behind}
 use Rattle.convert_trees.proofs.Front.{apart_nodes}
 

@@ -1,42 +1,8 @@
 -- The trees that are written first: what each needs is there, and all stand in the end.
-use Rattle.std.proofs.Common.{◌≡◌, ◌∙◌, ℕ, ◌+◌, ◌-◌, ◌^◌, ◌≤◌, ◌++◌, Bool, List, [], if◌then◌else◌, drop, length, append_assoc, refl, sym, ap, subst, arith}
-use Rattle.std.proofs.lemmas.List.{length-drop}
-use Rattle.btrfs_format.specs.declared.object.TheConstants.{CONV_IMAGE_SUBVOL, CSUM_TREE, DATA_RELOC_TREE, DEV_TREE, FS_TREE}
-use Rattle.indexmap.specs.IndexMap.{keys}
-use Rattle.btr_tree.specs.outside.History.{Image, History, WritesOnly, reads}
-use Rattle.btr_tree.proofs.outside.Crash.{writes_none}
-use Rattle.btr_tree.specs.btr_node.Leaf.{Item}
-use Rattle.btr_tree.specs.btr_node.NodeSize.{IsNodeSize}
-use Rattle.btr_tree.specs.Counting.{tree_nodes}
-use Rattle.btr_tree.specs.Roots.{lengths_of}
-use Rattle.btr_tree.specs.declared.climb.Root.{Root}
+use Rattle.convert_trees.proofs.Imports.{◌≡◌, ◌∙◌, ℕ, ◌+◌, ◌-◌, ◌^◌, ◌≤◌, ◌++◌, Bool, List, [], if◌then◌else◌, drop, length, append_assoc, refl, sym, ap, subst, arith, length-drop, CONV_IMAGE_SUBVOL, CSUM_TREE, DATA_RELOC_TREE, DEV_TREE, FS_TREE, keys, Image, History, WritesOnly, reads, writes_none, Item, IsNodeSize, tree_nodes, lengths_of, Root, SameUsed, has, links_in, IsAccepted, superblock, used_of, same_volume, FitLeaves, sum_items, TreeNode, roomy, Volume, IsSlotRow, LieApart, SameWhere, AreWritable, NodeForm, Trees, apart_left, PlannedChunk, Options, Piece, Ids, Adds, AddsFirst, FirstItems, device_from, first_items, image_from, nodes_from, relocation_from, sums_from, HasPlacedPieces, IsInPieces, IsUsedBlock, FirstRoots}
 use Rattle.file_items.specs.Tree.{Source, source_of, fs_tree_items}
-use Rattle.reiser_volume.specs.reiser_volume_contents.Laws.{SameUsed}
-use Rattle.reiser_volume.specs.reiser_bitmap.Bits.{has}
-use Rattle.reiser_volume.specs.Opened.{links_in}
-use Rattle.reiser_volume.specs.Volume.{IsAccepted, superblock, used_of}
-use Rattle.reiser_volume.proofs.Unchanged.{same_volume}
 use Rattle.reiser_volume.specs.reiser_walk.Items.{ReiserItem}
-use Rattle.space_items.specs.StreamLaws.{FitLeaves}
-use Rattle.space_items.specs.Sums.{sum_items}
-use Rattle.space_items.specs.declared.node.TreeNode.{TreeNode}
-use Rattle.space_items.proofs.OwnBound.{roomy}
-use Rattle.reiser_volume.specs.declared.volume.Volume.{Volume}
-use Rattle.btr_tree_writer.specs.Row.{IsSlotRow}
-use Rattle.btr_tree_writer.specs.Source.{LieApart, SameWhere}
-use Rattle.btr_tree_writer.specs.Trees.{AreWritable}
-use Rattle.btr_tree_writer.specs.declared.form.NodeForm.{NodeForm}
-use Rattle.btr_tree_writer.specs.declared.trees.Trees.{Trees}
-use Rattle.btr_tree_writer.proofs.Rows.{apart_left}
-use Rattle.unit_plan.specs.declared.chunk.PlannedChunk.{PlannedChunk}
-use Rattle.convert_options.specs.declared.options.Options.{Options}
-use Rattle.unit_plan.specs.declared.piece.Piece.{Piece}
-use Rattle.btr_tree.specs.vol_block.declared.ids.Ids.{Ids}
-use Rattle.convert_trees.specs.Adding.{Adds}
-use Rattle.convert_trees.specs.First.{AddsFirst, FirstItems, device_from, first_items, image_from, nodes_from, relocation_from, sums_from}
-use Rattle.convert_trees.specs.Sources.{HasPlacedPieces, IsInPieces, IsUsedBlock}
 use Rattle.convert_trees.proofs.Staying.{volume_stays}
-use Rattle.convert_trees.specs.declared.roots.FirstRoots.{FirstRoots}
 use Rattle.convert_trees.proofs.Behind.{IsInRest}
 use Rattle.convert_trees.proofs.Going.{Goes, Stood, goes_by, goes_then, rest_is, same_where, still_apart}
 use Rattle.convert_trees.proofs.Sums.{sum_items_same}

@@ -1,35 +1,5 @@
 -- The root tree at the slots that were kept for it, and the extent tree behind it.
-use Rattle.std.proofs.Common.{◌≡◌, ◌∙◌, ℕ, ◌+◌, ◌-◌, ◌*◌, ◌≤◌, ◌++◌, List, length, take, drop, refl, sym, ap, subst, arith}
-use Rattle.std.proofs.lemmas.List.{length-drop, length-take}
-use Rattle.btrfs_format.specs.declared.object.TheConstants.{EXTENT_TREE, ROOT_TREE}
-use Rattle.btr_tree.specs.outside.History.{History, reads, WritesOnly}
-use Rattle.btr_tree.specs.btr_node.Leaf.{Item}
-use Rattle.btr_tree.specs.btr_node.NodeSize.{IsNodeSize}
-use Rattle.btr_tree.specs.Counting.{node_bound, tree_nodes}
-use Rattle.btr_tree.specs.Roots.{lengths_of}
-use Rattle.btr_tree.specs.Writing.{IsInSlots}
-use Rattle.btr_tree.specs.declared.climb.Root.{Root}
-use Rattle.convert_steps.specs.Standing.{no_trees}
-use Rattle.convert_steps.specs.declared.trees.VolumeTrees.{VolumeTrees}
-use Rattle.space_items.specs.Extents.{extent_items}
-use Rattle.space_items.specs.Nodes.{merged_nodes, nodes_of_tree}
-use Rattle.space_items.specs.Laws.{AreIds}
-use Rattle.space_items.specs.Own.{extent_bytes, own_bound}
-use Rattle.space_items.specs.Roots.{root_items}
-use Rattle.space_items.specs.declared.node.TreeNode.{TreeNode}
-use Rattle.space_items.proofs.Ordered.{root_items_fit}
-use Rattle.space_items.proofs.OwnBound.{bound_up, roomy}
-use Rattle.btr_tree_writer.specs.Row.{IsSlotRow}
-use Rattle.btr_tree_writer.specs.Trees.{AreWritable, TreeStands, read_form}
-use Rattle.btr_tree_writer.specs.declared.form.NodeForm.{NodeForm}
-use Rattle.btr_tree_writer.specs.declared.trees.Trees.{Trees}
-use Rattle.unit_plan.specs.declared.chunk.PlannedChunk.{PlannedChunk}
-use Rattle.unit_plan.specs.declared.piece.Piece.{Piece}
-use Rattle.convert_trees.specs.Adding.{AddsExtents}
-use Rattle.convert_trees.specs.RootTree.{AddsLast, root_count, slots_needed}
-use Rattle.convert_trees.specs.Roots.{listed}
-use Rattle.convert_trees.specs.declared.last.WrittenExtents.{WrittenExtents}
-use Rattle.convert_trees.specs.declared.roots.FirstRoots.{FirstRoots}
+use Rattle.convert_trees.proofs.Imports.{◌≡◌, ◌∙◌, ℕ, ◌+◌, ◌-◌, ◌*◌, ◌≤◌, ◌++◌, List, length, take, drop, refl, sym, ap, subst, arith, length-drop, length-take, EXTENT_TREE, ROOT_TREE, History, reads, WritesOnly, Item, IsNodeSize, node_bound, tree_nodes, lengths_of, IsInSlots, Root, no_trees, VolumeTrees, extent_items, merged_nodes, nodes_of_tree, AreIds, extent_bytes, own_bound, root_items, TreeNode, root_items_fit, bound_up, roomy, IsSlotRow, AreWritable, TreeStands, read_form, NodeForm, Trees, PlannedChunk, Piece, AddsExtents, AddsLast, root_count, slots_needed, listed, WrittenExtents, FirstRoots}
 use Rattle.convert_trees.proofs.Few.{few_merged, row_few}
 use Rattle.convert_trees.proofs.Front.{stands_behind}
 use Rattle.convert_trees.proofs.Rooted.{ascends, roots_alike}

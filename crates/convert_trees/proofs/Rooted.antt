@@ -1,27 +1,13 @@
 -- How long the items of the root tree are goes by no root.
-use Rattle.std.proofs.Common.{◌≡◌, ◌∙◌, ℕ, ◌-◌, ◌^◌, ◌<◌, List, [], ◌∷◌, length, length-append, map, refl, sym, ap, ap₂, arith}
-use Rattle.std.specs.List.{AllPairs}
-use Rattle.std.proofs.lemmas.List.Elements.{All-cons, All-nil}
+use Rattle.convert_trees.proofs.Imports.{◌≡◌, ◌∙◌, ℕ, ◌-◌, ◌^◌, ◌<◌, List, [], ◌∷◌, length, length-append, map, refl, sym, ap, ap₂, arith, AllPairs, All-cons, All-nil, ROOT_ITEM, CONV_IMAGE_SUBVOL, CSUM_TREE, DATA_RELOC_TREE, DEV_TREE, EXTENT_TREE, FS_TREE, key_layout, make_key, lengths_of, Root, rooted_trees as listed_of, VolumeTrees, other_root_items, tree_root_item, root_items, map-merge, merge, Ids, listed, FirstRoots}
 use Rattle.std.proofs.lemmas.List.Kept.{AllPairs-cons}
-use Rattle.btrfs_format.specs.declared.key.TheConstants.{ROOT_ITEM}
-use Rattle.btrfs_format.specs.declared.object.TheConstants.{CONV_IMAGE_SUBVOL, CSUM_TREE, DATA_RELOC_TREE, DEV_TREE, EXTENT_TREE, FS_TREE}
 use Rattle.btr_tree.specs.btr_keys.Inode.{inode_layout}
-use Rattle.btr_tree.specs.btr_keys.Key.{key_layout, make_key}
 use Rattle.btr_tree.specs.btr_keys.Stamp.{stamp_layout}
 use Rattle.convert_steps.specs.btr_space_items.RootItem.{root_item_layout}
-use Rattle.btr_tree.specs.Roots.{lengths_of}
-use Rattle.btr_tree.specs.declared.climb.Root.{Root}
-use Rattle.convert_steps.specs.Standing.{rooted_trees as listed_of}
-use Rattle.convert_steps.specs.declared.trees.VolumeTrees.{VolumeTrees}
 use Rattle.space_items.specs.Merging.{item_cmp}
-use Rattle.space_items.specs.Roots.{other_root_items, tree_root_item, root_items}
 use Rattle.space_items.specs.declared.node.TreeRoot.{TreeRoot}
 use Rattle.space_items.proofs.Levels.{map-map}
-use Rattle.space_items.proofs.Merges.{map-merge, merge}
 use Rattle.space_items.proofs.Shapes.{Shape, shape, shape_cmp}
-use Rattle.btr_tree.specs.vol_block.declared.ids.Ids.{Ids}
-use Rattle.convert_trees.specs.Roots.{listed}
-use Rattle.convert_trees.specs.declared.roots.FirstRoots.{FirstRoots}
 
 abbrev no_root : TreeRoot → TreeRoot
 no_root r = record { tree = r.tree; root = record { address = 0; level = 0; nodes = 0 } }

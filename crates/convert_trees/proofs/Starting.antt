@@ -1,39 +1,6 @@
 -- What the trees need is there when the writing begins.
-use Rattle.std.proofs.Common.{◌≡◌, ℕ, ◌+◌, ◌≤◌, Bool, true, false, List, [], if◌then◌else◌, drop, length, refl, sym, subst, arith}
-use Rattle.std.specs.List.{All}
-use Rattle.std.specs.Prelude.{Contains}
-use Rattle.std.proofs.lemmas.List.Elements.{All-nil}
-use Rattle.btr_tree.specs.outside.History.{Image, History, reads}
-use Rattle.btr_tree.specs.btr_node.Leaf.{Item}
-use Rattle.btr_tree.specs.btr_node.NodeSize.{IsNodeSize}
-use Rattle.btr_tree.specs.Counting.{tree_nodes}
-use Rattle.btr_tree.specs.Roots.{lengths_of}
-use Rattle.btr_tree.specs.csum_kinds.declared.kind.SumKind.{SumKind}
-use Rattle.convert_steps.proofs.extent_pieces.Lists.{all_at}
-use Rattle.reiser_volume.specs.reiser_bitmap.Units.{IsFreeUnit}
-use Rattle.reiser_volume.specs.declared.volume.Volume.{Volume}
-use Rattle.space_items.specs.Laws.{AreIds, FitTree}
-use Rattle.space_items.specs.Stream.{ArePieces}
-use Rattle.space_items.specs.StreamLaws.{FitLeaves}
-use Rattle.space_items.specs.Sums.{sum_items}
-use Rattle.space_items.proofs.Ordered.{chunk_items_fit}
-use Rattle.space_items.proofs.OwnBound.{roomy}
-use Rattle.space_items.proofs.StreamOrder.{sum_items_fit}
-use Rattle.btr_tree_writer.specs.Row.{IsSlotRow}
-use Rattle.btr_tree_writer.specs.Source.{LieApart}
-use Rattle.btr_tree_writer.specs.Trees.{AreWritable}
-use Rattle.btr_tree_writer.specs.declared.form.NodeForm.{NodeForm}
-use Rattle.btr_tree_writer.specs.declared.trees.Trees.{Trees}
-use Rattle.unit_plan.specs.Laws.{AreUnitsApart, IsSoundPlan}
-use Rattle.unit_plan.specs.Places.{node_places}
-use Rattle.unit_plan.specs.declared.chunk.PlannedChunk.{PlannedChunk}
+use Rattle.convert_trees.proofs.Imports.{◌≡◌, ℕ, ◌+◌, ◌≤◌, Bool, true, false, List, [], if◌then◌else◌, drop, length, refl, sym, subst, arith, All, Contains, All-nil, Image, History, reads, Item, IsNodeSize, tree_nodes, lengths_of, SumKind, all_at, IsFreeUnit, Volume, AreIds, FitTree, ArePieces, FitLeaves, sum_items, chunk_items_fit, roomy, sum_items_fit, IsSlotRow, LieApart, AreWritable, NodeForm, Trees, AreUnitsApart, IsSoundPlan, node_places, PlannedChunk, Options, Piece, Plan, Ids, FirstItems, FitFirst, first_items, HasPlacedPieces, IsInPieces, IsUsedBlock}
 use Rattle.unit_plan.specs.declared.need.Need.{Need}
-use Rattle.convert_options.specs.declared.options.Options.{Options}
-use Rattle.unit_plan.specs.declared.piece.Piece.{Piece}
-use Rattle.unit_plan.specs.declared.plan.Plan.{Plan}
-use Rattle.btr_tree.specs.vol_block.declared.ids.Ids.{Ids}
-use Rattle.convert_trees.specs.First.{FirstItems, FitFirst, first_items}
-use Rattle.convert_trees.specs.Sources.{HasPlacedPieces, IsInPieces, IsUsedBlock}
 use Rattle.convert_trees.proofs.Ending.{row_with}
 use Rattle.convert_trees.proofs.Going.{Goes}
 use Rattle.convert_trees.proofs.Opening.{Begins, has_still, items_still}

@@ -1,22 +1,8 @@
 -- What is read of a volume stays while blocks are written that it does not use.
-use Rattle.std.proofs.Common.{◌≡◌, ◌∙◌, ℕ, ◌≤◌, List, length, sym, ap, subst}
-use Rattle.btr_tree.specs.outside.History.{Image}
-use Rattle.file_items.specs.Stream.{ahead, FitsRestBlocks}
+use Rattle.convert_trees.proofs.Imports.{◌≡◌, ◌∙◌, ℕ, ◌≤◌, List, length, sym, ap, subst, Image, ahead, FitsRestBlocks, Items, SameUsed, has, Super, IsOpened, IsAccepted, superblock, used_of, Volume, opened_same, same_volume, SameWhere, ArePlaced, Piece, FitsFiles, HasPlacedPieces, IsUsedBlock, ReadsVolume}
 use Rattle.file_items.proofs.Unchanged.{ahead_same}
-use Rattle.file_items.specs.declared.items.Items.{Items}
 use Rattle.file_items.specs.declared.items.Rest.{Rest}
 use Rattle.file_items.specs.declared.items.Rest.TheVariants as rest
-use Rattle.reiser_volume.specs.reiser_volume_contents.Laws.{SameUsed}
-use Rattle.reiser_volume.specs.reiser_bitmap.Bits.{has}
-use Rattle.reiser_volume.specs.reiser_super.declared.superblock.Super.{Super}
-use Rattle.reiser_volume.specs.Opened.{IsOpened}
-use Rattle.reiser_volume.specs.Volume.{IsAccepted, superblock, used_of}
-use Rattle.reiser_volume.specs.declared.volume.Volume.{Volume}
-use Rattle.reiser_volume.proofs.Unchanged.{opened_same, same_volume}
-use Rattle.btr_tree_writer.specs.Source.{SameWhere}
-use Rattle.unit_plan.specs.Pieces.{ArePlaced}
-use Rattle.unit_plan.specs.declared.piece.Piece.{Piece}
-use Rattle.convert_trees.specs.Sources.{FitsFiles, HasPlacedPieces, IsUsedBlock, ReadsVolume}
 
 rest_blocks : (r : Rest) (volume : Volume) (image other : Image) → IsAccepted other → IsOpened volume other → FitsRestBlocks r volume image → FitsRestBlocks r volume other
 rest_blocks rest.Nothing volume image other accepted opened fits = fits

@@ -1,36 +1,17 @@
 -- The slots of a plan's units touch no used block and no piece.
-use Rattle.std.proofs.Common.{◌≡◌, ◌≢◌, ◌∙◌, ℕ, ◌+◌, ◌*◌, ◌/◌, ◌^◌, ◌<◌, ◌≤◌, ◌⊎◌, ◌++◌, ⊎_elim, Bool, true, false, List, [], ◌∷◌, take, drop, Option, Some, None, refl, sym, ap, subst, arith, true≢false, take-append-drop}
-use Rattle.std.specs.Prelude.{Contains}
-use Rattle.std.specs.List.{range_with_len}
+use Rattle.convert_trees.proofs.Imports.{◌≡◌, ◌≢◌, ◌∙◌, ℕ, ◌+◌, ◌*◌, ◌/◌, ◌^◌, ◌<◌, ◌≤◌, ◌⊎◌, ◌++◌, ⊎_elim, Bool, true, false, List, [], ◌∷◌, take, drop, Option, Some, None, refl, sym, ap, subst, arith, true≢false, take-append-drop, Contains, range_with_len, Contains-append_cases, Contains-append_left, Contains-append_right, Image, IsNodeSize, IsInNode, IsInSlots, HasPlan, HoldsUsed, LiesInUnit, all_at, has, IsFreeUnit, contains_cases, contains_head, contains_tail, range_contains, used_of, LieApart, AreUnitsApart, node_places, places_in, Options, Piece, Plan, IsInPieces}
 use Rattle.std.specs.List.Sorted.{IsPermutation}
 use Rattle.std.proofs.lemmas.Bool.{cases_eq}
-use Rattle.std.proofs.lemmas.List.Elements.{Contains-append_cases, Contains-append_left, Contains-append_right}
 use Rattle.std.proofs.lemmas.List.Sorted.{Contains-permutation, IsPermutation-sym}
 use Rattle.reiser_volume.proofs.fs_paths.Lists.{from_flat_map, from_map}
-use Rattle.btr_tree.specs.outside.History.{Image}
-use Rattle.btr_tree.specs.btr_node.NodeSize.{IsNodeSize}
-use Rattle.btr_tree.specs.Writing.{IsInNode, IsInSlots}
 use Rattle.convert_steps.specs.extent_pieces.Files.{owner, tails}
 use Rattle.convert_steps.specs.extent_pieces.Found.{files_of}
-use Rattle.convert_steps.specs.extent_pieces.Laws.{HasPlan, HoldsUsed, LiesInUnit}
 use Rattle.convert_steps.specs.extent_pieces.Pieces.{Owners, pieces as all_pieces}
 use Rattle.convert_steps.specs.extent_pieces.Placed.{WerePlaced, at_place, at_places, blocks_of_units}
 use Rattle.convert_steps.specs.extent_pieces.declared.pieces.Pieces.{Pieces}
 use Rattle.convert_steps.proofs.extent_pieces.Covering.{pieces_cover_used}
-use Rattle.convert_steps.proofs.extent_pieces.Lists.{all_at}
-use Rattle.reiser_volume.specs.reiser_bitmap.Bits.{has}
-use Rattle.reiser_volume.specs.reiser_bitmap.Units.{IsFreeUnit}
-use Rattle.reiser_volume.proofs.reiser_bitmap.Ranges.{contains_cases, contains_head, contains_tail, range_contains}
-use Rattle.reiser_volume.specs.Volume.{used_of}
-use Rattle.btr_tree_writer.specs.Source.{LieApart}
-use Rattle.unit_plan.specs.Laws.{AreUnitsApart}
 use Rattle.unit_plan.specs.Needed.{nodes_in_unit}
-use Rattle.unit_plan.specs.Places.{node_places, places_in}
-use Rattle.convert_options.specs.declared.options.Options.{Options}
-use Rattle.unit_plan.specs.declared.piece.Piece.{Piece}
-use Rattle.unit_plan.specs.declared.plan.Plan.{Plan}
 use Rattle.unit_plan.proofs.Starts.{among_contains}
-use Rattle.convert_trees.specs.Sources.{IsInPieces}
 
 -- a block of a node that lies in a unit
 in_unit : (nodesize u k b : ℕ) → IsNodeSize nodesize → k < nodes_in_unit nodesize → IsInNode nodesize (2 ^ 20 * u + nodesize * k) b → u ≡ b / 256

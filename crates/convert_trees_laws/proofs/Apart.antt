@@ -1,29 +1,6 @@
 -- No two pieces of a volume hold one block of it, nor one block of a file.
-use Rattle.std.proofs.Common.{◌≡◌, ◌≤◌, ℕ, ◌==◌, Bool, true, false, cond, List, [], ◌∷◌, ◌++◌, length, map, take, drop, filter, get_or, Option, Some, None, refl, sym, ap, subst, ◌∙◌, arith}
-use Rattle.std.specs.Prelude.{All, AllPairs}
-use Rattle.std.specs.List.{AllByRecursion, IsDistinct}
-use Rattle.std.specs.List.Sorted.{IsPermutation}
-use Rattle.std.proofs.lemmas.Bool.Decides.{nat_tests}
-use Rattle.std.proofs.lemmas.List.Elements.{All-append}
-use Rattle.std.proofs.lemmas.Map.Keys.{IsDistinct-IsPermutation, IsDistinct-from_apart}
+use Rattle.convert_trees_laws.proofs.Imports.{◌≡◌, ◌≤◌, ℕ, ◌==◌, Bool, true, false, cond, List, [], ◌∷◌, ◌++◌, length, map, take, drop, filter, get_or, Option, Some, None, refl, sym, ap, subst, ◌∙◌, arith, All, AllPairs, AllByRecursion, IsDistinct, IsPermutation, nat_tests, All-append, IsDistinct-IsPermutation, IsDistinct-from_apart, from_map, Image, all_from_contains, used_of, Options, Piece, Plan, Pieces, Tail, FileAt, owner, tails, files_of, CoverUsed, HasPlan, HoldsBlock, IsKeptPiece, Owners, copied_pieces, kept_pieces, tail_piece, WerePlaced, at_place, at_places, blocks_of_units, IsCopied, is_copied_piece, pieces_cover_used, all_at, kept_are_maximal}
 use Rattle.std.proofs.Math.Seq.{drop-append_seam, take-append_seam}
-use Rattle.btr_reader.proofs.fs_paths.Lists.{from_map}
-use Rattle.btr_reader.specs.outside.History.{Image}
-use Rattle.convert_steps.proofs.reiser_bitmap.Ranges.{all_from_contains}
-use Rattle.convert_steps.specs.reiser_volume.Volume.{used_of}
-use Rattle.convert_steps.specs.convert_options.declared.options.Options.{Options}
-use Rattle.convert_steps.specs.unit_plan.declared.piece.Piece.{Piece}
-use Rattle.convert_steps.specs.unit_plan.declared.plan.Plan.{Plan}
-use Rattle.convert_steps.specs.extent_pieces.declared.pieces.Pieces.{Pieces}
-use Rattle.convert_steps.specs.extent_pieces.declared.tail.Tail.{Tail}
-use Rattle.convert_steps.specs.extent_pieces.Files.{FileAt, owner, tails}
-use Rattle.convert_steps.specs.extent_pieces.Found.{files_of}
-use Rattle.convert_steps.specs.extent_pieces.Laws.{CoverUsed, HasPlan, HoldsBlock, IsKeptPiece}
-use Rattle.convert_steps.specs.extent_pieces.Pieces.{Owners, copied_pieces, kept_pieces, tail_piece}
-use Rattle.convert_steps.specs.extent_pieces.Placed.{WerePlaced, at_place, at_places, blocks_of_units}
-use Rattle.convert_steps.proofs.extent_pieces.Covering.{IsCopied, is_copied_piece, pieces_cover_used}
-use Rattle.convert_steps.proofs.extent_pieces.Lists.{all_at}
-use Rattle.convert_steps.proofs.extent_pieces.Maximal.{kept_are_maximal}
 use Rattle.convert_trees_laws.proofs.Rising.{all_each}
 
 -- ---- a relation of pieces that asks nothing of their places

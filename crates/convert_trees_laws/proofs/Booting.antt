@@ -1,31 +1,6 @@
 -- The bootstrap array has room for the chunks of the chunk tree.
-use Rattle.std.proofs.Common.{◌≡◌, ℕ, ◌*◌, ◌^◌, ◌≤◌, Bool, false, List, [], ◌∷◌, length, filter, refl, sym, ◌∙◌, ap, subst, arith, length-append, ⊎_elim}
-use Rattle.std.specs.Int.{div_ceil}
-use Rattle.std.specs.List.{flat_map, range_with_len}
-use Rattle.std.proofs.lemmas.List.{length-map}
-use Rattle.std.proofs.lemmas.List.FromFn.{length-range_with_len}
-use Rattle.btr_reader.specs.outside.History.{Image}
-use Rattle.btr_reader.specs.btr_node.NodeSize.{IsNodeSize}
-use Rattle.convert_steps.specs.btr_tree.Counting.{node_bound}
-use Rattle.convert_steps.specs.Making.{IsMaking, Making}
-use Rattle.convert_steps.proofs.extent_pieces.Bounding.{filter_few}
-use Rattle.convert_steps.specs.reiser_bitmap.Runs.{begins_run, free_runs, maximal_runs, run_from}
-use Rattle.convert_steps.specs.reiser_bitmap.Units.{is_free_unit, unit_count}
+use Rattle.convert_trees_laws.proofs.Imports.{◌≡◌, ℕ, ◌*◌, ◌^◌, ◌≤◌, Bool, false, List, [], ◌∷◌, length, filter, refl, sym, ◌∙◌, ap, subst, arith, length-append, ⊎_elim, div_ceil, flat_map, range_with_len, length-map, length-range_with_len, Image, IsNodeSize, node_bound, IsMaking, Making, filter_few, begins_run, free_runs, maximal_runs, run_from, is_free_unit, unit_count, accepted_is_small, used_length, used_of, bound_up, HasEnoughSpace, IsPlan, AreChunks, chunk_bound, chunk_nodes, chunk_tree_bytes, need, nodes_in_unit, PlannedChunk, Role, Metadata, Data, Counts, Need, Options, Plan}
 use Rattle.convert_steps.specs.reiser_super.declared.superblock.Super.{Super}
-use Rattle.convert_steps.proofs.reiser_volume.Bounds.{accepted_is_small}
-use Rattle.convert_steps.proofs.reiser_volume.Holding.{used_length}
-use Rattle.convert_steps.specs.reiser_volume.Volume.{used_of}
-use Rattle.convert_steps.proofs.space_items.OwnBound.{bound_up}
-use Rattle.convert_steps.specs.unit_plan.Choice.{HasEnoughSpace, IsPlan}
-use Rattle.convert_steps.specs.unit_plan.Chunks.{AreChunks}
-use Rattle.convert_steps.specs.unit_plan.Needed.{chunk_bound, chunk_nodes, chunk_tree_bytes, need, nodes_in_unit}
-use Rattle.convert_steps.specs.unit_plan.declared.chunk.PlannedChunk.{PlannedChunk}
-use Rattle.convert_steps.specs.unit_plan.declared.chunk.Role.{Role}
-use Rattle.convert_steps.specs.unit_plan.declared.chunk.Role.TheVariants.{Metadata, Data}
-use Rattle.convert_steps.specs.unit_plan.declared.counts.Counts.{Counts}
-use Rattle.convert_steps.specs.unit_plan.declared.need.Need.{Need}
-use Rattle.convert_steps.specs.convert_options.declared.options.Options.{Options}
-use Rattle.convert_steps.specs.unit_plan.declared.plan.Plan.{Plan}
 use Rattle.convert_trees_laws.proofs.SystemChunks.{system_chunks_few}
 
 -- ---- how many units the chunk tree needs

@@ -1,27 +1,14 @@
 -- The chunk tree, the device tree and the root tree take no more than was counted.
-use Rattle.std.proofs.Common.{◌≤◌, ◌<◌, ℕ, List, [], ◌++◌, length, length-append, map, arith}
-use Rattle.std.specs.Prelude.{AllPairs}
-use Rattle.std.proofs.lemmas.List.{length-map}
-use Rattle.btrfs_format.specs.declared.key.TheConstants.{DEV_ITEM}
-use Rattle.btrfs_format.specs.declared.object.TheConstants.{DEV_ITEMS_OBJECTID}
-use Rattle.unit_plan.specs.declared.item_bytes.TheConstants.{CHUNK_BYTES, DEV_EXTENT_BYTES, ROOT_TREE_ROOM}
+use Rattle.convert_trees_laws.proofs.Imports.{◌≤◌, ◌<◌, ℕ, List, [], ◌++◌, length, length-append, map, arith, AllPairs, length-map, DEV_ITEM, DEV_ITEMS_OBJECTID, CHUNK_BYTES, DEV_EXTENT_BYTES, ROOT_TREE_ROOM, Item, make_key, chunk_tree_bytes, device_tree_bytes, PlannedChunk, chunk_item, chunk_items, dev_extent_item, device_body, device_items, AreIds, TreeRoot, bytes_in}
 use Rattle.btr_reader.specs.vol_block.declared.ids.Ids.{Ids}
-use Rattle.btr_reader.specs.btr_node.Leaf.{Item}
 use Rattle.btr_reader.specs.btr_space_items.Chunk.{chunk_layout}
 use Rattle.btr_reader.specs.btr_space_items.DevExtent.{dev_extent_layout}
 use Rattle.btr_reader.specs.btr_space_items.Device.{device_bytes, device_layout}
 use Rattle.btr_reader.specs.btr_space_items.Stripe.{stripe_layout}
-use Rattle.btr_reader.specs.btr_keys.Key.{make_key}
-use Rattle.convert_steps.specs.unit_plan.Needed.{chunk_tree_bytes, device_tree_bytes}
-use Rattle.convert_steps.specs.unit_plan.declared.chunk.PlannedChunk.{PlannedChunk}
-use Rattle.convert_steps.specs.space_items.Chunks.{chunk_item, chunk_items, dev_extent_item, device_body, device_items}
-use Rattle.convert_steps.specs.space_items.Laws.{AreIds}
 use Rattle.convert_steps.specs.space_items.Merging.{item_cmp}
 use Rattle.convert_steps.specs.space_items.Roots.{other_root_items, tree_root_item, root_items}
-use Rattle.convert_steps.specs.space_items.declared.node.TreeRoot.{TreeRoot}
 use Rattle.convert_steps.proofs.space_items.Merges.{length-merge}
 use Rattle.convert_steps.proofs.space_items.Ordered.{root_items_fit}
-use Rattle.convert_trees_laws.specs.Bounds.{bytes_in}
 use Rattle.convert_trees_laws.proofs.ItemBytes.{bytes-cons, bytes-map, bytes-short, sum-same}
 
 -- ---- chunks

@@ -1,39 +1,5 @@
 -- The entries of directories in a tree of the file tree's items.
-use Rattle.std.proofs.Common.{◌≡◌, ◌≤◌, ◌<◌, ℕ, ◌+◌, ◌^◌, ◌==◌, ◌&&◌, not, Bool, true, false, cond, List, [], ◌∷◌, ◌++◌, append_assoc, length, map, count_by, Option, Some, None, refl, sym, ap, ◌∙◌, if◌then◌else◌, arith}
-use Rattle.std.specs.List.{AllByRecursion, IsDistinct, flat_map}
-use Rattle.std.specs.Ordering.{is_lt}
-use Rattle.std.proofs.lemmas.Bool.Decides.{nat_tests}
-use Rattle.std.proofs.lemmas.List.{append-nil, map-append}
-use Rattle.std.proofs.lemmas.List.Sums.{sum_by-cons}
-use Rattle.btrfs_format.specs.declared.key.TheConstants.{DIR_INDEX, DIR_ITEM, INODE_EXTREF, INODE_REF}
-use Rattle.btr_reader.specs.castagnoli.Castagnoli.{name_hash}
-use Rattle.indexmap.specs.IndexMap.{keys}
-use Rattle.btr_reader.specs.fs_rows.declared.row.Kind.{Kind}
-use Rattle.btr_reader.specs.fs_rows.declared.row.Kind.TheVariants.{Directory, File, Symlink, Character, Block, Fifo, Socket, Subvolume}
-use Rattle.btr_reader.specs.btr_keys.DirEntry.{DirEntryValue, dir_entry_bytes, dir_entry_head, dir_items_of}
-use Rattle.btr_reader.specs.btr_keys.Key.{key_layout, make_key}
-use Rattle.btr_reader.proofs.btr_keys.Records.{dir_items_read_back}
-use Rattle.btr_reader.specs.btr_reader_names.Links.{index_entry, is_index, naming_at, dir_indexes, only_one, own_naming}
-use Rattle.btr_reader.specs.btr_reader_names.declared.dir_index.DirIndex.{DirIndex}
-use Rattle.btr_reader.specs.btr_node.Leaf.{Item}
-use Rattle.btr_reader.specs.btr_reader_walk.Events.{TreeItem}
-use Rattle.btr_reader.specs.btr_reader_walk.Tree.{bare_item}
-use Rattle.convert_steps.specs.Source.{made_from}
-use Rattle.convert_steps.specs.file_items.Extents.{extents_at, file_block, pieces_of}
-use Rattle.convert_steps.specs.file_items.Names.{IndexedLink, Indexed, entry_items, entry_kind, entry_to, indexed_in, names_in, next_index, saved_entry}
-use Rattle.convert_steps.specs.file_items.Tree.{Source, content_items, file_extent_items, inline_in, kind_in, name_items, ino_of, object_items, size_in, fs_tree_items}
-use Rattle.convert_steps.specs.btr_item_list.Extents.{extent_item, inline_extent, regular_extent}
-use Rattle.convert_steps.specs.btr_item_list.Groups.{grouped}
-use Rattle.convert_steps.specs.reiser_volume_files.Bytes.{target_bytes}
-use Rattle.convert_steps.specs.reiser_volume_names.Links.{object_cmp}
-use Rattle.convert_steps.specs.reiser_volume_names.Names.{ino_of_key}
-use Rattle.convert_steps.specs.reiser_volume_objects.declared.key.ObjectKey.{ObjectKey}
-use Rattle.convert_steps.specs.reiser_volume_objects.declared.naming.Naming.{Naming}
-use Rattle.convert_steps.specs.reiser_volume_objects.Keys.{items_of, root, same_key}
-use Rattle.convert_steps.specs.reiser_volume.Numbers.{by_inode}
-use Rattle.convert_steps.proofs.reiser_volume.Bounds.{accepted_is_small}
-use Rattle.convert_steps.specs.unit_plan.declared.piece.Piece.{Piece}
-use Rattle.convert_trees_laws.specs.Entries.{EntriesAreThere, naming_by, namings_by, unplaced}
+use Rattle.convert_trees_laws.proofs.Imports.{◌≡◌, ◌≤◌, ◌<◌, ℕ, ◌+◌, ◌^◌, ◌==◌, ◌&&◌, not, Bool, true, false, cond, List, [], ◌∷◌, ◌++◌, append_assoc, length, map, count_by, Option, Some, None, refl, sym, ap, ◌∙◌, if◌then◌else◌, arith, AllByRecursion, IsDistinct, flat_map, is_lt, nat_tests, append-nil, map-append, sum_by-cons, DIR_INDEX, DIR_ITEM, INODE_EXTREF, INODE_REF, name_hash, keys, Kind, Directory, File, Symlink, Character, Block, Fifo, Socket, Subvolume, DirEntryValue, dir_entry_bytes, dir_entry_head, dir_items_of, key_layout, make_key, dir_items_read_back, index_entry, is_index, naming_at, dir_indexes, only_one, own_naming, DirIndex, Item, TreeItem, bare_item, made_from, extents_at, file_block, pieces_of, IndexedLink, Indexed, entry_items, entry_kind, entry_to, indexed_in, names_in, next_index, saved_entry, Source, content_items, file_extent_items, inline_in, kind_in, name_items, ino_of, object_items, size_in, fs_tree_items, extent_item, inline_extent, regular_extent, grouped, target_bytes, object_cmp, ino_of_key, ObjectKey, Naming, items_of, root, same_key, by_inode, accepted_is_small, Piece, EntriesAreThere, naming_by, namings_by, unplaced}
 use Rattle.convert_trees_laws.proofs.FileBlocks.{starts, starts_none}
 use Rattle.convert_trees_laws.proofs.Keys.{names_part}
 use Rattle.convert_trees_laws.proofs.Rising.{IsOf, all_each, all_mapped, all_true}

@@ -1,39 +1,8 @@
 -- The inode that is read of an object is the one that was made of its stat data.
-use Rattle.std.proofs.Common.{◌≡◌, ◌≤◌, ◌<◌, ℕ, ◌+◌, ◌*◌, ◌^◌, Bool, true, false, not, cond, ◌&&◌, List, [], ◌∷◌, map, filter, length, sum_by, count_by, Contains, option_and_then, if◌then◌else◌, refl, ap, ◌∙◌, arith}
-use Rattle.std.proofs.lemmas.List.Sums.{sum_by-append, sum_by-cons, sum_by-le-sum_by}
-use Rattle.indexmap.specs.IndexMap.{keys}
-use Rattle.btr_reader.specs.outside.History.{Image}
-use Rattle.btr_reader.specs.fs_rows.Kinds.{is_device, is_directory, is_file, is_symlink}
-use Rattle.btr_reader.specs.fs_rows.declared.row.Kind.{Kind}
-use Rattle.btr_reader.specs.fs_rows.declared.row.Kind.TheVariants.{Directory, File, Symlink, Character, Block, Fifo, Socket, Subvolume}
-use Rattle.btr_reader.specs.btr_keys.Inode.{inode_layout, inode_of}
-use Rattle.btr_reader.specs.btr_keys.Stamp.{stamp_layout}
-use Rattle.btr_reader.proofs.btr_keys.Records.{inodes_read_back}
-use Rattle.btr_reader.specs.btr_node.Leaf.{Item}
-use Rattle.btr_reader.specs.btr_reader_walk.Events.{TreeItem}
-use Rattle.convert_steps.specs.Source.{HasPieces, made_from}
-use Rattle.convert_steps.proofs.extent_pieces.Apart.{places_are_apart}
-use Rattle.convert_steps.specs.file_items.Extents.{piece_bytes, pieces_of}
-use Rattle.convert_steps.specs.file_items.Inodes.{device_number, inode_flags, inode_from}
-use Rattle.convert_steps.specs.file_items.Names.{IndexedLink, Indexed, indexed_links, indexed, indexed_in, letters, names_in, next_index, saved_entry}
-use Rattle.convert_steps.specs.file_items.Tree.{Source, nbytes_by, inline_in, inode_in, kind_in, link_count, ino_of, size_by, size_in, stat_in}
+use Rattle.convert_trees_laws.proofs.Imports.{◌≡◌, ◌≤◌, ◌<◌, ℕ, ◌+◌, ◌*◌, ◌^◌, Bool, true, false, not, cond, ◌&&◌, List, [], ◌∷◌, map, filter, length, sum_by, count_by, Contains, option_and_then, if◌then◌else◌, refl, ap, ◌∙◌, arith, sum_by-append, sum_by-cons, sum_by-le-sum_by, keys, Image, is_device, is_directory, is_file, is_symlink, Kind, Directory, File, Symlink, Character, Block, Fifo, Socket, Subvolume, inode_layout, inode_of, stamp_layout, inodes_read_back, Item, TreeItem, HasPieces, made_from, places_are_apart, piece_bytes, pieces_of, device_number, inode_flags, inode_from, IndexedLink, Indexed, indexed_links, indexed, indexed_in, letters, names_in, next_index, saved_entry, Source, nbytes_by, inline_in, inode_in, kind_in, link_count, ino_of, size_by, size_in, stat_in, InodesAreThere, stamp_of, ObjectKey, Naming, ObjectStat, root, same_key, flag, major_of, minor_of, Volume, accepted_is_small, used_length, Options, Piece, Plan, HasBytes, InodesAreRead}
 use Rattle.convert_steps.proofs.file_items.Ordering.{bytes_are, owned_within}
-use Rattle.convert_trees_laws.specs.Inodes.{InodesAreThere}
-use Rattle.convert_trees_laws.proofs.Short.{sum_kept, sum_links, sum_mapped}
-use Rattle.convert_steps.specs.btr_item_list.Inodes.{stamp_of}
-use Rattle.convert_steps.specs.reiser_volume_objects.declared.key.ObjectKey.{ObjectKey}
-use Rattle.convert_steps.specs.reiser_volume_objects.declared.naming.Naming.{Naming}
-use Rattle.convert_steps.specs.reiser_volume_objects.declared.stat.ObjectStat.{ObjectStat}
-use Rattle.convert_steps.specs.reiser_volume_objects.Keys.{root, same_key}
 use Rattle.convert_steps.specs.reiser_volume.Bounds.{IsSmallVolume}
-use Rattle.convert_steps.specs.reiser_volume.Rows.{flag, major_of, minor_of}
-use Rattle.convert_steps.specs.reiser_volume.declared.volume.Volume.{Volume}
-use Rattle.convert_steps.proofs.reiser_volume.Bounds.{accepted_is_small}
-use Rattle.convert_steps.proofs.reiser_volume.Holding.{used_length}
-use Rattle.convert_steps.specs.convert_options.declared.options.Options.{Options}
-use Rattle.convert_steps.specs.unit_plan.declared.piece.Piece.{Piece}
-use Rattle.convert_steps.specs.unit_plan.declared.plan.Plan.{Plan}
-use Rattle.convert_trees_laws.specs.Rows.{HasBytes, InodesAreRead}
+use Rattle.convert_trees_laws.proofs.Short.{sum_kept, sum_links, sum_mapped}
 use Rattle.convert_trees_laws.proofs.Fields.{packed_low, seconds_fit}
 use Rattle.convert_trees_laws.proofs.Known.{few_names, kind_is, mode_low, stat_of_key}
 use Rattle.convert_trees_laws.proofs.Stats.{FitsStat, stat_fits}

@@ -1,38 +1,9 @@
 -- No two pieces of a volume hold one block of a file.
-use Rattle.std.proofs.Common.{◌≡◌, ◌≢◌, ◌≤◌, ◌<◌, ◌⊎◌, ℕ, ◌+◌, ◌-◌, ◌==◌, ◌&&◌, inl, inr, Bool, true, false, List, [], ◌∷◌, ◌++◌, map, filter, get_or, Option, Some, None, refl, sym, ap, ◌∙◌, ⊎_elim, arith}
-use Rattle.std.specs.Prelude.{AllPairs, Contains, if◌then◌else◌}
-use Rattle.std.specs.List.{IsDistinct}
-use Rattle.std.specs.Int.{div_ceil}
-use Rattle.std.specs.Option.{option_map_or}
-use Rattle.std.proofs.lemmas.Bool.{cases_lt}
-use Rattle.std.proofs.lemmas.Bool.Decides.{nat_tests}
-use Rattle.std.proofs.lemmas.List.Elements.{Contains-append_cases, Contains-get_or}
-use Rattle.btr_reader.proofs.fs_paths.Lists.{from_filter, from_flat_map, from_map}
-use Rattle.btr_reader.specs.outside.History.{Image}
+use Rattle.convert_trees_laws.proofs.Imports.{◌≡◌, ◌≢◌, ◌≤◌, ◌<◌, ◌⊎◌, ℕ, ◌+◌, ◌-◌, ◌==◌, ◌&&◌, inl, inr, Bool, true, false, List, [], ◌∷◌, ◌++◌, map, filter, get_or, Option, Some, None, refl, sym, ap, ◌∙◌, ⊎_elim, arith, AllPairs, IsDistinct, div_ceil, option_map_or, cases_lt, nat_tests, Contains-append_cases, Contains-get_or, from_filter, from_flat_map, from_map, Image, all_from_contains, RunFrom, Disk, block_from, is_tail, Options, Piece, Plan, Pieces, Tail as TailBlock, FileAt, file_blocks, file_tails, has_tail, is_file_inline, tails, HasPlan, HoldsBlock, HoldsUsed, IsKeptPiece, advanced, copied_pieces, tail_piece, WerePlaced, IsCopied, is_copied_piece, all_at, pairs_append, pairs_head, pairs_map, pairs_tail, kept_are_maximal, numbered, owned_once, owner_from, two_cases, in_piece}
+use Rattle.std.specs.Prelude.{Contains, if◌then◌else◌}
+use Rattle.convert_steps.specs.reiser_volume_files.declared.map.RunFrom.TheVariants.{Tail}
 use Rattle.convert_steps.proofs.reiser_bitmap.MaximalRuns.{starts_ascend}
-use Rattle.convert_steps.proofs.reiser_bitmap.Ranges.{all_from_contains}
-use Rattle.convert_steps.specs.reiser_volume_files.declared.map.RunFrom.{RunFrom}
-use Rattle.convert_steps.specs.reiser_volume_files.declared.map.RunFrom.TheVariants.{Disk, Tail}
-use Rattle.convert_steps.specs.reiser_volume_files.Runs.{block_from}
-use Rattle.convert_steps.specs.reiser_volume.Inline.{is_tail}
-use Rattle.convert_steps.specs.convert_options.declared.options.Options.{Options}
-use Rattle.convert_steps.specs.unit_plan.declared.piece.Piece.{Piece}
-use Rattle.convert_steps.specs.unit_plan.declared.plan.Plan.{Plan}
-use Rattle.convert_steps.specs.extent_pieces.declared.pieces.Pieces.{Pieces}
-use Rattle.convert_steps.specs.extent_pieces.declared.tail.Tail.{Tail as TailBlock}
-use Rattle.convert_steps.specs.extent_pieces.Files.{FileAt, file_blocks, file_tails, has_tail, is_file_inline, tails}
-use Rattle.convert_steps.specs.extent_pieces.Laws.{HasPlan, HoldsBlock, HoldsUsed, IsKeptPiece}
-use Rattle.convert_steps.specs.extent_pieces.Pieces.{advanced, copied_pieces, tail_piece}
-use Rattle.convert_steps.specs.extent_pieces.Placed.{WerePlaced}
-use Rattle.convert_steps.proofs.extent_pieces.Covering.{IsCopied, is_copied_piece}
-use Rattle.convert_steps.proofs.extent_pieces.Lists.{all_at, pairs_append, pairs_head, pairs_map, pairs_tail}
-use Rattle.convert_steps.proofs.extent_pieces.Maximal.{kept_are_maximal}
-use Rattle.convert_steps.proofs.extent_pieces.Named.{numbered}
-use Rattle.convert_steps.proofs.extent_pieces.Once.{owned_once}
-use Rattle.convert_steps.proofs.extent_pieces.Owners.{owner_from}
-use Rattle.convert_steps.proofs.extent_pieces.Owning.{two_cases}
 use Rattle.convert_steps.proofs.extent_pieces.Telling.{OwnedOnce}
-use Rattle.convert_steps.specs.Source.{in_piece}
 use Rattle.convert_trees_laws.proofs.Apart.{all_files, by, cover, kept, made, all_tails, placed_distinct, rest, some_blocks, used}
 
 no_block : (b : ℕ) → (let o : Option ℕ = None in o) ≡ Some b → ⊥

@@ -1,40 +1,9 @@
 -- The file tree takes no more than was counted.
-use Rattle.std.proofs.Common.{◌≡◌, ◌≤◌, ℕ, ◌+◌, ◌*◌, not, Bool, true, false, cond, List, [], ◌∷◌, ◌++◌, length, length-append, filter, sum_by, take, drop, refl, sym, ap, subst, ◌∙◌, ⊎_elim, arith}
+use Rattle.convert_trees_laws.proofs.Imports.{◌≡◌, ◌≤◌, ℕ, ◌+◌, ◌*◌, not, Bool, true, false, cond, List, [], ◌∷◌, ◌++◌, length, length-append, filter, sum_by, take, drop, refl, sym, ap, subst, ◌∙◌, ⊎_elim, arith, length-take, length-drop, length_permutation, sum_by-cons, DIR_ITEM_SIZE, INODE_EXTREF_SIZE, ITEM_SIZE, FILE_EXTENT_BYTES, INODE_BYTES, NAME_BYTES, keys, Image, sum_split, contains_cases, ObjectKey, Naming, root, same_key, same_key-self, ino_of_key, AreNumbered, by_inode, links_in, volume_items, Counts, Piece, file_tree_bytes, counts_of, AreSortedKeys, WerePlaced, at_places, blocks_of_units, sum_fewer, numbered, owner_inode, IndexedLink, indexed_links, Source, ino_of, object_items, fs_tree_items, IsMaking, Making, made_from, FileTreeIsCounted, bytes_in}
 use Rattle.std.specs.Prelude.{Contains}
-use Rattle.std.proofs.lemmas.List.{length-take, length-drop}
-use Rattle.std.proofs.lemmas.List.Sorted.{length_permutation}
-use Rattle.std.proofs.lemmas.List.Sums.{sum_by-cons}
-use Rattle.btrfs_format.specs.declared.size.TheConstants.{DIR_ITEM_SIZE, INODE_EXTREF_SIZE, ITEM_SIZE}
-use Rattle.unit_plan.specs.declared.item_bytes.TheConstants.{FILE_EXTENT_BYTES, INODE_BYTES, NAME_BYTES}
-use Rattle.indexmap.specs.IndexMap.{keys}
-use Rattle.btr_reader.specs.outside.History.{Image}
-use Rattle.btr_reader.proofs.fs_paths.Counts.{sum_split}
-use Rattle.convert_steps.proofs.reiser_bitmap.Ranges.{contains_cases}
-use Rattle.convert_steps.specs.reiser_volume_objects.declared.key.ObjectKey.{ObjectKey}
-use Rattle.convert_steps.specs.reiser_volume_objects.declared.naming.Naming.{Naming}
-use Rattle.convert_steps.specs.reiser_volume_objects.Keys.{root, same_key}
-use Rattle.convert_steps.proofs.reiser_volume_objects.Tables.{same_key-self}
-use Rattle.convert_steps.specs.reiser_volume_names.Names.{ino_of_key}
-use Rattle.convert_steps.specs.reiser_volume.Numbers.{AreNumbered, by_inode}
-use Rattle.convert_steps.specs.reiser_volume.Opened.{links_in}
-use Rattle.convert_steps.specs.reiser_volume.Volume.{volume_items}
-use Rattle.convert_steps.specs.unit_plan.declared.counts.Counts.{Counts}
-use Rattle.convert_steps.specs.unit_plan.declared.piece.Piece.{Piece}
-use Rattle.convert_steps.specs.unit_plan.Needed.{file_tree_bytes}
-use Rattle.convert_steps.specs.extent_pieces.Found.{counts_of}
-use Rattle.convert_steps.specs.extent_pieces.Laws.{AreSortedKeys}
-use Rattle.convert_steps.specs.extent_pieces.Placed.{WerePlaced, at_places, blocks_of_units}
-use Rattle.convert_steps.proofs.extent_pieces.Bounding.{sum_fewer}
-use Rattle.convert_steps.proofs.extent_pieces.Named.{numbered}
-use Rattle.convert_steps.specs.file_items.Extents.{owner_inode}
-use Rattle.convert_steps.specs.file_items.Names.{IndexedLink, indexed_links}
-use Rattle.convert_steps.specs.file_items.Tree.{Source, ino_of, object_items, fs_tree_items}
-use Rattle.convert_steps.specs.Making.{IsMaking, Making}
-use Rattle.convert_steps.specs.Source.{made_from}
 use Rattle.convert_trees_laws.proofs.Keys.{inodes_climb}
 use Rattle.convert_trees_laws.proofs.Rising.{Climb}
 use Rattle.convert_trees_laws.proofs.Short.{sum_links}
-use Rattle.convert_trees_laws.specs.Bounds.{FileTreeIsCounted, bytes_in}
 use Rattle.convert_trees_laws.proofs.FilesInline.{inline_counted}
 use Rattle.convert_trees_laws.proofs.FilesObjects.{bytes_of_items, entries_weight, inline_weight, item_weight, names_weight, object_takes, pieces_weight, root_weight}
 use Rattle.convert_trees_laws.proofs.FilesSums.{all_weigh, one_weighs, sum_flat}

@@ -1,16 +1,6 @@
 -- The bytes of files and symlinks that stay in the tree, as they are counted.
-use Rattle.std.proofs.Common.{◌≡◌, ◌≤◌, ℕ, ◌+◌, ◌*◌, Bool, true, false, cond, List, [], ◌∷◌, length, map, filter, sum_by, arith}
-use Rattle.std.proofs.lemmas.List.Sums.{sum_by-cons}
-use Rattle.unit_plan.specs.declared.item_bytes.TheConstants.{INLINE_BYTES}
-use Rattle.btr_reader.specs.fs_rows.declared.row.Kind.{Kind}
-use Rattle.btr_reader.specs.fs_rows.declared.row.Kind.TheVariants.{Directory, File, Symlink, Character, Block, Fifo, Socket, Subvolume}
-use Rattle.convert_steps.specs.reiser_walk.Items.{ReiserItem}
-use Rattle.convert_steps.specs.reiser_volume_objects.declared.key.ObjectKey.{ObjectKey}
-use Rattle.convert_steps.specs.reiser_volume_objects.Keys.{items_of}
+use Rattle.convert_trees_laws.proofs.Imports.{◌≡◌, ◌≤◌, ℕ, ◌+◌, ◌*◌, Bool, true, false, cond, List, [], ◌∷◌, length, map, filter, sum_by, arith, sum_by-cons, INLINE_BYTES, Kind, Directory, File, Symlink, Character, Block, Fifo, Socket, Subvolume, ReiserItem, ObjectKey, items_of, stays_in_tree, kind_by, stat_at, FileAt, file_at, files_among, inline_files, is_file_at, is_symlink_at, symlinks_among}
 use Rattle.convert_steps.specs.reiser_volume_objects.Kinds.{is_file, is_symlink}
-use Rattle.convert_steps.specs.reiser_volume.Inline.{stays_in_tree}
-use Rattle.convert_steps.specs.reiser_volume.Made.{kind_by, stat_at}
-use Rattle.convert_steps.specs.extent_pieces.Files.{FileAt, file_at, files_among, inline_files, is_file_at, is_symlink_at, symlinks_among}
 
 module _ (inline : Bool) (items : List ReiserItem) (keys : List ObjectKey) where
   abbrev bytes : ObjectKey → ℕ

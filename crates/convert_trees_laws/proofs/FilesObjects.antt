@@ -1,40 +1,8 @@
 -- What the items of one object of a file tree take in leaves.
-use Rattle.std.proofs.Common.{◌≡◌, ◌≤◌, ℕ, ◌+◌, ◌*◌, ◌==◌, not, Bool, true, false, cond, List, [], ◌∷◌, ◌++◌, length, map, filter, flat_map, sum_by, Option, Some, None, refl, ap, ◌∙◌, if◌then◌else◌, arith}
-use Rattle.std.specs.Option.{option_map_or}
-use Rattle.std.proofs.lemmas.List.{length-take}
-use Rattle.std.proofs.lemmas.Bool.Decides.{nat_tests}
-use Rattle.std.proofs.lemmas.List.Sums.{sum_by-append, sum_by-cons}
-use Rattle.btrfs_format.specs.declared.key.TheConstants.{DIR_INDEX, DIR_ITEM, INODE_EXTREF, INODE_REF}
-use Rattle.btrfs_format.specs.declared.size.TheConstants.{DIR_ITEM_SIZE, INODE_EXTREF_SIZE, INODE_REF_SIZE, ITEM_SIZE}
-use Rattle.unit_plan.specs.declared.item_bytes.TheConstants.{FILE_EXTENT_BYTES, INLINE_BYTES, INODE_BYTES}
-use Rattle.btr_reader.specs.castagnoli.Castagnoli.{extref_hash, name_hash}
-use Rattle.btr_reader.specs.fs_rows.declared.row.Kind.{Kind}
-use Rattle.btr_reader.specs.fs_rows.declared.row.Kind.TheVariants.{Directory, File, Symlink, Character, Block, Fifo, Socket, Subvolume}
-use Rattle.btr_reader.specs.btr_keys.DirEntry.{dir_entry_bytes}
-use Rattle.btr_reader.specs.btr_keys.Extref.{extref_bytes}
-use Rattle.btr_reader.specs.btr_keys.InodeRef.{inode_ref_bytes}
-use Rattle.btr_reader.specs.btr_keys.Key.{make_key}
-use Rattle.btr_reader.specs.btr_node.Leaf.{Item}
-use Rattle.convert_steps.specs.btr_tree.Packing.{weight}
-use Rattle.convert_steps.specs.btr_item_list.Extents.{extent_item, inline_extent, regular_extent}
-use Rattle.convert_steps.specs.btr_item_list.Groups.{ascending, grouped}
-use Rattle.convert_steps.specs.btr_item_list.Inodes.{inode_item}
-use Rattle.convert_steps.proofs.btr_item_list.Sorting.{ascending_sum}
-use Rattle.btr_reader.proofs.fs_paths.Counts.{sum_split}
-use Rattle.convert_steps.specs.reiser_volume_files.Bytes.{tail_block, target_bytes}
-use Rattle.convert_steps.specs.reiser_volume_objects.declared.key.ObjectKey.{ObjectKey}
-use Rattle.convert_steps.specs.reiser_volume_objects.declared.naming.Naming.{Naming}
-use Rattle.convert_steps.specs.reiser_volume_objects.Keys.{items_of, root, same_key}
-use Rattle.convert_steps.proofs.reiser_volume_objects.Tables.{same_key-true}
-use Rattle.convert_steps.specs.reiser_volume_names.Names.{ino_of_key}
-use Rattle.convert_steps.specs.unit_plan.declared.piece.Piece.{Piece}
-use Rattle.convert_steps.specs.file_items.Extents.{extents_at, file_block, is_owned_by, owner_inode, pieces_of}
-use Rattle.convert_steps.specs.file_items.Names.{IndexedLink, Indexed, indexed_links, entry_items, entry_to, extref, extrefs, indexed_in, inode_ref, inode_refs, names_in, names_of, next_index, parent_of, root_ref, saved_entry}
-use Rattle.convert_steps.specs.file_items.Tree.{Source, content_items, file_extent_items, inline_in, inode_in, kind_in, name_items, ino_of, object_items, size_in}
-use Rattle.convert_steps.proofs.file_items.Named.{name_items_other, name_items_root}
+use Rattle.convert_trees_laws.proofs.Imports.{◌≡◌, ◌≤◌, ℕ, ◌+◌, ◌*◌, ◌==◌, not, Bool, true, false, cond, List, [], ◌∷◌, ◌++◌, length, map, filter, sum_by, Option, Some, None, refl, ap, ◌∙◌, if◌then◌else◌, arith, option_map_or, length-take, nat_tests, sum_by-append, sum_by-cons, DIR_INDEX, DIR_ITEM, INODE_EXTREF, INODE_REF, DIR_ITEM_SIZE, INODE_EXTREF_SIZE, INODE_REF_SIZE, ITEM_SIZE, FILE_EXTENT_BYTES, INLINE_BYTES, INODE_BYTES, extref_hash, name_hash, Kind, Directory, File, Symlink, Character, Block, Fifo, Socket, Subvolume, dir_entry_bytes, extref_bytes, inode_ref_bytes, make_key, Item, weight, extent_item, inline_extent, regular_extent, ascending, grouped, inode_item, ascending_sum, sum_split, tail_block, target_bytes, ObjectKey, Naming, items_of, root, same_key, same_key-true, ino_of_key, Piece, extents_at, file_block, is_owned_by, owner_inode, pieces_of, IndexedLink, Indexed, indexed_links, entry_items, entry_to, extref, extrefs, indexed_in, inode_ref, inode_refs, names_in, names_of, next_index, parent_of, root_ref, saved_entry, Source, content_items, file_extent_items, inline_in, inode_in, kind_in, name_items, ino_of, object_items, size_in, name_items_other, name_items_root, bytes_in}
+use Rattle.std.proofs.Common.{flat_map}
 use Rattle.convert_trees_laws.proofs.Keys.{root_first}
 use Rattle.convert_trees_laws.proofs.Short.{entry_long, far_long, flat_long, inline_long, inode_long, ref_long, regular_long, sum_alike, sum_mapped}
-use Rattle.convert_trees_laws.specs.Bounds.{bytes_in}
 use Rattle.convert_trees_laws.proofs.FilesSums.{groups_weigh, kept_weigh, parts_weigh}
 
 -- ---- lists of items

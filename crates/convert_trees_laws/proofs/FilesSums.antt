@@ -1,13 +1,6 @@
 -- Sums over lists that a number divides.
-use Rattle.std.proofs.Common.{◌≡◌, ◌≤◌, ◌<◌, ℕ, ◌+◌, ◌==◌, nat_lt, Bool, true, false, cond, List, [], ◌∷◌, filter, flat_map, sum_by, refl, ap, if◌then◌else◌, arith}
-use Rattle.std.specs.List.{AllByRecursion}
-use Rattle.std.proofs.lemmas.Bool.Decides.{nat_tests}
-use Rattle.std.proofs.lemmas.List.Sums.{sum_by-append, sum_by-cons}
-use Rattle.btrfs_format.specs.declared.size.TheConstants.{ITEM_SIZE}
-use Rattle.btr_reader.proofs.fs_paths.Counts.{sum_split, sum_zero}
-use Rattle.convert_steps.specs.btr_item_list.Groups.{grouped, in_group}
-use Rattle.convert_steps.proofs.btr_item_list.Grouping.{other}
-use Rattle.convert_steps.proofs.extent_pieces.Bounding.{sum_fewer}
+use Rattle.convert_trees_laws.proofs.Imports.{◌≡◌, ◌≤◌, ◌<◌, ℕ, ◌+◌, ◌==◌, nat_lt, Bool, true, false, cond, List, [], ◌∷◌, filter, sum_by, refl, ap, if◌then◌else◌, arith, AllByRecursion, nat_tests, sum_by-append, sum_by-cons, ITEM_SIZE, sum_split, sum_zero, grouped, in_group, other, sum_fewer}
+use Rattle.std.proofs.Common.{flat_map}
 use Rattle.convert_trees_laws.proofs.Rising.{Climb}
 use Rattle.convert_trees_laws.proofs.Short.{sum_kept}
 

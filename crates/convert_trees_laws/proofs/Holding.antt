@@ -1,52 +1,8 @@
 -- The pieces of an accepted volume hold its files.
-use Rattle.std.proofs.Common.{◌≡◌, ◌≤◌, ◌<◌, ℕ, ◌+◌, ◌-◌, ◌*◌, ◌==◌, ◌&&◌, nat_le, nat_lt, not, inl, inr, Bool, true, false, List, [], ◌∷◌, ◌++◌, length, length-append, map, filter, get_or, Option, Some, None, refl, sym, ap, subst, ◌∙◌, ⊎_elim, if◌then◌else◌, arith}
-use Rattle.std.specs.Prelude.{AllPairs, Contains}
-use Rattle.std.specs.Int.{div_ceil}
-use Rattle.std.specs.List.{range_with_len}
-use Rattle.std.specs.List.Sorted.{IsPermutation}
-use Rattle.std.specs.Option.{option_map_or}
-use Rattle.std.specs.Ordering.{is_lt}
-use Rattle.std.proofs.lemmas.Bool.{and_parts, cases_Bool, cases_lt, leb-true, ltb-true}
-use Rattle.std.proofs.lemmas.Bool.Decides.{nat_tests}
-use Rattle.std.proofs.lemmas.List.{length-drop}
-use Rattle.std.proofs.lemmas.List.FromFn.{length-range_with_len}
-use Rattle.std.proofs.lemmas.List.Elements.{Contains-append_cases, Contains-append_left, Contains-append_right}
-use Rattle.std.proofs.lemmas.List.Sorted.{Contains-permutation, IsPermutation-sym}
-use Rattle.std.proofs.lemmas.Map.Keys.{apart_from_distinct}
-use Rattle.btr_reader.proofs.fs_paths.Lists.{in_filter, in_flat_map, in_map}
-use Rattle.indexmap.specs.IndexMap.{keys}
-use Rattle.btr_reader.specs.outside.History.{Image}
-use Rattle.btr_reader.specs.fs_rows.Kinds.{is_file}
-use Rattle.btr_reader.specs.fs_rows.declared.row.Kind.{Kind}
-use Rattle.btr_reader.specs.fs_rows.declared.row.Kind.TheVariants.{Directory, File, Symlink, Character, Block, Fifo, Socket, Subvolume}
-use Rattle.convert_steps.proofs.reiser_bitmap.Ranges.{contains_cases, contains_head, contains_range, contains_tail}
-use Rattle.convert_steps.specs.reiser_volume_files.declared.map.RunFrom.{RunFrom}
-use Rattle.convert_steps.specs.reiser_volume_files.declared.map.RunFrom.TheVariants.{Disk, Tail}
-use Rattle.convert_steps.specs.reiser_volume_files.Runs.{block_from}
-use Rattle.convert_steps.specs.reiser_walk.Items.{ReiserItem}
-use Rattle.convert_steps.specs.reiser_volume_objects.declared.key.ObjectKey.{ObjectKey}
-use Rattle.convert_steps.specs.reiser_volume_objects.Keys.{items_of, root, same_key}
-use Rattle.convert_steps.specs.reiser_volume_names.Links.{object_cmp}
-use Rattle.convert_steps.specs.reiser_volume_names.Names.{ino_of_key}
-use Rattle.convert_steps.proofs.reiser_volume_names.Uniqueness.{count_one}
-use Rattle.convert_steps.specs.reiser_volume.Inline.{stays_in_tree, is_tail}
-use Rattle.convert_steps.specs.reiser_volume.Volume.{volume_items}
-use Rattle.convert_steps.specs.reiser_volume.declared.volume.Volume.{Volume}
+use Rattle.convert_trees_laws.proofs.Imports.{◌≡◌, ◌≤◌, ◌<◌, ℕ, ◌+◌, ◌-◌, ◌*◌, ◌==◌, ◌&&◌, nat_le, nat_lt, not, inl, inr, Bool, true, false, List, [], ◌∷◌, ◌++◌, length, length-append, map, filter, get_or, Option, Some, None, refl, sym, ap, subst, ◌∙◌, ⊎_elim, if◌then◌else◌, arith, AllPairs, div_ceil, range_with_len, IsPermutation, option_map_or, is_lt, and_parts, cases_Bool, cases_lt, leb-true, ltb-true, nat_tests, length-drop, length-range_with_len, Contains-append_cases, Contains-append_left, Contains-append_right, Contains-permutation, IsPermutation-sym, apart_from_distinct, in_filter, in_flat_map, in_map, keys, Image, is_file, Kind, Directory, File, Symlink, Character, Block, Fifo, Socket, Subvolume, contains_cases, contains_head, contains_range, contains_tail, RunFrom, Disk, block_from, ReiserItem, ObjectKey, items_of, root, same_key, object_cmp, ino_of_key, count_one, stays_in_tree, is_tail, volume_items, Volume, Options, Piece, Plan, Tail as TailBlock, FileAt, file_at, file_blocks, file_tails, files_among, has_tail, is_file_at, is_file_inline, HoldsUsed, advanced, copied_pieces, tail_piece, at_place, at_places, blocks_of_units, plans_have_room, all_at, IsFileOf, file_of, lies_owns, owner_is, HasExtents, HasPieces, ComesFrom, in_piece, made_from, Source, kind_in, ino_of, size_in}
+use Rattle.std.specs.Prelude.{Contains}
+use Rattle.convert_steps.specs.reiser_volume_files.declared.map.RunFrom.TheVariants.{Tail}
 use Rattle.convert_steps.proofs.reiser_volume.Owners.{owners_are_one}
-use Rattle.convert_steps.specs.convert_options.declared.options.Options.{Options}
-use Rattle.convert_steps.specs.unit_plan.declared.piece.Piece.{Piece}
-use Rattle.convert_steps.specs.unit_plan.declared.plan.Plan.{Plan}
-use Rattle.convert_steps.specs.extent_pieces.declared.tail.Tail.{Tail as TailBlock}
-use Rattle.convert_steps.specs.extent_pieces.Files.{FileAt, file_at, file_blocks, file_tails, files_among, has_tail, is_file_at, is_file_inline}
-use Rattle.convert_steps.specs.extent_pieces.Laws.{HoldsUsed}
-use Rattle.convert_steps.specs.extent_pieces.Pieces.{advanced, copied_pieces, tail_piece}
-use Rattle.convert_steps.specs.extent_pieces.Placed.{at_place, at_places, blocks_of_units}
-use Rattle.convert_steps.proofs.extent_pieces.Apart.{plans_have_room}
-use Rattle.convert_steps.proofs.extent_pieces.Lists.{all_at}
-use Rattle.convert_steps.proofs.extent_pieces.Once.{IsFileOf, file_of, lies_owns}
-use Rattle.convert_steps.proofs.extent_pieces.Owners.{owner_is}
-use Rattle.convert_steps.specs.Source.{HasExtents, HasPieces, ComesFrom, in_piece, made_from}
-use Rattle.convert_steps.specs.file_items.Tree.{Source, kind_in, ino_of, size_in}
 use Rattle.convert_trees_laws.specs.Held.{FilesAreHeld}
 use Rattle.convert_trees_laws.proofs.Apart.{all_files, all_tails, back, by, cover, kept, made, permuted, placed_distinct, places, rest, some_blocks, used}
 use Rattle.convert_trees_laws.proofs.FileBlocks.{Disjoint, Lies, all_disjoint, once, one_file, piece_lies, tail_there}

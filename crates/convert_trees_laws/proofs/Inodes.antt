@@ -1,27 +1,6 @@
 -- The inodes of objects in a tree of the file tree's items.
-use Rattle.std.proofs.Common.{◌≡◌, ◌≤◌, ◌<◌, ℕ, ◌==◌, ◌&&◌, not, Bool, true, false, List, [], ◌∷◌, ◌++◌, map, filter, Option, Some, None, refl, sym, ap, subst, ◌∙◌, ⊎_elim, if◌then◌else◌, arith}
+use Rattle.convert_trees_laws.proofs.Imports.{◌≡◌, ◌≤◌, ◌<◌, ℕ, ◌==◌, ◌&&◌, not, Bool, true, false, List, [], ◌∷◌, ◌++◌, map, filter, Option, Some, None, refl, sym, ap, subst, ◌∙◌, ⊎_elim, if◌then◌else◌, arith, AllByRecursion, flat_map, cases_Bool, not_from_false, nat_tests, EXTENT_DATA, INODE_ITEM, INODE_REF, keys, in_filter, contains_cases, contains_head, contains_tail, find_inode_item, Item, TreeItem, bare_item, made_from, AreSortedKeys, numbered, Source, content_items, inode_in, kind_in, name_items, ino_of, object_items, fs_tree_items, inode_item, ObjectKey, root, same_key, same_key-true, by_inode, InodesAreThere}
 use Rattle.std.specs.Prelude.{Contains}
-use Rattle.std.specs.List.{AllByRecursion, flat_map}
-use Rattle.std.proofs.lemmas.Bool.{cases_Bool, not_from_false}
-use Rattle.std.proofs.lemmas.Bool.Decides.{nat_tests}
-use Rattle.btrfs_format.specs.declared.key.TheConstants.{EXTENT_DATA, INODE_ITEM, INODE_REF}
-use Rattle.indexmap.specs.IndexMap.{keys}
-use Rattle.btr_reader.proofs.fs_paths.Lists.{in_filter}
-use Rattle.convert_steps.proofs.reiser_bitmap.Ranges.{contains_cases, contains_head, contains_tail}
-use Rattle.btr_reader.specs.btr_reader_names.Inodes.{find_inode_item}
-use Rattle.btr_reader.specs.btr_node.Leaf.{Item}
-use Rattle.btr_reader.specs.btr_reader_walk.Events.{TreeItem}
-use Rattle.btr_reader.specs.btr_reader_walk.Tree.{bare_item}
-use Rattle.convert_steps.specs.Source.{made_from}
-use Rattle.convert_steps.specs.extent_pieces.Laws.{AreSortedKeys}
-use Rattle.convert_steps.proofs.extent_pieces.Named.{numbered}
-use Rattle.convert_steps.specs.file_items.Tree.{Source, content_items, inode_in, kind_in, name_items, ino_of, object_items, fs_tree_items}
-use Rattle.convert_steps.specs.btr_item_list.Inodes.{inode_item}
-use Rattle.convert_steps.specs.reiser_volume_objects.declared.key.ObjectKey.{ObjectKey}
-use Rattle.convert_steps.specs.reiser_volume_objects.Keys.{root, same_key}
-use Rattle.convert_steps.proofs.reiser_volume_objects.Tables.{same_key-true}
-use Rattle.convert_steps.specs.reiser_volume.Numbers.{by_inode}
-use Rattle.convert_trees_laws.specs.Inodes.{InodesAreThere}
 use Rattle.convert_trees_laws.proofs.FileBlocks.{starts_none}
 use Rattle.convert_trees_laws.proofs.Keys.{inodes_climb, rest_part}
 use Rattle.convert_trees_laws.proofs.Rising.{Climb, IsOf, all_each}

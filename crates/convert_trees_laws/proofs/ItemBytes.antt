@@ -1,15 +1,5 @@
 -- What the items of a list take in leaves.
-use Rattle.std.proofs.Common.{◌≡◌, ◌≤◌, ℕ, ◌+◌, ◌*◌, List, [], ◌∷◌, ◌++◌, length, map, sum_by, ap, ◌∙◌, arith}
-use Rattle.std.specs.Prelude.{All}
-use Rattle.std.proofs.lemmas.List.{map-append}
-use Rattle.std.proofs.lemmas.List.Elements.{All-head, All-tail}
-use Rattle.std.proofs.lemmas.List.Sums.{sum_by-append, sum_by-cons}
-use Rattle.btrfs_format.specs.declared.size.TheConstants.{ITEM_SIZE}
-use Rattle.btr_reader.specs.btr_node.Leaf.{Item}
-use Rattle.convert_steps.specs.btr_tree.Counting.{bytes_of}
-use Rattle.convert_steps.specs.btr_tree.Packing.{weight}
-use Rattle.convert_steps.specs.btr_tree.Roots.{lengths_of}
-use Rattle.convert_trees_laws.specs.Bounds.{bytes_in}
+use Rattle.convert_trees_laws.proofs.Imports.{◌≡◌, ◌≤◌, ℕ, ◌+◌, ◌*◌, List, [], ◌∷◌, ◌++◌, length, map, sum_by, ap, ◌∙◌, arith, All, map-append, All-head, All-tail, sum_by-append, sum_by-cons, ITEM_SIZE, Item, bytes_of, weight, lengths_of, bytes_in}
 
 pub bytes-cons : (i : Item) (items : List Item) → bytes_in (i ∷ items) ≡ ITEM_SIZE + length i.1 + bytes_in items
 bytes-cons i items = sum_by-cons weight (length i.1) (lengths_of items)

@@ -1,49 +1,7 @@
 -- The keys of the file tree.
-use Rattle.std.proofs.Common.{◌≡◌, ◌≤◌, ◌<◌, ℕ, ◌+◌, ◌*◌, ◌==◌, ◌&&◌, not, Bool, true, false, cond, List, [], ◌∷◌, ◌++◌, append_assoc, length, map, filter, get_or, count_by, Option, Some, None, refl, sym, ap, subst, ⊎_elim, if◌then◌else◌, arith}
-use Rattle.std.specs.Prelude.{All, AllPairs, slice_get}
-use Rattle.std.specs.List.{AllByRecursion, IsDistinct, flat_map}
-use Rattle.std.specs.Option.{option_map_or}
-use Rattle.std.specs.Ordering.{is_lt}
-use Rattle.std.proofs.lemmas.Bool.{cases_lt}
-use Rattle.std.proofs.lemmas.Bool.Decides.{nat_tests}
-use Rattle.std.proofs.lemmas.List.{append-nil}
-use Rattle.std.proofs.lemmas.List.Sums.{sum_by_push}
+use Rattle.convert_trees_laws.proofs.Imports.{◌≡◌, ◌≤◌, ◌<◌, ℕ, ◌+◌, ◌*◌, ◌==◌, ◌&&◌, not, Bool, true, false, cond, List, [], ◌∷◌, ◌++◌, append_assoc, length, map, filter, get_or, count_by, Option, Some, None, refl, sym, ap, subst, ⊎_elim, if◌then◌else◌, arith, All, AllPairs, slice_get, AllByRecursion, IsDistinct, flat_map, option_map_or, is_lt, cases_lt, nat_tests, append-nil, sum_by_push, DIR_INDEX, DIR_ITEM, EXTENT_DATA, INODE_EXTREF, INODE_ITEM, INODE_REF, FIRST_FREE_OBJECTID, keys, extref_hash, Kind, Directory, File, Symlink, Character, Block, Fifo, Socket, Subvolume, extref_bytes, file_extent_bytes, inode_bytes, inode_ref_bytes, Item, extent_item, inline_extent, ascending, grouped, inode_item, rising_grouped, ascending_filter, ascending_sorted, target_bytes, ObjectKey, Naming, items_of, root, same_key, same_key-true, same_key-self, object_cmp, ino_of_key, AreNumbered, by_inode, Piece, AreSortedKeys, all_head, all_tail, pairs_head, pairs_tail, numbered, extents_at, file_block, is_owned_by, pieces_of, IndexedLink, Indexed, entries_behind, entry_behind, entry_to, extref, extrefs, indexed_in, inode_ref, inode_refs, names_in, names_of, next_index, parent_of, root_ref, saved_entry, Source, content_items, file_extent_items, inline_in, inode_in, kind_in, name_items, ino_of, object_items, size_in, fs_tree_items, name_items_root, name_items_other, made_from, FileKeysAscend}
 use Rattle.std.proofs.lemmas.Option.{slice_get-get_or}
-use Rattle.btrfs_format.specs.declared.key.TheConstants.{DIR_INDEX, DIR_ITEM, EXTENT_DATA, INODE_EXTREF, INODE_ITEM, INODE_REF}
-use Rattle.btrfs_format.specs.declared.object.TheConstants.{FIRST_FREE_OBJECTID}
-use Rattle.indexmap.specs.IndexMap.{keys}
-use Rattle.btr_reader.specs.castagnoli.Castagnoli.{extref_hash}
-use Rattle.btr_reader.specs.fs_rows.declared.row.Kind.{Kind}
-use Rattle.btr_reader.specs.fs_rows.declared.row.Kind.TheVariants.{Directory, File, Symlink, Character, Block, Fifo, Socket, Subvolume}
-use Rattle.btr_reader.specs.btr_keys.Extref.{extref_bytes}
-use Rattle.btr_reader.specs.btr_keys.FileExtent.{file_extent_bytes}
-use Rattle.btr_reader.specs.btr_keys.Inode.{inode_bytes}
-use Rattle.btr_reader.specs.btr_keys.InodeRef.{inode_ref_bytes}
-use Rattle.btr_reader.specs.btr_node.Leaf.{Item}
-use Rattle.convert_steps.specs.btr_item_list.Extents.{extent_item, inline_extent}
-use Rattle.convert_steps.specs.btr_item_list.Groups.{ascending, grouped}
-use Rattle.convert_steps.specs.btr_item_list.Inodes.{inode_item}
-use Rattle.convert_steps.proofs.btr_item_list.Grouping.{rising_grouped}
-use Rattle.convert_steps.proofs.btr_item_list.Sorting.{ascending_filter, ascending_sorted}
-use Rattle.convert_steps.specs.reiser_volume_files.Bytes.{target_bytes}
-use Rattle.convert_steps.specs.reiser_volume_objects.declared.key.ObjectKey.{ObjectKey}
-use Rattle.convert_steps.specs.reiser_volume_objects.declared.naming.Naming.{Naming}
-use Rattle.convert_steps.specs.reiser_volume_objects.Keys.{items_of, root, same_key}
-use Rattle.convert_steps.proofs.reiser_volume_objects.Tables.{same_key-true, same_key-self}
-use Rattle.convert_steps.specs.reiser_volume_names.Links.{object_cmp}
-use Rattle.convert_steps.specs.reiser_volume_names.Names.{ino_of_key}
-use Rattle.convert_steps.specs.reiser_volume.Numbers.{AreNumbered, by_inode}
 use Rattle.convert_steps.proofs.reiser_volume.Numbered.{inode_before, inode_behind, inode_of_root}
-use Rattle.convert_steps.specs.unit_plan.declared.piece.Piece.{Piece}
-use Rattle.convert_steps.specs.extent_pieces.Laws.{AreSortedKeys}
-use Rattle.convert_steps.proofs.extent_pieces.Lists.{all_head, all_tail, pairs_head, pairs_tail}
-use Rattle.convert_steps.proofs.extent_pieces.Named.{numbered}
-use Rattle.convert_steps.specs.file_items.Extents.{extents_at, file_block, is_owned_by, pieces_of}
-use Rattle.convert_steps.specs.file_items.Names.{IndexedLink, Indexed, entries_behind, entry_behind, entry_to, extref, extrefs, indexed_in, inode_ref, inode_refs, names_in, names_of, next_index, parent_of, root_ref, saved_entry}
-use Rattle.convert_steps.specs.file_items.Tree.{Source, content_items, file_extent_items, inline_in, inode_in, kind_in, name_items, ino_of, object_items, size_in, fs_tree_items}
-use Rattle.convert_steps.proofs.file_items.Named.{name_items_root, name_items_other}
-use Rattle.convert_steps.specs.Source.{made_from}
-use Rattle.convert_trees_laws.specs.Keys.{FileKeysAscend}
 use Rattle.convert_trees_laws.proofs.Apart.{at_most_one}
 use Rattle.convert_trees_laws.proofs.FileBlocks.{same_start, starts, starts_none}
 use Rattle.convert_trees_laws.proofs.Rising.{Climb, IsOf, IsPart, Rise, all_each, all_true, climb_groups, climb_mapped, climb_once, climb_push, no_part, part_append, part_of_kind, part_one, rise_ascends, rise_objects}

@@ -1,42 +1,10 @@
 -- The objects and the links of an accepted volume that was opened.
-use Rattle.std.proofs.Common.{◌≡◌, ◌≢◌, ◌≤◌, ◌<◌, ℕ, suc, ◌/◌, ◌%◌, ◌^◌, true, false, List, [], ◌∷◌, length, count_by, AllPairs, Contains, Option, Some, None, refl, sym, ap, subst, ◌∙◌, ⊎_elim, true≢false, arith}
-use Rattle.std.proofs.lemmas.Bool.{cases_lt, ne_eqb}
+use Rattle.convert_trees_laws.proofs.Imports.{◌≡◌, ◌≢◌, ◌≤◌, ◌<◌, ℕ, suc, ◌/◌, ◌%◌, ◌^◌, true, false, List, [], ◌∷◌, length, count_by, Contains, Option, Some, None, refl, sym, ap, subst, ◌∙◌, ⊎_elim, true≢false, arith, cases_lt, ne_eqb, unwrap_or, keys, Image, from_filter, in_filter, is_directory, kind_of_code, NameList, Kind, Directory, File, Symlink, ReiserItem, ObjectKey, Naming, ObjectStat, stat_of_object, root, same_key, namings, IsDirectory, IsObject, AreNames, ino_of_key, saved_name, links_one, kind_by, no_stat, IsOpened, links_in, LeadsToObject, IsAccepted, volume_items, Volume, AreSortedKeys, numbered, inodes_apart, kind_there, stat_there, two_cases, Options, Piece, kind_of_mode as tree_kind, is_name as is_tree_name, made_from, Source, kind_in, size_in, stat_in}
+use Rattle.std.proofs.Common.{AllPairs}
+use Rattle.convert_steps.specs.reiser_volume_objects.Names.{is_followed}
 use Rattle.std.proofs.lemmas.List.Kept.{AllPairs-filter}
-use Rattle.std.specs.Prelude.{unwrap_or}
-use Rattle.indexmap.specs.IndexMap.{keys}
-use Rattle.btr_reader.specs.outside.History.{Image}
-use Rattle.btr_reader.proofs.fs_paths.Lists.{from_filter, in_filter}
-use Rattle.btr_reader.specs.fs_rows.Kinds.{is_directory, kind_of_code}
-use Rattle.btr_reader.specs.fs_rows.Rows.{NameList}
-use Rattle.btr_reader.specs.fs_rows.declared.row.Kind.{Kind}
-use Rattle.btr_reader.specs.fs_rows.declared.row.Kind.TheVariants.{Directory, File, Symlink}
-use Rattle.convert_steps.specs.reiser_walk.Items.{ReiserItem}
-use Rattle.convert_steps.specs.reiser_volume_objects.declared.key.ObjectKey.{ObjectKey}
-use Rattle.convert_steps.specs.reiser_volume_objects.declared.naming.Naming.{Naming}
-use Rattle.convert_steps.specs.reiser_volume_objects.declared.stat.ObjectStat.{ObjectStat}
-use Rattle.convert_steps.specs.reiser_volume_objects.Items.{stat_of_object}
-use Rattle.convert_steps.specs.reiser_volume_objects.Keys.{root, same_key}
 use Rattle.convert_steps.specs.reiser_volume_objects.Kinds.{kind_of_mode}
-use Rattle.convert_steps.specs.reiser_volume_objects.Names.{is_followed, namings}
-use Rattle.convert_steps.specs.reiser_volume_objects.Rules.{IsDirectory, IsObject}
-use Rattle.convert_steps.specs.reiser_volume_names.Names.{AreNames, ino_of_key, saved_name}
-use Rattle.convert_steps.proofs.reiser_volume_names.Uniqueness.{links_one}
-use Rattle.convert_steps.specs.reiser_volume.Made.{kind_by, no_stat}
-use Rattle.convert_steps.specs.reiser_volume.Opened.{IsOpened, links_in}
-use Rattle.convert_steps.specs.reiser_volume.Rows.{LeadsToObject}
-use Rattle.convert_steps.specs.reiser_volume.Volume.{IsAccepted, volume_items}
-use Rattle.convert_steps.specs.reiser_volume.declared.volume.Volume.{Volume}
 use Rattle.convert_steps.proofs.reiser_volume.Leading.{link_entry}
-use Rattle.convert_steps.specs.extent_pieces.Laws.{AreSortedKeys}
-use Rattle.convert_steps.proofs.extent_pieces.Named.{numbered}
-use Rattle.convert_steps.proofs.extent_pieces.Once.{inodes_apart, kind_there, stat_there}
-use Rattle.convert_steps.proofs.extent_pieces.Owning.{two_cases}
-use Rattle.convert_steps.specs.convert_options.declared.options.Options.{Options}
-use Rattle.convert_steps.specs.unit_plan.declared.piece.Piece.{Piece}
-use Rattle.btr_reader.specs.btr_reader_names.Inodes.{kind_of_mode as tree_kind}
-use Rattle.btr_reader.specs.btr_reader_names.Links.{is_name as is_tree_name}
-use Rattle.convert_steps.specs.Source.{made_from}
-use Rattle.convert_steps.specs.file_items.Tree.{Source, kind_in, size_in, stat_in}
 use Rattle.convert_trees_laws.proofs.Links.{entries_directory, tree_name}
 
 -- ---- modes

@@ -1,11 +1,5 @@
 -- The links of a volume as the entries of its directories.
-use Rattle.std.proofs.Common.{◌≡◌, List, [], ◌∷◌, ◌++◌, map, Contains, refl, sym, ap, subst, ◌∙◌}
-use Rattle.btr_reader.proofs.fs_paths.Lists.{from_filter, from_map, in_filter, in_map}
-use Rattle.convert_steps.specs.reiser_volume_objects.declared.key.ObjectKey.{ObjectKey}
-use Rattle.convert_steps.specs.reiser_volume_objects.declared.naming.Naming.{Naming}
-use Rattle.convert_steps.specs.reiser_volume_objects.Keys.{same_key}
-use Rattle.convert_steps.proofs.reiser_volume_objects.Tables.{same_key-true, same_key-self}
-use Rattle.convert_steps.specs.file_items.Names.{IndexedLink, indexed_links, entries_behind, names_in}
+use Rattle.convert_trees_laws.proofs.Imports.{◌≡◌, List, [], ◌∷◌, ◌++◌, map, Contains, refl, sym, ap, subst, ◌∙◌, from_filter, from_map, in_filter, in_map, ObjectKey, Naming, same_key, same_key-true, same_key-self, IndexedLink, indexed_links, entries_behind, names_in}
 use Rattle.convert_trees_laws.proofs.Lists.{Apart, apart_kept, apart_unmap}
 
 abbrev pub link_of : IndexedLink → Naming

@@ -1,24 +1,11 @@
 -- The links of an accepted volume: each is an entry of a directory, and its name one that a Btrfs tree may have.
-use Rattle.std.proofs.Common.{◌≡◌, ℕ, zero, suc, ◌+◌, ◌==◌, ◌&&◌, ◌||◌, nat_eq, nat_lt, not, codes, Bool, true, false, cond, List, [], ◌∷◌, map, filter, length, Contains, Some, if◌then◌else◌, refl, sym, ap, ◌∙◌, ⊎_elim, true≢false, arith}
-use Rattle.std.specs.List.{list_any}
+use Rattle.convert_trees_laws.proofs.Imports.{◌≡◌, ℕ, zero, suc, ◌+◌, ◌==◌, ◌&&◌, ◌||◌, nat_eq, nat_lt, not, codes, Bool, true, false, cond, List, [], ◌∷◌, map, filter, length, Contains, Some, if◌then◌else◌, refl, sym, ap, ◌∙◌, ⊎_elim, true≢false, arith, list_any, All-contains, AllPass-from_list_all, take_while-cons, Kind, Directory, File, Symlink, Character, Block, Fifo, Socket, Subvolume, head_or_tail, in_filter, from_map, from_filter, from_flat_map, ItemKind, Stat, Indirect, Direct, ReiserItem, Naming, same_key, object_key_of, items_of, may_have, namings, namings_in, namings_by_kind, is_listed, IsNamed, AreObjects, IsDirectory, same_key-self, is_name as is_tree_name}
+use Rattle.convert_steps.specs.reiser_node.declared.head.ItemKind.TheVariants.{Directory as Entries}
+use Rattle.convert_steps.specs.reiser_volume_objects.Kinds.{is_directory}
+use Rattle.convert_steps.specs.reiser_volume_objects.Names.{naming_by}
 use Rattle.std.specs.Cmp.Lexicographic.{pointwise}
-use Rattle.std.proofs.lemmas.List.Elements.{All-contains}
-use Rattle.std.proofs.lemmas.List.Sums.{AllPass-from_list_all, take_while-cons}
-use Rattle.btr_reader.specs.fs_rows.declared.row.Kind.{Kind}
-use Rattle.btr_reader.specs.fs_rows.declared.row.Kind.TheVariants.{Directory, File, Symlink, Character, Block, Fifo, Socket, Subvolume}
-use Rattle.btr_reader.proofs.fs_paths.Lists.{head_or_tail, in_filter, from_map, from_filter, from_flat_map}
-use Rattle.convert_steps.specs.reiser_node.declared.head.ItemKind.{ItemKind}
-use Rattle.convert_steps.specs.reiser_node.declared.head.ItemKind.TheVariants.{Stat, Indirect, Direct, Directory as Entries}
 use Rattle.convert_steps.specs.reiser_items.Entries.{EntryValue, are_entries, entries, entries_from, entry_at, is_of_name, name_area, until_zero}
-use Rattle.convert_steps.specs.reiser_walk.Items.{ReiserItem}
-use Rattle.convert_steps.specs.reiser_volume_objects.declared.naming.Naming.{Naming}
-use Rattle.convert_steps.specs.reiser_volume_objects.Keys.{same_key, object_key_of, items_of}
-use Rattle.convert_steps.specs.reiser_volume_objects.Kinds.{may_have, is_directory}
-use Rattle.convert_steps.specs.reiser_volume_objects.Names.{namings, namings_in, namings_by_kind, naming_by, is_listed, IsNamed}
-use Rattle.convert_steps.specs.reiser_volume_objects.Rules.{AreObjects, IsDirectory}
-use Rattle.convert_steps.proofs.reiser_volume_objects.Tables.{same_key-self}
 use Rattle.convert_steps.specs.reiser_volume_names.Names.{is_name}
-use Rattle.btr_reader.specs.btr_reader_names.Links.{is_name as is_tree_name}
 
 -- ---- the directory of an entry
 

@@ -1,18 +1,8 @@
 -- A tree of items that take few bytes has few nodes.
-use Rattle.std.proofs.Common.{◌≡◌, ℕ, zero, suc, ◌+◌, ◌-◌, ◌*◌, ◌/◌, ◌^◌, ◌<◌, ◌≤◌, List, [], ◌∷◌, ◌++◌, length, ap, arith, ⊎_elim}
-use Rattle.std.specs.Int.{div_ceil}
-use Rattle.std.proofs.lemmas.Bool.{cases_lt}
-use Rattle.std.proofs.lemmas.Grind.{div_ceil_times}
-use Rattle.std.proofs.lemmas.List.{length_push}
-use Rattle.std.proofs.lemmas.List.Sums.{sum_by-cons, sum_by_push}
+use Rattle.convert_trees_laws.proofs.Imports.{◌≡◌, ℕ, zero, suc, ◌+◌, ◌-◌, ◌*◌, ◌/◌, ◌^◌, ◌<◌, ◌≤◌, List, [], ◌∷◌, ◌++◌, length, ap, arith, ⊎_elim, div-mul-le_self, div_ceil, cases_lt, div_ceil_times, length_push, sum_by-cons, sum_by_push, IsNodeSize, bytes_of, leaf_bound, node_bound, tree_nodes, capacity, fan_out, packed_leaves, packed_from, weight, bound_up}
 use Rattle.std.proofs.lemmas.Nat.{le-div, mul-le}
-use Rattle.std.proofs.Common.{div-mul-le_self}
-use Rattle.btr_reader.specs.btr_node.NodeSize.{IsNodeSize}
-use Rattle.convert_steps.specs.btr_tree.Counting.{bytes_of, leaf_bound, node_bound, tree_nodes}
-use Rattle.convert_steps.specs.btr_tree.Packing.{capacity, fan_out, packed_leaves, packed_from, weight}
 use Rattle.convert_steps.proofs.btr_tree.Groups.{ends_in, packed-fits, packed-next, packed-none}
 use Rattle.convert_steps.proofs.btr_tree.Sizes.{all_few}
-use Rattle.convert_steps.proofs.space_items.OwnBound.{bound_up}
 
 one_off : (n room : ℕ) → 1 ≤ n → (n - 1) * room + room ≡ n * room
 one_off zero room h = absurd (omega arith)

@@ -1,20 +1,7 @@
 -- The trees but the file tree take no more than was counted for them.
-use Rattle.std.proofs.Common.{◌≡◌, ◌≤◌, ◌<◌, ℕ, zero, suc, ◌^◌, ◌-◌, List, [], ◌∷◌, length, get_or, sym, ap, subst, arith, sum_by}
-use Rattle.std.specs.Prelude.{AllPairs}
-use Rattle.btrfs_format.specs.declared.object.TheConstants.{CONV_IMAGE_SUBVOL, CSUM_TREE, DATA_RELOC_TREE, DEV_TREE, EXTENT_TREE, FS_TREE}
-use Rattle.btr_reader.specs.outside.History.{Image}
-use Rattle.convert_steps.specs.Making.{IsMaking, Making, new_ids, saved_index}
-use Rattle.convert_steps.specs.Standing.{rooted_trees}
+use Rattle.convert_trees_laws.proofs.Imports.{◌≡◌, ◌≤◌, ◌<◌, ℕ, zero, suc, ◌^◌, ◌-◌, List, [], ◌∷◌, length, get_or, sym, ap, subst, arith, sum_by, AllPairs, CONV_IMAGE_SUBVOL, CSUM_TREE, DATA_RELOC_TREE, DEV_TREE, EXTENT_TREE, FS_TREE, Image, IsMaking, Making, new_ids, saved_index, rooted_trees, Pieces, free_runs, used_of, TreeRoot, chunk_bound, need, Counts, Piece, TreesAreCounted}
 use Rattle.convert_steps.specs.declared.trees.VolumeTrees.{VolumeTrees}
-use Rattle.convert_steps.specs.extent_pieces.declared.pieces.Pieces.{Pieces}
-use Rattle.convert_steps.specs.reiser_bitmap.Runs.{free_runs}
-use Rattle.convert_steps.specs.reiser_volume.Volume.{used_of}
-use Rattle.convert_steps.specs.space_items.declared.node.TreeRoot.{TreeRoot}
-use Rattle.convert_steps.specs.unit_plan.Needed.{chunk_bound, need}
-use Rattle.convert_steps.specs.unit_plan.declared.counts.Counts.{Counts}
-use Rattle.convert_steps.specs.unit_plan.declared.piece.Piece.{Piece}
 use Rattle.convert_steps.proofs.unit_plan.Counted.{chunks_few}
-use Rattle.convert_trees_laws.specs.Bounds.{TreesAreCounted}
 use Rattle.convert_trees_laws.proofs.Booting.{chunks_of}
 use Rattle.convert_trees_laws.proofs.ChunkBytes.{chunks_counted, device_counted, roots_counted}
 use Rattle.convert_trees_laws.proofs.PlacedSums.{placed_blocks, placed_number}

@@ -1,35 +1,5 @@
 -- The paths of a tree of the file tree's items are those of the volume.
-use Rattle.std.proofs.Common.{◌≡◌, ◌≢◌, ℕ, ◌==◌, ◌&&◌, not, Bool, false, List, [], ◌∷◌, ◌++◌, map, filter, Contains, refl, sym, ap, subst, ◌∙◌, true≢false}
-use Rattle.std.specs.List.{flat_map}
-use Rattle.std.proofs.lemmas.Bool.{ne_eqb}
-use Rattle.std.proofs.lemmas.List.{map-append}
-use Rattle.std.proofs.lemmas.List.Elements.{filter-append}
-use Rattle.btrfs_format.specs.declared.key.TheConstants.{INODE_ITEM, ROOT_ITEM}
-use Rattle.btrfs_format.specs.declared.object.TheConstants.{FIRST_FREE_OBJECTID}
-use Rattle.indexmap.specs.IndexMap.{keys}
-use Rattle.btr_reader.specs.outside.History.{Image}
-use Rattle.btr_reader.proofs.fs_paths.Lists.{from_filter, from_map}
-use Rattle.btr_reader.specs.fs_rows.Rows.{NameList}
-use Rattle.btr_reader.specs.fs_rows.declared.row.Kind.{Kind}
-use Rattle.btr_reader.specs.fs_rows.declared.row.Kind.TheVariants.{Directory, File, Symlink, Character, Block, Fifo, Socket, Subvolume}
-use Rattle.btr_reader.specs.btr_keys.declared.key.Key.{Key}
-use Rattle.btr_reader.specs.btr_reader_names.Links.{is_followed, is_saved_name, dir_indexes, NamesTarget, Target, inode, tree, LeadsToTarget as LeadsOn}
-use Rattle.btr_reader.specs.btr_reader_names.declared.dir_index.DirIndex.{DirIndex}
-use Rattle.btr_reader.specs.btr_reader_walk.Events.{TreeItem}
-use Rattle.convert_steps.specs.Source.{HasPieces, made_from}
-use Rattle.convert_steps.specs.file_items.Names.{Indexed, indexed, indexed_in, names_in, next_index, saved_entry}
-use Rattle.convert_steps.specs.file_items.Tree.{Source, kind_in, ino_of}
-use Rattle.convert_trees_laws.specs.Entries.{EntriesAreThere, naming_by, namings_by, unplaced}
-use Rattle.convert_trees_laws.specs.Inodes.{InodesAreThere}
-use Rattle.convert_steps.specs.reiser_volume_objects.declared.key.ObjectKey.{ObjectKey}
-use Rattle.convert_steps.specs.reiser_volume_objects.declared.naming.Naming.{Naming}
-use Rattle.convert_steps.specs.reiser_volume_objects.Keys.{root, same_key}
-use Rattle.convert_steps.specs.reiser_volume.Rows.{LeadsToObject}
-use Rattle.convert_steps.specs.reiser_volume.declared.volume.Volume.{Volume}
-use Rattle.convert_steps.specs.convert_options.declared.options.Options.{Options}
-use Rattle.convert_steps.specs.unit_plan.declared.piece.Piece.{Piece}
-use Rattle.convert_steps.specs.unit_plan.declared.plan.Plan.{Plan}
-use Rattle.convert_trees_laws.specs.Names.{NamesAreKept, ReadAs}
+use Rattle.convert_trees_laws.proofs.Imports.{◌≡◌, ◌≢◌, ℕ, ◌==◌, ◌&&◌, not, Bool, false, List, [], ◌∷◌, ◌++◌, map, filter, Contains, refl, sym, ap, subst, ◌∙◌, true≢false, flat_map, ne_eqb, map-append, filter-append, INODE_ITEM, ROOT_ITEM, FIRST_FREE_OBJECTID, keys, Image, from_filter, from_map, NameList, Kind, Directory, File, Symlink, Character, Block, Fifo, Socket, Subvolume, Key, is_followed, is_saved_name, dir_indexes, NamesTarget, Target, inode, tree, LeadsToTarget as LeadsOn, DirIndex, TreeItem, HasPieces, made_from, Indexed, indexed, indexed_in, names_in, next_index, saved_entry, Source, kind_in, ino_of, EntriesAreThere, naming_by, namings_by, unplaced, InodesAreThere, ObjectKey, Naming, root, same_key, LeadsToObject, Volume, Options, Piece, Plan, NamesAreKept, ReadAs}
 use Rattle.convert_trees_laws.proofs.Known.{directory_there, root_known}
 use Rattle.convert_trees_laws.proofs.Linking.{is_link}
 use Rattle.convert_trees_laws.proofs.Lists.{all_from, kept_flat_none, kept_map, kept_none}

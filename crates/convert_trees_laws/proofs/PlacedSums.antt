@@ -1,9 +1,5 @@
 -- Sums over the pieces at their places.
-use Rattle.std.proofs.Common.{◌≡◌, ◌≤◌, ℕ, List, [], ◌∷◌, ◌++◌, length, take, drop, sum_by, refl, arith}
-use Rattle.std.proofs.lemmas.List.Sorted.{sum_by-IsPermutation}
-use Rattle.std.proofs.lemmas.List.Sums.{sum_by-append, sum_by-cons, sum_by-take-drop}
-use Rattle.convert_steps.specs.extent_pieces.Placed.{WerePlaced, at_place, at_places, blocks_of_units}
-use Rattle.convert_steps.specs.unit_plan.declared.piece.Piece.{Piece}
+use Rattle.convert_trees_laws.proofs.Imports.{◌≡◌, ◌≤◌, ℕ, List, [], ◌∷◌, ◌++◌, length, take, drop, sum_by, refl, arith, sum_by-IsPermutation, sum_by-append, sum_by-cons, sum_by-take-drop, WerePlaced, at_place, at_places, blocks_of_units, Piece}
 use Rattle.convert_trees_laws.proofs.ItemBytes.{sum-same}
 
 -- what goes by no place

@@ -1,38 +1,8 @@
 -- The rows of a volume are the rows of a tree of the file tree's items.
-use Rattle.std.proofs.Common.{◌≡◌, ◌<◌, ℕ, ◌+◌, ◌*◌, ◌/◌, ◌%◌, ◌^◌, Bool, true, false, not, ◌&&◌, List, [], Contains, Option, Some, if◌then◌else◌, refl, sym, ap, subst, ◌∙◌, true≢false, arith}
-use Rattle.std.specs.Prelude.{unwrap_or}
-use Rattle.indexmap.specs.IndexMap.{keys}
-use Rattle.btr_reader.specs.outside.History.{Image}
-use Rattle.btr_reader.specs.fs_rows.Kinds.{has_bytes, is_device, is_file, is_symlink}
-use Rattle.btr_reader.specs.fs_rows.Rows.{WholeRow}
-use Rattle.btr_reader.specs.fs_rows.declared.row.Kind.{Kind}
-use Rattle.btr_reader.specs.fs_rows.declared.row.Kind.TheVariants.{Directory, File, Symlink, Character, Block, Fifo, Socket, Subvolume}
+use Rattle.convert_trees_laws.proofs.Imports.{◌≡◌, ◌<◌, ℕ, ◌+◌, ◌*◌, ◌/◌, ◌%◌, ◌^◌, Bool, true, false, not, ◌&&◌, List, [], Contains, Option, Some, if◌then◌else◌, refl, sym, ap, subst, ◌∙◌, true≢false, arith, unwrap_or, keys, Image, has_bytes, is_device, is_file, is_symlink, WholeRow, Kind, Directory, File, Symlink, Character, Block, Fifo, Socket, Subvolume, Inode, inode, TreeItem, HasPieces, made_from, device_number, inode_from, Source, nbytes_by, inode_in, kind_in, link_count, ino_of, size_by, size_in, stat_in, file_bytes, links_one, ObjectKey, Naming, ObjectStat, stat_of_object, root, items_of, kind_by, no_stat, links_in, AreReiserRows, HasStat, IsRow, LeadsToObject, flag, major_of, minor_of, superblock, volume_items, Volume, Options, Piece, Plan, HasSamePaths, NamesAreKept, ReadAs, HasBytes, InodesAreRead, KeepsBytes, RowsAreKept}
 use Rattle.btr_reader.specs.btr_reader_contents.Extents.{bytes_of_inode as bytes_on}
-use Rattle.btr_reader.specs.btr_keys.declared.inode.Inode.{Inode}
-use Rattle.btr_reader.specs.btr_reader_names.Links.{inode}
 use Rattle.btr_reader.specs.Rows.{AreRows, HasInode, IsInodeRow, has_flag}
-use Rattle.btr_reader.specs.btr_reader_walk.Events.{TreeItem}
 use Rattle.btr_reader.specs.btr_reader_walk.declared.map.MapRange.{MapRange}
-use Rattle.convert_steps.specs.Source.{HasPieces, made_from}
-use Rattle.convert_steps.specs.file_items.Inodes.{device_number, inode_from}
-use Rattle.convert_steps.specs.file_items.Tree.{Source, nbytes_by, inode_in, kind_in, link_count, ino_of, size_by, size_in, stat_in}
-use Rattle.convert_steps.specs.reiser_volume_files.Bytes.{file_bytes}
-use Rattle.convert_steps.proofs.reiser_volume_names.Uniqueness.{links_one}
-use Rattle.convert_steps.specs.reiser_volume_objects.declared.key.ObjectKey.{ObjectKey}
-use Rattle.convert_steps.specs.reiser_volume_objects.declared.naming.Naming.{Naming}
-use Rattle.convert_steps.specs.reiser_volume_objects.declared.stat.ObjectStat.{ObjectStat}
-use Rattle.convert_steps.specs.reiser_volume_objects.Items.{stat_of_object}
-use Rattle.convert_steps.specs.reiser_volume_objects.Keys.{root, items_of}
-use Rattle.convert_steps.specs.reiser_volume.Made.{kind_by, no_stat}
-use Rattle.convert_steps.specs.reiser_volume.Opened.{links_in}
-use Rattle.convert_steps.specs.reiser_volume.Rows.{AreReiserRows, HasStat, IsRow, LeadsToObject, flag, major_of, minor_of}
-use Rattle.convert_steps.specs.reiser_volume.Volume.{superblock, volume_items}
-use Rattle.convert_steps.specs.reiser_volume.declared.volume.Volume.{Volume}
-use Rattle.convert_steps.specs.convert_options.declared.options.Options.{Options}
-use Rattle.convert_steps.specs.unit_plan.declared.piece.Piece.{Piece}
-use Rattle.convert_steps.specs.unit_plan.declared.plan.Plan.{Plan}
-use Rattle.convert_trees_laws.specs.Names.{HasSamePaths, NamesAreKept, ReadAs}
-use Rattle.convert_trees_laws.specs.Rows.{HasBytes, InodesAreRead, KeepsBytes, RowsAreKept}
 use Rattle.convert_trees_laws.proofs.Fields.{bit_eight, bit_five, bit_nine, bit_seven, bit_six}
 use Rattle.convert_trees_laws.proofs.Known.{path_known, root_known, tree_kind_is}
 use Rattle.convert_trees_laws.proofs.Stats.{FitsStat, stat_fits}

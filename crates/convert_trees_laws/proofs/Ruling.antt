@@ -1,44 +1,8 @@
 -- The names of a tree of the file tree's items keep the rules of a Btrfs tree.
-use Rattle.std.proofs.Common.{◌≡◌, ◌≢◌, ◌≤◌, ◌<◌, ℕ, ◌^◌, ◌==◌, Bool, true, false, List, [], ◌∷◌, map, Contains, Option, Some, None, refl, sym, ap, subst, ◌∙◌, ⊎_elim, true≢false, if◌then◌else◌, arith}
-use Rattle.std.specs.List.{AllByRecursion, flat_map}
-use Rattle.std.proofs.lemmas.Bool.{eqb-true}
-use Rattle.btrfs_format.specs.declared.key.TheConstants.{DIR_INDEX, INODE_ITEM, ROOT_ITEM}
-use Rattle.btrfs_format.specs.declared.object.TheConstants.{FIRST_FREE_OBJECTID}
-use Rattle.indexmap.specs.IndexMap.{keys}
-use Rattle.btr_reader.specs.outside.History.{Image}
+use Rattle.convert_trees_laws.proofs.Imports.{◌≡◌, ◌≢◌, ◌≤◌, ◌<◌, ℕ, ◌^◌, ◌==◌, Bool, true, false, List, [], ◌∷◌, map, Contains, Option, Some, None, refl, sym, ap, subst, ◌∙◌, ⊎_elim, true≢false, if◌then◌else◌, arith, AllByRecursion, flat_map, eqb-true, DIR_INDEX, INODE_ITEM, ROOT_ITEM, FIRST_FREE_OBJECTID, keys, Image, from_map, Kind, Directory, File, Symlink, Character, Block, Fifo, Socket, Subvolume, inode_of, Inode, Key, find_inode_item, inode_on, IsDirectoryInode, kind_of_mode as tree_kind, followed, is_followed, is_name, dir_indexes, names_inode, names_tree, IsNamedInode, entry, AreIn, BreaksNames, no_root_directory, root_is_none, bad_inode, bad_mode, long_target, bad_index, bad_name, twice, bad_location, no_inode, no_tree, directory_twice, root_named, DirIndex, TreeItem, HasPieces, made_from, AreSortedKeys, numbered, two_cases, IndexedLink, Indexed, indexed, indexed_in, names_in, next_index, saved_entry, Source, inode_in, kind_in, ino_of, size_by, size_in, EntriesAreThere, naming_by, namings_by, unplaced, InodesAreThere, ObjectKey, Naming, root, same_key, IsDirectory, same_key-true, by_inode, volume_items, Volume, Options, Piece, Plan, NamesKeepRules, ReadAs}
+use Rattle.btr_reader.specs.btr_reader_names.Links.{root as top}
 use Rattle.btr_reader.specs.refusals.declared.refusal.BtrRefusal.{BtrRefusal}
-use Rattle.btr_reader.proofs.fs_paths.Lists.{from_map}
-use Rattle.btr_reader.specs.fs_rows.declared.row.Kind.{Kind}
-use Rattle.btr_reader.specs.fs_rows.declared.row.Kind.TheVariants.{Directory, File, Symlink, Character, Block, Fifo, Socket, Subvolume}
-use Rattle.btr_reader.specs.btr_keys.Inode.{inode_of}
-use Rattle.btr_reader.specs.btr_keys.declared.inode.Inode.{Inode}
-use Rattle.btr_reader.specs.btr_keys.declared.key.Key.{Key}
-use Rattle.btr_reader.specs.btr_reader_names.Inodes.{find_inode_item, inode_on, IsDirectoryInode, kind_of_mode as tree_kind}
-use Rattle.btr_reader.specs.btr_reader_names.Links.{followed, is_followed, is_name, dir_indexes, names_inode, names_tree, IsNamedInode, root as top, entry}
-use Rattle.btr_reader.specs.btr_reader_names.Rules.{AreIn, BreaksNames, no_root_directory, root_is_none, bad_inode, bad_mode, long_target, bad_index, bad_name, twice, bad_location, no_inode, no_tree, directory_twice, root_named}
-use Rattle.btr_reader.specs.btr_reader_names.declared.dir_index.DirIndex.{DirIndex}
-use Rattle.btr_reader.specs.btr_reader_walk.Events.{TreeItem}
-use Rattle.convert_steps.specs.Source.{HasPieces, made_from}
-use Rattle.convert_steps.specs.extent_pieces.Laws.{AreSortedKeys}
-use Rattle.convert_steps.proofs.extent_pieces.Named.{numbered}
-use Rattle.convert_steps.proofs.extent_pieces.Owning.{two_cases}
-use Rattle.convert_steps.specs.file_items.Names.{IndexedLink, Indexed, indexed, indexed_in, names_in, next_index, saved_entry}
-use Rattle.convert_steps.specs.file_items.Tree.{Source, inode_in, kind_in, ino_of, size_by, size_in}
-use Rattle.convert_trees_laws.specs.Entries.{EntriesAreThere, naming_by, namings_by, unplaced}
-use Rattle.convert_trees_laws.specs.Inodes.{InodesAreThere}
 use Rattle.convert_trees_laws.proofs.Keys.{inodes_climb}
-use Rattle.convert_steps.specs.reiser_volume_objects.declared.key.ObjectKey.{ObjectKey}
-use Rattle.convert_steps.specs.reiser_volume_objects.declared.naming.Naming.{Naming}
-use Rattle.convert_steps.specs.reiser_volume_objects.Keys.{root, same_key}
-use Rattle.convert_steps.specs.reiser_volume_objects.Rules.{IsDirectory}
-use Rattle.convert_steps.proofs.reiser_volume_objects.Tables.{same_key-true}
-use Rattle.convert_steps.specs.reiser_volume.Numbers.{by_inode}
-use Rattle.convert_steps.specs.reiser_volume.Volume.{volume_items}
-use Rattle.convert_steps.specs.reiser_volume.declared.volume.Volume.{Volume}
-use Rattle.convert_steps.specs.convert_options.declared.options.Options.{Options}
-use Rattle.convert_steps.specs.unit_plan.declared.piece.Piece.{Piece}
-use Rattle.convert_steps.specs.unit_plan.declared.plan.Plan.{Plan}
-use Rattle.convert_trees_laws.specs.Names.{NamesKeepRules, ReadAs}
 use Rattle.convert_trees_laws.proofs.Indexing.{indexes_readable}
 use Rattle.convert_trees_laws.proofs.Known.{directories_apart, directory_there, is_directory_there, names_apart, root_known, target_short}
 use Rattle.convert_trees_laws.proofs.Linking.{entries_apart, is_link}

@@ -1,38 +1,7 @@
 -- The items of file trees are short.
-use Rattle.std.proofs.Common.{◌≡◌, ◌≤◌, ℕ, ◌+◌, ◌==◌, ◌&&◌, not, nat_lt, Bool, true, false, cond, List, [], ◌∷◌, ◌++◌, length, length-append, map, filter, take, sum_by, refl, sym, ap, subst, ◌∙◌, if◌then◌else◌, arith}
+use Rattle.convert_trees_laws.proofs.Imports.{◌≡◌, ◌≤◌, ℕ, ◌+◌, ◌==◌, ◌&&◌, not, nat_lt, Bool, true, false, cond, List, [], ◌∷◌, ◌++◌, length, length-append, map, filter, take, sum_by, refl, sym, ap, subst, ◌∙◌, if◌then◌else◌, arith, AllByRecursion, flat_map, nat_tests, length-take, sum_by-append, sum_by-cons, DIR_INDEX, DIR_ITEM, INODE_EXTREF, INODE_REF, name_hash, extref_hash, contains_head, contains_tail, Kind, DirEntryValue, dir_entry_bytes, dir_entry_head, ExtrefValue, extref_bytes, extref_head, disk_range_layout, file_extent_bytes, file_extent_head, inode_bytes, inode_layout, InodeRefValue, inode_ref_bytes, inode_ref_head, key_layout, make_key, stamp_layout, Inode, extent_item, inline_extent, regular_extent, ascending, grouped, of_number, inode_item, Above, Rising, of_number_grouped, other, rising_grouped, same_test, ascending_sum, ObjectKey, Naming, root, same_key, same_key-true, same_key-self, crowd_of, extended, extended_crowd_of, ino_of_key, reference_size, saved_name, flips, Piece, extents_at, IndexedLink, Indexed, entries_behind, entry_behind, entry_items, entry_to, extref, extrefs, indexed_in, inode_ref, inode_refs, names_in, names_of, next_index, parent_of, saved_entry, IsShort}
 use Rattle.std.specs.Prelude.{Contains}
-use Rattle.std.specs.List.{AllByRecursion, flat_map}
-use Rattle.std.proofs.lemmas.Bool.Decides.{nat_tests}
-use Rattle.std.proofs.lemmas.List.{length-take}
-use Rattle.std.proofs.lemmas.List.Sums.{sum_by-append, sum_by-cons}
-use Rattle.btrfs_format.specs.declared.key.TheConstants.{DIR_INDEX, DIR_ITEM, INODE_EXTREF, INODE_REF}
-use Rattle.btr_reader.specs.castagnoli.Castagnoli.{name_hash, extref_hash}
-use Rattle.convert_steps.proofs.reiser_bitmap.Ranges.{contains_head, contains_tail}
-use Rattle.btr_reader.specs.fs_rows.declared.row.Kind.{Kind}
-use Rattle.btr_reader.specs.btr_keys.DirEntry.{DirEntryValue, dir_entry_bytes, dir_entry_head}
-use Rattle.btr_reader.specs.btr_keys.Extref.{ExtrefValue, extref_bytes, extref_head}
-use Rattle.btr_reader.specs.btr_keys.FileExtent.{disk_range_layout, file_extent_bytes, file_extent_head}
-use Rattle.btr_reader.specs.btr_keys.Inode.{inode_bytes, inode_layout}
-use Rattle.btr_reader.specs.btr_keys.InodeRef.{InodeRefValue, inode_ref_bytes, inode_ref_head}
-use Rattle.btr_reader.specs.btr_keys.Key.{key_layout, make_key}
-use Rattle.btr_reader.specs.btr_keys.Stamp.{stamp_layout}
-use Rattle.btr_reader.specs.btr_keys.declared.inode.Inode.{Inode}
-use Rattle.convert_steps.specs.btr_item_list.Extents.{extent_item, inline_extent, regular_extent}
-use Rattle.convert_steps.specs.btr_item_list.Groups.{ascending, grouped, of_number}
-use Rattle.convert_steps.specs.btr_item_list.Inodes.{inode_item}
-use Rattle.convert_steps.proofs.btr_item_list.Grouping.{Above, Rising, of_number_grouped, other, rising_grouped, same_test}
-use Rattle.convert_steps.proofs.btr_item_list.Sorting.{ascending_sum}
-use Rattle.convert_steps.specs.reiser_volume_objects.declared.key.ObjectKey.{ObjectKey}
-use Rattle.convert_steps.specs.reiser_volume_objects.declared.naming.Naming.{Naming}
-use Rattle.convert_steps.specs.reiser_volume_objects.Keys.{root, same_key}
-use Rattle.convert_steps.proofs.reiser_volume_objects.Tables.{same_key-true, same_key-self}
-use Rattle.convert_steps.specs.reiser_volume_names.Names.{crowd_of, extended, extended_crowd_of, ino_of_key, reference_size, saved_name}
 use Rattle.convert_steps.proofs.reiser_volume_names.Sums.{weight_push}
-use Rattle.convert_steps.proofs.reiser_volume_names.Uniqueness.{flips}
-use Rattle.convert_steps.specs.unit_plan.declared.piece.Piece.{Piece}
-use Rattle.convert_steps.specs.file_items.Extents.{extents_at}
-use Rattle.convert_steps.specs.file_items.Names.{IndexedLink, Indexed, entries_behind, entry_behind, entry_items, entry_to, extref, extrefs, indexed_in, inode_ref, inode_refs, names_in, names_of, next_index, parent_of, saved_entry}
-use Rattle.convert_trees_laws.specs.Keys.{IsShort}
 use Rattle.convert_trees_laws.proofs.Rising.{all_append, all_each, all_mapped, all_true}
 
 -- ---- lengths of bodies

@@ -1,50 +1,7 @@
 -- The items of the three trees are short.
-use Rattle.std.proofs.Common.{◌≡◌, ◌≤◌, ℕ, ◌+◌, ◌*◌, ◌==◌, ◌&&◌, nat_le, not, Bool, true, false, cond, List, [], ◌∷◌, ◌++◌, length, filter, sum_by, Option, Some, refl, sym, ap, subst, ◌∙◌, ⊎_elim, if◌then◌else◌, arith}
+use Rattle.convert_trees_laws.proofs.Imports.{◌≡◌, ◌≤◌, ℕ, ◌+◌, ◌*◌, ◌==◌, ◌&&◌, nat_le, not, Bool, true, false, cond, List, [], ◌∷◌, ◌++◌, length, filter, sum_by, Option, Some, refl, sym, ap, subst, ◌∙◌, ⊎_elim, if◌then◌else◌, arith, AllByRecursion, and_parts, leb-true, All-from_recursion, sum_by-cons, FIRST_FREE_OBJECTID, DIRECTORY_MODE, IMAGE_MODE, name_hash, keys, from_filter, Image, contains_head, contains_tail, Kind, Directory, File, Symlink, Character, Block, Fifo, Socket, Subvolume, Item, extent_item, inline_extent, inode_item, inode_made, ref_item, tail_block, target_bytes, block_from, ReiserItem, ObjectKey, Naming, items_of, root, same_key, IsNamed, namings, IsObject, AreNames, crowd_of, extended_crowd_of, ino_of_key, extended_one, links_one, stays_in_tree, is_tail, by_inode, IsOpened, links_in, IsAccepted, volume_items, Volume, Options, Piece, AreSortedKeys, numbered, inodes_apart, kind_there, stat_there, two_cases, extents_at, file_block, piece_bytes, pieces_of, pieces_of_volume, source_block, Indexed, entry_to, letters, image_entries, image_flags, image_head, image_items, image_name, relocation_items, root_directory_items, Source, content_items, file_extent_items, inline_in, inode_in, kind_in, name_items, ino_of, object_items, size_in, fs_tree_items, name_items_root, name_items_other, made_from, IsShort, ItemsAreShort}
+use Rattle.convert_steps.specs.reiser_volume_objects.Names.{is_followed}
 use Rattle.std.specs.Prelude.{Contains, ◌≢◌}
-use Rattle.std.specs.List.{AllByRecursion}
-use Rattle.std.proofs.lemmas.Bool.{and_parts, leb-true}
-use Rattle.std.proofs.lemmas.List.Elements.{All-from_recursion}
-use Rattle.std.proofs.lemmas.List.Sums.{sum_by-cons}
-use Rattle.btrfs_format.specs.declared.object.TheConstants.{FIRST_FREE_OBJECTID}
-use Rattle.vol_block.specs.declared.mode.TheConstants.{DIRECTORY_MODE, IMAGE_MODE}
-use Rattle.btr_reader.specs.castagnoli.Castagnoli.{name_hash}
-use Rattle.indexmap.specs.IndexMap.{keys}
-use Rattle.btr_reader.proofs.fs_paths.Lists.{from_filter}
-use Rattle.btr_reader.specs.outside.History.{Image}
-use Rattle.convert_steps.proofs.reiser_bitmap.Ranges.{contains_head, contains_tail}
-use Rattle.btr_reader.specs.fs_rows.declared.row.Kind.{Kind}
-use Rattle.btr_reader.specs.fs_rows.declared.row.Kind.TheVariants.{Directory, File, Symlink, Character, Block, Fifo, Socket, Subvolume}
-use Rattle.btr_reader.specs.btr_node.Leaf.{Item}
-use Rattle.convert_steps.specs.btr_item_list.Extents.{extent_item, inline_extent}
-use Rattle.convert_steps.specs.btr_item_list.Inodes.{inode_item, inode_made, ref_item}
-use Rattle.convert_steps.specs.reiser_volume_files.Bytes.{tail_block, target_bytes}
-use Rattle.convert_steps.specs.reiser_volume_files.Runs.{block_from}
-use Rattle.convert_steps.specs.reiser_walk.Items.{ReiserItem}
-use Rattle.convert_steps.specs.reiser_volume_objects.declared.key.ObjectKey.{ObjectKey}
-use Rattle.convert_steps.specs.reiser_volume_objects.declared.naming.Naming.{Naming}
-use Rattle.convert_steps.specs.reiser_volume_objects.Keys.{items_of, root, same_key}
-use Rattle.convert_steps.specs.reiser_volume_objects.Names.{IsNamed, is_followed, namings}
-use Rattle.convert_steps.specs.reiser_volume_objects.Rules.{IsObject}
-use Rattle.convert_steps.specs.reiser_volume_names.Names.{AreNames, crowd_of, extended_crowd_of, ino_of_key}
-use Rattle.convert_steps.proofs.reiser_volume_names.Uniqueness.{extended_one, links_one}
-use Rattle.convert_steps.specs.reiser_volume.Inline.{stays_in_tree, is_tail}
-use Rattle.convert_steps.specs.reiser_volume.Numbers.{by_inode}
-use Rattle.convert_steps.specs.reiser_volume.Opened.{IsOpened, links_in}
-use Rattle.convert_steps.specs.reiser_volume.Volume.{IsAccepted, volume_items}
-use Rattle.convert_steps.specs.reiser_volume.declared.volume.Volume.{Volume}
-use Rattle.convert_steps.specs.convert_options.declared.options.Options.{Options}
-use Rattle.convert_steps.specs.unit_plan.declared.piece.Piece.{Piece}
-use Rattle.convert_steps.specs.extent_pieces.Laws.{AreSortedKeys}
-use Rattle.convert_steps.proofs.extent_pieces.Named.{numbered}
-use Rattle.convert_steps.proofs.extent_pieces.Once.{inodes_apart, kind_there, stat_there}
-use Rattle.convert_steps.proofs.extent_pieces.Owning.{two_cases}
-use Rattle.convert_steps.specs.file_items.Extents.{extents_at, file_block, piece_bytes, pieces_of, pieces_of_volume, source_block}
-use Rattle.convert_steps.specs.file_items.Names.{Indexed, entry_to, letters}
-use Rattle.convert_steps.specs.file_items.Small.{image_entries, image_flags, image_head, image_items, image_name, relocation_items, root_directory_items}
-use Rattle.convert_steps.specs.file_items.Tree.{Source, content_items, file_extent_items, inline_in, inode_in, kind_in, name_items, ino_of, object_items, size_in, fs_tree_items}
-use Rattle.convert_steps.proofs.file_items.Named.{name_items_root, name_items_other}
-use Rattle.convert_steps.specs.Source.{made_from}
-use Rattle.convert_trees_laws.specs.Keys.{IsShort, ItemsAreShort}
 use Rattle.convert_trees_laws.proofs.Rising.{all_append, all_flat}
 use Rattle.convert_trees_laws.proofs.Short.{entries_short, entry_items_short, extents_short, inline_short, inode_short, ref_long, refs_short}
 

@@ -1,27 +1,5 @@
 -- The tree of the saved image and the relocation tree take no more than was counted.
-use Rattle.std.proofs.Common.{◌≡◌, ◌≤◌, ℕ, ◌+◌, ◌*◌, Bool, is_some, List, [], ◌∷◌, length, filter, sum_by, arith}
-use Rattle.btrfs_format.specs.declared.object.TheConstants.{FIRST_FREE_OBJECTID}
-use Rattle.unit_plan.specs.declared.item_bytes.TheConstants.{FILE_EXTENT_BYTES, IMAGE_ROOM, INODE_BYTES, RELOCATION_ROOM}
-use Rattle.vol_block.specs.declared.mode.TheConstants.{DIRECTORY_MODE, IMAGE_MODE}
-use Rattle.btr_reader.specs.btr_keys.DirEntry.{dir_entry_head}
-use Rattle.btr_reader.specs.btr_keys.FileExtent.{disk_range_layout, file_extent_bytes, file_extent_head}
-use Rattle.btr_reader.specs.btr_keys.Inode.{inode_bytes, inode_layout}
-use Rattle.btr_reader.specs.btr_keys.InodeRef.{InodeRefValue, inode_ref_bytes, inode_ref_head}
-use Rattle.btr_reader.specs.btr_keys.Key.{key_layout}
-use Rattle.btr_reader.specs.btr_keys.Stamp.{stamp_layout}
-use Rattle.btr_reader.specs.btr_keys.declared.inode.Inode.{Inode}
-use Rattle.btr_reader.specs.btr_node.Leaf.{Item}
-use Rattle.convert_steps.specs.btr_item_list.Extents.{extent_item, regular_extent}
-use Rattle.convert_steps.specs.btr_item_list.Inodes.{inode_item, inode_made, ref_item}
-use Rattle.convert_steps.proofs.btr_item_list.Sorting.{ascending_sum}
-use Rattle.convert_steps.proofs.extent_pieces.Bounding.{filter_few}
-use Rattle.convert_steps.specs.file_items.Extents.{extents_at, piece_bytes, pieces_of_volume, source_block}
-use Rattle.convert_steps.specs.file_items.Names.{Indexed, entry_items, letters}
-use Rattle.convert_steps.specs.file_items.Small.{image_entries, image_flags, image_head, image_items, image_name, relocation_items, root_directory_items}
-use Rattle.convert_steps.specs.unit_plan.Needed.{image_tree_bytes}
-use Rattle.convert_steps.specs.unit_plan.declared.counts.Counts.{Counts}
-use Rattle.convert_steps.specs.unit_plan.declared.piece.Piece.{Piece}
-use Rattle.convert_trees_laws.specs.Bounds.{bytes_in}
+use Rattle.convert_trees_laws.proofs.Imports.{◌≡◌, ◌≤◌, ℕ, ◌+◌, ◌*◌, Bool, is_some, List, [], ◌∷◌, length, filter, sum_by, arith, FIRST_FREE_OBJECTID, FILE_EXTENT_BYTES, IMAGE_ROOM, INODE_BYTES, RELOCATION_ROOM, DIRECTORY_MODE, IMAGE_MODE, dir_entry_head, disk_range_layout, file_extent_bytes, file_extent_head, inode_bytes, inode_layout, InodeRefValue, inode_ref_bytes, inode_ref_head, key_layout, stamp_layout, Inode, Item, extent_item, regular_extent, inode_item, inode_made, ref_item, ascending_sum, filter_few, extents_at, piece_bytes, pieces_of_volume, source_block, Indexed, entry_items, letters, image_entries, image_flags, image_head, image_items, image_name, relocation_items, root_directory_items, image_tree_bytes, Counts, Piece, bytes_in}
 use Rattle.convert_trees_laws.proofs.ItemBytes.{bytes-append, bytes-cons, bytes-map, sum-same}
 
 inode_long : (i : Inode) → length (inode_bytes i) ≤ 160

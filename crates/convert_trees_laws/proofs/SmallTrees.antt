@@ -1,27 +1,5 @@
 -- The keys of the image's tree and of the relocation tree.
-use Rattle.std.proofs.Common.{◌≡◌, ◌≤◌, ℕ, ◌*◌, ◌==◌, Bool, true, is_some, List, [], ◌∷◌, ◌++◌, append_assoc, length, filter, Option, Some, None, sym, subst, arith}
-use Rattle.std.specs.List.{flat_map, IsDistinct}
-use Rattle.std.specs.Option.{option_map_or}
-use Rattle.std.proofs.lemmas.Bool.Decides.{nat_tests}
-use Rattle.btrfs_format.specs.declared.key.TheConstants.{DIR_INDEX, DIR_ITEM, EXTENT_DATA, INODE_ITEM, INODE_REF}
-use Rattle.btrfs_format.specs.declared.object.TheConstants.{FIRST_FREE_OBJECTID}
-use Rattle.vol_block.specs.declared.mode.TheConstants.{DIRECTORY_MODE, IMAGE_MODE}
-use Rattle.btr_reader.specs.castagnoli.Castagnoli.{name_hash}
-use Rattle.btr_reader.specs.btr_keys.DirEntry.{dir_entry_bytes}
-use Rattle.btr_reader.specs.btr_keys.FileExtent.{file_extent_bytes}
-use Rattle.btr_reader.specs.btr_keys.Inode.{inode_bytes}
-use Rattle.btr_reader.specs.btr_keys.InodeRef.{inode_ref_bytes}
-use Rattle.btr_reader.specs.btr_node.Leaf.{Item}
-use Rattle.convert_steps.specs.btr_item_list.Extents.{regular_extent}
-use Rattle.convert_steps.specs.btr_item_list.Groups.{grouped}
-use Rattle.convert_steps.specs.btr_item_list.Inodes.{inode_item, inode_made, ref_item}
-use Rattle.convert_steps.proofs.btr_item_list.Grouping.{rising_grouped}
-use Rattle.convert_steps.proofs.btr_item_list.Sorting.{ascending_filter, ascending_sorted}
-use Rattle.convert_steps.specs.unit_plan.declared.piece.Piece.{Piece}
-use Rattle.convert_steps.specs.file_items.Extents.{extents_at, piece_bytes, pieces_of_volume, source_block}
-use Rattle.convert_steps.specs.file_items.Names.{Indexed, entry_items, letters, root_ref}
-use Rattle.convert_steps.specs.file_items.Small.{image_entries, image_flags, image_head, image_items, image_name, relocation_items, root_directory_items}
-use Rattle.convert_trees_laws.specs.Keys.{ImageKeysAscend}
+use Rattle.convert_trees_laws.proofs.Imports.{◌≡◌, ◌≤◌, ℕ, ◌*◌, ◌==◌, Bool, true, is_some, List, [], ◌∷◌, ◌++◌, append_assoc, length, filter, Option, Some, None, sym, subst, arith, flat_map, IsDistinct, option_map_or, nat_tests, DIR_INDEX, DIR_ITEM, EXTENT_DATA, INODE_ITEM, INODE_REF, FIRST_FREE_OBJECTID, DIRECTORY_MODE, IMAGE_MODE, name_hash, dir_entry_bytes, file_extent_bytes, inode_bytes, inode_ref_bytes, Item, regular_extent, grouped, inode_item, inode_made, ref_item, rising_grouped, ascending_filter, ascending_sorted, Piece, extents_at, piece_bytes, pieces_of_volume, source_block, Indexed, entry_items, letters, root_ref, image_entries, image_flags, image_head, image_items, image_name, relocation_items, root_directory_items, ImageKeysAscend}
 use Rattle.convert_trees_laws.proofs.Apart.{at_most_one, same_from, shares, shares_none}
 use Rattle.convert_trees_laws.proofs.Rising.{Climb, IsPart, Rise, climb_groups, climb_once, climb_times, part_append, part_of_kind, part_one, rise_ascends, rise_two}
 

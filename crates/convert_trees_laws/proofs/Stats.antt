@@ -1,33 +1,19 @@
 -- The fields of stat data fit, where the blocks hold bytes.
-use Rattle.std.proofs.Common.{◌≡◌, ◌<◌, ℕ, zero, suc, ◌+◌, ◌-◌, ◌^◌, ◌==◌, Bool, true, false, List, [], ◌∷◌, length, Contains, Option, Some, None, if◌then◌else◌, refl, sym, ap, subst, ◌∙◌, ⊎_elim, arith}
-use Rattle.std.specs.List.{flat_map}
-use Rattle.std.specs.Option.{option_map, option_or}
-use Rattle.std.proofs.lemmas.List.Elements.{Contains-append_cases}
-use Rattle.btr_reader.specs.outside.History.{Image, block_at}
-use Rattle.btr_reader.proofs.fs_paths.Lists.{at_head, in_tail, head_or_tail, from_filter, from_flat_map}
+use Rattle.convert_trees_laws.proofs.Imports.{◌≡◌, ◌<◌, ℕ, zero, suc, ◌+◌, ◌-◌, ◌^◌, ◌==◌, Bool, true, false, List, [], ◌∷◌, length, Contains, Option, Some, None, if◌then◌else◌, refl, sym, ap, subst, ◌∙◌, ⊎_elim, arith, flat_map, option_map, option_or, Contains-append_cases, Image, block_at, at_head, in_tail, head_or_tail, from_filter, from_flat_map, ItemKind, Stat, Indirect, Direct, ReiserItem, Event, item_at, item_of, ObjectKey, ObjectStat, first_stat, stat_by_kind, stat_of_object, items_of, object_key_of, same_key, IsAccepted, superblock, reiser_tree_of, used_of, volume_items, used_length, HasBytes}
+use Rattle.convert_steps.specs.reiser_node.declared.head.ItemKind.TheVariants.{Directory as Entries}
 use Rattle.convert_steps.specs.reiser_node.declared.head.ItemHead.{ItemHead}
-use Rattle.convert_steps.specs.reiser_node.declared.head.ItemKind.{ItemKind}
-use Rattle.convert_steps.specs.reiser_node.declared.head.ItemKind.TheVariants.{Stat, Indirect, Direct, Directory as Entries}
 use Rattle.convert_steps.specs.reiser_node.Head.{head_at}
 use Rattle.convert_steps.specs.reiser_node.Leaf.{IsLeaf, body_at, body_length, count, head_place, location}
 use Rattle.convert_steps.specs.reiser_items.Stat.{stat_fields, stat_length}
 use Rattle.convert_steps.specs.reiser_items.declared.stat.StatData.{StatData}
 use Rattle.convert_steps.specs.reiser_walk.declared.block_pointer.BlockPointer.{BlockPointer}
 use Rattle.convert_steps.specs.reiser_walk.declared.reiser_tree.ReiserTree.{ReiserTree}
-use Rattle.convert_steps.specs.reiser_walk.Items.{ReiserItem, Event, item_at, item_of}
 use Rattle.convert_steps.specs.reiser_walk.Laws.{IsNode}
 use Rattle.convert_steps.specs.reiser_walk.Tree.{Visit, items_of_events, reached_in, tree_events, visits_in, items_of_tree}
 use Rattle.convert_steps.proofs.reiser_walk.Lists.{Each, each_from_all}
 use Rattle.convert_steps.proofs.reiser_walk.Rules.{sound_exactly}
 use Rattle.convert_steps.specs.reiser_volume_contents.Reads.{items_from, leaf_items, listed}
 use Rattle.convert_steps.proofs.reiser_volume_contents.Trees.{each_is_leaf, each_leaf, items_by_leaves, leaf_blocks}
-use Rattle.convert_steps.specs.reiser_volume_objects.declared.key.ObjectKey.{ObjectKey}
-use Rattle.convert_steps.specs.reiser_volume_objects.declared.stat.ObjectStat.{ObjectStat}
-use Rattle.convert_steps.specs.reiser_volume_objects.Items.{first_stat, stat_by_kind, stat_of_object}
-use Rattle.convert_steps.specs.reiser_volume_objects.Keys.{items_of, object_key_of, same_key}
-use Rattle.convert_steps.specs.reiser_volume.Volume.{IsAccepted, superblock, reiser_tree_of, used_of, volume_items}
-use Rattle.convert_steps.proofs.reiser_volume.Holding.{used_length}
-use Rattle.convert_trees_laws.specs.Rows.{HasBytes}
 use Rattle.convert_trees_laws.proofs.Fields.{AreBytes, field_eight, field_four, field_two, range_bytes}
 
 -- ---- bodies

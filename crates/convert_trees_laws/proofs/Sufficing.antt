@@ -1,37 +1,8 @@
 -- The units of a plan have the slots for all nodes.
-use Rattle.std.proofs.Common.{◌≡◌, ◌≤◌, ◌<◌, ℕ, ◌+◌, ◌*◌, ◌^◌, List, [], ◌∷◌, length, length-append, sym, ap, subst, ◌∙◌, ⊎_elim, arith}
-use Rattle.std.specs.Int.{div_ceil}
-use Rattle.std.specs.List.{flat_map, range_with_len}
-use Rattle.std.proofs.lemmas.Grind.{div_ceil_times}
-use Rattle.std.proofs.lemmas.List.{length-map}
-use Rattle.std.proofs.lemmas.List.FromFn.{length-range_with_len}
-use Rattle.unit_plan.specs.declared.item_bytes.TheConstants.{BLOCK_GROUP_BYTES, EXTENT_BYTES, NODE_BYTES, RELOCATION_ROOM, ROOT_TREE_ROOM}
-use Rattle.btr_reader.specs.outside.History.{Image}
-use Rattle.btr_reader.specs.btr_node.Leaf.{Item}
-use Rattle.btr_reader.specs.btr_node.NodeSize.{IsNodeSize}
-use Rattle.convert_steps.specs.btr_tree.Counting.{node_bound}
-use Rattle.convert_steps.specs.btr_tree.Roots.{lengths_of}
-use Rattle.convert_steps.specs.Making.{IsMaking, Making, chunk_slots, new_ids, slots}
-use Rattle.convert_steps.specs.Standing.{AllFit, chunk_count, file_tree_items, image_tree_items, no_trees, nodes_for, other_count, own_count, root_tree_items, sum_tree_items}
+use Rattle.convert_trees_laws.proofs.Imports.{◌≡◌, ◌≤◌, ◌<◌, ℕ, ◌+◌, ◌*◌, ◌^◌, List, [], ◌∷◌, length, length-append, sym, ap, subst, ◌∙◌, ⊎_elim, arith, div_ceil, flat_map, range_with_len, div_ceil_times, length-map, length-range_with_len, BLOCK_GROUP_BYTES, EXTENT_BYTES, NODE_BYTES, RELOCATION_ROOM, ROOT_TREE_ROOM, Image, Item, IsNodeSize, node_bound, lengths_of, IsMaking, Making, chunk_slots, new_ids, slots, AllFit, chunk_count, file_tree_items, image_tree_items, no_trees, nodes_for, other_count, own_count, root_tree_items, sum_tree_items, relocation_items, FileKeysAscend, ImageKeysAscend, ItemsAreShort, keys, IsOpened, links_in, used_of, chunk_items, device_items, AreIds, bound_up, IsSoundPlan, AreSmall, checksum_tree_bytes, chunk_bound, chunk_nodes, chunk_tree_bytes, device_tree_bytes, extent_nodes, extent_tree_bytes, file_tree_bytes, image_tree_bytes, need, nodes_in_unit, other_nodes, Counts, Options, plans_sound, SumKind, Crc32c, Sha256, AreCounted, FileTreeIsCounted, PlansSuffice, bytes_in}
 use Rattle.convert_steps.proofs.extent_pieces.Small.{counts_small}
-use Rattle.convert_steps.specs.file_items.Small.{relocation_items}
-use Rattle.convert_trees_laws.specs.Keys.{FileKeysAscend, ImageKeysAscend, ItemsAreShort}
-use Rattle.indexmap.specs.IndexMap.{keys}
-use Rattle.convert_steps.specs.reiser_volume.Opened.{IsOpened, links_in}
-use Rattle.convert_steps.specs.reiser_volume.Volume.{used_of}
-use Rattle.convert_steps.specs.space_items.Chunks.{chunk_items, device_items}
-use Rattle.convert_steps.specs.space_items.Laws.{AreIds}
 use Rattle.convert_steps.specs.space_items.Own.{extent_bytes}
-use Rattle.convert_steps.proofs.space_items.OwnBound.{bound_up}
-use Rattle.convert_steps.specs.unit_plan.Laws.{IsSoundPlan}
-use Rattle.convert_steps.specs.unit_plan.Needed.{AreSmall, checksum_tree_bytes, chunk_bound, chunk_nodes, chunk_tree_bytes, device_tree_bytes, extent_nodes, extent_tree_bytes, file_tree_bytes, image_tree_bytes, need, nodes_in_unit, other_nodes}
 use Rattle.convert_steps.specs.unit_plan.Places.{node_places, places_in}
-use Rattle.convert_steps.specs.unit_plan.declared.counts.Counts.{Counts}
-use Rattle.convert_steps.specs.convert_options.declared.options.Options.{Options}
-use Rattle.convert_steps.proofs.unit_plan.Sound.{plans_sound}
-use Rattle.btr_reader.specs.csum_kinds.declared.kind.SumKind.{SumKind}
-use Rattle.btr_reader.specs.csum_kinds.declared.kind.SumKind.TheVariants.{Crc32c, Sha256}
-use Rattle.convert_trees_laws.specs.Bounds.{AreCounted, FileTreeIsCounted, PlansSuffice, bytes_in}
 use Rattle.convert_trees_laws.proofs.NodeCounts.{nodes_few}
 use Rattle.convert_trees_laws.proofs.Others.{few_chunks, pieces_few, trees_counted}
 

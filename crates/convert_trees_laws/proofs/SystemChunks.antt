@@ -1,19 +1,6 @@
 -- The chunks of the chunk tree are few.
-use Rattle.std.proofs.Common.{◌≡◌, ◌⊎◌, ℕ, suc, ◌+◌, ◌-◌, ◌*◌, ◌%◌, ◌<◌, ◌≤◌, Bool, true, false, List, [], ◌∷◌, length, get_or, cond, filter, Some, inl, inr, refl, sym, ◌∙◌, ap, subst, arith, ⊎_elim}
-use Rattle.std.specs.Prelude.{AllPairs, Contains}
-use Rattle.std.proofs.lemmas.Bool.{both_ways, cases_Bool, cases_eq}
-use Rattle.convert_steps.specs.reiser_bitmap.Runs.{free_runs}
-use Rattle.convert_steps.specs.reiser_bitmap.Units.{IsFreeUnit}
-use Rattle.convert_steps.proofs.reiser_bitmap.Ranges.{contains_range, range_contains}
-use Rattle.convert_steps.specs.unit_plan.Choice.{HasEnoughSpace, IsPlan, is_among, lowest_long}
-use Rattle.convert_steps.specs.unit_plan.Chunks.{AreChunks, IsChunk, role_by, role_of, has_role, usable_end, use_of}
-use Rattle.convert_steps.specs.unit_plan.Laws.{IsSoundPlan}
-use Rattle.convert_steps.specs.unit_plan.declared.chunk.PlannedChunk.{PlannedChunk}
-use Rattle.convert_steps.specs.unit_plan.declared.chunk.Role.{Role}
-use Rattle.convert_steps.specs.unit_plan.declared.chunk.Role.TheVariants.{System, Metadata, Data}
-use Rattle.convert_steps.specs.unit_plan.declared.need.Need.{Need}
-use Rattle.convert_steps.specs.unit_plan.declared.plan.Plan.{Plan}
-use Rattle.convert_steps.proofs.unit_plan.Sound.{plans_sound}
+use Rattle.convert_trees_laws.proofs.Imports.{◌≡◌, ◌⊎◌, ℕ, suc, ◌+◌, ◌-◌, ◌*◌, ◌%◌, ◌<◌, ◌≤◌, Bool, true, false, List, [], ◌∷◌, length, get_or, cond, filter, Some, inl, inr, refl, sym, ◌∙◌, ap, subst, arith, ⊎_elim, AllPairs, both_ways, cases_Bool, cases_eq, free_runs, IsFreeUnit, contains_range, range_contains, HasEnoughSpace, IsPlan, is_among, lowest_long, AreChunks, IsChunk, role_by, role_of, has_role, usable_end, use_of, IsSoundPlan, PlannedChunk, Role, System, Metadata, Data, Need, Plan, plans_sound}
+use Rattle.std.specs.Prelude.{Contains}
 use Rattle.convert_steps.proofs.unit_plan.Starts.{among_contains, contains_among}
 use Rattle.convert_steps.proofs.unit_plan.Uses.{free_of, role_is}
 

@@ -1,40 +1,7 @@
 -- The inodes and the entries of a tree of the file tree's items, by the objects and the links of the volume.
-use Rattle.std.proofs.Common.{◌≡◌, ◌<◌, ℕ, ◌-◌, ◌^◌, ◌==◌, ◌&&◌, not, Bool, true, false, List, [], ◌∷◌, map, filter, Contains, Option, Some, option_and_then, if◌then◌else◌, refl, sym, ap, subst, ◌∙◌, ◌⊎◌, inl, inr, ⊎_elim, true≢false, arith}
-use Rattle.std.proofs.lemmas.Bool.{cases_Bool, eqb-true, not_from_false}
-use Rattle.std.proofs.lemmas.List.Elements.{Contains-append_cases, Contains-append_left}
-use Rattle.btrfs_format.specs.declared.key.TheConstants.{INODE_ITEM, ROOT_ITEM}
-use Rattle.btrfs_format.specs.declared.object.TheConstants.{CONV_IMAGE_SUBVOL, FIRST_FREE_OBJECTID}
-use Rattle.indexmap.specs.IndexMap.{keys}
-use Rattle.btr_reader.specs.outside.History.{Image}
+use Rattle.convert_trees_laws.proofs.Imports.{◌≡◌, ◌<◌, ℕ, ◌-◌, ◌^◌, ◌==◌, ◌&&◌, not, Bool, true, false, List, [], ◌∷◌, map, filter, Contains, Option, Some, option_and_then, if◌then◌else◌, refl, sym, ap, subst, ◌∙◌, ◌⊎◌, inl, inr, ⊎_elim, true≢false, arith, cases_Bool, eqb-true, not_from_false, Contains-append_cases, Contains-append_left, INODE_ITEM, ROOT_ITEM, CONV_IMAGE_SUBVOL, FIRST_FREE_OBJECTID, keys, Image, at_head, in_tail, head_or_tail, in_filter, in_flat_map, in_map, from_filter, from_flat_map, from_map, Kind, Directory, File, Symlink, Character, Block, Fifo, Socket, Subvolume, inode_of, make_key, Inode, find_inode_item, inode_on, kind_of_mode as tree_kind, IsDirectoryInode, followed, is_followed, is_saved_name, dir_indexes, DirIndex, Item, TreeItem, HasPieces, made_from, IndexedLink, Indexed, indexed, indexed_in, names_in, next_index, saved_entry, Source, inode_in, kind_in, ino_of, size_by, stat_in, EntriesAreThere, naming_by, namings_by, unplaced, InodesAreThere, saved_name, ObjectKey, Naming, root, same_key, same_key-true, same_key-self, by_inode, Volume, Options, Piece, Plan, ReadAs}
 use Rattle.btr_reader.proofs.fs_paths.Nodes.{same_name-true}
-use Rattle.btr_reader.proofs.fs_paths.Lists.{at_head, in_tail, head_or_tail, in_filter, in_flat_map, in_map, from_filter, from_flat_map, from_map}
-use Rattle.btr_reader.specs.fs_rows.declared.row.Kind.{Kind}
-use Rattle.btr_reader.specs.fs_rows.declared.row.Kind.TheVariants.{Directory, File, Symlink, Character, Block, Fifo, Socket, Subvolume}
-use Rattle.btr_reader.specs.btr_keys.Inode.{inode_of}
-use Rattle.btr_reader.specs.btr_keys.Key.{make_key}
-use Rattle.btr_reader.specs.btr_keys.declared.inode.Inode.{Inode}
-use Rattle.btr_reader.specs.btr_reader_names.Inodes.{find_inode_item, inode_on, kind_of_mode as tree_kind, IsDirectoryInode}
-use Rattle.btr_reader.specs.btr_reader_names.Links.{followed, is_followed, is_saved_name, dir_indexes}
-use Rattle.btr_reader.specs.btr_reader_names.declared.dir_index.DirIndex.{DirIndex}
-use Rattle.btr_reader.specs.btr_node.Leaf.{Item}
-use Rattle.btr_reader.specs.btr_reader_walk.Events.{TreeItem}
-use Rattle.convert_steps.specs.Source.{HasPieces, made_from}
-use Rattle.convert_steps.specs.file_items.Names.{IndexedLink, Indexed, indexed, indexed_in, names_in, next_index, saved_entry}
-use Rattle.convert_steps.specs.file_items.Tree.{Source, inode_in, kind_in, ino_of, size_by, stat_in}
-use Rattle.convert_trees_laws.specs.Entries.{EntriesAreThere, naming_by, namings_by, unplaced}
-use Rattle.convert_trees_laws.specs.Inodes.{InodesAreThere}
 use Rattle.convert_trees_laws.proofs.Keys.{root_first}
-use Rattle.convert_steps.specs.reiser_volume_names.Names.{saved_name}
-use Rattle.convert_steps.specs.reiser_volume_objects.declared.key.ObjectKey.{ObjectKey}
-use Rattle.convert_steps.specs.reiser_volume_objects.declared.naming.Naming.{Naming}
-use Rattle.convert_steps.specs.reiser_volume_objects.Keys.{root, same_key}
-use Rattle.convert_steps.proofs.reiser_volume_objects.Tables.{same_key-true, same_key-self}
-use Rattle.convert_steps.specs.reiser_volume.Numbers.{by_inode}
-use Rattle.convert_steps.specs.reiser_volume.declared.volume.Volume.{Volume}
-use Rattle.convert_steps.specs.convert_options.declared.options.Options.{Options}
-use Rattle.convert_steps.specs.unit_plan.declared.piece.Piece.{Piece}
-use Rattle.convert_steps.specs.unit_plan.declared.plan.Plan.{Plan}
-use Rattle.convert_trees_laws.specs.Names.{ReadAs}
 use Rattle.convert_trees_laws.proofs.InodeRead.{inode_read}
 use Rattle.convert_trees_laws.proofs.Known.{IsGood, directory_there, good, kind_is, mode_low, one, root_known, tree_kind_is}
 use Rattle.convert_trees_laws.proofs.Linking.{is_link, link_is}

@@ -1,23 +1,7 @@
 -- What is gathered of the files, one after the other.
-use Rattle.std.proofs.Common.{append_assoc, take, Some, None, ◌≡◌, ℕ, ◌+◌, ◌<◌, ◌&&◌, Bool, true, false, List, [], ◌∷◌, ◌++◌, length, map, refl, sym, ◌∙◌, ap, arith, subst, ⊎_elim}
-use Rattle.std.specs.Prelude.{filter, nat_le, slice_get, sum_by}
-use Rattle.std.specs.List.{flat_map}
-use Rattle.std.proofs.lemmas.List.{append-nil, length_push, map-append, take_more}
-use Rattle.std.proofs.lemmas.Option.{get_or_from_slice_get}
+use Rattle.extent_pieces.proofs.Imports.{append_assoc, take, Some, None, ◌≡◌, ℕ, ◌+◌, ◌<◌, ◌&&◌, Bool, true, false, List, [], ◌∷◌, ◌++◌, length, map, refl, sym, ◌∙◌, ap, arith, subst, ⊎_elim, filter, nat_le, slice_get, sum_by, flat_map, append-nil, length_push, map-append, take_more, get_or_from_slice_get, filter-append, sum_by_push, and_parts, cases_Bool, ReiserItem, FileRun, file_runs, ObjectKey, FileParts, OwnedRun, Tail, FileAt, file_at, is_file_at, is_symlink_at, files_among, symlinks_among, inline_files, is_file_inline, file_tails, tails, Gain, Gains, bytes_with, count_with, Gathers, adds_inline, adds_file, capped, file_owned, owned_in, tails_in, is_tail_alone}
 use Rattle.std.proofs.lemmas.Grind.{flat_map-append}
-use Rattle.std.proofs.lemmas.List.Elements.{filter-append}
-use Rattle.std.proofs.lemmas.List.Sums.{sum_by_push}
-use Rattle.std.proofs.lemmas.Bool.{and_parts, cases_Bool}
-use Rattle.reiser_volume.specs.reiser_walk.Items.{ReiserItem}
-use Rattle.reiser_volume_files.specs.declared.map.FileRun.{FileRun}
-use Rattle.reiser_volume_files.specs.Runs.{file_runs}
-use Rattle.reiser_volume_objects.specs.declared.key.ObjectKey.{ObjectKey}
 use Rattle.extent_pieces.proofs.Tailing.{one_tail, one_tail_owns, tails_of_runs}
-use Rattle.extent_pieces.specs.declared.parts.FileParts.{FileParts}
-use Rattle.extent_pieces.specs.declared.run.OwnedRun.{OwnedRun}
-use Rattle.extent_pieces.specs.declared.tail.Tail.{Tail}
-use Rattle.extent_pieces.specs.Files.{FileAt, file_at, is_file_at, is_symlink_at, files_among, symlinks_among, inline_files, is_file_inline, file_tails, tails}
-use Rattle.extent_pieces.specs.Parts.{Gain, Gains, bytes_with, count_with, Gathers, adds_inline, adds_file, capped, file_owned, owned_in, tails_in, is_tail_alone}
 
 -- one object more
 files_yes : (items : List ReiserItem) (keys some : List ObjectKey) (key : ObjectKey) → is_file_at items key ≡ true → files_among items keys (some ++ key ∷ []) ≡ files_among items keys some ++ file_at items keys key ∷ []

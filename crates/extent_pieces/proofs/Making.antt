@@ -1,27 +1,5 @@
 -- The pieces of a volume and its counts, made of what was gathered of its files.
-use Rattle.std.proofs.Common.{◌≡◌, ℕ, ◌^◌, ◌<◌, Bool, List, [], ◌++◌, length, map, refl, sym, ◌∙◌, ap, arith, subst, append_assoc, length-append}
-use Rattle.std.specs.Prelude.{sum_by}
-use Rattle.std.proofs.lemmas.List.{length-map}
-use Rattle.indexmap.specs.IndexMap.{keys}
-use Rattle.reiser_bitmap.specs.outside.History.{Image}
-use Rattle.reiser_bitmap.specs.Runs.{free_runs}
-use Rattle.reiser_volume_objects.specs.declared.key.ObjectKey.{ObjectKey}
-use Rattle.reiser_volume_objects.specs.declared.naming.Naming.{Naming}
-use Rattle.reiser_volume.specs.declared.volume.Volume.{Volume}
-use Rattle.reiser_volume.specs.Opened.{IsOpened, links_in}
-use Rattle.reiser_volume.specs.Volume.{used_of, volume_items, IsAccepted}
-use Rattle.unit_plan.specs.declared.counts.Counts.{Counts}
-use Rattle.unit_plan.specs.declared.piece.Piece.{Piece}
-use Rattle.unit_plan.specs.Needed.{AreSmall}
-use Rattle.extent_pieces.specs.declared.parts.FileParts.{FileParts}
-use Rattle.extent_pieces.specs.declared.pieces.Pieces.{Pieces}
-use Rattle.extent_pieces.specs.declared.tail.Tail.{Tail}
-use Rattle.extent_pieces.specs.Files.{owner, tails}
-use Rattle.extent_pieces.specs.Found.{IsFound, counts_of, files_of}
-use Rattle.extent_pieces.specs.Laws.{AreSortedKeys}
-use Rattle.extent_pieces.specs.Owned.{TellOwners}
-use Rattle.extent_pieces.specs.Parts.{AreParts, capped}
-use Rattle.extent_pieces.specs.Pieces.{Owners, copied_pieces, kept_pieces, pieces, tail_piece}
+use Rattle.extent_pieces.proofs.Imports.{◌≡◌, ℕ, ◌^◌, ◌<◌, Bool, List, [], ◌++◌, length, map, refl, sym, ◌∙◌, ap, arith, subst, append_assoc, length-append, sum_by, length-map, keys, Image, free_runs, ObjectKey, Naming, Volume, IsOpened, links_in, used_of, volume_items, IsAccepted, Counts, Piece, AreSmall, FileParts, Pieces, Tail, owner, tails, IsFound, counts_of, files_of, AreSortedKeys, TellOwners, AreParts, capped, Owners, copied_pieces, kept_pieces, pieces, tail_piece}
 use Rattle.extent_pieces.specs.Tallies.{TellsCounts}
 use Rattle.extent_pieces.proofs.Named.{numbered}
 use Rattle.extent_pieces.proofs.Once.{owned_once}

@@ -1,37 +1,9 @@
 -- In an accepted volume no block has two owners.
-use Rattle.std.proofs.Common.{◌≡◌, ℕ, ◌+◌, ◌-◌, ◌^◌, ◌<◌, ◌≤◌, true, List, get_or, Option, Some, refl, sym, ◌∙◌, ap, arith, subst, ⊎_elim}
-use Rattle.std.specs.Prelude.{Contains, AllPairs, filter, slice_get, unwrap_or, ◌≢◌}
-use Rattle.std.proofs.lemmas.Bool.{cases_lt, leb-true}
-use Rattle.std.proofs.lemmas.List.Kept.{AllPairs-filter}
-use Rattle.std.proofs.lemmas.Option.{slice_get-get_or}
-use Rattle.reiser_bitmap.specs.outside.History.{Image}
-use Rattle.fs_rows.specs.declared.row.Kind.{Kind}
-use Rattle.fs_rows.specs.declared.row.Kind.TheVariants.{Directory, File, Symlink, Character, Block, Fifo, Socket, Subvolume}
-use Rattle.reiser_volume.proofs.fs_paths.Lists.{from_filter, from_map}
-use Rattle.reiser_volume.specs.reiser_walk.Items.{ReiserItem}
-use Rattle.reiser_volume_files.proofs.Ascending.{file_runs_are}
-use Rattle.reiser_volume_files.specs.declared.map.FileRun.{FileRun}
-use Rattle.reiser_volume_files.specs.declared.map.RunFrom.{RunFrom}
-use Rattle.reiser_volume_files.specs.declared.map.RunFrom.TheVariants.{Disk, Tail as InTree}
-use Rattle.reiser_volume_files.specs.Runs.{file_runs, next_from}
-use Rattle.reiser_volume_objects.specs.declared.key.ObjectKey.{ObjectKey}
-use Rattle.reiser_volume_objects.specs.declared.stat.ObjectStat.{ObjectStat}
-use Rattle.reiser_volume_objects.specs.Keys.{items_of}
-use Rattle.reiser_volume_objects.specs.Kinds.{fits_size, is_file}
+use Rattle.extent_pieces.proofs.Imports.{◌≡◌, ℕ, ◌+◌, ◌-◌, ◌^◌, ◌<◌, ◌≤◌, true, List, get_or, Option, Some, refl, sym, ◌∙◌, ap, arith, subst, ⊎_elim, Contains, AllPairs, filter, slice_get, unwrap_or, ◌≢◌, cases_lt, leb-true, AllPairs-filter, slice_get-get_or, Image, Kind, Directory, File, Symlink, Character, Block, Fifo, Socket, Subvolume, from_filter, from_map, ReiserItem, file_runs_are, FileRun, RunFrom, Disk, file_runs, next_from, ObjectKey, ObjectStat, items_of, fits_size, is_file, IsObject, AreNamedKeys, ino_of_key, IsSmallVolume, kind_by, no_stat, stat_at, AreNumbered, HoldsData, Owns, TellsOwned, volume_items, IsAccepted, accepted_is_small, maps_tell_owned, FileAt, file_at, files, files_among, is_file_at}
+use Rattle.reiser_volume_files.specs.declared.map.RunFrom.TheVariants.{Tail as InTree}
 use Rattle.reiser_volume_objects.specs.Names.{IsNamed}
-use Rattle.reiser_volume_objects.specs.Rules.{IsObject}
-use Rattle.reiser_volume.specs.reiser_volume_names.Links.{AreNamedKeys}
-use Rattle.reiser_volume.specs.reiser_volume_names.Names.{ino_of_key}
-use Rattle.reiser_volume.specs.Bounds.{IsSmallVolume}
-use Rattle.reiser_volume.specs.Made.{kind_by, no_stat, stat_at}
-use Rattle.reiser_volume.specs.Numbers.{AreNumbered}
-use Rattle.reiser_volume.specs.Owners.{HoldsData, Owns, TellsOwned}
-use Rattle.reiser_volume.specs.Volume.{volume_items, IsAccepted}
-use Rattle.reiser_volume.proofs.Bounds.{accepted_is_small}
-use Rattle.reiser_volume.proofs.Mapping.{maps_tell_owned}
 use Rattle.reiser_volume.proofs.Numbered.{inode_before, inode_behind, inode_of_root}
 use Rattle.reiser_volume.proofs.Owners.{owners_are_one}
-use Rattle.extent_pieces.specs.Files.{FileAt, file_at, files, files_among, is_file_at}
 use Rattle.extent_pieces.proofs.Lists.{pairs_map}
 use Rattle.extent_pieces.proofs.Telling.{LiesIn, OwnedOnce, in_some_run}
 

@@ -1,17 +1,5 @@
 -- Who owns a block, by a list of runs.
-use Rattle.std.proofs.Common.{◌≡◌, ◌⊎◌, ℕ, ◌+◌, ◌-◌, ◌^◌, ◌<◌, ◌≤◌, ltb, leb, Bool, true, false, List, [], ◌∷◌, length, get_or, cond, min, Option, Some, None, refl, sym, ◌∙◌, ap, arith, subst, ⊎_elim, inl, inr}
-use Rattle.std.specs.Prelude.{Contains, AllPairs, ◌≢◌}
-use Rattle.std.specs.List.{find}
-use Rattle.std.specs.Option.{option_map}
-use Rattle.std.specs.List.Sorted.{IsNonDecreasingBy, IsPartitionPoint}
-use Rattle.std.proofs.lemmas.Bool.{and_from, and_parts, both_ways, cases_Bool, cases_lt, ltb-true, leb-true, lt-ltb, le-leb}
-use Rattle.std.proofs.lemmas.List.{get_or_default}
-use Rattle.std.proofs.lemmas.List.Elements.{Contains-get_or}
-use Rattle.reiser_bitmap.proofs.Ranges.{contains_head, contains_tail, contains_cases}
-use Rattle.reiser_bitmap.proofs.Ends.{IsEnd}
-use Rattle.extent_pieces.specs.declared.run.OwnedRun.{OwnedRun}
-use Rattle.extent_pieces.specs.Owned.{TellOwners, IsRunBefore, IsRun, holds_block, owner_in}
-use Rattle.extent_pieces.specs.Pieces.{Owners, advanced, is_owner}
+use Rattle.extent_pieces.proofs.Imports.{◌≡◌, ◌⊎◌, ℕ, ◌+◌, ◌-◌, ◌^◌, ◌<◌, ◌≤◌, ltb, leb, Bool, true, false, List, [], ◌∷◌, length, get_or, cond, min, Option, Some, None, refl, sym, ◌∙◌, ap, arith, subst, ⊎_elim, inl, inr, Contains, AllPairs, ◌≢◌, find, option_map, IsNonDecreasingBy, IsPartitionPoint, and_from, and_parts, both_ways, cases_Bool, cases_lt, ltb-true, leb-true, lt-ltb, le-leb, get_or_default, Contains-get_or, contains_head, contains_tail, contains_cases, IsEnd, OwnedRun, TellOwners, IsRunBefore, IsRun, holds_block, owner_in, Owners, advanced, is_owner}
 use Rattle.extent_pieces.proofs.Joining.{is_owner_refl, same_owner}
 
 pub find_none : {X : Type 0} (p : X → Bool) (xs : List X) → ((x : X) → Contains xs x → p x ≡ false) → find p xs ≡ None

@@ -1,10 +1,6 @@
 -- The next reserved block.
-use Rattle.std.proofs.Common.{◌≡◌, ◌⊎◌, ℕ, ◌-◌, ◌*◌, ◌/◌, ◌%◌, ◌<◌, ◌≤◌, true, false, not, arith, ⊎_elim, inl, inr}
-use Rattle.std.proofs.lemmas.Bool.{cases_Bool, cases_lt, not_from_false, not_from_true}
-use Rattle.btrfs_format.specs.declared.block.TheConstants.{FIRST_MIRROR, FIRST_MIRROR_END, SECOND_MIRROR, SECOND_MIRROR_END}
-use Rattle.reiser_bitmap.specs.vol_block.Volume.{IsReserved, is_reserved}
+use Rattle.extent_pieces.proofs.Imports.{◌≡◌, ◌⊎◌, ℕ, ◌-◌, ◌*◌, ◌/◌, ◌%◌, ◌<◌, ◌≤◌, true, false, not, arith, ⊎_elim, inl, inr, cases_Bool, cases_lt, not_from_false, not_from_true, FIRST_MIRROR, FIRST_MIRROR_END, SECOND_MIRROR, SECOND_MIRROR_END, IsReserved, is_reserved, IsEnd}
 use Rattle.reiser_bitmap.proofs.vol_block.Reserved.{decides_reserved}
-use Rattle.reiser_bitmap.proofs.Ends.{IsEnd}
 
 pub reserved_yes : (b n : ℕ) → IsReserved b n → is_reserved b n ≡ true
 reserved_yes b n r = (decides_reserved b n).1 r

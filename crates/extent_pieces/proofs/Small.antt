@@ -1,47 +1,12 @@
 -- What is counted of an accepted volume is small.
-use Rattle.std.proofs.Common.{◌≡◌, ℕ, ◌+◌, ◌-◌, ◌*◌, ◌/◌, ◌^◌, ◌<◌, ◌≤◌, ◌==◌, max, min, Bool, true, false, cond, List, [], ◌∷◌, ◌++◌, length, map, Some, None, refl, sym, ◌∙◌, ap, arith, subst, ⊎_elim, length-append}
-use Rattle.std.proofs.lemmas.List.{length-map}
-use Rattle.std.specs.Prelude.{Contains, All, filter, sum_by, nat_le, nat_lt, if◌then◌else◌, ◌&&◌}
-use Rattle.std.specs.Int.{div_ceil}
-use Rattle.std.specs.List.{range_with_len}
-use Rattle.std.proofs.lemmas.Bool.{and_parts, cases_eq, leb-true, ltb-true}
+use Rattle.extent_pieces.proofs.Imports.{◌≡◌, ℕ, ◌+◌, ◌-◌, ◌*◌, ◌/◌, ◌^◌, ◌<◌, ◌≤◌, ◌==◌, max, min, Bool, true, false, cond, List, [], ◌∷◌, ◌++◌, length, map, Some, None, refl, sym, ◌∙◌, ap, arith, subst, ⊎_elim, length-append, length-map, Contains, All, filter, sum_by, nat_le, nat_lt, if◌then◌else◌, div_ceil, range_with_len, and_parts, cases_eq, leb-true, ltb-true, length-range_with_len, sum_by-append, sum_by-cons, sum_by-le, Image, Kind, Directory, File, Symlink, Character, Block, Fifo, Socket, Subvolume, from_filter, from_map, begins_run, free_runs, maximal_runs, run_from, is_free_unit, unit_count, all_from_contains, ReiserItem, first_byte, named_block, Disk, disk_or_hole, holds_by_kind, is_held, ObjectKey, Naming, ObjectStat, kind_of_mode, is_symlink, IsObject, AreLinks, AreNamedKeys, IsSmallVolume, direct_bytes, direct_length, stat_at, used_of, volume_items, IsAccepted, accepted_is_small, used_length, Piece, AreSmall, Tail, is_tail, FileAt, file_at, file_blocks, file_tails, files_among, has_tail, inline_files, is_file_inline, is_file_at, is_symlink_at, owner, symlinks_among, tails, counts_of, files_of, Owners, begins_piece, copied_piece, copied_pieces, is_copied, kept_piece, kept_pieces, tail_piece, AreKeptPieces, IsKeptPiece}
+use Rattle.std.specs.Prelude.{◌&&◌}
+use Rattle.reiser_volume_files.specs.declared.map.RunFrom.TheVariants.{Tail as InTree}
 use Rattle.std.proofs.lemmas.List.Concat.{length-flat_map}
-use Rattle.std.proofs.lemmas.List.FromFn.{length-range_with_len}
-use Rattle.std.proofs.lemmas.List.Sums.{sum_by-append, sum_by-cons, sum_by-le}
-use Rattle.reiser_bitmap.specs.outside.History.{Image}
-use Rattle.fs_rows.specs.declared.row.Kind.{Kind}
-use Rattle.fs_rows.specs.declared.row.Kind.TheVariants.{Directory, File, Symlink, Character, Block, Fifo, Socket, Subvolume}
-use Rattle.reiser_volume.proofs.fs_paths.Lists.{from_filter, from_map}
-use Rattle.reiser_bitmap.specs.Runs.{begins_run, free_runs, maximal_runs, run_from}
-use Rattle.reiser_bitmap.specs.Units.{is_free_unit, unit_count}
-use Rattle.reiser_bitmap.proofs.Ranges.{all_from_contains}
 use Rattle.reiser_volume.specs.reiser_node.declared.head.ItemKind.{ItemKind}
 use Rattle.reiser_volume.specs.reiser_node.declared.head.ItemKind.TheVariants.{Stat, Indirect, Direct, Directory as Entries}
-use Rattle.reiser_volume.specs.reiser_walk.Items.{ReiserItem}
-use Rattle.reiser_volume_files.specs.Bytes.{first_byte, named_block}
-use Rattle.reiser_volume_files.specs.declared.map.RunFrom.TheVariants.{Disk, Tail as InTree}
-use Rattle.reiser_volume_files.specs.Runs.{disk_or_hole, holds_by_kind, is_held}
-use Rattle.reiser_volume_objects.specs.declared.key.ObjectKey.{ObjectKey}
-use Rattle.reiser_volume_objects.specs.declared.naming.Naming.{Naming}
-use Rattle.reiser_volume_objects.specs.declared.stat.ObjectStat.{ObjectStat}
-use Rattle.reiser_volume_objects.specs.Kinds.{kind_of_mode, is_symlink}
-use Rattle.reiser_volume_objects.specs.Rules.{IsObject}
-use Rattle.reiser_volume.specs.reiser_volume_names.Links.{AreLinks, AreNamedKeys}
-use Rattle.reiser_volume.specs.Bounds.{IsSmallVolume, direct_bytes, direct_length}
-use Rattle.reiser_volume.specs.Made.{stat_at}
-use Rattle.reiser_volume.specs.Volume.{used_of, volume_items, IsAccepted}
-use Rattle.reiser_volume.proofs.Bounds.{accepted_is_small}
-use Rattle.reiser_volume.proofs.Holding.{used_length}
-use Rattle.unit_plan.specs.declared.piece.Piece.{Piece}
-use Rattle.unit_plan.specs.Needed.{AreSmall}
-use Rattle.extent_pieces.specs.declared.tail.Tail.{Tail}
-use Rattle.reiser_volume.specs.Inline.{is_tail}
-use Rattle.extent_pieces.specs.Files.{FileAt, file_at, file_blocks, file_tails, files_among, has_tail, inline_files, is_file_inline, is_file_at, is_symlink_at, owner, symlinks_among, tails}
-use Rattle.extent_pieces.specs.Found.{counts_of, files_of}
-use Rattle.extent_pieces.specs.Pieces.{Owners, begins_piece, copied_piece, copied_pieces, is_copied, kept_piece, kept_pieces, tail_piece}
 use Rattle.extent_pieces.proofs.Bounding.{apart_fit, few_between, filter_any, filter_few, filter_fewer, filter_none, sum_fewer}
 use Rattle.extent_pieces.proofs.Dividing.{data_inside}
-use Rattle.extent_pieces.specs.Laws.{AreKeptPieces, IsKeptPiece}
 use Rattle.extent_pieces.proofs.Lists.{all_at}
 use Rattle.extent_pieces.proofs.Maximal.{kept_are_maximal}
 use Rattle.extent_pieces.proofs.Once.{kind_there, stat_there}

@@ -1,43 +1,9 @@
 -- How an object begins: its inode, its names and what it holds.
-use Rattle.std.proofs.Common.{◌≡◌, ◌≤◌, ◌<◌, ℕ, ◌+◌, ◌^◌, Bool, true, false, cond, List, [], ◌∷◌, ◌++◌, length, filter, map, count_by, sum_by, Option, Some, None, sym, ap, subst, ◌∙◌, if◌then◌else◌, arith, true≢false}
-use Rattle.std.specs.Prelude.{unwrap_or}
-use Rattle.std.specs.Option.{option_map_or}
-use Rattle.std.proofs.lemmas.List.{append_assoc, length-map}
-use Rattle.std.proofs.lemmas.List.Sums.{length-filter, sum_by-cons, sum_by-append}
-use Rattle.btrfs_format.specs.declared.key.TheConstants.{INODE_ITEM}
-use Rattle.fs_rows.specs.declared.row.Kind.{Kind}
-use Rattle.fs_rows.specs.declared.row.Kind.TheVariants.{Directory}
-use Rattle.fs_rows.specs.Kinds.{is_directory}
-use Rattle.reiser_volume.specs.outside.History.{Image}
+use Rattle.file_items.proofs.Imports.{◌≡◌, ◌≤◌, ◌<◌, ℕ, ◌+◌, ◌^◌, Bool, true, false, cond, List, [], ◌∷◌, ◌++◌, length, filter, map, count_by, sum_by, Option, Some, None, sym, ap, subst, ◌∙◌, if◌then◌else◌, arith, true≢false, unwrap_or, option_map_or, length-map, length-filter, sum_by-cons, sum_by-append, INODE_ITEM, Kind, Directory, is_directory, Image, make_key, Item, is_under, Spot, places_count, links_one, same_key, root, items_of, ObjectKey, Naming, ObjectStat, accepted_is_small, stat_at, kind_by, no_stat, links_in, volume_items, InodeNumbers, Volume, HoldsBy, pieces_of, piece_bytes, inode_from, IsKnown, IndexedLink, Indexed, entries_behind, entry_behind, indexed, indexed_in, letters, next_index, saved_entry, IsObjectAt, HasContent, Begins, file_ahead, Source, ino_of, stat_in, kind_in, size_in, inline_in, size_by, nbytes_by, inode_in, name_items, content_items, object_items, FileInHand, LinkIndex}
+use Rattle.std.proofs.lemmas.List.{append_assoc}
 use Rattle.unit_plan.specs.btr_keys.Inode.{inode_bytes}
-use Rattle.unit_plan.specs.btr_keys.Key.{make_key}
 use Rattle.unit_plan.specs.btr_keys.declared.inode.Inode.{Inode}
-use Rattle.unit_plan.specs.btr_node.Leaf.{Item}
-use Rattle.btr_item_list.specs.Spots.{is_under}
-use Rattle.btr_item_list.specs.declared.spot.Spot.{Spot}
-use Rattle.btr_item_list.proofs.Placing.{places_count}
-use Rattle.reiser_volume.proofs.reiser_volume_names.Uniqueness.{links_one}
-use Rattle.reiser_volume_objects.specs.Keys.{same_key, root, items_of}
 use Rattle.reiser_volume_objects.specs.Rules.{IsDirectory}
-use Rattle.reiser_volume_objects.specs.declared.key.ObjectKey.{ObjectKey}
-use Rattle.reiser_volume_objects.specs.declared.naming.Naming.{Naming}
-use Rattle.reiser_volume_objects.specs.declared.stat.ObjectStat.{ObjectStat}
-use Rattle.reiser_volume.proofs.Bounds.{accepted_is_small}
-use Rattle.reiser_volume.specs.Made.{stat_at, kind_by, no_stat}
-use Rattle.reiser_volume.specs.Opened.{links_in}
-use Rattle.reiser_volume.specs.Volume.{volume_items}
-use Rattle.reiser_volume.specs.declared.inode_numbers.InodeNumbers.{InodeNumbers}
-use Rattle.reiser_volume.specs.declared.volume.Volume.{Volume}
-use Rattle.file_items.specs.Contents.{HoldsBy}
-use Rattle.file_items.specs.Extents.{pieces_of, piece_bytes}
-use Rattle.file_items.specs.Inodes.{inode_from}
-use Rattle.file_items.specs.Known.{IsKnown}
-use Rattle.file_items.specs.Names.{IndexedLink, Indexed, entries_behind, entry_behind, indexed, indexed_in, letters, next_index, saved_entry}
-use Rattle.file_items.specs.Spots.{IsObjectAt}
-use Rattle.file_items.specs.Stream.{HasContent, Begins, file_ahead}
-use Rattle.file_items.specs.Tree.{Source, ino_of, stat_in, kind_in, size_in, inline_in, size_by, nbytes_by, inode_in, name_items, content_items, object_items}
-use Rattle.file_items.specs.declared.files.FileInHand.{FileInHand}
-use Rattle.file_items.specs.declared.link_index.LinkIndex.{LinkIndex}
 use Rattle.file_items.proofs.Held.{contains_at}
 
 -- the names of some entries are names of links

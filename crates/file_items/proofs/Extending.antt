@@ -1,20 +1,6 @@
 -- The extents of an object, in the tree itself or from its pieces on.
-use Rattle.std.proofs.Common.{◌≡◌, ℕ, ◌-◌, Bool, true, false, List, [], ◌∷◌, ◌++◌, length, drop, take, Option, Some, None, refl, sym, ap, subst, ◌∙◌, if◌then◌else◌, arith}
-use Rattle.std.specs.List.{flat_map}
-use Rattle.std.proofs.lemmas.List.{append-nil}
-use Rattle.unit_plan.specs.btr_node.Leaf.{Item}
-use Rattle.btr_item_list.specs.Extents.{extent_item, inline_extent}
+use Rattle.file_items.proofs.Imports.{◌≡◌, ℕ, ◌-◌, Bool, true, false, List, [], ◌∷◌, ◌++◌, length, drop, take, Option, Some, None, refl, sym, ap, subst, ◌∙◌, if◌then◌else◌, arith, flat_map, append-nil, Item, extent_item, inline_extent, ObjectKey, items_of, by_inode, Piece, HoldsBy, pieces_of, pieces_of_volume, piece_bytes, file_block, source_block, extents_at, image_head, image_items, HasAddedExtents, file_ahead, Source, ino_of, size_in, inline_in, file_extent_items, object_items, fs_tree_items, FileInHand}
 use Rattle.reiser_volume_files.specs.Bytes.{target_bytes}
-use Rattle.reiser_volume_objects.specs.declared.key.ObjectKey.{ObjectKey}
-use Rattle.reiser_volume_objects.specs.Keys.{items_of}
-use Rattle.reiser_volume.specs.Numbers.{by_inode}
-use Rattle.unit_plan.specs.declared.piece.Piece.{Piece}
-use Rattle.file_items.specs.Contents.{HoldsBy}
-use Rattle.file_items.specs.Extents.{pieces_of, pieces_of_volume, piece_bytes, file_block, source_block, extents_at}
-use Rattle.file_items.specs.Small.{image_head, image_items}
-use Rattle.file_items.specs.Stream.{HasAddedExtents, file_ahead}
-use Rattle.file_items.specs.Tree.{Source, ino_of, size_in, inline_in, file_extent_items, object_items, fs_tree_items}
-use Rattle.file_items.specs.declared.files.FileInHand.{FileInHand}
 use Rattle.file_items.proofs.Streaming.{none_left}
 
 extents_by : (s : Source) (key : ObjectKey) (b : Bool) → inline_in s key ≡ b

@@ -1,28 +1,9 @@
 -- What of an object is held in the tree itself.
-use Rattle.std.proofs.Common.{◌≡◌, ◌<◌, ◌≤◌, ℕ, zero, suc, Bool, true, false, List, [], nat_le, ◌&&◌, Contains, Option, Some, None, refl, sym, ap, subst, ◌∙◌, true≢false, arith}
-use Rattle.std.specs.Prelude.{unwrap_or}
+use Rattle.file_items.proofs.Imports.{◌≡◌, ◌<◌, ◌≤◌, ℕ, zero, suc, Bool, true, false, List, [], nat_le, ◌&&◌, Contains, Option, Some, None, refl, sym, ap, subst, ◌∙◌, true≢false, arith, unwrap_or, nat_tests, slice_get_within, get_or_from_slice_get, Kind, Directory, File, Symlink, Character, Block, Fifo, Socket, Subvolume, keys, get, Image, block_from, file_runs, runs_of, extended, ObjectKey, ObjectStat, same_key, items_of, stays_in_tree, is_tail, stat_at, kind_by, no_stat, IsOpened, IsAccepted, volume_items, Volume, ReiserItem, begins_in_tail, HoldsBy, HoldsDirectBytes, HoldsInline, IsObjectAt}
 use Rattle.std.specs.Int.{div_ceil}
-use Rattle.std.proofs.lemmas.Bool.Decides.{nat_tests}
-use Rattle.std.proofs.lemmas.Option.{slice_get_within, get_or_from_slice_get}
-use Rattle.fs_rows.specs.declared.row.Kind.{Kind}
-use Rattle.fs_rows.specs.declared.row.Kind.TheVariants.{Directory, File, Symlink, Character, Block, Fifo, Socket, Subvolume}
-use Rattle.indexmap.specs.IndexMap.{keys, get}
-use Rattle.reiser_volume.specs.outside.History.{Image}
 use Rattle.reiser_volume_files.specs.declared.map.RunFrom.{RunFrom}
-use Rattle.reiser_volume_files.specs.Runs.{block_from, file_runs, runs_of, extended}
-use Rattle.reiser_volume_objects.specs.declared.key.ObjectKey.{ObjectKey}
-use Rattle.reiser_volume_objects.specs.declared.stat.ObjectStat.{ObjectStat}
 use Rattle.reiser_volume_objects.specs.Items.{stat_of_object}
-use Rattle.reiser_volume_objects.specs.Keys.{same_key, items_of}
 use Rattle.reiser_volume_objects.specs.Kinds.{kind_of_mode}
-use Rattle.reiser_volume.specs.Inline.{stays_in_tree, is_tail}
-use Rattle.reiser_volume.specs.Made.{stat_at, kind_by, no_stat}
-use Rattle.reiser_volume.specs.Opened.{IsOpened}
-use Rattle.reiser_volume.specs.Volume.{IsAccepted, volume_items}
-use Rattle.reiser_volume.specs.declared.volume.Volume.{Volume}
-use Rattle.reiser_volume.specs.reiser_walk.Items.{ReiserItem}
-use Rattle.file_items.specs.Contents.{begins_in_tail, HoldsBy, HoldsDirectBytes, HoldsInline}
-use Rattle.file_items.specs.Spots.{IsObjectAt}
 
 pub contains_at : (volume : Volume) (place : ℕ) (key : ObjectKey) → IsObjectAt volume place key → Contains (keys volume.named) key
 contains_at volume place key at = (place, slice_get_within (keys volume.named) place key at, get_or_from_slice_get (keys volume.named) place key key at)

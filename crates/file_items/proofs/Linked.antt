@@ -1,33 +1,8 @@
 -- The links of a volume by the places of their directories and objects.
-use Rattle.std.proofs.Common.{◌≡◌, ◌≢◌, ◌<◌, ℕ, zero, suc, ◌+◌, ◌==◌, ◌&&◌, Bool, true, false, cond, List, [], ◌∷◌, ◌++◌, length, filter, map, take, get_or, count_by, nat_lt, Some, None, AllPairs, refl, sym, ap, subst, ◌∙◌, if◌then◌else◌, append_assoc, ⊎_elim, arith}
-use Rattle.std.specs.Prelude.{slice_get}
-use Rattle.std.specs.List.{All, AllByRecursion}
+use Rattle.file_items.proofs.Imports.{◌≡◌, ◌≢◌, ◌<◌, ℕ, zero, suc, ◌+◌, ◌==◌, ◌&&◌, Bool, true, false, cond, List, [], ◌∷◌, ◌++◌, length, filter, map, take, get_or, count_by, nat_lt, Some, None, AllPairs, refl, sym, ap, subst, ◌∙◌, if◌then◌else◌, append_assoc, ⊎_elim, arith, slice_get, All, AllByRecursion, nat_tests, append-nil, map-append, length-take, filter-append, All-push, All-from_recursion, slice_get_within, get_or_from_slice_get, slice_get-get_or, IndexMap, keys, Image, ascending, is_under, Spot, take_push, places_push, places_map, places_hold, places_before, places_rise, count_map, pairs_map, ascending_filter, ascending_all, reference_size, tally, capped, ObjectKey, Naming, same_key, same_key-true, same_key-self, and_left, and_right, Volume, IsOpened, links_in, AreBelow, TellsPlaces, IndexedLink, entry_behind, entries_behind, indexed_links, next_index, same_names, AreSizes}
 use Rattle.std.proofs.lemmas.Bool.{cases_lt}
-use Rattle.std.proofs.lemmas.Bool.Decides.{nat_tests}
-use Rattle.std.proofs.lemmas.List.{append-nil, map-append, length-take}
-use Rattle.std.proofs.lemmas.List.Elements.{filter-append, All-push, All-from_recursion}
-use Rattle.std.proofs.lemmas.Option.{slice_get_within, get_or_from_slice_get, slice_get-get_or}
-use Rattle.indexmap.specs.IndexMap.{IndexMap, keys}
-use Rattle.reiser_volume.specs.outside.History.{Image}
-use Rattle.btr_item_list.specs.Groups.{ascending}
 use Rattle.btr_item_list.specs.Places.{places_from}
-use Rattle.btr_item_list.specs.Spots.{is_under}
-use Rattle.btr_item_list.specs.declared.spot.Spot.{Spot}
-use Rattle.btr_item_list.proofs.Joining.{take_push}
-use Rattle.btr_item_list.proofs.Placing.{places_push, places_map, places_hold, places_before, places_rise, count_map, pairs_map}
-use Rattle.btr_item_list.proofs.Sorting.{ascending_filter, ascending_all}
-use Rattle.reiser_volume.specs.reiser_volume_names.Names.{reference_size}
-use Rattle.reiser_volume.specs.reiser_volume_names.Tally.{tally, capped}
 use Rattle.reiser_volume.proofs.reiser_volume_names.Sums.{weight_push}
-use Rattle.reiser_volume_objects.specs.declared.key.ObjectKey.{ObjectKey}
-use Rattle.reiser_volume_objects.specs.declared.naming.Naming.{Naming}
-use Rattle.reiser_volume_objects.specs.Keys.{same_key}
-use Rattle.reiser_volume_objects.proofs.Tables.{same_key-true, same_key-self, and_left, and_right}
-use Rattle.reiser_volume.specs.declared.volume.Volume.{Volume}
-use Rattle.reiser_volume.specs.Opened.{IsOpened, links_in}
-use Rattle.file_items.specs.Spots.{AreBelow, TellsPlaces}
-use Rattle.file_items.specs.Names.{IndexedLink, entry_behind, entries_behind, indexed_links, next_index}
-use Rattle.file_items.specs.Sizes.{same_names, AreSizes}
 use Rattle.file_items.specs.declared.link_index.RefKey.{RefKey}
 
 pub unequal : (a b : ObjectKey) → (a ≡ b → ⊥) → same_key a b ≡ false

@@ -1,38 +1,5 @@
 -- The names of an object, and the entries of a directory, by the spots of a volume.
-use Rattle.std.proofs.Common.{◌≡◌, ◌<◌, ◌≤◌, ℕ, zero, suc, ◌+◌, ◌^◌, Bool, true, false, cond, not, List, [], ◌∷◌, ◌++◌, length, filter, map, take, get_or, count_by, nat_lt, Some, None, AllPairs, Contains, refl, sym, ap, subst, ◌∙◌, if◌then◌else◌, arith}
-use Rattle.std.specs.Prelude.{slice_get}
-use Rattle.std.proofs.lemmas.List.{map-append}
-use Rattle.std.proofs.lemmas.List.Elements.{filter-append, filter_passes}
-use Rattle.std.proofs.lemmas.List.Sums.{sum_by_push, sum_by-cons}
-use Rattle.std.proofs.lemmas.Option.{slice_get_within, get_or_from_slice_get, slice_get-get_or}
-use Rattle.btrfs_format.specs.declared.key.TheConstants.{INODE_ITEM}
-use Rattle.fs_rows.specs.declared.row.Kind.{Kind}
-use Rattle.reiser_volume.specs.outside.History.{Image}
-use Rattle.unit_plan.specs.btr_keys.DirEntry.{DirEntryValue}
-use Rattle.unit_plan.specs.btr_keys.Key.{make_key}
-use Rattle.unit_plan.specs.btr_keys.declared.key.Key.{Key}
-use Rattle.unit_plan.specs.btr_node.Leaf.{Item}
-use Rattle.btr_item_list.specs.Spots.{is_under}
-use Rattle.btr_item_list.specs.declared.spot.Spot.{Spot}
-use Rattle.btr_item_list.proofs.Joining.{take_push}
-use Rattle.btr_item_list.proofs.Placing.{told_at, told_long, places_count}
-use Rattle.reiser_volume.proofs.reiser_volume_names.Uniqueness.{links_one}
-use Rattle.reiser_volume.specs.reiser_volume_names.Tally.{capped}
-use Rattle.reiser_volume_objects.specs.declared.key.ObjectKey.{ObjectKey}
-use Rattle.reiser_volume_objects.specs.declared.naming.Naming.{Naming}
-use Rattle.reiser_volume_objects.specs.Keys.{same_key, root}
-use Rattle.reiser_volume_objects.proofs.Tables.{same_key-true}
-use Rattle.reiser_volume.proofs.Bounds.{accepted_is_small}
-use Rattle.reiser_volume.specs.declared.inode_numbers.InodeNumbers.{InodeNumbers}
-use Rattle.reiser_volume.specs.declared.volume.Volume.{Volume}
-use Rattle.reiser_volume.specs.Opened.{IsOpened, links_in}
-use Rattle.reiser_volume.specs.Volume.{IsAccepted, volume_items}
-use Rattle.file_items.specs.Gathered.{HasName, HasNames, HasEntry, HasEntries}
-use Rattle.file_items.specs.Known.{IsKnown}
-use Rattle.file_items.specs.Names.{IndexedLink, indexed_links, names_of, names_in, next_index, ref_record, far_record, Indexed, letters, hash_record, index_record, indexed, indexed_in, saved_entry, root_ref, inode_refs, extrefs}
-use Rattle.file_items.specs.Tree.{Source, name_items}
-use Rattle.file_items.specs.Spots.{IsObjectAt}
-use Rattle.file_items.specs.declared.link_index.LinkIndex.{LinkIndex}
+use Rattle.file_items.proofs.Imports.{◌≡◌, ◌<◌, ◌≤◌, ℕ, zero, suc, ◌+◌, ◌^◌, Bool, true, false, cond, not, List, [], ◌∷◌, ◌++◌, length, filter, map, take, get_or, count_by, nat_lt, Some, None, AllPairs, Contains, refl, sym, ap, subst, ◌∙◌, if◌then◌else◌, arith, slice_get, map-append, filter-append, filter_passes, sum_by_push, sum_by-cons, slice_get_within, get_or_from_slice_get, slice_get-get_or, INODE_ITEM, Kind, Image, DirEntryValue, make_key, Key, Item, is_under, Spot, take_push, told_at, told_long, places_count, links_one, capped, ObjectKey, Naming, same_key, root, same_key-true, accepted_is_small, InodeNumbers, Volume, IsOpened, links_in, IsAccepted, volume_items, HasName, HasNames, HasEntry, HasEntries, IsKnown, IndexedLink, indexed_links, names_of, names_in, next_index, ref_record, far_record, Indexed, letters, hash_record, index_record, indexed, indexed_in, saved_entry, root_ref, inode_refs, extrefs, Source, name_items, IsObjectAt, LinkIndex}
 use Rattle.file_items.specs.declared.directory.Directory.{Directory}
 use Rattle.file_items.specs.declared.object_names.ObjectNames.{ObjectNames}
 use Rattle.file_items.proofs.Linked.{entry_at, entries_told, spots_rise, spots_before}

@@ -1,24 +1,6 @@
 -- Pieces by the numbers that they stand under.
-use Rattle.std.proofs.Common.{◌≡◌, ◌<◌, ◌≤◌, ℕ, suc, ◌+◌, ◌*◌, ◌^◌, ◌==◌, Bool, true, false, cond, is_some, List, [], ◌∷◌, ◌++◌, length, filter, map, take, drop, get_or, sum_by, AllPairs, Some, None, Option, refl, sym, ap, subst, ◌∙◌, ◌&&◌, arith}
-use Rattle.std.specs.Prelude.{slice_get, unwrap_or}
-use Rattle.std.specs.List.{All}
-use Rattle.std.specs.Option.{MatchOption, option_map_or}
-use Rattle.std.proofs.lemmas.List.{map-append, append-nil}
-use Rattle.std.proofs.lemmas.List.Elements.{filter-append}
-use Rattle.std.proofs.lemmas.List.Sums.{sum_by-cons, sum_by_push}
-use Rattle.std.proofs.lemmas.Option.{slice_get_within, get_or_from_slice_get, slice_get-get_or}
-use Rattle.btr_item_list.specs.Groups.{ascending}
-use Rattle.btr_item_list.specs.Spots.{is_under}
-use Rattle.btr_item_list.specs.declared.spot.Spot.{Spot}
-use Rattle.btr_item_list.proofs.Joining.{take_push}
-use Rattle.btr_item_list.proofs.Placing.{told_at, told_long}
-use Rattle.btr_item_list.proofs.Sorting.{ascending_filter, ascending_kept, ascending_sum}
-use Rattle.reiser_volume.specs.reiser_volume_names.Tally.{capped}
-use Rattle.btr_item_list.proofs.Runs.{ascending_map}
+use Rattle.file_items.proofs.Imports.{◌≡◌, ◌<◌, ◌≤◌, ℕ, suc, ◌+◌, ◌*◌, ◌^◌, ◌==◌, Bool, true, false, cond, is_some, List, [], ◌∷◌, ◌++◌, length, filter, map, take, drop, get_or, sum_by, AllPairs, Some, None, Option, refl, sym, ap, subst, ◌∙◌, ◌&&◌, arith, slice_get, unwrap_or, All, MatchOption, option_map_or, map-append, append-nil, filter-append, sum_by-cons, sum_by_push, slice_get_within, get_or_from_slice_get, slice_get-get_or, ascending, is_under, Spot, take_push, told_at, told_long, ascending_filter, ascending_kept, ascending_sum, capped, ascending_map, Piece, owner_inode, file_block, source_block, by_block, is_owned_by, pieces_of, TellsPieces, AreOwners}
 use Rattle.unit_plan.specs.Pieces.{ArePlaced}
-use Rattle.unit_plan.specs.declared.piece.Piece.{Piece}
-use Rattle.file_items.specs.Extents.{owner_inode, file_block, source_block, by_block, is_owned_by, pieces_of}
-use Rattle.file_items.specs.Orders.{TellsPieces, AreOwners}
 use Rattle.file_items.proofs.Streaming.{next_of}
 
 map_twice : {A B C : Type 0} (f : B → C) (g : A → B) (xs : List A) → map (λ x. f (g x)) xs ≡ map f (map g xs)

@@ -1,25 +1,6 @@
 -- The references of an object, made of records.
-use Rattle.std.proofs.Common.{◌≡◌, ◌<◌, ℕ, suc, ◌+◌, not, List, [], ◌∷◌, ◌++◌, length, filter, map, take, get_or, Some, refl, sym, ap, ◌∙◌, append_assoc, arith}
-use Rattle.std.specs.Prelude.{slice_get}
-use Rattle.std.specs.List.{flat_map}
-use Rattle.std.proofs.lemmas.List.{map-append}
-use Rattle.std.proofs.lemmas.Option.{slice_get-get_or}
-use Rattle.btrfs_format.specs.declared.key.TheConstants.{DIR_ITEM, INODE_EXTREF, INODE_REF}
+use Rattle.file_items.proofs.Imports.{◌≡◌, ◌<◌, ℕ, suc, ◌+◌, not, List, [], ◌∷◌, ◌++◌, length, filter, map, take, get_or, Some, refl, sym, ap, ◌∙◌, append_assoc, arith, slice_get, flat_map, map-append, slice_get-get_or, DIR_ITEM, INODE_EXTREF, INODE_REF, dir_entry_bytes, ExtrefValue, extref_bytes, InodeRefValue, inode_ref_bytes, make_key, Item, grouped, ascending, offset_of, joined, joined_item, take_push, grouped_map, ascending_map, flat_of_map, ino_of_key, ObjectKey, Naming, AreExtrefs, IndexedLink, Indexed, names_of, parent_of, inode_ref, extref, inode_refs, extrefs, entry_items, ref_record, far_record, hash_record, index_record}
 use Rattle.reiser_volume.specs.castagnoli.Castagnoli.{name_hash, extref_hash}
-use Rattle.unit_plan.specs.btr_keys.DirEntry.{dir_entry_bytes}
-use Rattle.unit_plan.specs.btr_keys.Extref.{ExtrefValue, extref_bytes}
-use Rattle.unit_plan.specs.btr_keys.InodeRef.{InodeRefValue, inode_ref_bytes}
-use Rattle.unit_plan.specs.btr_keys.Key.{make_key}
-use Rattle.unit_plan.specs.btr_node.Leaf.{Item}
-use Rattle.btr_item_list.specs.Groups.{grouped, ascending}
-use Rattle.btr_item_list.specs.Lists.{offset_of, joined, joined_item}
-use Rattle.btr_item_list.proofs.Joining.{take_push}
-use Rattle.btr_item_list.proofs.Runs.{grouped_map, ascending_map, flat_of_map}
-use Rattle.reiser_volume.specs.reiser_volume_names.Names.{ino_of_key}
-use Rattle.reiser_volume_objects.specs.declared.key.ObjectKey.{ObjectKey}
-use Rattle.reiser_volume_objects.specs.declared.naming.Naming.{Naming}
-use Rattle.file_items.specs.Gathered.{AreExtrefs}
-use Rattle.file_items.specs.Names.{IndexedLink, Indexed, names_of, parent_of, inode_ref, extref, inode_refs, extrefs, entry_items, ref_record, far_record, hash_record, index_record}
 
 module _ {A : Type 0} (ino kind : ℕ) (key : A → ℕ) (kind_of : A → ℕ) (number : A → ℕ) (bytes : A → List ℕ) where
   abbrev record_of : A → Item

@@ -1,24 +1,5 @@
 -- The list of paths, from what the root reaches over the links in another order.
-use Rattle.std.proofs.Common.{◌≡◌, ℕ, ◌+◌, ◌<◌, Bool, true, false, cond, not, nat_eq, nat_cmp, List, [], ◌∷◌, map, length, get_or, count_by, Contains, IsPermutation, IsSortedBy, Ordering, Less, Equal, Greater, is_lt, refl, sym, ap, ◌∙◌, true≢false, arith}
-use Rattle.std.specs.Cmp.{IsTotalOrder}
-use Rattle.std.specs.Cmp.Lexicographic.{slice_cmp, pointwise}
-use Rattle.std.specs.List.{AllAdjacentBelow, position_or_len}
-use Rattle.std.specs.Ordering.{ordering_then, ordering_reverse}
-use Rattle.std.proofs.lemmas.Bool.{and_parts, and_from}
-use Rattle.std.proofs.lemmas.Bool.Decides.{nat_tests}
-use Rattle.std.proofs.lemmas.Cmp.{nat_list_cmp_total, lists_total, tied_itself}
-use Rattle.std.proofs.lemmas.List.{get_or-map, length-map}
-use Rattle.std.proofs.lemmas.List.Elements.{All-map, All-contains}
-use Rattle.std.proofs.lemmas.List.Sorted.{IsPermutation-sym, All-permutation, Contains-permutation, sum_by-IsPermutation}
-use Rattle.fs_rows.specs.Rows.{NameList, path_cmp, is_same_path}
-use Rattle.fs_paths.specs.declared.path_found.PathFound.{PathFound}
-use Rattle.fs_paths.specs.declared.node_link.NodeLink.{NodeLink}
-use Rattle.fs_paths.specs.declared.node_link.PathTo.{PathTo}
-use Rattle.fs_paths.specs.declared.node.NodeId.{NodeId}
-use Rattle.fs_paths.specs.Links.{Leads, AreNamedOnce}
-use Rattle.fs_paths.specs.Paths.{ArePaths, leads_to}
-use Rattle.fs_paths.specs.Places.{numbered}
-use Rattle.fs_paths.specs.Spread.{is_of, names_node, has_name, FormTree, Reaches}
+use Rattle.fs_paths.proofs.Imports.{◌≡◌, ℕ, ◌+◌, ◌<◌, Bool, true, false, cond, not, nat_eq, nat_cmp, List, [], ◌∷◌, map, length, get_or, count_by, Contains, IsPermutation, IsSortedBy, Ordering, Less, Equal, Greater, is_lt, refl, sym, ap, ◌∙◌, true≢false, arith, IsTotalOrder, slice_cmp, pointwise, AllAdjacentBelow, position_or_len, ordering_then, ordering_reverse, and_parts, and_from, nat_tests, nat_list_cmp_total, lists_total, tied_itself, get_or-map, length-map, All-map, All-contains, IsPermutation-sym, All-permutation, Contains-permutation, sum_by-IsPermutation, NameList, path_cmp, is_same_path, PathFound, NodeLink, PathTo, NodeId, Leads, AreNamedOnce, ArePaths, leads_to, numbered, is_of, names_node, has_name, FormTree, Reaches}
 use Rattle.fs_paths.proofs.Counts.{count_map, count_none, count_once, count_twice}
 use Rattle.fs_paths.proofs.Lists.{in_map}
 use Rattle.fs_paths.proofs.Nodes.{same_node-true, same_name-true}

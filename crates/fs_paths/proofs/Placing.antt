@@ -1,16 +1,6 @@
 -- The places of objects, with one more path.
-use Rattle.std.proofs.Common.{◌≡◌, ℕ, ◌+◌, ◌<◌, Bool, true, false, cond, List, [], ◌∷◌, ◌++◌, length, get_or, count_by, Contains, Option, Some, None, IsSome, IfSome, refl, sym, ap, subst, ◌∙◌, ne_eqb, eq-eqb, arith}
-use Rattle.std.specs.List.{position_or_len}
-use Rattle.std.proofs.lemmas.List.Sums.{sum_by_push, count_by-le-length, get_or-le-sum_by}
-use Rattle.std.proofs.lemmas.List.{length_push}
-use Rattle.std.proofs.lemmas.List.Folds.{position_or_len_push}
+use Rattle.fs_paths.proofs.Imports.{◌≡◌, ℕ, ◌+◌, ◌<◌, Bool, true, false, cond, List, [], ◌∷◌, ◌++◌, length, get_or, count_by, Contains, Option, Some, None, IsSome, IfSome, refl, sym, ap, subst, ◌∙◌, ne_eqb, eq-eqb, arith, position_or_len, sum_by_push, count_by-le-length, get_or-le-sum_by, length_push, position_or_len_push, IndexMap, get, Updates, PathFound, NodeId, FirstPath, same_node, finds, numbered, IsFirstPath, HasFirstPaths, with_one_more}
 use Rattle.std.specs.Map.{lookup}
-use Rattle.indexmap.specs.IndexMap.{IndexMap, get, Updates}
-use Rattle.fs_paths.specs.declared.path_found.PathFound.{PathFound}
-use Rattle.fs_paths.specs.declared.node.NodeId.{NodeId}
-use Rattle.fs_paths.specs.declared.first_path.FirstPath.{FirstPath}
-use Rattle.fs_paths.specs.Links.{same_node}
-use Rattle.fs_paths.specs.Places.{finds, numbered, IsFirstPath, HasFirstPaths, with_one_more}
 use Rattle.fs_paths.proofs.Nodes.{same_node-true, same_node-self}
 
 module _ (all : List PathFound) (f : PathFound) (node : NodeId) where

@@ -1,20 +1,7 @@
 -- The queue of the objects that are reached: all in it are reached, and in the end it is closed under links.
-use Rattle.std.proofs.Common.{◌≡◌, ℕ, zero, suc, ◌+◌, ◌<◌, ◌≤◌, Bool, true, false, not, cond, ◌||◌, List, [], ◌∷◌, ◌++◌, length, get_or, filter, count_by, Contains, All, ⊎_elim, refl, sym, ap, subst, ◌∙◌, true≢false, arith}
-use Rattle.std.specs.List.{list_any}
+use Rattle.fs_paths.proofs.Imports.{◌≡◌, ℕ, zero, suc, ◌+◌, ◌<◌, ◌≤◌, Bool, true, false, not, cond, ◌||◌, List, [], ◌∷◌, ◌++◌, length, get_or, filter, count_by, Contains, All, ⊎_elim, refl, sym, ap, subst, ◌∙◌, true≢false, arith, list_any, cases_lt, append-nil, append_assoc, length-append, All-cons, All-nil, All-push, All-map, All-filter, All-contains_itself, filter_passes, list_any-append, Any-from_list_any, IsPermutation-sym, Contains-permutation, insert_key, insert_all, NodeLink, NodeId, same_node, named_by, followed, waiting, IsReachedBy, IsReached, AreReached, is_of}
 use Rattle.std.proofs.Math.ListN.{get_or-append}
-use Rattle.std.proofs.lemmas.Bool.{cases_lt}
-use Rattle.std.proofs.lemmas.List.{append-nil, append_assoc, length-append}
-use Rattle.std.proofs.lemmas.List.Elements.{All-cons, All-nil, All-push, All-map, All-filter, All-contains_itself, filter_passes}
-use Rattle.std.proofs.lemmas.List.Folds.{list_any-append, Any-from_list_any}
-use Rattle.std.proofs.lemmas.List.Sorted.{IsPermutation-sym, Contains-permutation}
 use Rattle.std.specs.Prelude.{IsPermutation}
-use Rattle.indexmap.specs.IndexSet.{insert_key, insert_all}
-use Rattle.fs_paths.specs.declared.node_link.NodeLink.{NodeLink}
-use Rattle.fs_paths.specs.declared.node.NodeId.{NodeId}
-use Rattle.fs_paths.specs.Links.{same_node}
-use Rattle.fs_paths.specs.Queue.{named_by, followed, waiting}
-use Rattle.fs_paths.specs.Reached.{IsReachedBy, IsReached, AreReached}
-use Rattle.fs_paths.specs.Spread.{is_of}
 use Rattle.fs_paths.proofs.Counts.{count_cons}
 use Rattle.fs_paths.proofs.Lists.{head_or_tail, in_map, in_filter}
 use Rattle.fs_paths.proofs.Nodes.{same_node-true, same_node-self}

@@ -1,18 +1,6 @@
 -- What the root reaches, one object after the other.
-use Rattle.std.proofs.Common.{◌≡◌, ℕ, ◌+◌, ◌<◌, ◌≤◌, Bool, true, false, cond, ◌&&◌, nat_eq, List, [], ◌∷◌, ◌++◌, length, get_or, take, filter, flat_map, sum_by, count_by, Contains, All, ⊎_elim, refl, sym, ap, subst, ◌∙◌, arith}
-use Rattle.std.specs.Cmp.Lexicographic.{pointwise}
-use Rattle.std.proofs.lemmas.List.{take_more, take-append-le, take_all, flat_map_more, length-append, length-map, append_assoc, append-nil}
-use Rattle.std.proofs.lemmas.Bool.{cases_lt}
+use Rattle.fs_paths.proofs.Imports.{◌≡◌, ℕ, ◌+◌, ◌<◌, ◌≤◌, Bool, true, false, cond, ◌&&◌, nat_eq, List, [], ◌∷◌, ◌++◌, length, get_or, take, filter, flat_map, sum_by, count_by, Contains, All, ⊎_elim, refl, sym, ap, subst, ◌∙◌, arith, pointwise, take_more, take-append-le, take_all, flat_map_more, length-append, length-map, append_assoc, append-nil, cases_lt, All-append, All-map, All-cons, All-nil, All-filter, All-contains_itself, filter_passes, length-filter, count_by-le-length, sum_by-take-le, sum_by-le-sum_by, NameList, is_same_path, PathFound, NodeLink, NodeId, same_node, Leads, finds, is_of, names_node, has_name, FormTree, child, children, Reaches}
 use Rattle.std.proofs.lemmas.List.Concat.{length-flat_map}
-use Rattle.std.proofs.lemmas.List.Elements.{All-append, All-map, All-cons, All-nil, All-filter, All-contains_itself, filter_passes}
-use Rattle.std.proofs.lemmas.List.Sums.{length-filter, count_by-le-length, sum_by-take-le, sum_by-le-sum_by}
-use Rattle.fs_rows.specs.Rows.{NameList, is_same_path}
-use Rattle.fs_paths.specs.declared.path_found.PathFound.{PathFound}
-use Rattle.fs_paths.specs.declared.node_link.NodeLink.{NodeLink}
-use Rattle.fs_paths.specs.declared.node.NodeId.{NodeId}
-use Rattle.fs_paths.specs.Links.{same_node, Leads}
-use Rattle.fs_paths.specs.Places.{finds}
-use Rattle.fs_paths.specs.Spread.{is_of, names_node, has_name, FormTree, child, children, Reaches}
 use Rattle.fs_paths.proofs.Counts.{count_cons, count_map, count_filter, count_flat, count_none, count_same, count_and, sum_zero, pairs_at_most, and_false}
 use Rattle.fs_paths.proofs.Lists.{at_head, in_tail, in_map, in_filter, in_flat_map}
 use Rattle.fs_paths.proofs.Nodes.{same_node-true, same_node-self, push_not_nil, nil_not_push, push_push, and_turn, Pushed, empty, more, pushed}

@@ -1,16 +1,5 @@
 -- The bytes of a bitmap as they are read, and the end of the last one.
-use Rattle.std.proofs.Common.{◌≡◌, ◌≢◌, ℕ, ◌+◌, ◌-◌, ◌*◌, ◌/◌, ◌%◌, ◌^◌, ◌<◌, ◌≤◌, Bool, false, List, [], ◌++◌, length, take, set, get_or, map, bit_and, refl, sym, ◌∙◌, ap, arith, ⊎_elim}
-use Rattle.std.specs.Prelude.{slice_index}
-use Rattle.std.specs.Int.{bit_at}
-use Rattle.std.specs.List.{range_with_len}
-use Rattle.std.proofs.lemmas.Bool.{cases_lt, cases_eq}
-use Rattle.std.proofs.lemmas.List.{ext_get_or, get_or-set_same, get_or-set_other, get_or_past, get_or-append_right, get_or_append_left, get_or-take, length-append, length-take, length-set}
-use Rattle.std.proofs.lemmas.List.FromFn.{length-map-range_with_len, get_or-map-range_with_len}
-use Rattle.std.proofs.lemmas.Nat.Bits.{bit_at-zero, bit_at-lt, bit_at_and, bit_at_ones, bit_at_ones_above}
-use Rattle.reiserfs_format.specs.declared.block.TheConstants.{BITS_IN_BLOCK}
-use Rattle.refusals.specs.outside.History.{Image, block_at}
-use Rattle.reiser_bitmap.specs.Bits.{bit_of, bits}
-use Rattle.reiser_bitmap.specs.Layout.{bitmap_block, is_marked, bitmap_of}
+use Rattle.reiser_bitmap.proofs.Imports.{◌≡◌, ◌≢◌, ℕ, ◌+◌, ◌-◌, ◌*◌, ◌/◌, ◌%◌, ◌^◌, ◌<◌, ◌≤◌, Bool, false, List, [], ◌++◌, length, take, set, get_or, map, bit_and, refl, sym, ◌∙◌, ap, arith, ⊎_elim, slice_index, bit_at, range_with_len, cases_lt, cases_eq, ext_get_or, get_or-set_same, get_or-set_other, get_or_past, get_or-append_right, get_or_append_left, get_or-take, length-append, length-take, length-set, length-map-range_with_len, get_or-map-range_with_len, bit_at-zero, bit_at-lt, bit_at_and, bit_at_ones, bit_at_ones_above, BITS_IN_BLOCK, Image, block_at, bit_of, bits, bitmap_block, is_marked, bitmap_of}
 use Rattle.reiser_bitmap.specs.Stored.{IsStored}
 use Rattle.reiser_bitmap.proofs.BitLemmas.{mask}
 

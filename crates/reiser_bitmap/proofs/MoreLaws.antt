@@ -1,14 +1,5 @@
 -- What lies in the lists of used blocks and of system blocks, and which blocks a bitmap depends on.
-use Rattle.std.proofs.Common.{◌≡◌, ℕ, zero, suc, ◌+◌, ◌*◌, ◌/◌, ◌%◌, ◌<◌, ◌≤◌, ◌==◌, ◌&&◌, ◌||◌, leb, Bool, true, false, List, length, sym, ap, arith, subst, ⊎_elim}
-use Rattle.std.specs.Prelude.{Contains, ◌↔◌}
-use Rattle.std.specs.List.{range_with_len}
-use Rattle.std.proofs.lemmas.Bool.{cases_lt, both_ways, eqb-true, eq-eqb, and_parts, and_from, or_cases, or_left, or_right, le-leb, leb-true}
-use Rattle.std.proofs.lemmas.List.{get_or_past}
-use Rattle.reiserfs_format.specs.declared.block.TheConstants.{BITS_IN_BLOCK, FIRST_FREE_BLOCK, SUPER_BLOCK}
-use Rattle.refusals.specs.outside.History.{Image, block_at}
-use Rattle.reiser_bitmap.specs.Bits.{bit_of, has, used_blocks}
-use Rattle.reiser_bitmap.specs.Layout.{bitmap_block, is_marked, bitmap_of}
-use Rattle.reiser_bitmap.specs.System.{is_bitmap_block, is_system, system_blocks}
+use Rattle.reiser_bitmap.proofs.Imports.{◌≡◌, ℕ, zero, suc, ◌+◌, ◌*◌, ◌/◌, ◌%◌, ◌<◌, ◌≤◌, ◌==◌, ◌&&◌, ◌||◌, leb, Bool, true, false, List, length, sym, ap, arith, subst, ⊎_elim, Contains, ◌↔◌, range_with_len, cases_lt, both_ways, eqb-true, eq-eqb, and_parts, and_from, or_cases, or_left, or_right, le-leb, leb-true, get_or_past, BITS_IN_BLOCK, FIRST_FREE_BLOCK, SUPER_BLOCK, Image, block_at, bit_of, has, used_blocks, bitmap_block, is_marked, bitmap_of, is_bitmap_block, is_system, system_blocks}
 use Rattle.reiser_bitmap.proofs.Ranges.{contains_range, contains_filter, filter_contains}
 use Rattle.reiser_bitmap.proofs.SystemBlocks.{superblock_in, bitmap_in, journal_in, system_cases, bitmap_block-zero, bitmap_block-suc}
 use Rattle.reiser_bitmap.proofs.LoadLemmas.{same_tests}

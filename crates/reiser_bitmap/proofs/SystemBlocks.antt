@@ -1,16 +1,6 @@
 -- Which blocks are system blocks.
-use Rattle.std.proofs.Common.{◌≡◌, ◌⊎◌, ℕ, zero, suc, ◌+◌, ◌*◌, ◌/◌, ◌<◌, ◌≤◌, ◌==◌, Bool, true, false, List, length, inl, inr, refl, sym, ap, arith, subst, ⊎_elim}
-use Rattle.std.specs.Prelude.{filter, Contains, All}
-use Rattle.std.specs.List.{range_with_len}
-use Rattle.std.proofs.lemmas.Bool.{ne_eqb, eq-eqb, eqb-true}
-use Rattle.std.proofs.lemmas.List.Elements.{Contains-append_left, Contains-append_right, Contains-append_cases}
-use Rattle.reiserfs_format.specs.declared.block.TheConstants.{BITS_IN_BLOCK, FIRST_BITMAP_BLOCK, SUPER_BLOCK}
+use Rattle.reiser_bitmap.proofs.Imports.{◌≡◌, ◌⊎◌, ℕ, zero, suc, ◌+◌, ◌*◌, ◌/◌, ◌<◌, ◌≤◌, ◌==◌, Bool, true, false, List, length, inl, inr, refl, sym, ap, arith, subst, ⊎_elim, filter, Contains, All, range_with_len, ne_eqb, eq-eqb, eqb-true, Contains-append_left, Contains-append_right, Contains-append_cases, BITS_IN_BLOCK, FIRST_BITMAP_BLOCK, SUPER_BLOCK, Damaged, SystemFree, has, bitmap_block, is_bitmap_block, system_blocks, NamesFreeBlock}
 use Rattle.refusals.specs.declared.refusal.VolumeRefusal.{VolumeRefusal}
-use Rattle.refusals.specs.declared.refusal.VolumeRefusal.TheVariants.{Damaged}
-use Rattle.refusals.specs.declared.rule.Rule.TheVariants.{SystemFree}
-use Rattle.reiser_bitmap.specs.Bits.{has}
-use Rattle.reiser_bitmap.specs.Layout.{bitmap_block}
-use Rattle.reiser_bitmap.specs.System.{is_bitmap_block, system_blocks, NamesFreeBlock}
 use Rattle.reiser_bitmap.proofs.Ranges.{contains_head, contains_tail, contains_cases, contains_range, range_contains, contains_filter, filter_contains, all_from_contains}
 
 pub bitmap_block-zero : bitmap_block 0 ≡ FIRST_BITMAP_BLOCK

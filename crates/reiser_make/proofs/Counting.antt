@@ -1,15 +1,6 @@
 -- How many items and leaves there are.
-use Rattle.std.proofs.Common.{◌≡◌, ◌≤◌, ℕ, zero, suc, ◌+◌, ◌-◌, ◌*◌, Bool, true, false, ◌==◌, List, [], ◌∷◌, ◌++◌, length, refl, sym, ap, subst, ◌∙◌, arith, length-append}
-use Rattle.std.specs.Prelude.{nat_le, nat_lt, cond, slice_index_or}
-use Rattle.reiser_make.specs.Items.{items, items_of_name, items_from, items_of_content, pointer_items, byte_items}
-use Rattle.reiser_make.specs.Leaf.{leaves, leaves_of, packed_behind, node_room, taken_by}
-use Rattle.reiser_make.specs.Shape.{Shape, object_count, directory_count, file_id}
-use Rattle.reiser_make.specs.Walk.{items_behind}
-use Rattle.reiser_make.specs.declared.sample_entry.SampleEntry.{SampleEntry}
+use Rattle.reiser_make.proofs.Imports.{◌≡◌, ◌≤◌, ℕ, zero, suc, ◌+◌, ◌-◌, ◌*◌, Bool, true, false, ◌==◌, List, [], ◌∷◌, ◌++◌, length, refl, sym, ap, subst, ◌∙◌, arith, length-append, nat_le, nat_lt, cond, slice_index_or, items, items_of_name, items_from, items_of_content, pointer_items, byte_items, leaves, leaves_of, packed_behind, node_room, taken_by, Shape, object_count, directory_count, file_id, items_behind, SampleEntry, SampleItem, ItemPlace, ObjectId}
 use Rattle.reiser_make.specs.declared.sample_entry.SampleEntry.TheVariants.{Name, Symlink, File}
-use Rattle.reiser_make.specs.declared.sample_item.SampleItem.{SampleItem}
-use Rattle.reiser_make.specs.declared.leaf.ItemPlace.{ItemPlace}
-use Rattle.reiser_make.specs.declared.object.ObjectId.{ObjectId}
 use Rattle.reiser_make.proofs.Walking.{at_place, behind_first}
 
 either_few : {X : Type 0} (b : Bool) (xs ys : List X) (n : ℕ) → length xs ≤ n → length ys ≤ n → length (cond b xs ys) ≤ n

@@ -1,16 +1,6 @@
 -- Entries of a directory, one behind the other.
-use Rattle.std.proofs.Common.{◌≡◌, ◌≤◌, ℕ, ◌+◌, ◌-◌, ◌*◌, List, [], ◌∷◌, ◌++◌, length, replicate, refl, sym, ap, subst, ◌∙◌, arith, append_assoc, length-append, map}
-use Rattle.std.specs.Int.{div_ceil}
-use Rattle.std.specs.List.{range_with_len}
-use Rattle.std.proofs.lemmas.List.FromFn.{map-range_with_len_more, length-map-range_with_len}
-use Rattle.reiser_make.specs.Names.{directory_name, file_name}
-use Rattle.std.proofs.lemmas.List.{append-nil}
-use Rattle.std.proofs.lemmas.List.Elements.{All-head, All-tail, All-append, All-cons, All-nil}
-use Rattle.std.proofs.lemmas.List.Sums.{sum_by-append, sum_by-cons}
+use Rattle.reiser_make.proofs.Imports.{◌≡◌, ◌≤◌, ℕ, ◌+◌, ◌-◌, ◌*◌, List, [], ◌∷◌, ◌++◌, length, replicate, refl, sym, ap, subst, ◌∙◌, arith, append_assoc, length-append, map, div_ceil, range_with_len, map-range_with_len_more, length-map-range_with_len, directory_name, file_name, append-nil, All-head, All-tail, All-append, All-cons, All-nil, sum_by-append, sum_by-cons, EntryValue, entry, padded, entry_head, entry_heads, entry_names, entries_length, entries_bytes, entries_so_far, AreShortNames, with_dots, ObjectId}
 use borrow.Rule.Slice.PartMut.{put_mid}
-use Rattle.reiser_items.specs.Entries.{EntryValue}
-use Rattle.reiser_make.specs.Directory.{entry, padded, entry_head, entry_heads, entry_names, entries_length, entries_bytes, entries_so_far, AreShortNames, with_dots}
-use Rattle.reiser_make.specs.declared.object.ObjectId.{ObjectId}
 use Rattle.reiser_make.proofs.Placing.{zeros, length-zeros, put_first, put_last}
 
 -- a name of one to eight bytes takes eight

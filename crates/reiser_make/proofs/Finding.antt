@@ -1,16 +1,5 @@
 -- Leaves that are found by their numbers.
-use Rattle.std.proofs.Common.{◌≡◌, ◌≤◌, ◌<◌, ℕ, zero, suc, ◌+◌, List, [], ◌∷◌, length, take, drop, get_or, refl, sym, ap, ◌∙◌, arith, length-drop}
-use Rattle.std.proofs.lemmas.List.{get_or-drop}
-use Rattle.reiser_items.specs.reiser_node.declared.head.ItemHead.{ItemHead}
-use Rattle.reiser_make.specs.Finding.{IsToldLeaf}
-use Rattle.reiser_make.specs.Inner.{first_head, leaf_at, first_leaf, node_place, used_by, child}
-use Rattle.reiser_make.specs.declared.inner.DiskChild.{DiskChild}
-use Rattle.reiser_make.specs.Leaf.{leaves, leaves_of, bytes_taken}
-use Rattle.reiser_make.specs.Shape.{Shape}
-use Rattle.reiser_make.specs.Walk.{items_behind, IsPacked}
-use Rattle.reiser_make.specs.declared.sample_item.SampleItem.{SampleItem}
-use Rattle.reiser_make.specs.declared.leaf.ItemPlace.{ItemPlace}
-use Rattle.reiser_make.specs.declared.leaf.Packed.{Packed}
+use Rattle.reiser_make.proofs.Imports.{◌≡◌, ◌≤◌, ◌<◌, ℕ, zero, suc, ◌+◌, List, [], ◌∷◌, length, take, drop, get_or, refl, sym, ap, ◌∙◌, arith, length-drop, get_or-drop, ItemHead, IsToldLeaf, first_head, leaf_at, first_leaf, node_place, used_by, child, DiskChild, leaves, leaves_of, bytes_taken, Shape, items_behind, IsPacked, SampleItem, ItemPlace, Packed}
 use Rattle.reiser_make.proofs.Packing.{drop_one_more}
 
 -- where something is left, its first element is the one of that number

@@ -1,13 +1,7 @@
 -- The table of a sample, name by name.
-use Rattle.std.proofs.Common.{◌≡◌, ◌≤◌, ◌<◌, ◌⊎◌, ⊎_elim, ℕ, suc, ◌+◌, ◌-◌, ◌*◌, List, [], ◌∷◌, ◌++◌, length, get_or, refl, sym, ap, ◌∙◌, arith, append_assoc, length-append}
-use Rattle.std.specs.List.{All, sum_by}
-use Rattle.std.proofs.lemmas.List.{append-nil, map-append, length-map, take-append-le, get_or_append_left, get_or_push, take_at}
-use Rattle.std.proofs.lemmas.List.Elements.{All-append, All-cons, All-nil}
-use Rattle.std.proofs.lemmas.List.Sums.{sum_by-append}
+use Rattle.reiser_make.proofs.Imports.{◌≡◌, ◌≤◌, ◌<◌, ◌⊎◌, ⊎_elim, ℕ, suc, ◌+◌, ◌-◌, ◌*◌, List, [], ◌∷◌, ◌++◌, length, get_or, refl, sym, ap, ◌∙◌, arith, append_assoc, length-append, All, sum_by, append-nil, map-append, length-map, take-append-le, get_or_append_left, get_or_push, take_at, All-append, All-cons, All-nil, sum_by-append, stored_blocks, stored_before, stored_in, SampleEntry}
 use Rattle.reiser_make.specs.Content.{IsSmallContent, content_of, state_after, contents, contents_from}
 use Rattle.reiser_make.specs.Sample.{contents_of, HoldsSample}
-use Rattle.reiser_make.specs.Shape.{stored_blocks, stored_before, stored_in}
-use Rattle.reiser_make.specs.declared.sample_entry.SampleEntry.{SampleEntry}
 use Rattle.reiser_make.specs.declared.sample.Named.{Named}
 
 -- the first i names are there, and the others are drawn from this state

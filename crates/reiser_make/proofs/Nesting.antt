@@ -1,11 +1,5 @@
 -- The block of an inner node, by its parts.
-use Rattle.std.proofs.Common.{◌≡◌, ◌≤◌, ℕ, suc, ◌+◌, ◌-◌, ◌*◌, List, ◌++◌, length, drop, replicate, sym, ap, ◌∙◌, arith, append_assoc}
-use Rattle.std.specs.List.{flat_map, range_with_len}
-use Rattle.std.proofs.lemmas.List.FromFn.{length-map-range_with_len}
-use Rattle.reiser_make.specs.Inner.{inner_bytes, child, child_key, disk_child_bytes, children_from}
-use Rattle.reiser_make.specs.Leaf.{node_head, node_room}
-use Rattle.reiser_make.specs.Shape.{Shape}
-use Rattle.reiser_make.specs.declared.inner.DiskChild.{DiskChild}
+use Rattle.reiser_make.proofs.Imports.{◌≡◌, ◌≤◌, ℕ, suc, ◌+◌, ◌-◌, ◌*◌, List, ◌++◌, length, drop, replicate, sym, ap, ◌∙◌, arith, append_assoc, flat_map, range_with_len, length-map-range_with_len, inner_bytes, child, child_key, disk_child_bytes, children_from, node_head, node_room, Shape, DiskChild}
 use Rattle.reiser_make.proofs.Lists.{flat_map_map}
 
 -- the keys of all children but the first

@@ -1,16 +1,6 @@
 -- How a leaf is packed, item by item.
-use Rattle.std.proofs.Common.{◌≡◌, ◌≤◌, ◌<◌, ℕ, ◌+◌, ◌-◌, true, false, List, [], ◌∷◌, ◌++◌, length, take, drop, refl, sym, ap, subst, ◌∙◌, arith, append_assoc, length-append, length-drop}
-use Rattle.std.specs.Prelude.{nat_le, cond}
-use Rattle.std.proofs.lemmas.List.{drop-drop, take-append-drop, take_at, length-take}
-use Rattle.std.proofs.lemmas.List.Sums.{sum_by-append}
-use Rattle.std.proofs.lemmas.Bool.Decides.{nat_tests}
-use Rattle.reiser_make.specs.Leaf.{bytes_taken, taken_by, leaves_of, packed_behind, node_room}
-use Rattle.reiser_make.specs.Shape.{Shape}
-use Rattle.reiser_make.specs.Walk.{items_behind, HasFirst, MayPackMore, BeginsLeaves}
-use Rattle.reiser_make.specs.declared.sample_item.SampleItem.{SampleItem}
-use Rattle.reiser_make.specs.declared.leaf.ItemPlace.{ItemPlace}
-use Rattle.reiser_make.specs.declared.leaf.Packed.{Packed}
-use Rattle.reiser_items.specs.reiser_node.declared.head.ItemHead.{ItemHead}
+use Rattle.reiser_make.proofs.Imports.{◌≡◌, ◌≤◌, ◌<◌, ℕ, ◌+◌, ◌-◌, true, false, List, [], ◌∷◌, ◌++◌, length, take, drop, refl, sym, ap, subst, ◌∙◌, arith, append_assoc, length-append, length-drop, nat_le, cond, drop-drop, take-append-drop, take_at, sum_by-append, nat_tests, bytes_taken, taken_by, leaves_of, packed_behind, node_room, Shape, items_behind, HasFirst, MayPackMore, BeginsLeaves, SampleItem, ItemPlace, Packed, ItemHead}
+use Rattle.std.proofs.lemmas.List.{length-take}
 
 abbrev pub leaf_as : ItemHead → ℕ → ℕ → ItemPlace → Packed
 leaf_as first count used end = record { first = first; count = count; used = used; end = end }

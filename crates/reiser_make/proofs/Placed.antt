@@ -1,22 +1,8 @@
 -- Where blocks go: below the end of what is used.
-use Rattle.std.proofs.Common.{◌≡◌, ◌≤◌, ◌<◌, ℕ, zero, suc, ◌+◌, ◌-◌, ◌*◌, ◌%◌, Bool, true, false, ◌&&◌, ◌||◌, ◌==◌, List, [], ◌∷◌, length, take, get_or, refl, sym, ap, subst, ◌∙◌, arith, eq-eqb, add-zero}
-use Rattle.std.specs.Prelude.{nat_lt, IsTrue}
-use Rattle.reiserfs_format.specs.declared.block.TheConstants.{BITS_IN_BLOCK}
+use Rattle.reiser_make.proofs.Imports.{◌≡◌, ◌≤◌, ◌<◌, ℕ, zero, suc, ◌+◌, ◌-◌, ◌*◌, ◌%◌, Bool, true, false, ◌&&◌, ◌||◌, ◌==◌, List, [], ◌∷◌, length, take, get_or, refl, sym, ap, subst, ◌∙◌, arith, eq-eqb, add-zero, nat_lt, BITS_IN_BLOCK, nat_tests, needed, total, node_place, level_nodes, nodes_below, root_level, IsUsage, IsUsed, leaves, place, least_size, sum_by, take_more, sum_by-append, sum_by-take-le, Shape, stored_in, stored_before, stored_blocks, SampleEntry, level_of, Usage, Level}
+use Rattle.std.specs.Prelude.{IsTrue}
 use Rattle.reiser_make.proofs.Counting.{leaves_some}
 use Rattle.reiser_make.proofs.Rising.{root_low}
-use Rattle.std.proofs.lemmas.Bool.Decides.{nat_tests}
-use Rattle.reiser_make.specs.Inner.{needed, total, node_place, level_nodes, nodes_below, root_level}
-use Rattle.reiser_make.specs.Layout.{IsUsage, IsUsed}
-use Rattle.reiser_make.specs.Leaf.{leaves}
-use Rattle.reiser_make.specs.Places.{place, least_size}
-use Rattle.std.specs.List.{sum_by}
-use Rattle.std.proofs.lemmas.List.{take_more}
-use Rattle.std.proofs.lemmas.List.Sums.{sum_by-append, sum_by-take-le}
-use Rattle.reiser_make.specs.Shape.{Shape, stored_in, stored_before, stored_blocks}
-use Rattle.reiser_make.specs.declared.sample_entry.SampleEntry.{SampleEntry}
-use Rattle.reiser_make.specs.Levels.{level_of}
-use Rattle.reiser_make.specs.declared.bitmap.Usage.{Usage}
-use Rattle.reiser_make.specs.declared.level.Level.{Level}
 
 both_true : (a b c : Bool) → a ≡ true → b ≡ true → IsTrue (a && (b || c))
 both_true true true c p q = refl

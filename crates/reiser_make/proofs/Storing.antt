@@ -1,17 +1,7 @@
 -- Items of a leaf, one behind the other.
-use Rattle.std.proofs.Common.{◌≡◌, ◌≤◌, ◌<◌, ℕ, ◌+◌, ◌-◌, ◌*◌, Bool, true, false, List, [], ◌∷◌, ◌++◌, length, take, drop, replicate, refl, sym, ap, subst, ◌∙◌, arith, append_assoc, length-append, length-take, length-drop}
-use Rattle.std.specs.List.{sum_by}
-use Rattle.std.proofs.lemmas.List.{append-nil, take-take}
-use Rattle.std.proofs.lemmas.List.Sums.{sum_by-append, sum_by-cons, sum_by-take-le}
-use borrow.Rule.Slice.PartMut.{put_mid}
-use Rattle.reiser_items.specs.reiser_node.declared.head.ItemHead.{ItemHead}
+use Rattle.reiser_make.proofs.Imports.{◌≡◌, ◌≤◌, ◌<◌, ℕ, ◌+◌, ◌-◌, ◌*◌, Bool, true, false, List, [], ◌∷◌, ◌++◌, length, take, drop, replicate, refl, sym, ap, subst, ◌∙◌, arith, append_assoc, length-append, length-take, length-drop, sum_by, append-nil, take-take, sum_by-append, sum_by-cons, sum_by-take-le, ItemHead, body_bytes, bytes_taken, taken_by, key_bytes, head_bytes, heads_bytes, bodies, node_room, leaf_contents, Shape, items_behind, HasPutItems, NextFits, SampleItem, ItemPlace}
 use Rattle.reiser_items.specs.reiser_node.declared.head.ItemKind.{ItemKind}
-use Rattle.reiser_make.specs.Items.{body_bytes}
-use Rattle.reiser_make.specs.Leaf.{bytes_taken, taken_by, key_bytes, head_bytes, heads_bytes, bodies, node_room, leaf_contents}
-use Rattle.reiser_make.specs.Shape.{Shape}
-use Rattle.reiser_make.specs.Walk.{items_behind, HasPutItems, NextFits}
-use Rattle.reiser_make.specs.declared.sample_item.SampleItem.{SampleItem}
-use Rattle.reiser_make.specs.declared.leaf.ItemPlace.{ItemPlace}
+use borrow.Rule.Slice.PartMut.{put_mid}
 use Rattle.reiser_make.proofs.Packing.{take_one_more, drop_one_more}
 use Rattle.reiser_make.proofs.Placing.{zeros, put_first, put_last}
 

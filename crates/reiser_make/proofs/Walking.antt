@@ -1,12 +1,5 @@
 -- The items behind a place, step by step.
-use Rattle.std.proofs.Common.{◌≡◌, ◌≤◌, ◌<◌, ℕ, zero, suc, ◌+◌, ◌-◌, [], ◌∷◌, ◌++◌, length, refl, sym, ap, ◌∙◌, arith}
-use Rattle.std.specs.Prelude.{Some, None}
-use Rattle.std.specs.List.{slice_get}
-use Rattle.reiser_make.specs.Items.{items_of_name, items_from, items}
-use Rattle.reiser_make.specs.Shape.{Shape, object_count}
-use Rattle.reiser_make.specs.Walk.{rest_of, items_behind}
-use Rattle.reiser_make.specs.declared.sample_item.SampleItem.{SampleItem}
-use Rattle.reiser_make.specs.declared.leaf.ItemPlace.{ItemPlace}
+use Rattle.reiser_make.proofs.Imports.{◌≡◌, ◌≤◌, ◌<◌, ℕ, zero, suc, ◌+◌, ◌-◌, [], ◌∷◌, ◌++◌, length, refl, sym, ap, ◌∙◌, arith, Some, None, slice_get, items_of_name, items_from, items, Shape, object_count, rest_of, items_behind, SampleItem, ItemPlace}
 use Rattle.reiser_make.proofs.Lists.{drop_some, drop_none}
 
 abbrev pub at_place : ℕ → ℕ → ItemPlace

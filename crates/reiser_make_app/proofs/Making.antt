@@ -1,11 +1,8 @@
 -- What a disk holds behind a make and a sync.
-use Rattle.std.proofs.Common.{◌≡◌, ◌^◌, ◌≤◌, length, sym, subst}
-use Rattle.sink_text.specs.outside.History.{History, reads, after, synced, IsSettled}
+use Rattle.reiser_make_app.proofs.Imports.{◌≡◌, ◌^◌, ◌≤◌, length, sym, subst, History, reads, after, synced, IsSettled, Ordered, needed_by, HasSample, IsMade}
 use Rattle.reiser_make_laws.specs.Laws.{FitsSample}
 use Rattle.reiser_make_laws.specs.Rows.{IsAsDescribed}
 use Rattle.reiser_make_laws.proofs.Rowed.{are_as_described}
-use Rattle.reiser_make_app.specs.Order.{Ordered}
-use Rattle.reiser_make_app.specs.Outcome.{needed_by, HasSample, IsMade}
 
 synced_settled : (h : History) → IsSettled (after synced h)
 synced_settled h = λ b bytes waits. waits

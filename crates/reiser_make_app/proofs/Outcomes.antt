@@ -1,12 +1,6 @@
 -- What an ending that is right comes to where the device has room.
-use Rattle.std.proofs.Common.{◌≡◌, ◌≢◌, ◌↔◌, ◌⊎◌, ap, subst, inl, inr, ℕ, ◌-◌, ◌^◌, ◌<◌, refl, arith}
-use Rattle.std.specs.Prelude.{Option, Some, None}
-use Rattle.sink_text.specs.outside.Fault.{Rose}
-use Rattle.reiser_make_app.specs.declared.make_ending.MakeEnding.{MakeEnding}
+use Rattle.reiser_make_app.proofs.Imports.{◌≡◌, ◌≢◌, ◌↔◌, ◌⊎◌, ap, subst, inl, inr, ℕ, ◌-◌, ◌^◌, ◌<◌, refl, arith, Option, Some, None, Rose, MakeEnding, status, Ordered, HasSampleRoom, EndsRight, FitsDevice, TellsFault}
 use Rattle.reiser_make_app.specs.declared.make_ending.MakeEnding.TheVariants.{Made, Usage, Short, Full, Fault, Memory}
-use Rattle.reiser_make_app.specs.Ending.{status}
-use Rattle.reiser_make_app.specs.Order.{Ordered}
-use Rattle.reiser_make_app.specs.Outcome.{HasSampleRoom, EndsRight, FitsDevice, TellsFault}
 
 made : (o : Ordered) (device : ℕ) (ending : MakeEnding) (faults_old faults_new : ℕ) → HasSampleRoom (Some o) device → FitsDevice o device ending
     → TellsFault ending faults_old faults_new → faults_new ≡ faults_old → faults_old < 2 ^ 64 - 1 → (status ending ≡ 0) ⊎ (status ending ≡ 4)

@@ -1,21 +1,12 @@
 -- Samples are accepted.
-use Rattle.std.proofs.Common.{◌≡◌, ℕ, Bool, length, map, sym, ◌∙◌, ap}
-use Rattle.std.proofs.lemmas.List.FromFn.{length-map-range_with_len}
-use Rattle.reiser_volume.specs.outside.History.{Image}
-use Rattle.reiser_volume.specs.reiser_bitmap.Layout.{is_marked}
-use Rattle.reiser_make.specs.Items.{items}
-use Rattle.reiser_make.specs.Shape.{shape}
-use Rattle.reiser_volume.specs.reiser_walk.Tree.{items_of_tree}
-use Rattle.reiser_volume.specs.Volume.{superblock, used_of, reiser_tree_of, volume_items}
+use Rattle.reiser_make_laws.proofs.Imports.{◌≡◌, ℕ, Bool, length, map, sym, ◌∙◌, ap, length-map-range_with_len, Image, is_marked, items, shape, items_of_tree, superblock, used_of, reiser_tree_of, volume_items, FitsSample, made, content, laid_content}
+use Rattle.reiser_make_laws.specs.Accepted.{SamplesHaveObjects, SamplesHaveNames, SamplesAreAccepted}
 use Rattle.reiser_make_laws.proofs.Cleanness.{clean}
 use Rattle.reiser_make_laws.proofs.Items.{samples_items}
 use Rattle.reiser_make_laws.proofs.Keeping.{objects_are, names_hold}
 use Rattle.reiser_make_laws.proofs.Marked.{marks_system}
 use Rattle.reiser_make_laws.proofs.Objects.{shape_is}
 use Rattle.reiser_make_laws.proofs.Sound.{trees_sound}
-use Rattle.reiser_make_laws.specs.Accepted.{SamplesHaveObjects, SamplesHaveNames, SamplesAreAccepted}
-use Rattle.reiser_make_laws.specs.Laws.{FitsSample, made}
-use Rattle.reiser_make_laws.specs.Walk.{content, laid_content}
 
 -- the items that a reader finds are those of the layout
 pub found_items : (number : ℕ) (old : Bool) (blocks : ℕ) (image : Image) → FitsSample number old blocks image

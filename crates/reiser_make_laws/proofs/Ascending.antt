@@ -1,29 +1,7 @@
 -- The items of a sample ascend.
-use Rattle.std.proofs.Common.{◌≡◌, ◌⊎◌, inl, inr, ℕ, zero, suc, ◌+◌, ◌-◌, ◌*◌, ◌/◌, ◌≤◌, ◌<◌, Bool, true, false, cond, ◌==◌, List, [], ◌∷◌, ◌++◌, length, map, get_or, refl, sym, ◌∙◌, ap, subst, arith, eq-eqb}
-use Rattle.std.specs.Prelude.{nat_lt}
-use Rattle.std.specs.declared.cmp.Ordering.{Ordering}
-use Rattle.std.specs.declared.cmp.Ordering.TheVariants.{Less, Equal, Greater}
-use Rattle.std.specs.Ordering.{nat_cmp, ordering_then, is_lt}
-use Rattle.std.proofs.lemmas.Bool.Decides.{nat_tests}
-use Rattle.reiser_volume.specs.reiser_items.Order.{key_order, kind_number}
-use Rattle.reiser_make.specs.Items.{items, items_from, items_of_name, items_of_content, directory_items, pointer_items, byte_items, item, stat_item, attributes, base_time, file_units, first_direct_of}
-use Rattle.reiser_make.specs.Shape.{Shape, shape, directory_count, names_in, object_count, root_id, directory_id, file_id, name_count, stored_of}
-use Rattle.reiser_make.specs.declared.sample_entry.SampleEntry.{SampleEntry}
-use Rattle.reiser_make.specs.declared.sample_entry.SampleEntry.TheVariants.{Name, Symlink, File}
-use Rattle.reiser_make.specs.declared.sample_item.Body.{Body}
-use Rattle.reiser_make.specs.declared.sample_item.Body.TheVariants.{Root, Names, Pointers, Bytes}
-use Rattle.reiser_make.specs.declared.sample_item.Owner.TheVariants.{User}
+use Rattle.reiser_make_laws.proofs.Imports.{◌≡◌, ◌⊎◌, inl, inr, ℕ, zero, suc, ◌+◌, ◌-◌, ◌*◌, ◌/◌, ◌≤◌, ◌<◌, Bool, true, false, cond, ◌==◌, List, [], ◌∷◌, ◌++◌, length, map, get_or, refl, sym, ◌∙◌, ap, subst, arith, eq-eqb, nat_lt, Ordering, Less, Equal, Greater, nat_cmp, ordering_then, is_lt, nat_tests, key_order, kind_number, items, items_from, items_of_name, items_of_content, directory_items, pointer_items, byte_items, item, stat_item, attributes, base_time, file_units, first_direct_of, Shape, shape, directory_count, names_in, object_count, root_id, directory_id, file_id, name_count, stored_of, SampleEntry, Name, Symlink, File, Body, Root, Names, Pointers, Bytes, User, ObjectId, stat_length, StatData, ItemHead, ItemKind, Stat, Indirect, Direct, Directory, ReiserItem, Each, Pairs, all_pairs_from_pairs, content, laid_content, SamplesAscend}
 use Rattle.reiser_make.specs.declared.sample_item.SampleItem as parts
-use Rattle.reiser_make.specs.declared.object.ObjectId.{ObjectId}
-use Rattle.reiser_volume.specs.reiser_items.Stat.{stat_length}
-use Rattle.reiser_volume.specs.reiser_items.declared.stat.StatData.{StatData}
-use Rattle.reiser_volume.specs.reiser_node.declared.head.ItemHead.{ItemHead}
-use Rattle.reiser_volume.specs.reiser_node.declared.head.ItemKind.{ItemKind}
-use Rattle.reiser_volume.specs.reiser_node.declared.head.ItemKind.TheVariants.{Stat, Indirect, Direct, Directory}
-use Rattle.reiser_volume.specs.reiser_walk.Items.{ReiserItem}
-use Rattle.reiser_volume.proofs.reiser_walk.Lists.{Each, Pairs, all_pairs_from_pairs}
 use Rattle.reiser_make_laws.proofs.Items.{samples_items}
-use Rattle.reiser_make_laws.specs.Walk.{content, laid_content, SamplesAscend}
 
 pub cmp_less : (x y : ℕ) → x < y → nat_cmp x y ≡ Less
 cmp_less x y lt = let is : nat_lt x y ≡ true = grind (arith, nat_tests, lt) in ap (λ b. cond b Less (cond (x == y) Equal Greater)) is

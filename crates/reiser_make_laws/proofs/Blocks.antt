@@ -1,16 +1,5 @@
 -- Which bytes a block has behind the laying of blocks.
-use Rattle.std.proofs.Common.{◌≡◌, ◌≢◌, ◌⊎◌, inl, inr, ℕ, zero, suc, ◌+◌, ◌-◌, ◌*◌, ◌≤◌, ◌<◌, List, [], ◌∷◌, ◌++◌, length, map, refl, sym, ◌∙◌, ap, subst, arith, slice_index_or, append_assoc}
-use Rattle.std.specs.Prelude.{slice_set}
-use Rattle.std.specs.List.{range_with_len, flat_map}
-use Rattle.std.proofs.lemmas.List.{get_or-set_same, get_or-set_other}
-use Rattle.reiserfs_format.specs.declared.block.TheConstants.{BITS_IN_BLOCK}
-use Rattle.reiser_volume.specs.outside.History.{Image, block_at}
-use Rattle.reiser_make.specs.Layout.{Placed, laid_over, volume_blocks, system_part, system_row, system_placed, system_block, data_part, data_of_name, data_of_content, data_placed, leaf_part, leaf_placed, inner_part, level_part, inner_placed, bitmap_part, bitmap_placed}
-use Rattle.reiser_make.specs.Places.{place, bitmap_blocks}
-use Rattle.reiser_make.specs.Shape.{Shape}
-use Rattle.reiser_make.specs.Inner.{needed}
-use Rattle.reiser_make.specs.declared.sample_entry.SampleEntry.{SampleEntry}
-use Rattle.reiser_make.specs.declared.sample_entry.SampleEntry.TheVariants.{Name, Symlink, File}
+use Rattle.reiser_make_laws.proofs.Imports.{◌≡◌, ◌≢◌, ◌⊎◌, inl, inr, ℕ, zero, suc, ◌+◌, ◌-◌, ◌*◌, ◌≤◌, ◌<◌, List, [], ◌∷◌, ◌++◌, length, map, refl, sym, ◌∙◌, ap, subst, arith, slice_index_or, append_assoc, slice_set, range_with_len, flat_map, get_or-set_same, get_or-set_other, BITS_IN_BLOCK, Image, block_at, Placed, laid_over, volume_blocks, system_part, system_row, system_placed, system_block, data_part, data_of_name, data_of_content, data_placed, leaf_part, leaf_placed, inner_part, level_part, inner_placed, bitmap_part, bitmap_placed, place, bitmap_blocks, Shape, needed, SampleEntry, Name, Symlink, File}
 use Rattle.reiser_make.proofs.Laying.{laid_over-append}
 
 -- no block of the list goes to b

@@ -1,26 +1,11 @@
 -- Superblock and journal of a sample are those of a clean volume.
-use Rattle.std.proofs.Common.{◌≡◌, ℕ, zero, suc, ◌+◌, ◌^◌, ◌≤◌, ◌<◌, Bool, true, false, cond, List, [], ◌∷◌, length, map, drop, filter, refl, sym, ◌∙◌, ap, subst, arith}
-use Rattle.std.specs.Prelude.{nat_le}
-use Rattle.std.specs.List.{range_with_len}
-use Rattle.reiserfs_format.specs.declared.block.TheConstants.{SUPER_BLOCK}
-use Rattle.byteorder.specs.Numbers.{little_number-reads_back}
+use Rattle.reiser_make_laws.proofs.Imports.{◌≡◌, ℕ, zero, suc, ◌+◌, ◌^◌, ◌≤◌, ◌<◌, Bool, true, false, cond, List, [], ◌∷◌, length, map, drop, filter, refl, sym, ◌∙◌, ap, subst, arith, nat_le, range_with_len, SUPER_BLOCK, little_number-reads_back, field, zeros, Image, block_at, superblock_fields, journal_device, block_size, mount_state, checker_state, needed, root_level, root_from, nodes_above, total, volume_blocks, system_block, leaves, Shape, shape, leaves_some, node_below, system_below, total_some, root_low, nodes_some, FitsSample, made}
 use Rattle.reiser_volume.specs.vol_block.Format.{has_reiser_magic}
-use Rattle.reiser_volume.specs.vol_block.Volume.{field, zeros}
-use Rattle.reiser_volume.specs.outside.History.{Image, block_at}
 use Rattle.reiser_volume.specs.reiser_super.declared.superblock.Super.{Super}
-use Rattle.reiser_volume.specs.reiser_super.Superblock.{superblock_fields, journal_device, block_size, mount_state, checker_state}
 use Rattle.reiser_volume.specs.reiser_super.Rules.{IsCleanSuper, IsInBounds, has_old_magic}
 use Rattle.reiser_volume.specs.reiser_super.Journal.{IsClean, pending_transactions, all_transactions, names_place, is_descriptor, log_block, transaction, last_flushed, next_place, waiting_at}
-use Rattle.reiser_make.specs.Inner.{needed, root_level, root_from, nodes_above, total}
-use Rattle.reiser_make.specs.Layout.{volume_blocks, system_block}
-use Rattle.reiser_make.specs.Leaf.{leaves}
-use Rattle.reiser_make.specs.Shape.{Shape, shape}
 use Rattle.reiser_make.specs.Superblock.{fields_bytes, superblock_bytes, super_fields, root_block, tree_height}
 use Rattle.reiser_make.specs.declared.superblock.SuperFields.{SuperFields}
-use Rattle.reiser_make.proofs.Counting.{leaves_some}
-use Rattle.reiser_make.proofs.Placed.{node_below, system_below, total_some}
-use Rattle.reiser_make.proofs.Rising.{root_low, nodes_some}
-use Rattle.reiser_make_laws.specs.Laws.{FitsSample, made}
 use Rattle.reiser_make_laws.proofs.Blocks.{system_is, length-laid_over}
 
 -- the fields that vary

@@ -1,42 +1,16 @@
 -- The bytes of a sample's files and the targets of its symlinks are those that were written.
-use Rattle.std.proofs.Common.{◌≡◌, ◌⊎◌, inl, inr, ℕ, zero, suc, ◌+◌, ◌-◌, ◌*◌, ◌/◌, ◌%◌, ◌≤◌, ◌<◌, Bool, true, false, cond, ◌==◌, ◌&&◌, List, [], ◌∷◌, ◌++◌, length, map, get_or, refl, sym, ◌∙◌, ap, subst, arith, Some, None, Option, eqb-true, ne_eqb, Contains}
-use Rattle.std.specs.Prelude.{nat_le, nat_lt, unwrap_or, slice_index}
-use Rattle.std.specs.List.{range_with_len}
-use Rattle.std.specs.Option.{option_or}
-use Rattle.std.proofs.lemmas.Bool.{and_from, cases_lt}
-use Rattle.std.proofs.lemmas.Bool.Decides.{nat_tests}
-use Rattle.std.proofs.lemmas.List.FromFn.{get_or-map-range_with_len}
-use Rattle.std.proofs.lemmas.List.Elements.{Contains-append_left, Contains-append_right}
-use Rattle.std.proofs.lemmas.List.Sums.{sum_by-take-le}
-use Rattle.reiser_volume.specs.outside.History.{Image, block_at}
+use Rattle.reiser_make_laws.proofs.Imports.{◌≡◌, ◌⊎◌, inl, inr, ℕ, zero, suc, ◌+◌, ◌-◌, ◌*◌, ◌/◌, ◌%◌, ◌≤◌, ◌<◌, Bool, true, false, cond, ◌==◌, ◌&&◌, List, [], ◌∷◌, ◌++◌, length, map, get_or, refl, sym, ◌∙◌, ap, subst, arith, Some, None, eqb-true, ne_eqb, Contains, nat_le, nat_lt, unwrap_or, slice_index, range_with_len, option_or, and_from, cases_lt, nat_tests, get_or-map-range_with_len, Contains-append_left, Contains-append_right, sum_by-take-le, Image, block_at, first_byte, is_covered, direct_by_kind, direct_byte, pointer_by_kind, named_block, block_byte, pointers, needed, stat_item, item, items_of_content, body_bytes, rest_of_content, Placed, volume_blocks, system_part, data_part, data_of_name, data_of_content, data_placed, leaf_part, inner_part, bitmap_part, file_name, place, Shape, shape, file_id, stored_before, stored_in, stored_of, stored_blocks, stored_block, file_byte, sample_bytes, Name, Symlink, File, Pointers, Bytes, Target, ObjectId, data_below, ItemHead, ItemKind, Stat, Indirect, Direct, Directory, StatData, ReiserItem, FitsSample, made, content, laid_content}
+use Rattle.std.proofs.Common.{Option}
+use Rattle.reiser_make.specs.Shape.{pointer}
 use Rattle.reiser_volume.specs.fs_rows.Bytes.{bytes_by}
-use Rattle.reiser_volume.specs.reiser_volume_files.Bytes.{first_byte, is_covered, direct_by_kind, direct_byte, pointer_by_kind, named_block, block_byte}
 use Rattle.reiser_volume.specs.reiser_volume_files.Bytes as read
-use Rattle.reiser_volume.specs.reiser_items.Pointers.{pointers}
-use Rattle.reiser_make.specs.Inner.{needed}
-use Rattle.reiser_make.specs.Items.{stat_item, item, items_of_content, body_bytes, rest_of_content}
-use Rattle.reiser_make.specs.Layout.{Placed, volume_blocks, system_part, data_part, data_of_name, data_of_content, data_placed, leaf_part, inner_part, bitmap_part}
-use Rattle.reiser_make.specs.Names.{file_name}
-use Rattle.reiser_make.specs.Places.{place}
-use Rattle.reiser_make.specs.Shape.{Shape, shape, file_id, pointer, stored_before, stored_in, stored_of, stored_blocks, stored_block, file_byte, sample_bytes}
-use Rattle.reiser_make.specs.declared.sample_entry.SampleEntry.TheVariants.{Name, Symlink, File}
-use Rattle.reiser_make.specs.declared.sample_item.Body.TheVariants.{Pointers, Bytes, Target}
 use Rattle.reiser_make.specs.declared.sample_item.SampleItem as parts
-use Rattle.reiser_make.specs.declared.object.ObjectId.{ObjectId}
-use Rattle.reiser_make.proofs.Placed.{data_below}
-use Rattle.reiser_volume.specs.reiser_node.declared.head.ItemHead.{ItemHead}
-use Rattle.reiser_volume.specs.reiser_node.declared.head.ItemKind.{ItemKind}
-use Rattle.reiser_volume.specs.reiser_node.declared.head.ItemKind.TheVariants.{Stat, Indirect, Direct, Directory}
-use Rattle.reiser_volume.specs.reiser_items.declared.stat.StatData.{StatData}
-use Rattle.reiser_volume.specs.reiser_walk.Items.{ReiserItem}
 use Rattle.reiser_make_laws.proofs.Data.{pointers_back, pointers_are, place_some}
 use Rattle.reiser_make_laws.proofs.Held.{in_row, in_rows}
 use Rattle.reiser_make_laws.proofs.Namings.{item_of}
 use Rattle.reiser_make_laws.proofs.Objects.{file_stat}
 use Rattle.reiser_make_laws.proofs.Places.{holds_blocks, stored_next}
 use Rattle.reiser_make_laws.proofs.Writable.{rest_body}
-use Rattle.reiser_make_laws.specs.Laws.{FitsSample, made}
-use Rattle.reiser_make_laws.specs.Walk.{content, laid_content}
 
 -- a byte depends on heads and bodies alone
 direct_kind : (kind : ItemKind) (i : ReiserItem) (n : ℕ) → direct_by_kind kind i n ≡ direct_by_kind kind (item_of (content i)) n

@@ -1,20 +1,7 @@
 -- How many rows of a sample have the same least path: as many as the object has names.
-use Rattle.std.proofs.Common.{◌≡◌, ◌≢◌, ◌⊎◌, inl, inr, ⊎_elim, ℕ, zero, suc, ◌+◌, ◌-◌, ◌*◌, ◌/◌, ◌%◌, ◌≤◌, ◌<◌, Bool, true, false, cond, ◌==◌, ◌&&◌, List, [], ◌∷◌, map, get_or, count_by, refl, sym, ◌∙◌, ap, arith, eqb-true, eq-eqb, ne_eqb, true≢false}
-use Rattle.std.specs.Prelude.{nat_le, nat_eq, min}
-use Rattle.std.specs.Cmp.Lexicographic.{pointwise, same_text}
-use Rattle.std.specs.List.{range_with_len, flat_map}
-use Rattle.std.proofs.lemmas.Bool.{and_right, cond_both, cases_lt}
-use Rattle.std.proofs.lemmas.Bool.Decides.{nat_tests}
+use Rattle.reiser_make_laws.proofs.Imports.{◌≡◌, ◌≢◌, ◌⊎◌, inl, inr, ⊎_elim, ℕ, zero, suc, ◌+◌, ◌-◌, ◌*◌, ◌/◌, ◌%◌, ◌≤◌, ◌<◌, Bool, true, false, cond, ◌==◌, ◌&&◌, List, [], ◌∷◌, map, get_or, count_by, refl, sym, ◌∙◌, ap, arith, eqb-true, eq-eqb, ne_eqb, true≢false, nat_le, nat_eq, min, pointwise, same_text, range_with_len, flat_map, and_right, cond_both, cases_lt, nat_tests, sum_by-cons, sum_by-append, NameList, WholeRow, is_same_path, is_further_name, directory_name, file_name, directory_row, path_of, content_row, directory_count, names_in, named_by, name_count, SampleEntry, Name, Symlink, File}
 use Rattle.std.proofs.lemmas.Cmp.{nat_list_eq_equiv, lists_equiv}
-use Rattle.std.proofs.lemmas.List.Sums.{sum_by-cons, sum_by-append}
-use Rattle.reiser_volume.specs.fs_rows.Rows.{NameList, WholeRow, is_same_path}
 use Rattle.reiser_volume.specs.fs_rows.Rows as rows
-use Rattle.reiser_make.specs.Content.{is_further_name}
-use Rattle.reiser_make.specs.Names.{directory_name, file_name}
-use Rattle.reiser_make.specs.Rows.{directory_row, path_of, content_row}
-use Rattle.reiser_make.specs.Shape.{directory_count, names_in, named_by, name_count}
-use Rattle.reiser_make.specs.declared.sample_entry.SampleEntry.{SampleEntry}
-use Rattle.reiser_make.specs.declared.sample_entry.SampleEntry.TheVariants.{Name, Symlink, File}
 use Rattle.reiser_make_laws.proofs.Keeping.{file_one}
 use Rattle.reiser_make_laws.proofs.Named.{IsOwnName, named_own}
 use Rattle.reiser_make_laws.proofs.Small.{IsOwn}

@@ -1,25 +1,7 @@
 -- The blocks of data that the items of a sample name: each stored block once, in order.
-use Rattle.std.proofs.Common.{◌≡◌, ◌≢◌, ℕ, zero, suc, ◌+◌, ◌-◌, ◌*◌, ◌/◌, ◌%◌, ◌^◌, ◌≤◌, ◌<◌, Bool, true, false, cond, not, ◌&&◌, ◌==◌, List, [], ◌∷◌, ◌++◌, length, map, filter, get_or, refl, sym, ◌∙◌, ap, subst, arith, append_assoc, append-nil, length-append, eq-eqb, ne_eqb}
-use Rattle.std.specs.Prelude.{nat_lt}
-use Rattle.std.specs.Int.{div_ceil}
-use Rattle.std.specs.List.{range_with_len, flat_map}
-use Rattle.std.proofs.lemmas.Bool.Decides.{nat_tests}
-use Rattle.byteorder.specs.Endian.{little_bytes}
-use Rattle.byteorder.specs.Numbers.{little_number-reads_back}
-use Rattle.reiser_volume.specs.vol_block.Volume.{field}
-use Rattle.reiser_volume.specs.reiser_items.Pointers.{pointers, numbers_at}
-use Rattle.reiser_make.specs.Items.{items, items_from, items_of_name, items_of_content, directory_items, pointer_items, byte_items, item, body_bytes, pointers_bytes, pointers_of_content}
-use Rattle.reiser_make.specs.Places.{place}
-use Rattle.reiser_make.specs.Shape.{Shape, shape, directory_count, names_in, object_count, root_id, directory_id, file_id, pointer, stored_before, stored_blocks, stored_of, stored_in}
-use Rattle.reiser_make.specs.declared.sample_entry.SampleEntry.{SampleEntry}
-use Rattle.reiser_make.specs.declared.sample_entry.SampleEntry.TheVariants.{Name, Symlink, File}
-use Rattle.reiser_make.specs.declared.sample_item.Body.TheVariants.{Root, Names, Pointers, Bytes}
+use Rattle.reiser_make_laws.proofs.Imports.{◌≡◌, ◌≢◌, ℕ, zero, suc, ◌+◌, ◌-◌, ◌*◌, ◌/◌, ◌%◌, ◌^◌, ◌≤◌, ◌<◌, Bool, true, false, cond, not, ◌&&◌, ◌==◌, List, [], ◌∷◌, ◌++◌, length, map, filter, get_or, refl, sym, ◌∙◌, ap, subst, arith, append_assoc, append-nil, length-append, eq-eqb, ne_eqb, nat_lt, div_ceil, range_with_len, flat_map, nat_tests, little_bytes, little_number-reads_back, field, pointers, numbers_at, items, items_from, items_of_name, items_of_content, directory_items, pointer_items, byte_items, item, body_bytes, pointers_bytes, pointers_of_content, place, Shape, shape, directory_count, names_in, object_count, root_id, directory_id, file_id, stored_before, stored_blocks, stored_of, stored_in, SampleEntry, Name, Symlink, File, Root, Names, Pointers, Bytes, ObjectId, Indirect, Direct, blocks_named, is_no_hole, sum_by-cons, sum_by-take-le, IsSmallContent}
+use Rattle.reiser_make.specs.Shape.{pointer}
 use Rattle.reiser_make.specs.declared.sample_item.SampleItem as parts
-use Rattle.reiser_make.specs.declared.object.ObjectId.{ObjectId}
-use Rattle.reiser_volume.specs.reiser_node.declared.head.ItemKind.TheVariants.{Indirect, Direct}
-use Rattle.reiser_volume.specs.reiser_walk.Items.{blocks_named, is_no_hole}
-use Rattle.std.proofs.lemmas.List.Sums.{sum_by-cons, sum_by-take-le}
-use Rattle.reiser_make.specs.Content.{IsSmallContent}
 use Rattle.reiser_make_laws.proofs.Heads.{field_behind}
 use Rattle.reiser_make_laws.proofs.Small.{AreSmall, contents_small, length_contents, small_at}
 use Rattle.reiser_make_laws.proofs.Places.{stored_next, stored_end}

@@ -1,23 +1,8 @@
 -- What the items of one object say of it, where a reader finds those of the layout.
-use Rattle.std.proofs.Common.{◌≡◌, ◌⊎◌, ⊎_elim, ℕ, ◌+◌, ◌-◌, ◌≤◌, Bool, true, List, [], ◌∷◌, map, refl, sym, ◌∙◌, ap, subst, arith, Some}
-use Rattle.std.specs.Option.{option_map, option_or}
-use Rattle.std.proofs.lemmas.Bool.{and_from}
-use Rattle.reiser_volume.specs.fs_rows.declared.row.Kind.{Kind}
-use Rattle.reiser_volume.specs.reiser_node.declared.head.ItemHead.{ItemHead}
-use Rattle.reiser_volume.specs.reiser_items.declared.stat.StatData.{StatData}
-use Rattle.reiser_make.specs.Items.{stat_item, body_bytes}
-use Rattle.reiser_make.specs.Shape.{Shape}
+use Rattle.reiser_make_laws.proofs.Imports.{◌≡◌, ◌⊎◌, ⊎_elim, ℕ, ◌+◌, ◌-◌, ◌≤◌, Bool, true, List, [], ◌∷◌, map, refl, sym, ◌∙◌, ap, subst, arith, Some, option_map, option_or, and_from, Kind, ItemHead, StatData, stat_item, body_bytes, Shape, ObjectId, ReiserItem, Each, Pairs, all_pairs_from_pairs, stat_by_kind, first_stat, fits_kind, SharesByte, AreItemsApart, byte_count, may_have, ObjectStat, met_item, content, laid_content}
 use Rattle.reiser_make.specs.declared.sample_item.SampleItem as parts
-use Rattle.reiser_make.specs.declared.object.ObjectId.{ObjectId}
-use Rattle.reiser_volume.specs.reiser_walk.Items.{ReiserItem}
-use Rattle.reiser_volume.proofs.reiser_walk.Lists.{Each, Pairs, all_pairs_from_pairs}
-use Rattle.reiser_volume.specs.reiser_volume_objects.Items.{stat_by_kind, first_stat, fits_kind, SharesByte, AreItemsApart}
-use Rattle.reiser_volume.specs.reiser_volume_files.Bytes.{byte_count}
-use Rattle.reiser_volume.specs.reiser_volume_objects.Kinds.{may_have}
-use Rattle.reiser_volume.specs.reiser_volume_objects.declared.stat.ObjectStat.{ObjectStat}
 use Rattle.reiser_make_laws.proofs.Attributes.{read_back, HasStatRoom, stat_back}
 use Rattle.reiser_make_laws.proofs.Lists.{each_from_map, each_to_map, pairs_from_map, pairs_to_map, pairs_to}
-use Rattle.reiser_make_laws.specs.Walk.{met_item, content, laid_content}
 
 -- what holds of the layout's items holds of those that are found
 pub each_found : (s : Shape) (P : ItemHead × List ℕ → Type 0) (is : List ReiserItem) (xs : List parts.SampleItem) → map content is ≡ map (laid_content s) xs → Each (λ x. P (laid_content s x)) xs → Each (λ i. P (content i)) is

@@ -1,26 +1,12 @@
 -- The nodes of a sample read as what the layout puts into them.
-use Rattle.std.proofs.Common.{◌≡◌, ◌⊎◌, inl, inr, ℕ, zero, suc, ◌+◌, ◌-◌, ◌^◌, ◌≤◌, ◌<◌, Bool, true, false, cond, List, [], ◌∷◌, ◌++◌, length, map, refl, sym, ap, subst, arith, All}
-use Rattle.std.specs.Prelude.{nat_le, nat_lt, Contains}
-use Rattle.std.specs.List.{range_with_len, flat_map}
-use Rattle.std.proofs.lemmas.Bool.Decides.{nat_tests}
-use Rattle.std.proofs.lemmas.List.Elements.{All-cons, Contains-append_left, Contains-append_right}
-use Rattle.std.proofs.lemmas.List.FromFn.{get_or-map-range_with_len, length-map-range_with_len}
-use Rattle.reiser_volume.specs.outside.History.{block_at}
-use Rattle.reiser_make.specs.Inner.{needed, node_place, root_level, root_from, nodes_above, level_nodes, first_child, child_count, child, children, children_from, inner_bytes, leaf_at}
-use Rattle.reiser_make.specs.Layout.{Placed, volume_blocks, system_part, data_part, leaf_part, leaf_placed, inner_part, level_part, inner_placed, bitmap_part}
-use Rattle.reiser_make.specs.Leaf.{leaves, leaf_bytes}
-use Rattle.reiser_make.specs.Shape.{Shape, shape}
-use Rattle.reiser_make.specs.declared.sample_item.SampleItem.{SampleItem}
-use Rattle.reiser_make.proofs.Placed.{node_below}
-use Rattle.reiser_make.proofs.Rising.{root_low}
+use Rattle.reiser_make_laws.proofs.Imports.{◌≡◌, ◌⊎◌, inl, inr, ℕ, zero, suc, ◌+◌, ◌-◌, ◌^◌, ◌≤◌, ◌<◌, Bool, true, false, cond, List, [], ◌∷◌, ◌++◌, length, map, refl, sym, ap, subst, arith, All, nat_le, nat_lt, range_with_len, flat_map, nat_tests, All-cons, Contains-append_left, Contains-append_right, get_or-map-range_with_len, length-map-range_with_len, block_at, needed, node_place, root_level, root_from, nodes_above, level_nodes, first_child, child_count, child, children, children_from, inner_bytes, leaf_at, Placed, volume_blocks, system_part, data_part, leaf_part, leaf_placed, inner_part, level_part, inner_placed, bitmap_part, leaves, leaf_bytes, Shape, shape, SampleItem, node_below, root_low, made, FitsPointer, ReadsAs, NamesChildren, SampleLeavesReadBack, SampleInnerNodesReadBack}
+use Rattle.std.specs.Prelude.{Contains}
 use Rattle.reiser_make_laws.proofs.Cleanness.{root_high}
 use Rattle.reiser_make_laws.proofs.Leafing.{IsGoodLeaf, good_leaf_at, sample_leaves_good}
 use Rattle.reiser_make_laws.proofs.Leaves.{leaf_back}
 use Rattle.reiser_make_laws.proofs.Nodes.{node_back}
 use Rattle.reiser_make_laws.proofs.Places.{holds_blocks}
 use Rattle.reiser_make_laws.proofs.Writable.{all_writable}
-use Rattle.reiser_make_laws.specs.Laws.{made}
-use Rattle.reiser_make_laws.specs.Nodes.{FitsPointer, ReadsAs, NamesChildren, SampleLeavesReadBack, SampleInnerNodesReadBack}
 
 pub in_row : {X : Type 0} (f : ℕ → X) (a n k : ℕ) → a ≤ k → k < a + n → Contains (map f (range_with_len a n)) (f k)
 in_row f a n k low high =

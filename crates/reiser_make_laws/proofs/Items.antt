@@ -1,26 +1,11 @@
 -- The items that a walk of a sample meets are those of its layout.
-use Rattle.std.proofs.Common.{◌≡◌, ℕ, zero, suc, ◌+◌, ◌-◌, ◌^◌, ◌≤◌, ◌<◌, Bool, true, false, cond, List, [], ◌∷◌, ◌++◌, length, map, get_or, refl, sym, ◌∙◌, ap, subst, arith, append_assoc, append-nil, length-append}
-use Rattle.std.specs.Prelude.{nat_le, nat_lt}
-use Rattle.std.specs.List.{range_with_len, flat_map}
+use Rattle.reiser_make_laws.proofs.Imports.{◌≡◌, ℕ, zero, suc, ◌+◌, ◌-◌, ◌^◌, ◌≤◌, ◌<◌, Bool, true, false, cond, List, [], ◌∷◌, ◌++◌, length, map, get_or, refl, sym, ◌∙◌, ap, subst, arith, append_assoc, append-nil, length-append, nat_le, nat_lt, range_with_len, flat_map, get_or-append_seam, nat_tests, node_place, level_nodes, root_level, root_from, nodes_above, first_child, end_child, child_count, first_leaf, body_bytes, leaves, leaves_of, packed_behind, taken_by, node_room, Shape, shape, leaves_bound, leaves_some, root_low, nodes_some, ReiserItem, Event, pointer, item_events, held_by, blocks_named, items_of_events, BlockPointer, items_in-append, met_item, leaf_items, laid_events, content, laid_content, SamplesHoldTheirItems}
 use Rattle.std.proofs.Math.Nat.{pow-succ'}
-use Rattle.std.proofs.Math.Seq.{get_or-append_seam}
-use Rattle.std.proofs.lemmas.Bool.Decides.{nat_tests}
-use Rattle.reiser_make.specs.Inner.{node_place, level_nodes, root_level, root_from, nodes_above, first_child, end_child, child_count, first_leaf}
 use Rattle.reiser_make.specs.Items as laid
-use Rattle.reiser_make.specs.Items.{body_bytes}
-use Rattle.reiser_make.specs.Leaf.{leaves, leaves_of, packed_behind, taken_by, node_room}
-use Rattle.reiser_make.specs.Shape.{Shape, shape}
 use Rattle.reiser_make.specs.declared.sample_item.SampleItem as parts
-use Rattle.reiser_make.proofs.Counting.{leaves_bound, leaves_some}
-use Rattle.reiser_make.proofs.Rising.{root_low, nodes_some}
-use Rattle.reiser_volume.specs.reiser_walk.Items.{ReiserItem, Event, pointer, item_events, held_by, blocks_named}
-use Rattle.reiser_volume.specs.reiser_walk.Tree.{items_of_events}
-use Rattle.reiser_volume.specs.reiser_walk.declared.block_pointer.BlockPointer.{BlockPointer}
-use Rattle.reiser_volume.proofs.reiser_walk.Events.{items_in-append}
 use Rattle.reiser_make_laws.proofs.Held.{many_nodes, HasChildren, has_children, level_next}
 use Rattle.reiser_make_laws.proofs.Small.{length_contents}
 use Rattle.reiser_make_laws.proofs.Walked.{samples_walked}
-use Rattle.reiser_make_laws.specs.Walk.{met_item, leaf_items, laid_events, content, laid_content, SamplesHoldTheirItems}
 
 no_items : (ps : List BlockPointer) → items_of_events (map pointer ps) ≡ []
 no_items [] = refl

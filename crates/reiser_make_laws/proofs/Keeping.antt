@@ -1,33 +1,9 @@
 -- A sample keeps the rules of objects and of names.
-use Rattle.std.proofs.Common.{◌≡◌, ◌≢◌, inr, ⊎_elim, ℕ, zero, suc, ◌+◌, ◌-◌, ◌*◌, ◌/◌, ◌%◌, ◌^◌, ◌≤◌, ◌<◌, true, false, cond, ◌==◌, ◌&&◌, not, true≢false, List, [], ◌∷◌, length, map, get_or, refl, sym, ◌∙◌, ap, subst, arith, ne_eqb, Contains}
-use Rattle.std.specs.Prelude.{nat_lt}
-use Rattle.std.specs.List.{range_with_len, flat_map, list_any}
-use Rattle.std.proofs.lemmas.Bool.{cond_both, or_from}
-use Rattle.std.proofs.lemmas.Bool.Decides.{nat_tests}
-use Rattle.reiser_volume.specs.fs_rows.declared.row.Kind.TheVariants as kinds
-use Rattle.reiser_volume.specs.reiser_node.declared.head.ItemHead.{ItemHead}
-use Rattle.reiser_volume.specs.reiser_node.declared.head.ItemKind.TheVariants.{Indirect, Direct}
-use Rattle.reiser_volume.specs.reiser_items.Entries.{are_entries}
-use Rattle.reiser_volume.specs.reiser_items.declared.stat.StatData.{StatData}
-use Rattle.reiser_make.specs.Items as laid
-use Rattle.reiser_make.specs.Items.{items, items_of_content, directory_items, item, pointer_items, byte_items}
-use Rattle.reiser_make.specs.Names.{decimal, directory_name, file_name}
-use Rattle.reiser_make.specs.Shape.{Shape, directory_count, names_in, object_count, root_id, directory_id, file_id, named_by}
-use Rattle.reiser_make.specs.declared.sample_entry.SampleEntry.{SampleEntry}
-use Rattle.reiser_make.specs.declared.sample_entry.SampleEntry.TheVariants.{Name, Symlink, File}
-use Rattle.reiser_make.specs.declared.sample_item.Body.{Body}
-use Rattle.reiser_make.specs.declared.sample_item.Body.TheVariants.{Root, Names, Pointers, Bytes}
-use Rattle.reiser_make.specs.declared.sample_item.SampleItem as parts
-use Rattle.reiser_make.specs.declared.object.ObjectId.{ObjectId}
-use Rattle.reiser_volume.specs.reiser_walk.Items.{ReiserItem}
-use Rattle.reiser_volume.proofs.reiser_walk.Lists.{Each, Pairs, all_pairs_from_pairs}
-use Rattle.reiser_volume.specs.reiser_volume_objects.declared.key.ObjectKey.{ObjectKey}
-use Rattle.reiser_volume.specs.reiser_volume_objects.declared.naming.Naming.{Naming}
-use Rattle.reiser_volume.specs.reiser_volume_objects.Keys.{same_key, root}
-use Rattle.reiser_volume.specs.reiser_volume_objects.Names.{namings, IsNamed}
-use Rattle.reiser_volume.specs.reiser_volume_objects.Rules.{AreObjects, IsDirectory}
+use Rattle.reiser_make_laws.proofs.Imports.{◌≡◌, ◌≢◌, inr, ⊎_elim, ℕ, zero, suc, ◌+◌, ◌-◌, ◌*◌, ◌/◌, ◌%◌, ◌^◌, ◌≤◌, ◌<◌, true, false, cond, ◌==◌, ◌&&◌, not, true≢false, List, [], ◌∷◌, length, map, get_or, refl, sym, ◌∙◌, ap, subst, arith, ne_eqb, Contains, nat_lt, range_with_len, flat_map, list_any, cond_both, or_from, nat_tests, ItemHead, Indirect, Direct, are_entries, StatData, items, items_of_content, directory_items, item, pointer_items, byte_items, decimal, directory_name, file_name, Shape, directory_count, names_in, object_count, root_id, directory_id, file_id, named_by, SampleEntry, Name, Symlink, File, Body, Root, Names, Pointers, Bytes, ObjectId, ReiserItem, Each, Pairs, all_pairs_from_pairs, ObjectKey, Naming, same_key, root, namings, IsNamed, AreObjects, IsDirectory, is_name, saved_name, KeepsNameRules, AreNames, content, laid_content}
 use Rattle.reiser_volume.specs.reiser_volume_objects.Summary.{has_entries}
-use Rattle.reiser_volume.specs.reiser_volume_names.Names.{is_name, saved_name, KeepsNameRules, AreNames}
+use Rattle.reiser_volume.specs.fs_rows.declared.row.Kind.TheVariants as kinds
+use Rattle.reiser_make.specs.Items as laid
+use Rattle.reiser_make.specs.declared.sample_item.SampleItem as parts
 use Rattle.reiser_make_laws.proofs.Ascending.{each_to, each_join, either_each, pairs_append}
 use Rattle.reiser_make_laws.proofs.Crowding.{laid_short, counts_low, crowds_fit, extended_fit}
 use Rattle.reiser_make_laws.proofs.Found.{each_found}
@@ -36,7 +12,6 @@ use Rattle.reiser_make_laws.proofs.Named.{IsLaid, in_root, in_directory, IsKept,
 use Rattle.reiser_make_laws.proofs.Namings.{bare, root_naming, file_naming, root_row, names_row, laid_namings, root_formed, names_formed}
 use Rattle.reiser_make_laws.proofs.Objects.{IsSampleShape, IsNamedObject, IsNoDirectory, object_fields, same_kind, kind_one, directory_of, directory_stat, no_save_link, root_object, names_object, own_object}
 use Rattle.reiser_make_laws.proofs.Parts.{directory_key, file_key, root_items, names_items, file_items}
-use Rattle.reiser_make_laws.specs.Walk.{content, laid_content}
 
 -- bodies of directories are on the grammar of entries
 abbrev IsFormed : ItemHead × List ℕ → Type 0

@@ -1,29 +1,11 @@
 -- Which rules of trees a sample keeps.
-use Rattle.std.proofs.Common.{Bool, ◌≡◌, inl, inr, ℕ, zero, suc, ◌+◌, ◌≤◌, ◌<◌, List, [], ◌∷◌, ◌++◌, length, map, refl, sym, ◌∙◌, ap, subst, arith, All}
-use Rattle.std.specs.List.{range_with_len, flat_map}
-use Rattle.reiser_volume.specs.outside.History.{Image, block_at}
-use Rattle.reiser_make.specs.Inner.{node_place, leaf_at, level_nodes, root_level, first_child, child_count}
+use Rattle.reiser_make_laws.proofs.Imports.{Bool, ◌≡◌, inl, inr, ℕ, zero, suc, ◌+◌, ◌≤◌, ◌<◌, List, [], ◌∷◌, ◌++◌, length, map, refl, sym, ◌∙◌, ap, subst, arith, All, range_with_len, flat_map, Image, block_at, node_place, leaf_at, level_nodes, root_level, first_child, child_count, body_bytes, leaves, Shape, shape, leaves_some, root_low, nodes_some, ItemHead, ReiserItem, Event, pointer, item_events, held_by, blocks_named, IsNode, FitsHead, Visit, visits_in, BlockPointer, visits_in-append, Each, all_from_each, FitsSample, made, ReadsAs, leaf_items, laid_events, content, laid_content, SamplesKeepGrammar, SamplesFitTheirHeads}
 use Rattle.reiser_make.specs.Items as laid
-use Rattle.reiser_make.specs.Items.{body_bytes}
-use Rattle.reiser_make.specs.Leaf.{leaves}
-use Rattle.reiser_make.specs.Shape.{Shape, shape}
 use Rattle.reiser_make.specs.declared.sample_item.SampleItem as parts
-use Rattle.reiser_make.proofs.Counting.{leaves_some}
-use Rattle.reiser_make.proofs.Rising.{root_low, nodes_some}
-use Rattle.reiser_volume.specs.reiser_node.declared.head.ItemHead.{ItemHead}
-use Rattle.reiser_volume.specs.reiser_walk.Items.{ReiserItem, Event, pointer, item_events, held_by, blocks_named}
-use Rattle.reiser_volume.specs.reiser_walk.Laws.{IsNode, FitsHead}
-use Rattle.reiser_volume.specs.reiser_walk.Tree.{Visit, visits_in}
-use Rattle.reiser_volume.specs.reiser_walk.declared.block_pointer.BlockPointer.{BlockPointer}
-use Rattle.reiser_volume.proofs.reiser_walk.Events.{visits_in-append}
-use Rattle.reiser_volume.proofs.reiser_walk.Lists.{Each, all_from_each}
 use Rattle.reiser_make_laws.proofs.Held.{leaf_held, many_nodes, HasChildren, has_children}
 use Rattle.reiser_make_laws.proofs.Items.{samples_items}
 use Rattle.reiser_make_laws.proofs.Walked.{names_children, samples_walked}
 use Rattle.reiser_make_laws.proofs.Writable.{AreGood, sample_good}
-use Rattle.reiser_make_laws.specs.Laws.{FitsSample, made}
-use Rattle.reiser_make_laws.specs.Nodes.{ReadsAs}
-use Rattle.reiser_make_laws.specs.Walk.{leaf_items, laid_events, content, laid_content, SamplesKeepGrammar, SamplesFitTheirHeads}
 
 each_append : {X : Type 0} (P : X → Type 0) (xs ys : List X) → Each P xs → Each P ys → Each P (xs ++ ys)
 each_append P [] ys first second = second

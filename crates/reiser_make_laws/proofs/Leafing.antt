@@ -1,12 +1,5 @@
 -- The leaves of a sample have room for their items.
-use Rattle.std.proofs.Common.{◌≡◌, ℕ, zero, suc, ◌+◌, ◌-◌, ◌≤◌, ◌<◌, Bool, true, false, cond, List, [], ◌∷◌, ◌++◌, length, get_or, refl, arith, length-append}
-use Rattle.std.specs.Prelude.{nat_le}
-use Rattle.std.proofs.lemmas.Bool.Decides.{nat_tests}
-use Rattle.std.proofs.lemmas.List.Sums.{sum_by-append, sum_by-cons}
-use Rattle.reiser_make.specs.Items.{items}
-use Rattle.reiser_make.specs.Leaf.{bytes_taken, taken_by, node_room, packed_behind, leaves_of, leaves}
-use Rattle.reiser_make.specs.Shape.{Shape, shape}
-use Rattle.reiser_make.specs.declared.sample_item.SampleItem.{SampleItem}
+use Rattle.reiser_make_laws.proofs.Imports.{◌≡◌, ℕ, zero, suc, ◌+◌, ◌-◌, ◌≤◌, ◌<◌, Bool, true, false, cond, List, [], ◌∷◌, ◌++◌, length, get_or, refl, arith, length-append, nat_le, nat_tests, sum_by-append, sum_by-cons, items, bytes_taken, taken_by, node_room, packed_behind, leaves_of, leaves, Shape, shape, SampleItem}
 use Rattle.reiser_make_laws.proofs.Writable.{IsGood, AreGood, good-append, sample_good}
 
 -- a leaf that can be written

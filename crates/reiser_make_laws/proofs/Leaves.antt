@@ -1,22 +1,7 @@
 -- A leaf that was written reads back.
-use Rattle.std.proofs.Common.{◌≡◌, ℕ, zero, suc, ◌+◌, ◌-◌, ◌*◌, ◌≤◌, ◌<◌, List, [], ◌∷◌, ◌++◌, length, take, drop, replicate, get_or, refl, sym, ◌∙◌, ap, subst, arith, append_assoc, append-nil, length-append, length-take, length-drop, Some, None, All}
-use Rattle.std.specs.Prelude.{Option, IsSome, slice_range}
-use Rattle.std.proofs.Math.Seq.{drop-cons, drop-append_seam, take-append_seam, take-length}
-use Rattle.std.proofs.lemmas.List.{take-append-drop, take_more, get_or-take, get_or-drop, length-replicate}
-use Rattle.std.proofs.lemmas.List.Sums.{sum_by-cons, sum_by-append}
-use Rattle.byteorder.specs.Numbers.{little_number-reads_back}
-use Rattle.reiser_volume.specs.vol_block.Volume.{field}
-use Rattle.reiser_volume.specs.reiser_node.Head.{head_at, head_of_kind, kind_at}
-use Rattle.reiser_volume.specs.reiser_node.Leaf.{level, count, head_place, body_length, location, body_end, body_at, IsItem}
-use Rattle.reiser_volume.specs.reiser_node.declared.head.ItemHead.{ItemHead}
-use Rattle.reiser_volume.specs.reiser_node.declared.head.ItemKind.{ItemKind}
-use Rattle.reiser_make.specs.Items.{body_bytes}
-use Rattle.reiser_make.specs.Leaf.{bytes_taken, taken_by, node_room, node_head, heads_bytes, head_bytes, bodies, leaf_bytes, leaf_contents}
-use Rattle.reiser_make.specs.Shape.{Shape}
-use Rattle.reiser_make.specs.declared.sample_item.SampleItem.{SampleItem}
+use Rattle.reiser_make_laws.proofs.Imports.{◌≡◌, ℕ, zero, suc, ◌+◌, ◌-◌, ◌*◌, ◌≤◌, ◌<◌, List, [], ◌∷◌, ◌++◌, length, take, drop, replicate, get_or, refl, sym, ◌∙◌, ap, subst, arith, append_assoc, append-nil, length-append, length-take, length-drop, Some, None, All, Option, IsSome, slice_range, drop-cons, drop-append_seam, take-append_seam, take-length, take-append-drop, take_more, get_or-take, get_or-drop, length-replicate, sum_by-cons, sum_by-append, little_number-reads_back, field, head_at, head_of_kind, kind_at, level, count, head_place, body_length, location, body_end, body_at, IsItem, ItemHead, ItemKind, body_bytes, bytes_taken, taken_by, node_room, node_head, heads_bytes, head_bytes, bodies, leaf_bytes, leaf_contents, Shape, SampleItem, IsWritable, ReadsAs, LeavesReadBack}
 use Rattle.reiser_make.proofs.Storing.{lengths, head_size}
 use Rattle.reiser_make_laws.proofs.Heads.{HasRoomIn, field_behind, head_behind, head_reads, length_reads, location_reads}
-use Rattle.reiser_make_laws.specs.Nodes.{IsWritable, ReadsAs, LeavesReadBack}
 
 heads_split : (end : ℕ) (xs ys : List SampleItem) → heads_bytes end (xs ++ ys) ≡ heads_bytes end xs ++ heads_bytes (end - lengths xs) ys
 heads_split end [] ys = ap (λ n. heads_bytes n ys) (let same : end ≡ end - lengths [] = omega arith in same)

@@ -1,23 +1,10 @@
 -- Which blocks the bitmap of a sample marks.
-use Rattle.std.proofs.Common.{◌≡◌, ◌⊎◌, inl, inr, ℕ, zero, suc, ◌+◌, ◌*◌, ◌/◌, ◌%◌, ◌≤◌, ◌<◌, Bool, true, false, cond, ◌&&◌, ◌||◌, ◌==◌, List, length, map, refl, sym, ◌∙◌, ap, subst, arith, slice_index, eq-eqb, eqb-true, ne_eqb}
-use Rattle.std.specs.Prelude.{nat_lt, nat_le, Contains}
-use Rattle.std.specs.Int.{bit_at}
-use Rattle.std.proofs.lemmas.Bool.Decides.{nat_tests}
-use Rattle.std.proofs.lemmas.List.FromFn.{get_or-map-range_with_len}
-use Rattle.reiserfs_format.specs.declared.block.TheConstants.{BITS_IN_BLOCK, SUPER_BLOCK}
-use Rattle.reiser_volume.specs.outside.History.{Image, block_at}
-use Rattle.reiser_volume.specs.reiser_bitmap.Bits.{bit_of, has}
-use Rattle.reiser_volume.specs.reiser_bitmap.Layout.{bitmap_of, bitmap_block, is_marked}
-use Rattle.reiser_volume.specs.reiser_bitmap.System.{system_blocks, is_system, is_bitmap_block}
+use Rattle.reiser_make_laws.proofs.Imports.{◌≡◌, ◌⊎◌, inl, inr, ℕ, zero, suc, ◌+◌, ◌*◌, ◌/◌, ◌%◌, ◌≤◌, ◌<◌, Bool, true, false, cond, ◌&&◌, ◌||◌, ◌==◌, List, length, map, refl, sym, ◌∙◌, ap, subst, arith, eq-eqb, eqb-true, ne_eqb, nat_lt, nat_le, bit_at, nat_tests, get_or-map-range_with_len, BITS_IN_BLOCK, SUPER_BLOCK, Image, block_at, bit_of, has, bitmap_of, bitmap_block, is_marked, system_blocks, is_system, is_bitmap_block, superblock_fields, needed, total, is_taken, Shape, shape, system_below, total_some, made, SamplesMarkUsed, SamplesMarkSystem}
+use Rattle.std.proofs.Common.{slice_index}
+use Rattle.std.specs.Prelude.{Contains}
 use Rattle.reiser_volume.proofs.reiser_bitmap.MoreLaws.{system_pass}
-use Rattle.reiser_volume.specs.reiser_super.Superblock.{superblock_fields}
 use Rattle.reiser_make.specs.Bitmap.{bit, byte_of, marks, bitmap_bytes}
 use Rattle.reiser_make.specs.Bitmap as maps
-use Rattle.reiser_make.specs.Inner.{needed, total}
-use Rattle.reiser_make.specs.Places.{is_taken}
-use Rattle.reiser_make.specs.Shape.{Shape, shape}
-use Rattle.reiser_make.proofs.Placed.{system_below, total_some}
-use Rattle.reiser_make_laws.specs.Laws.{made, SamplesMarkUsed, SamplesMarkSystem}
 use Rattle.reiser_make_laws.proofs.Blocks.{system_is, bitmap_is}
 use Rattle.reiser_make_laws.proofs.Cleanness.{HasFields, super_made}
 

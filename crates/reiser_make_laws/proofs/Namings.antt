@@ -1,37 +1,12 @@
 -- The names that a reader finds in a sample.
-use Rattle.std.proofs.Common.{◌≡◌, ℕ, suc, ◌+◌, ◌-◌, ◌*◌, ◌^◌, ◌≤◌, ◌<◌, Bool, true, false, cond, ◌==◌, ◌||◌, not, List, [], ◌∷◌, ◌++◌, length, map, filter, get_or, refl, sym, ◌∙◌, ap, arith, append-nil, ne_eqb, codes}
-use Rattle.std.specs.List.{range_with_len, flat_map}
-use Rattle.std.proofs.lemmas.Bool.{or_from, cond_both}
-use Rattle.std.proofs.lemmas.List.Folds.{flat_map-map}
-use Rattle.std.proofs.lemmas.List.FromFn.{length-map-range_with_len}
-use Rattle.reiser_volume.specs.reiser_node.declared.head.ItemHead.{ItemHead}
-use Rattle.reiser_volume.specs.reiser_node.declared.head.ItemKind.{ItemKind}
-use Rattle.reiser_volume.specs.reiser_node.declared.head.ItemKind.TheVariants.{Stat, Indirect, Direct, Directory}
-use Rattle.reiser_volume.specs.reiser_items.Entries.{EntryValue, is_of_name, are_entries, entries}
-use Rattle.reiser_make.specs.Content.{is_further_name}
-use Rattle.reiser_make.specs.Directory.{entry, entries_bytes, directory_entry, root_entries, file_entry, directory_entries}
+use Rattle.reiser_make_laws.proofs.Imports.{◌≡◌, ℕ, suc, ◌+◌, ◌-◌, ◌*◌, ◌^◌, ◌≤◌, ◌<◌, Bool, true, false, cond, ◌==◌, ◌||◌, not, List, [], ◌∷◌, ◌++◌, length, map, filter, get_or, refl, sym, ◌∙◌, ap, arith, append-nil, ne_eqb, codes, range_with_len, flat_map, or_from, cond_both, flat_map-map, length-map-range_with_len, ItemHead, ItemKind, Stat, Indirect, Direct, Directory, EntryValue, is_of_name, are_entries, entries, is_further_name, entry, entries_bytes, directory_entry, root_entries, file_entry, directory_entries, items, items_of_content, directory_items, item, pointer_items, byte_items, body_bytes, directory_name, file_name, entry_offset, Shape, directory_count, names_in, object_count, root_id, above_root, directory_id, file_id, named_by, SampleEntry, Name, Symlink, File, Body, Root, Names, Pointers, Bytes, ObjectId, ReiserItem, Each, ObjectKey, Naming, object_key_of, root, is_listed, naming_by, namings_by_kind, namings_in, namings, content, laid_content}
 use Rattle.reiser_make.specs.Items as laid
-use Rattle.reiser_make.specs.Items.{items, items_of_content, directory_items, item, pointer_items, byte_items, body_bytes}
-use Rattle.reiser_make.specs.Names.{directory_name, file_name, entry_offset}
-use Rattle.reiser_make.specs.Shape.{Shape, directory_count, names_in, object_count, root_id, above_root, directory_id, file_id, named_by}
-use Rattle.reiser_make.specs.declared.sample_entry.SampleEntry.{SampleEntry}
-use Rattle.reiser_make.specs.declared.sample_entry.SampleEntry.TheVariants.{Name, Symlink, File}
-use Rattle.reiser_make.specs.declared.sample_item.Body.{Body}
-use Rattle.reiser_make.specs.declared.sample_item.Body.TheVariants.{Root, Names, Pointers, Bytes}
 use Rattle.reiser_make.specs.declared.sample_item.SampleItem as parts
-use Rattle.reiser_make.specs.declared.object.ObjectId.{ObjectId}
-use Rattle.reiser_volume.specs.reiser_walk.Items.{ReiserItem}
-use Rattle.reiser_volume.proofs.reiser_walk.Lists.{Each}
-use Rattle.reiser_volume.specs.reiser_volume_objects.declared.key.ObjectKey.{ObjectKey}
-use Rattle.reiser_volume.specs.reiser_volume_objects.declared.naming.Naming.{Naming}
-use Rattle.reiser_volume.specs.reiser_volume_objects.Keys.{object_key_of, root}
-use Rattle.reiser_volume.specs.reiser_volume_objects.Names.{is_listed, naming_by, namings_by_kind, namings_in, namings}
 use Rattle.reiser_make_laws.proofs.Ascending.{each_join, either_each}
 use Rattle.reiser_make_laws.proofs.Entries.{AreOfName, IsPlain, ArePlain, entries_back, entries_formed}
 use Rattle.reiser_make_laws.proofs.Items.{flat_join, map_split}
 use Rattle.reiser_make_laws.proofs.Lists.{each_row, filter_all, flat_flat, flat_same, flat_none, flat_row_none, map_map}
 use Rattle.reiser_make_laws.proofs.Parts.{key_by, directory_key, file_key, file_items, directory_laid, file_laid}
-use Rattle.reiser_make_laws.specs.Walk.{content, laid_content}
 
 -- a name without the leaf that it was found in
 abbrev pub bare : Naming → Naming

@@ -1,19 +1,6 @@
 -- An inner node that was written reads back.
-use Rattle.std.proofs.Common.{◌≡◌, ℕ, suc, ◌+◌, ◌-◌, ◌*◌, ◌^◌, ◌≤◌, ◌<◌, Bool, true, false, List, [], ◌∷◌, ◌++◌, length, take, drop, replicate, get_or, refl, sym, ◌∙◌, ap, arith, append_assoc, length-append, length-take, length-drop, All}
-use Rattle.std.specs.List.{flat_map}
-use Rattle.std.proofs.Math.Seq.{drop-cons}
-use Rattle.std.proofs.lemmas.List.{take-append-drop}
-use Rattle.byteorder.specs.Numbers.{little_number-reads_back}
-use Rattle.reiser_volume.specs.vol_block.Volume.{field}
-use Rattle.reiser_volume.specs.reiser_node.Leaf.{level, count}
-use Rattle.reiser_volume.specs.reiser_node.Inner.{child_block_at}
-use Rattle.reiser_volume.specs.reiser_node.declared.head.ItemHead.{ItemHead}
-use Rattle.reiser_volume.specs.reiser_node.declared.head.ItemKind.{ItemKind}
-use Rattle.reiser_make.specs.Inner.{inner_bytes, child_key, disk_child_bytes}
-use Rattle.reiser_make.specs.Leaf.{node_room, node_head, key_bytes}
-use Rattle.reiser_make.specs.declared.inner.DiskChild.{DiskChild}
+use Rattle.reiser_make_laws.proofs.Imports.{◌≡◌, ℕ, suc, ◌+◌, ◌-◌, ◌*◌, ◌^◌, ◌≤◌, ◌<◌, Bool, true, false, List, [], ◌∷◌, ◌++◌, length, take, drop, replicate, get_or, refl, sym, ◌∙◌, ap, arith, append_assoc, length-append, length-take, length-drop, All, flat_map, drop-cons, take-append-drop, little_number-reads_back, field, level, count, child_block_at, ItemHead, ItemKind, inner_bytes, child_key, disk_child_bytes, node_room, node_head, key_bytes, DiskChild, FitsPointer, NamesChildren, InnerNodesReadBack}
 use Rattle.reiser_make_laws.proofs.Heads.{field_behind}
-use Rattle.reiser_make_laws.specs.Nodes.{FitsPointer, NamesChildren, InnerNodesReadBack}
 
 flat_split : (f : DiskChild → List ℕ) (xs ys : List DiskChild) → flat_map f (xs ++ ys) ≡ flat_map f xs ++ flat_map f ys
 flat_split f [] ys = refl

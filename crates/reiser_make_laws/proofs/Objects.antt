@@ -1,37 +1,9 @@
 -- The objects of a sample are in order.
-use Rattle.std.proofs.Common.{◌≡◌, ◌≢◌, ◌⊎◌, inl, inr, ℕ, ◌+◌, ◌-◌, ◌*◌, ◌/◌, ◌%◌, ◌^◌, ◌≤◌, ◌<◌, Bool, true, false, cond, ◌&&◌, ◌==◌, List, [], ◌∷◌, ◌++◌, length, map, get_or, refl, ◌∙◌, ap, arith, Some, ne_eqb}
-use Rattle.std.specs.Prelude.{nat_lt, nat_le}
-use Rattle.std.specs.Int.{div_ceil}
-use Rattle.std.specs.List.{list_any}
-use Rattle.std.proofs.lemmas.Bool.{cond_both}
-use Rattle.std.proofs.lemmas.Bool.Decides.{nat_tests}
-use Rattle.std.proofs.lemmas.List.Folds.{list_any_none}
-use Rattle.vol_block.specs.declared.mode.TheConstants.{DIRECTORY_MODE}
-use Rattle.reiser_volume.specs.fs_rows.declared.row.Kind.{Kind}
-use Rattle.reiser_volume.specs.fs_rows.declared.row.Kind.TheVariants as kinds
-use Rattle.reiser_volume.specs.reiser_node.declared.head.ItemHead.{ItemHead}
-use Rattle.reiser_volume.specs.reiser_node.declared.head.ItemKind.TheVariants.{Indirect, Direct, Directory}
-use Rattle.reiser_volume.specs.reiser_items.declared.stat.StatData.{StatData}
-use Rattle.reiser_make.specs.Content.{IsSmallContent, is_further_name, is_symlink}
-use Rattle.reiser_make.specs.Items.{items, items_of_content, directory_items, item, stat_item, pointer_items, byte_items, attributes, base_time, no_direct_byte, file_units, first_direct_of, body_bytes}
-use Rattle.reiser_make.specs.Shape.{Shape, shape, directory_count, names_in, object_count, root_id, directory_id, file_id, name_count, stored_of}
-use Rattle.reiser_make.specs.declared.sample_entry.SampleEntry.{SampleEntry}
-use Rattle.reiser_make.specs.declared.sample_entry.SampleEntry.TheVariants.{Name, Symlink, File}
-use Rattle.reiser_make.specs.declared.sample_item.Body.{Body}
-use Rattle.reiser_make.specs.declared.sample_item.Body.TheVariants.{Root, Names, Pointers, Bytes, Target}
-use Rattle.reiser_make.specs.declared.sample_item.SampleItem as parts
-use Rattle.reiser_make.specs.declared.sample_item.Owner.TheVariants.{System, User}
-use Rattle.reiser_make.specs.declared.object.ObjectId.{ObjectId}
+use Rattle.reiser_make_laws.proofs.Imports.{◌≡◌, ◌≢◌, ◌⊎◌, inl, inr, ℕ, ◌+◌, ◌-◌, ◌*◌, ◌/◌, ◌%◌, ◌^◌, ◌≤◌, ◌<◌, Bool, true, false, cond, ◌&&◌, ◌==◌, List, [], ◌∷◌, ◌++◌, length, map, get_or, refl, ◌∙◌, ap, arith, Some, ne_eqb, nat_lt, nat_le, div_ceil, list_any, cond_both, nat_tests, list_any_none, DIRECTORY_MODE, Kind, ItemHead, Indirect, Direct, Directory, StatData, IsSmallContent, is_further_name, is_symlink, items, items_of_content, directory_items, item, stat_item, pointer_items, byte_items, attributes, base_time, no_direct_byte, file_units, first_direct_of, body_bytes, Shape, shape, directory_count, names_in, object_count, root_id, directory_id, file_id, name_count, stored_of, SampleEntry, Name, Symlink, File, Body, Root, Names, Pointers, Bytes, Target, System, User, ObjectId, ReiserItem, Each, Pairs, all_from_each, ObjectKey, ObjectStat, stat_of_object, root, items_of, kind_of_mode, fits_size, may_have, IsObject, IsDirectory, content, laid_content}
 use Rattle.reiser_volume.specs.reiser_walk.Bodies.{is_save_link}
-use Rattle.reiser_volume.specs.reiser_walk.Items.{ReiserItem}
-use Rattle.reiser_volume.proofs.reiser_walk.Lists.{Each, Pairs, all_from_each}
-use Rattle.reiser_volume.specs.reiser_volume_objects.declared.key.ObjectKey.{ObjectKey}
-use Rattle.reiser_volume.specs.reiser_volume_objects.declared.stat.ObjectStat.{ObjectStat}
-use Rattle.reiser_volume.specs.reiser_volume_objects.Items.{stat_of_object}
-use Rattle.reiser_volume.specs.reiser_volume_objects.Keys.{root, items_of}
-use Rattle.reiser_volume.specs.reiser_volume_objects.Kinds.{kind_of_mode, fits_size, may_have}
-use Rattle.reiser_volume.specs.reiser_volume_objects.Rules.{IsObject, IsDirectory}
 use Rattle.reiser_volume.proofs.reiser_volume_objects.Broken.{some_same}
+use Rattle.reiser_volume.specs.fs_rows.declared.row.Kind.TheVariants as kinds
+use Rattle.reiser_make.specs.declared.sample_item.SampleItem as parts
 use Rattle.reiser_make_laws.proofs.Ascending.{IsOf, dir_of, object_is, each_to, each_join, either_each}
 use Rattle.reiser_make_laws.proofs.Attributes.{read_back, HasStatRoom}
 use Rattle.reiser_make_laws.proofs.Found.{HasStatOf, first_found, fits_found, IsClear, apart_found, each_found}
@@ -39,7 +11,6 @@ use Rattle.reiser_make_laws.proofs.Lists.{each_rows}
 use Rattle.reiser_make_laws.proofs.Parts.{directory_key, file_key, file_items, of_root, of_directory, of_file}
 use Rattle.reiser_make_laws.proofs.Small.{AreSmall, small_at, contents_small, length_contents, IsOwn, contents_own, contents_links}
 use Rattle.reiser_make_laws.proofs.Writable.{pointers_body}
-use Rattle.reiser_make_laws.specs.Walk.{content, laid_content}
 
 -- an object in order, with this stat data and kind
 pub record IsSampleObject (s : Shape) (found : List ReiserItem) (key : ObjectKey) (kind : Kind) (stat : StatData) : Type 0 where

@@ -1,24 +1,10 @@
 -- The items of each object of a sample, among those that a reader finds.
-use Rattle.std.proofs.Common.{◌≡◌, ◌≢◌, ◌⊎◌, inl, inr, ⊎_elim, ℕ, zero, suc, ◌+◌, ◌-◌, ◌/◌, ◌≤◌, ◌<◌, Bool, true, false, cond, ◌==◌, List, [], ◌++◌, length, map, get_or, filter, refl, sym, ◌∙◌, ap, arith, append-nil, eq-eqb, ne_eqb}
-use Rattle.std.specs.Prelude.{nat_lt}
-use Rattle.std.proofs.lemmas.Bool.{and_from, and_right}
-use Rattle.std.proofs.lemmas.Bool.Decides.{nat_tests}
-use Rattle.std.proofs.lemmas.List.Elements.{filter-append}
-use Rattle.reiser_volume.specs.reiser_node.declared.head.ItemHead.{ItemHead}
+use Rattle.reiser_make_laws.proofs.Imports.{◌≡◌, ◌≢◌, ◌⊎◌, inl, inr, ⊎_elim, ℕ, zero, suc, ◌+◌, ◌-◌, ◌/◌, ◌≤◌, ◌<◌, Bool, true, false, cond, ◌==◌, List, [], ◌++◌, length, map, get_or, filter, refl, sym, ◌∙◌, ap, arith, append-nil, eq-eqb, ne_eqb, nat_lt, and_from, and_right, nat_tests, filter-append, ItemHead, items, items_from, items_of_content, directory_items, Shape, directory_count, names_in, object_count, root_id, directory_id, file_id, Name, Root, Names, ObjectId, ReiserItem, ObjectKey, same_key, object_key_of, root, items_of, content, laid_content}
 use Rattle.reiser_make.specs.Items as laid
-use Rattle.reiser_make.specs.Items.{items, items_from, items_of_content, directory_items}
-use Rattle.reiser_make.specs.Shape.{Shape, directory_count, names_in, object_count, root_id, directory_id, file_id}
-use Rattle.reiser_make.specs.declared.sample_entry.SampleEntry.TheVariants.{Name}
-use Rattle.reiser_make.specs.declared.sample_item.Body.TheVariants.{Root, Names}
 use Rattle.reiser_make.specs.declared.sample_item.SampleItem as parts
-use Rattle.reiser_make.specs.declared.object.ObjectId.{ObjectId}
-use Rattle.reiser_volume.specs.reiser_walk.Items.{ReiserItem}
-use Rattle.reiser_volume.specs.reiser_volume_objects.declared.key.ObjectKey.{ObjectKey}
-use Rattle.reiser_volume.specs.reiser_volume_objects.Keys.{same_key, object_key_of, root, items_of}
 use Rattle.reiser_make_laws.proofs.Ascending.{IsOf, dir_of, object_is, each_to}
 use Rattle.reiser_make_laws.proofs.Items.{flat_join}
 use Rattle.reiser_make_laws.proofs.Lists.{map_filter, filter_none, filter_all}
-use Rattle.reiser_make_laws.specs.Walk.{content, laid_content}
 
 -- an object by its numbers, as readers and as the layout have them
 abbrev pub key_by : ObjectId → ObjectKey

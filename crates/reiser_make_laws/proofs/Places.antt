@@ -1,21 +1,5 @@
 -- No two blocks of a sample go to one place, so each block has what the layout gives.
-use Rattle.std.proofs.Common.{◌≡◌, ◌≢◌, ℕ, zero, suc, ◌+◌, ◌-◌, ◌*◌, ◌≤◌, ◌<◌, List, [], ◌∷◌, ◌++◌, length, map, take, get_or, sym, ◌∙◌, ap, subst, arith, slice_index_or, append_assoc}
-use Rattle.std.specs.Prelude.{slice_set}
-use Rattle.std.specs.List.{range_with_len, flat_map, sum_by}
-use Rattle.std.proofs.Math.Seq.{take-length}
-use Rattle.std.proofs.lemmas.List.{get_or-set_same, take_more}
-use Rattle.std.proofs.lemmas.List.Sums.{sum_by-append}
-use Rattle.reiserfs_format.specs.declared.block.TheConstants.{BITS_IN_BLOCK}
-use Rattle.reiser_volume.specs.outside.History.{Image, block_at}
-use Rattle.reiser_make.specs.Inner.{needed, total, root_level, level_nodes, nodes_below}
-use Rattle.reiser_make.specs.Layout.{Placed, laid_over, volume_blocks, system_part, system_row, system_placed, data_part, data_of_name, data_of_content, data_placed, leaf_part, leaf_placed, inner_part, level_part, inner_placed, bitmap_part, bitmap_placed}
-use Rattle.reiser_make.specs.Leaf.{leaves}
-use Rattle.reiser_make.specs.Places.{place, bitmap_blocks}
-use Rattle.reiser_make.specs.Shape.{Shape, stored_before, stored_in, stored_blocks, stored_of}
-use Rattle.reiser_make.specs.declared.sample_entry.SampleEntry.{SampleEntry}
-use Rattle.reiser_make.specs.declared.sample_entry.SampleEntry.TheVariants.{Name, Symlink, File}
-use Rattle.reiser_make.proofs.Rising.{root_low}
-use Rattle.reiser_make_laws.specs.Laws.{SamplesHoldTheirBlocks}
+use Rattle.reiser_make_laws.proofs.Imports.{◌≡◌, ◌≢◌, ℕ, zero, suc, ◌+◌, ◌-◌, ◌*◌, ◌≤◌, ◌<◌, List, [], ◌∷◌, ◌++◌, length, map, take, get_or, sym, ◌∙◌, ap, subst, arith, slice_index_or, append_assoc, slice_set, range_with_len, flat_map, sum_by, take-length, get_or-set_same, take_more, sum_by-append, BITS_IN_BLOCK, Image, block_at, needed, total, root_level, level_nodes, nodes_below, Placed, laid_over, volume_blocks, system_part, system_row, system_placed, data_part, data_of_name, data_of_content, data_placed, leaf_part, leaf_placed, inner_part, level_part, inner_placed, bitmap_part, bitmap_placed, leaves, place, bitmap_blocks, Shape, stored_before, stored_in, stored_blocks, stored_of, SampleEntry, Name, Symlink, File, root_low, SamplesHoldTheirBlocks}
 use Rattle.reiser_make_laws.proofs.Blocks.{Away, away-append, away_row, later_keeps, length-set}
 
 -- the blocks of a list go to places of their own

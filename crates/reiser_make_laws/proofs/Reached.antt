@@ -1,26 +1,12 @@
 -- The blocks that a walk of a sample reaches: used ones, none of the volume's own, and each once.
-use Rattle.std.proofs.Common.{◌≡◌, ◌≢◌, ◌⊎◌, inl, inr, ℕ, zero, suc, ◌+◌, ◌-◌, ◌≤◌, ◌<◌, Bool, List, [], ◌∷◌, ◌++◌, length, map, get_or, refl, sym, ◌∙◌, ap, subst, arith, append-nil, length-append}
-use Rattle.std.specs.Prelude.{nat_lt}
-use Rattle.std.specs.List.{range_with_len, flat_map}
-use Rattle.reiser_volume.specs.outside.History.{Image}
-use Rattle.reiser_make.specs.Inner.{total, node_place, leaf_at, level_nodes, nodes_below, nodes_above, root_level, first_child, end_child, child_count}
+use Rattle.reiser_make_laws.proofs.Imports.{◌≡◌, ◌≢◌, ◌⊎◌, inl, inr, ℕ, zero, suc, ◌+◌, ◌-◌, ◌≤◌, ◌<◌, Bool, List, [], ◌∷◌, ◌++◌, length, map, get_or, refl, sym, ◌∙◌, ap, subst, arith, append-nil, length-append, nat_lt, range_with_len, flat_map, Image, total, node_place, leaf_at, level_nodes, nodes_below, nodes_above, root_level, first_child, end_child, child_count, leaves, place, Shape, shape, stored_in, Event, pointer, item_events, held_by, reached_in, BlockPointer, reached_in-append, Each, Pairs, FitsSample, made, met_item, leaf_items, laid_events}
 use Rattle.reiser_make.specs.Items as laid
-use Rattle.reiser_make.specs.Leaf.{leaves}
-use Rattle.reiser_make.specs.Places.{place}
-use Rattle.reiser_make.specs.Shape.{Shape, shape, stored_in}
 use Rattle.reiser_make.specs.declared.sample_item.SampleItem as parts
-use Rattle.reiser_volume.specs.reiser_walk.Items.{Event, pointer, item_events, held_by}
-use Rattle.reiser_volume.specs.reiser_walk.Tree.{reached_in}
-use Rattle.reiser_volume.specs.reiser_walk.declared.block_pointer.BlockPointer.{BlockPointer}
-use Rattle.reiser_volume.proofs.reiser_walk.Events.{reached_in-append}
-use Rattle.reiser_volume.proofs.reiser_walk.Lists.{Each, Pairs}
 use Rattle.reiser_make_laws.proofs.Ascending.{each_join, each_to, pairs_append}
 use Rattle.reiser_make_laws.proofs.Data.{item_blocks, list_blocks, Runs, runs_split, runs_end, flat_split, sample_runs}
 use Rattle.reiser_make_laws.proofs.Held.{many_nodes, HasChildren, has_children}
 use Rattle.reiser_make_laws.proofs.Items.{edge, edge_in, end_edge_by, one_leaf_by, joined, leaves_joined, map_split}
 use Rattle.reiser_make_laws.proofs.Places.{below_next}
-use Rattle.reiser_make_laws.specs.Laws.{FitsSample, made}
-use Rattle.reiser_make_laws.specs.Walk.{met_item, leaf_items, laid_events}
 
 -- how many blocks of data the first leaves name
 abbrev pub data_edge : Shape → List (List parts.SampleItem) → ℕ → ℕ

@@ -1,30 +1,7 @@
 -- The rows of a sample are those of its volume.
-use Rattle.std.proofs.Common.{◌≡◌, ℕ, ◌+◌, ◌-◌, ◌*◌, ◌/◌, ◌%◌, ◌<◌, Bool, true, false, cond, ◌&&◌, List, [], ◌∷◌, length, map, get_or, refl, sym, ◌∙◌, ap, subst, arith, eqb-true, ne_eqb, Contains}
-use Rattle.std.specs.Prelude.{nat_le}
-use Rattle.std.specs.Int.{div_ceil}
-use Rattle.std.specs.List.{range_with_len, flat_map}
-use Rattle.vol_block.specs.declared.mode.TheConstants.{DIRECTORY_MODE}
-use Rattle.reiser_volume.specs.outside.History.{Image, block_at}
-use Rattle.reiser_volume.specs.fs_rows.Rows.{NameList, WholeRow}
+use Rattle.reiser_make_laws.proofs.Imports.{◌≡◌, ℕ, ◌+◌, ◌-◌, ◌*◌, ◌/◌, ◌%◌, ◌<◌, Bool, true, false, cond, ◌&&◌, List, [], ◌∷◌, length, map, get_or, refl, sym, ◌∙◌, ap, subst, arith, eqb-true, ne_eqb, Contains, nat_le, div_ceil, range_with_len, flat_map, DIRECTORY_MODE, Image, block_at, NameList, WholeRow, Contains-append_right, contents, is_further_name, is_symlink, IsSmallContent, items, base_time, file_units, first_direct_of, no_direct_byte, directory_name, place, directory_row, path_of, content_row, sample_rows, Shape, shape, directory_count, names_in, named_by, name_count, stored_before, stored_of, stored_block, sample_bytes, SampleEntry, Name, Symlink, File, System, User, ReiserItem, Each, ObjectKey, Naming, root, items_of, namings, IsRow, AreReiserRows, superblock, volume_items, made, content, laid_content}
+use Rattle.reiser_make_laws.specs.Rows.{SamplesHaveTheirRows, SamplesAreAsDescribed}
 use Rattle.reiser_volume.specs.fs_rows.declared.row.Kind.TheVariants as kinds
-use Rattle.std.proofs.lemmas.List.Elements.{Contains-append_right}
-use Rattle.reiser_make.specs.Content.{contents, is_further_name, is_symlink, IsSmallContent}
-use Rattle.reiser_make.specs.Items.{items, base_time, file_units, first_direct_of, no_direct_byte}
-use Rattle.reiser_make.specs.Names.{directory_name}
-use Rattle.reiser_make.specs.Places.{place}
-use Rattle.reiser_make.specs.Rows.{directory_row, path_of, content_row, sample_rows}
-use Rattle.reiser_make.specs.Shape.{Shape, shape, directory_count, names_in, named_by, name_count, stored_before, stored_of, stored_block, sample_bytes}
-use Rattle.reiser_make.specs.declared.sample_entry.SampleEntry.{SampleEntry}
-use Rattle.reiser_make.specs.declared.sample_entry.SampleEntry.TheVariants.{Name, Symlink, File}
-use Rattle.reiser_make.specs.declared.sample_item.Owner.TheVariants.{System, User}
-use Rattle.reiser_volume.specs.reiser_walk.Items.{ReiserItem}
-use Rattle.reiser_volume.proofs.reiser_walk.Lists.{Each}
-use Rattle.reiser_volume.specs.reiser_volume_objects.declared.key.ObjectKey.{ObjectKey}
-use Rattle.reiser_volume.specs.reiser_volume_objects.declared.naming.Naming.{Naming}
-use Rattle.reiser_volume.specs.reiser_volume_objects.Keys.{root, items_of}
-use Rattle.reiser_volume.specs.reiser_volume_objects.Names.{namings}
-use Rattle.reiser_volume.specs.Rows.{IsRow, AreReiserRows}
-use Rattle.reiser_volume.specs.Volume.{superblock, volume_items}
 use Rattle.reiser_make_laws.proofs.Accepted.{accepted, found_items}
 use Rattle.reiser_make_laws.proofs.Attributes.{read_back}
 use Rattle.reiser_make_laws.proofs.Climbing.{rows_ascend}
@@ -39,9 +16,6 @@ use Rattle.reiser_make_laws.proofs.Objects.{IsSampleShape, shape_is, directory_s
 use Rattle.reiser_make_laws.proofs.Parts.{directory_key, file_key, of_file}
 use Rattle.reiser_make_laws.proofs.Small.{IsOwn, length_contents, small_at}
 use Rattle.reiser_make_laws.proofs.Ways.{IsPath, at_root, at_directory, at_name, path_leads, leads_path, root_least, directory_least, name_least}
-use Rattle.reiser_make_laws.specs.Laws.{made}
-use Rattle.reiser_make_laws.specs.Rows.{SamplesHaveTheirRows, SamplesAreAsDescribed}
-use Rattle.reiser_make_laws.specs.Walk.{content, laid_content}
 
 -- a symlink has one name
 one_name : (number j : ℕ) → is_symlink j ≡ true → name_count number j ≡ 1

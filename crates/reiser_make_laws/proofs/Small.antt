@@ -1,9 +1,6 @@
 -- What the names of a sample stand for is small, and only a further name stands for no object of its own.
-use Rattle.std.proofs.Common.{◌≡◌, ℕ, zero, suc, ◌+◌, ◌<◌, Bool, true, false, cond, ◌==◌, List, [], ◌∷◌, length, get_or, refl, sym, subst, arith}
-use Rattle.reiser_make.specs.Content.{contents, contents_from, content_of, file_of, is_further_name, is_symlink, IsSmallContent, state_after}
+use Rattle.reiser_make_laws.proofs.Imports.{◌≡◌, ℕ, zero, suc, ◌+◌, ◌<◌, Bool, true, false, cond, ◌==◌, List, [], ◌∷◌, length, get_or, refl, sym, subst, arith, contents, contents_from, content_of, file_of, is_further_name, is_symlink, IsSmallContent, state_after, SampleEntry, Name, Symlink, File}
 use Rattle.reiser_make.specs.Draw.{drawn, next_state}
-use Rattle.reiser_make.specs.declared.sample_entry.SampleEntry.{SampleEntry}
-use Rattle.reiser_make.specs.declared.sample_entry.SampleEntry.TheVariants.{Name, Symlink, File}
 
 abbrev pub AreSmall : List SampleEntry → Type 0
 AreSmall [] = Unit {0}

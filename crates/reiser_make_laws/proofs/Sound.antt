@@ -1,25 +1,6 @@
 -- A sample keeps the rules of trees.
-use Rattle.std.proofs.Common.{◌≡◌, ◌≢◌, ◌⊎◌, inl, inr, ℕ, ◌+◌, ◌/◌, ◌≤◌, ◌<◌, Bool, true, false, ◌&&◌, ◌||◌, ◌==◌, List, length, refl, sym, ◌∙◌, ap, subst, arith, All, ne_eqb}
-use Rattle.std.specs.Prelude.{nat_le, AllPairs}
-use Rattle.std.proofs.lemmas.Bool.Decides.{nat_tests}
-use Rattle.std.proofs.lemmas.List.FromFn.{length-map-range_with_len}
-use Rattle.reiserfs_format.specs.declared.block.TheConstants.{BITS_IN_BLOCK, SUPER_BLOCK}
-use Rattle.reiser_volume.specs.outside.History.{Image, block_at}
-use Rattle.reiser_volume.specs.reiser_bitmap.Bits.{has}
-use Rattle.reiser_volume.specs.reiser_bitmap.Layout.{bitmap_block, is_marked}
-use Rattle.reiser_volume.specs.reiser_bitmap.System.{is_system, is_bitmap_block}
-use Rattle.reiser_make.specs.Inner.{needed, total, root_level, level_nodes}
-use Rattle.reiser_make.specs.Leaf.{leaves}
-use Rattle.reiser_make.specs.Places.{place}
-use Rattle.reiser_make.specs.Shape.{Shape, shape}
-use Rattle.reiser_make.proofs.Placed.{place_below}
-use Rattle.reiser_make.proofs.Rising.{root_low}
-use Rattle.reiser_volume.specs.reiser_walk.Items.{Event}
-use Rattle.reiser_volume.specs.reiser_walk.Tree.{reached_in}
-use Rattle.reiser_volume.specs.reiser_walk.declared.block_pointer.BlockPointer.{BlockPointer}
-use Rattle.reiser_volume.proofs.reiser_walk.Lists.{all_from_each, all_pairs_from_pairs}
+use Rattle.reiser_make_laws.proofs.Imports.{◌≡◌, ◌≢◌, ◌⊎◌, inl, inr, ℕ, ◌+◌, ◌/◌, ◌≤◌, ◌<◌, Bool, true, false, ◌&&◌, ◌||◌, ◌==◌, List, length, refl, sym, ◌∙◌, ap, subst, arith, All, ne_eqb, nat_le, AllPairs, nat_tests, length-map-range_with_len, BITS_IN_BLOCK, SUPER_BLOCK, Image, block_at, has, bitmap_block, is_marked, is_system, is_bitmap_block, needed, total, root_level, level_nodes, leaves, place, Shape, shape, place_below, root_low, Event, reached_in, BlockPointer, all_from_each, all_pairs_from_pairs, superblock, used_of, reiser_tree_of, FitsSample, made, laid_events, SamplesKeepTreeRules, SampleTreesAreSound}
 use Rattle.reiser_volume.proofs.reiser_walk.Rules.{sound_exactly}
-use Rattle.reiser_volume.specs.Volume.{superblock, used_of, reiser_tree_of}
 use Rattle.reiser_make_laws.proofs.Ascending.{ascend, each_to}
 use Rattle.reiser_make_laws.proofs.Cleanness.{HasFields, super_made}
 use Rattle.reiser_make_laws.proofs.Items.{edge, edge_in, edge_out, first_leaf_zero, one_root}
@@ -29,8 +10,6 @@ use Rattle.reiser_make_laws.proofs.Places.{place_no_map}
 use Rattle.reiser_make_laws.proofs.Reached.{Reaches, Below, IsPlaced, placed, level_reaches}
 use Rattle.reiser_make_laws.proofs.Small.{length_contents}
 use Rattle.reiser_make_laws.proofs.Walked.{samples_walked}
-use Rattle.reiser_make_laws.specs.Laws.{FitsSample, made}
-use Rattle.reiser_make_laws.specs.Walk.{laid_events, SamplesKeepTreeRules, SampleTreesAreSound}
 
 none_of : (a b c d : Bool) → a ≡ false → b ≡ false → d ≡ false → (a || (b || (c && d))) ≡ false
 none_of true b c d is-a is-b is-d = cc

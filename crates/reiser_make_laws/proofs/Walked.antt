@@ -1,32 +1,9 @@
 -- A walk of a sample meets the nodes of its layout.
-use Rattle.std.proofs.Common.{◌≡◌, ℕ, zero, suc, ◌+◌, ◌-◌, ◌≤◌, ◌<◌, Bool, true, false, cond, ◌&&◌, List, [], ◌∷◌, ◌++◌, length, map, drop, get_or, refl, sym, ◌∙◌, ap, subst, arith, Some}
-use Rattle.std.specs.Prelude.{nat_lt}
-use Rattle.std.specs.List.{range_with_len, flat_map}
-use Rattle.std.proofs.Math.Seq.{drop-cons, drop-length}
-use Rattle.std.proofs.lemmas.Bool.Decides.{nat_tests}
-use Rattle.std.proofs.lemmas.List.FromFn.{get_or-map-range_with_len, length-map-range_with_len}
-use Rattle.reiserfs_format.specs.declared.block.TheConstants.{SUPER_BLOCK}
-use Rattle.reiser_volume.specs.outside.History.{Image, block_at}
-use Rattle.reiser_volume.specs.reiser_bitmap.Layout.{is_marked}
-use Rattle.reiser_make.specs.Inner.{needed, node_place, leaf_at, level_nodes, root_level, first_child, child_count, child, children}
-use Rattle.reiser_make.specs.Leaf.{leaves}
-use Rattle.reiser_make.specs.Shape.{Shape, shape}
-use Rattle.reiser_make.specs.declared.inner.DiskChild.{DiskChild}
-use Rattle.reiser_make.specs.declared.sample_item.SampleItem as parts
-use Rattle.reiser_make.proofs.Placed.{node_below}
-use Rattle.reiser_make.proofs.Rising.{root_low, nodes_some}
-use Rattle.reiser_make.proofs.Counting.{leaves_some}
-use Rattle.reiser_volume.specs.reiser_node.Inner.{is_inner, child_block_at}
-use Rattle.reiser_volume.specs.reiser_node.Leaf.{count, is_leaf}
+use Rattle.reiser_make_laws.proofs.Imports.{◌≡◌, ℕ, zero, suc, ◌+◌, ◌-◌, ◌≤◌, ◌<◌, Bool, true, false, cond, ◌&&◌, List, [], ◌∷◌, ◌++◌, length, map, drop, get_or, refl, sym, ◌∙◌, ap, subst, arith, Some, nat_lt, range_with_len, flat_map, drop-cons, drop-length, nat_tests, get_or-map-range_with_len, length-map-range_with_len, SUPER_BLOCK, Image, block_at, is_marked, needed, node_place, leaf_at, level_nodes, root_level, first_child, child_count, child, children, leaves, Shape, shape, DiskChild, node_below, root_low, nodes_some, leaves_some, is_inner, child_block_at, count, is_leaf, Event, node, item_events, item_at, item_of, events_of, leaf_events, node_events, at_children, tree_events, superblock, used_of, reiser_tree_of, FitsSample, made, ReadsAs, NamesChildren, met_item, leaf_items, laid_events, SamplesAreWalked}
 use Rattle.reiser_volume.proofs.reiser_node.Grammar.{leaf_decides, inner_decides}
-use Rattle.reiser_volume.specs.reiser_walk.Items.{Event, node, item_events, item_at, item_of, events_of, leaf_events}
-use Rattle.reiser_volume.specs.reiser_walk.Tree.{node_events, at_children, tree_events}
-use Rattle.reiser_volume.specs.Volume.{superblock, used_of, reiser_tree_of}
+use Rattle.reiser_make.specs.declared.sample_item.SampleItem as parts
 use Rattle.reiser_make_laws.proofs.Cleanness.{HasFields, super_made}
 use Rattle.reiser_make_laws.proofs.Held.{leaf_held, inner_held, many_nodes, HasChildren, has_children}
-use Rattle.reiser_make_laws.specs.Laws.{FitsSample, made}
-use Rattle.reiser_make_laws.specs.Nodes.{ReadsAs, NamesChildren}
-use Rattle.reiser_make_laws.specs.Walk.{met_item, leaf_items, laid_events, SamplesAreWalked}
 
 -- the items of a leaf from item i on
 leaf_walk : (s : Shape) (b : ℕ) (bytes : List ℕ) (items : List parts.SampleItem) (d : parts.SampleItem) → ReadsAs s items bytes → (i k : ℕ) → i + k ≡ length items

@@ -1,29 +1,11 @@
 -- Which paths lead where in a sample: the root's, one for each directory, and one for each name of a file.
-use Rattle.std.proofs.Common.{◌≡◌, ◌⊎◌, inl, inr, ℕ, ◌-◌, ◌*◌, ◌/◌, ◌≤◌, ◌<◌, true, List, [], ◌∷◌, length, map, refl, sym, ◌∙◌, ap, subst, arith, Contains}
-use Rattle.std.specs.List.{range_with_len, flat_map}
-use Rattle.std.specs.Ordering.{is_le}
-use Rattle.std.proofs.lemmas.Bool.{cond_both}
-use Rattle.std.proofs.lemmas.List.Elements.{Contains-append_left, Contains-append_right}
-use Rattle.reiser_volume.specs.fs_rows.Rows.{NameList, path_cmp}
-use Rattle.reiser_make.specs.Content.{is_further_name}
-use Rattle.reiser_make.specs.Items.{items}
-use Rattle.reiser_make.specs.Names.{directory_name}
-use Rattle.reiser_make.specs.Rows.{path_of}
-use Rattle.reiser_make.specs.Shape.{Shape, directory_count, names_in, named_by}
-use Rattle.reiser_volume.specs.reiser_walk.Items.{ReiserItem}
-use Rattle.reiser_volume.specs.reiser_volume_objects.declared.key.ObjectKey.{ObjectKey}
-use Rattle.reiser_volume.specs.reiser_volume_objects.declared.naming.Naming.{Naming}
-use Rattle.reiser_volume.specs.reiser_volume_objects.Keys.{root}
-use Rattle.reiser_volume.specs.reiser_volume_objects.Names.{namings}
-use Rattle.reiser_volume.proofs.fs_paths.Lists.{from_map}
-use Rattle.reiser_volume.specs.Rows.{LeadsToObject, IsLeastPath}
+use Rattle.reiser_make_laws.proofs.Imports.{◌≡◌, ◌⊎◌, inl, inr, ℕ, ◌-◌, ◌*◌, ◌/◌, ◌≤◌, ◌<◌, true, List, [], ◌∷◌, length, map, refl, sym, ◌∙◌, ap, subst, arith, Contains, range_with_len, flat_map, is_le, cond_both, Contains-append_left, Contains-append_right, NameList, path_cmp, is_further_name, items, directory_name, path_of, Shape, directory_count, names_in, named_by, ReiserItem, ObjectKey, Naming, root, namings, from_map, LeadsToObject, IsLeastPath, content, laid_content}
 use Rattle.reiser_make_laws.proofs.Held.{in_row, in_rows}
 use Rattle.reiser_make_laws.proofs.Keeping.{dir_number, object_number}
 use Rattle.reiser_make_laws.proofs.Named.{IsLaid, in_root, in_directory, names_are, laid}
 use Rattle.reiser_make_laws.proofs.Namings.{bare, root_naming, file_naming, root_row, names_row, laid_namings}
 use Rattle.reiser_make_laws.proofs.Parts.{directory_key, file_key}
 use Rattle.reiser_make_laws.proofs.Sorting.{path_less, path_same}
-use Rattle.reiser_make_laws.specs.Walk.{content, laid_content}
 
 -- a path and what it leads to
 pub data IsPath (number : ℕ) (path : NameList) (key : ObjectKey) : Type 0 where

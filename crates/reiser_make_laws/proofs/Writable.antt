@@ -1,28 +1,7 @@
 -- Each item of a sample has room in a leaf, its numbers in a head, and a body of the length that its head says.
-use Rattle.std.proofs.Common.{◌≡◌, inr, ℕ, zero, suc, ◌+◌, ◌-◌, ◌*◌, ◌^◌, ◌≤◌, ◌<◌, Bool, true, false, cond, ◌==◌, List, [], ◌∷◌, ◌++◌, length, map, get_or, refl, ◌∙◌, ap, arith, length-append, All}
-use Rattle.std.specs.Prelude.{nat_lt}
-use Rattle.std.specs.List.{range_with_len, flat_map}
-use Rattle.std.proofs.lemmas.List.FromFn.{length-map-range_with_len}
-use Rattle.std.proofs.lemmas.List.Elements.{All-cons}
-use Rattle.byteorder.specs.Endian.{little_bytes}
-use Rattle.reiser_volume.specs.reiser_items.Entries.{EntryValue}
-use Rattle.reiser_volume.specs.reiser_items.Stat.{stat_length}
-use Rattle.reiser_volume.specs.reiser_items.declared.stat.StatData.{StatData}
-use Rattle.reiser_volume.specs.reiser_walk.Laws.{FitsHead}
-use Rattle.reiser_make.specs.Content.{IsSmallContent}
-use Rattle.reiser_make.specs.Directory.{padded, entry_heads, entry_names, entries_length, entries_bytes, directory_entry, root_entries, file_entry, directory_entries}
-use Rattle.reiser_make.specs.Items.{items, items_from, items_of_name, items_of_content, stat_item, directory_items, pointer_items, byte_items, body_bytes, pointers_of_content, rest_of_content}
-use Rattle.reiser_make.specs.Names.{file_name}
-use Rattle.reiser_make.specs.Shape.{Shape, shape, directory_count, names_in, object_count, root_id, directory_id, file_id, sample_bytes, pointer, stored_before}
-use Rattle.reiser_make.specs.declared.sample_entry.SampleEntry.{SampleEntry}
-use Rattle.reiser_make.specs.declared.sample_entry.SampleEntry.TheVariants.{Name, Symlink, File}
-use Rattle.reiser_make.specs.declared.sample_item.Body.{Body}
-use Rattle.reiser_make.specs.declared.sample_item.Body.TheVariants.{Attributes, Root, Names, Pointers, Bytes, Target}
-use Rattle.reiser_make.specs.declared.sample_item.SampleItem.{SampleItem}
-use Rattle.reiser_make.specs.declared.object.ObjectId.{ObjectId}
-use Rattle.reiser_make.proofs.Entering.{directory_short, file_short}
+use Rattle.reiser_make_laws.proofs.Imports.{◌≡◌, inr, ℕ, zero, suc, ◌+◌, ◌-◌, ◌*◌, ◌^◌, ◌≤◌, ◌<◌, Bool, true, false, cond, ◌==◌, List, [], ◌∷◌, ◌++◌, length, map, get_or, refl, ◌∙◌, ap, arith, length-append, All, nat_lt, range_with_len, flat_map, length-map-range_with_len, All-cons, little_bytes, EntryValue, stat_length, StatData, FitsHead, IsSmallContent, padded, entry_heads, entry_names, entries_length, entries_bytes, directory_entry, root_entries, file_entry, directory_entries, items, items_from, items_of_name, items_of_content, stat_item, directory_items, pointer_items, byte_items, body_bytes, pointers_of_content, rest_of_content, file_name, Shape, shape, directory_count, names_in, object_count, root_id, directory_id, file_id, sample_bytes, stored_before, SampleEntry, Name, Symlink, File, Body, Attributes, Root, Names, Pointers, Bytes, Target, SampleItem, ObjectId, directory_short, file_short, IsWritable}
+use Rattle.reiser_make.specs.Shape.{pointer}
 use Rattle.reiser_make_laws.proofs.Small.{AreSmall, contents_small, length_contents, small_at}
-use Rattle.reiser_make_laws.specs.Nodes.{IsWritable}
 
 -- an item that can be written and fits into a leaf
 pub record IsGood (s : Shape) (item : SampleItem) : Type 0 where

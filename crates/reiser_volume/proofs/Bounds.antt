@@ -1,45 +1,13 @@
 -- What an accepted volume holds is bounded by its blocks.
-use Rattle.std.proofs.Common.{◌≡◌, ◌≢◌, ℕ, zero, suc, ◌+◌, ◌-◌, ◌*◌, ◌^◌, ◌<◌, ◌≤◌, Bool, true, false, cond, List, [], ◌∷◌, ◌++◌, map, filter, flat_map, length, drop, sum_by, Contains, AllPairs, Option, Some, None, if◌then◌else◌, eqb, refl, sym, ap, subst, ◌∙◌, arith}
-use Rattle.std.proofs.lemmas.Bool.{eqb-true, ne_eqb}
-use Rattle.std.proofs.lemmas.List.{length-append, length-map, length-take}
-use Rattle.std.proofs.lemmas.List.Elements.{All-contains}
-use Rattle.std.proofs.lemmas.List.Sums.{sum_by-cons, sum_by-append, sum_by-le, sum_by-le-sum_by}
-use Rattle.std.proofs.lemmas.Map.Keys.{IsDistinct-from_apart}
+use Rattle.reiser_volume.proofs.Imports.{◌≡◌, ◌≢◌, ℕ, zero, suc, ◌+◌, ◌-◌, ◌*◌, ◌^◌, ◌<◌, ◌≤◌, Bool, true, false, cond, List, [], ◌∷◌, ◌++◌, map, filter, flat_map, length, drop, sum_by, Contains, AllPairs, Option, Some, None, if◌then◌else◌, eqb, refl, sym, ap, subst, ◌∙◌, arith, eqb-true, ne_eqb, length-append, length-map, length-take, All-contains, sum_by-cons, sum_by-append, sum_by-le, sum_by-le-sum_by, IsDistinct-from_apart, Image, block_at, sum_zero, sum_split, at_head, in_tail, in_map, from_filter, ItemKind, Stat, Indirect, Direct, Directory, IsLeaf, count, head_place, body_length, body_end, location, body_at, are_entries, entries, entries_length, BlockPointer, ReiserTree, ReiserItem, Event, item_of, item_at, IsNode, Visit, tree_events, visits_in, items_of_events, reached_in, items_of_tree, Each, each_from_all, all_from_each, all_pairs_from_pairs, pairs_from_all_pairs, sound_exactly, Distinct, leaf_blocks, each_leaf, leaves_distinct, each_is_leaf, items_by_leaves, ObjectKey, Naming, ObjectStat, first_stat, stat_of_object, same_key, object_key_of, items_of, namings, namings_in, namings_by_kind, naming_by, is_listed, is_followed, same_key-true, AreLinks, AreNamedKeys, AreNames, same_decides, same_laws, links_one, superblock, used_of, reiser_tree_of, volume_items, IsAccepted}
 use Rattle.std.proofs.lemmas.Map.Made.{IsDistinct-from_AllPairs, is_member-Decides, length-le_from_is_member}
 use Rattle.std.proofs.lemmas.Map.Steps.{length-le_from_distinct_below}
 use Rattle.std.proofs.lemmas.Map.Views.{Contains-from_any}
-use Rattle.reiser_bitmap.specs.outside.History.{Image, block_at}
-use Rattle.fs_paths.proofs.Counts.{sum_zero, sum_split}
-use Rattle.fs_paths.proofs.Lists.{at_head, in_tail, in_map, from_filter}
 use Rattle.reiser_volume_objects.specs.reiser_node.declared.head.ItemHead.{ItemHead}
-use Rattle.reiser_volume_objects.specs.reiser_node.declared.head.ItemKind.{ItemKind}
-use Rattle.reiser_volume_objects.specs.reiser_node.declared.head.ItemKind.TheVariants.{Stat, Indirect, Direct, Directory}
 use Rattle.reiser_volume_objects.specs.reiser_node.Head.{head_at}
-use Rattle.reiser_volume_objects.specs.reiser_node.Leaf.{IsLeaf, count, head_place, body_length, body_end, location, body_at}
-use Rattle.reiser_volume_objects.specs.reiser_items.Entries.{are_entries, entries}
 use Rattle.reiser_volume_objects.proofs.reiser_items.Grammar.{entries_decide}
-use Rattle.reiser_volume_objects.proofs.reiser_items.Lists.{entries_length}
-use Rattle.reiser_volume_objects.specs.reiser_walk.declared.block_pointer.BlockPointer.{BlockPointer}
-use Rattle.reiser_volume_objects.specs.reiser_walk.declared.reiser_tree.ReiserTree.{ReiserTree}
-use Rattle.reiser_volume_objects.specs.reiser_walk.Items.{ReiserItem, Event, item_of, item_at}
-use Rattle.reiser_volume_objects.specs.reiser_walk.Laws.{IsNode}
-use Rattle.reiser_volume_objects.specs.reiser_walk.Tree.{Visit, tree_events, visits_in, items_of_events, reached_in, items_of_tree}
-use Rattle.reiser_volume_objects.proofs.reiser_walk.Lists.{Each, each_from_all, all_from_each, all_pairs_from_pairs, pairs_from_all_pairs}
-use Rattle.reiser_volume_objects.proofs.reiser_walk.Rules.{sound_exactly}
 use Rattle.reiser_volume_contents.specs.Reads.{listed, items_from, leaf_items}
-use Rattle.reiser_volume_contents.proofs.Trees.{Distinct, leaf_blocks, each_leaf, leaves_distinct, each_is_leaf, items_by_leaves}
-use Rattle.reiser_volume_objects.specs.declared.key.ObjectKey.{ObjectKey}
-use Rattle.reiser_volume_objects.specs.declared.naming.Naming.{Naming}
-use Rattle.reiser_volume_objects.specs.declared.stat.ObjectStat.{ObjectStat}
-use Rattle.reiser_volume_objects.specs.Items.{first_stat, stat_of_object}
-use Rattle.reiser_volume_objects.specs.Keys.{same_key, object_key_of, items_of}
-use Rattle.reiser_volume_objects.specs.Names.{namings, namings_in, namings_by_kind, naming_by, is_listed, is_followed}
-use Rattle.reiser_volume_objects.proofs.Tables.{same_key-true}
-use Rattle.reiser_volume_names.specs.Links.{AreLinks, AreNamedKeys}
-use Rattle.reiser_volume_names.specs.Names.{AreNames}
-use Rattle.reiser_volume_names.proofs.Uniqueness.{same_decides, same_laws, links_one}
 use Rattle.reiser_volume.specs.Bounds.{item_bytes, direct_length, direct_bytes, AcceptedIsSmall}
-use Rattle.reiser_volume.specs.Volume.{superblock, used_of, reiser_tree_of, volume_items, IsAccepted}
 use Rattle.reiser_volume.proofs.Holding.{used_length}
 use Rattle.reiser_volume.proofs.Leading.{all_of}
 

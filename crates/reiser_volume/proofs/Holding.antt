@@ -1,36 +1,9 @@
 -- The objects of an accepted volume can be read again.
-use Rattle.std.proofs.Common.{◌≡◌, ℕ, List, [], true, false, length, Option, Some, None, replicate, sym, ap, subst, ◌∙◌, arith}
-use Rattle.std.specs.List.{list_any, range_with_len}
-use Rattle.std.proofs.lemmas.List.{length-map}
+use Rattle.reiser_volume.proofs.Imports.{◌≡◌, ℕ, List, [], true, false, length, Option, Some, None, replicate, sym, ap, subst, ◌∙◌, arith, list_any, range_with_len, length-map, Image, VolAnswer, Refused, Fault, Memory, Kind, File, Symlink, is_marked, is_save_link, ReiserItem, items_of_tree, file_bytes, file_byte, ObjectKey, ObjectStat, fits_kind, stat_of_object, items_of, kind_of_mode, IsObject, HasNoted, some_same, IsFault, IsFaultOrMemory, HoldsObject, HoldsLink, object_items, KnownObject, Volume, IsContent, IsKnownAt, IsOfVolume, bytes_at, superblock, used_of, reiser_tree_of, volume_items}
 use Rattle.std.proofs.lemmas.List.FromFn.{length-range_with_len}
-use Rattle.reiser_bitmap.specs.outside.History.{Image}
-use Rattle.reiser_bitmap.specs.refusals.declared.answer.VolAnswer.{VolAnswer}
-use Rattle.reiser_bitmap.specs.refusals.declared.answer.VolAnswer.TheVariants.{Refused, Fault, Memory}
 use Rattle.fs_rows.specs.Mark.{mark_of_bytes}
-use Rattle.fs_rows.specs.declared.row.Kind.{Kind}
-use Rattle.fs_rows.specs.declared.row.Kind.TheVariants.{File, Symlink}
-use Rattle.reiser_bitmap.specs.Layout.{is_marked}
-use Rattle.reiser_volume_objects.specs.reiser_walk.Bodies.{is_save_link}
-use Rattle.reiser_volume_objects.specs.reiser_walk.Items.{ReiserItem}
-use Rattle.reiser_volume_objects.specs.reiser_walk.Tree.{items_of_tree}
-use Rattle.reiser_volume_files.specs.Bytes.{file_bytes, file_byte}
 use Rattle.fs_rows.proofs.Functions.{length_bytes}
-use Rattle.reiser_volume_objects.specs.declared.key.ObjectKey.{ObjectKey}
-use Rattle.reiser_volume_objects.specs.declared.stat.ObjectStat.{ObjectStat}
 use Rattle.reiser_volume_files.specs.Laws.{AreItemsApart}
-use Rattle.reiser_volume_objects.specs.Items.{fits_kind, stat_of_object}
-use Rattle.reiser_volume_objects.specs.Keys.{items_of}
-use Rattle.reiser_volume_objects.specs.Kinds.{kind_of_mode}
-use Rattle.reiser_volume_objects.specs.Rules.{IsObject}
-use Rattle.reiser_volume_objects.specs.Table.{HasNoted}
-use Rattle.reiser_volume_objects.proofs.Broken.{some_same}
-use Rattle.reiser_volume_contents.specs.Answers.{IsFault, IsFaultOrMemory}
-use Rattle.reiser_volume_contents.specs.Holds.{HoldsObject, HoldsLink, object_items}
-use Rattle.reiser_volume.specs.declared.row.KnownObject.{KnownObject}
-use Rattle.reiser_volume.specs.declared.volume.Volume.{Volume}
-use Rattle.fs_rows.specs.Content.{IsContent}
-use Rattle.reiser_volume.specs.Made.{IsKnownAt, IsOfVolume, bytes_at}
-use Rattle.reiser_volume.specs.Volume.{superblock, used_of, reiser_tree_of, volume_items}
 
 pub fault_or : (e : VolAnswer) → IsFault e → IsFaultOrMemory e
 fault_or (Refused r) is = is

@@ -1,43 +1,13 @@
 -- The links of a volume make a tree of paths.
-use Rattle.std.proofs.Common.{◌≡◌, suc, ◌<◌, Bool, true, false, List, [], ◌∷◌, map, length, get_or, filter, Contains, AllPairs, if◌then◌else◌, refl, sym, ap, subst, ◌∙◌, true≢false, arith}
+use Rattle.reiser_volume.proofs.Imports.{◌≡◌, suc, ◌<◌, Bool, true, false, List, [], ◌∷◌, map, length, get_or, filter, Contains, AllPairs, if◌then◌else◌, refl, sym, ap, subst, ◌∙◌, true≢false, arith, list_all, get_or-map, length-map, All-contains, All-contains_itself, AllPass-from_list_all, Image, NameList, Kind, File, Symlink, Character, Block, Fifo, Socket, Subvolume, PathTo, NodeId, ArePaths, ItemKind, Stat, Indirect, Direct, Directory as Entries, are_entries, entries, ReiserItem, ObjectKey, Naming, root, same_key, object_key_of, items_of, may_have, is_directory, namings, namings_in, namings_by_kind, naming_by, is_listed, is_followed, IsNamed, node_of, FitsKey, AreObjects, IsDirectory, in_map, in_filter, from_map, from_filter, from_flat_map, same_key-self, Volume, AreLinks, AreNames, KeepsNameRules, IsOpened, links_in, LeadsToObject, IsAccepted, volume_items, link_of, HasPaths, links_one}
+use Rattle.std.specs.List.{All}
+use Rattle.fs_rows.specs.declared.row.Kind.TheVariants.{Directory}
 use Rattle.std.specs.Prelude.{◌≢◌, Some}
-use Rattle.std.specs.List.{All, list_all}
-use Rattle.std.proofs.lemmas.List.{get_or-map, length-map}
-use Rattle.std.proofs.lemmas.List.Elements.{All-contains, All-contains_itself}
 use Rattle.std.proofs.lemmas.List.Kept.{AllPairs-filter}
-use Rattle.std.proofs.lemmas.List.Sums.{AllPass-from_list_all}
-use Rattle.reiser_bitmap.specs.outside.History.{Image}
-use Rattle.fs_rows.specs.Rows.{NameList}
-use Rattle.fs_rows.specs.declared.row.Kind.{Kind}
-use Rattle.fs_rows.specs.declared.row.Kind.TheVariants.{Directory, File, Symlink, Character, Block, Fifo, Socket, Subvolume}
 use Rattle.fs_paths.specs.declared.node_link.NodeLink.{NodeLink}
-use Rattle.fs_paths.specs.declared.node_link.PathTo.{PathTo}
-use Rattle.fs_paths.specs.declared.node.NodeId.{NodeId}
-use Rattle.fs_paths.specs.Links as tree
 use Rattle.fs_paths.specs.Links.{AreNamedOnce}
-use Rattle.fs_paths.specs.Paths.{ArePaths}
-use Rattle.reiser_volume_objects.specs.reiser_node.declared.head.ItemKind.{ItemKind}
-use Rattle.reiser_volume_objects.specs.reiser_node.declared.head.ItemKind.TheVariants.{Stat, Indirect, Direct, Directory as Entries}
-use Rattle.reiser_volume_objects.specs.reiser_items.Entries.{are_entries, entries}
-use Rattle.reiser_volume_objects.specs.reiser_walk.Items.{ReiserItem}
-use Rattle.reiser_volume_objects.specs.declared.key.ObjectKey.{ObjectKey}
-use Rattle.reiser_volume_objects.specs.declared.naming.Naming.{Naming}
-use Rattle.reiser_volume_objects.specs.Keys.{root, same_key, object_key_of, items_of}
-use Rattle.reiser_volume_objects.specs.Kinds.{may_have, is_directory}
-use Rattle.reiser_volume_objects.specs.Names.{namings, namings_in, namings_by_kind, naming_by, is_listed, is_followed, IsNamed}
-use Rattle.reiser_volume_objects.specs.Nodes.{node_of, FitsKey}
-use Rattle.reiser_volume_objects.specs.Rules.{AreObjects, IsDirectory}
 use Rattle.reiser_volume_objects.proofs.Nodes.{node_same}
-use Rattle.fs_paths.proofs.Lists.{in_map, in_filter, from_map, from_filter, from_flat_map}
-use Rattle.reiser_volume_objects.proofs.Tables.{same_key-self}
-use Rattle.reiser_volume.specs.declared.volume.Volume.{Volume}
-use Rattle.reiser_volume_names.specs.Links.{AreLinks}
-use Rattle.reiser_volume_names.specs.Names.{AreNames, KeepsNameRules}
-use Rattle.reiser_volume.specs.Opened.{IsOpened, links_in}
-use Rattle.reiser_volume.specs.Rows.{LeadsToObject}
-use Rattle.reiser_volume.specs.Volume.{IsAccepted, volume_items}
-use Rattle.reiser_volume.specs.Ways.{link_of, HasPaths}
-use Rattle.reiser_volume_names.proofs.Uniqueness.{links_one}
+use Rattle.fs_paths.specs.Links as tree
 
 -- what holds of any two elements holds of those that are made of them
 pairs_map : {X Y : Type 0} (any : X) (f : X → Y) (R : Y → Y → Type 0) (xs : List X) → AllPairs (λ a b. R (f a) (f b)) xs → AllPairs R (map f xs)

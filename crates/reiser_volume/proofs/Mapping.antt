@@ -1,34 +1,10 @@
 -- The map of a file tells exactly the blocks that it owns.
-use Rattle.std.proofs.Common.{◌≡◌, ◌≢◌, ℕ, zero, suc, ◌+◌, ◌-◌, ◌*◌, ◌<◌, ◌≤◌, ◌==◌, nat_lt, Bool, true, false, List, [], ◌∷◌, length, get_or, Contains, All, AllPairs, Option, Some, None, unwrap_or, ⊎_elim, if◌then◌else◌, refl, sym, ap, subst, ◌∙◌, true≢false, arith}
-use Rattle.std.proofs.lemmas.Bool.{eqb-true, eqb-false, ltb-true, lt-ltb}
-use Rattle.std.proofs.lemmas.Bool.Decides.{nat_tests}
-use Rattle.std.proofs.lemmas.List.Elements.{All-contains}
-use Rattle.reiser_bitmap.specs.outside.History.{Image}
-use Rattle.fs_rows.specs.declared.row.Kind.{Kind}
-use Rattle.fs_rows.specs.declared.row.Kind.TheVariants.{Directory, File, Symlink, Character, Block, Fifo, Socket, Subvolume}
-use Rattle.fs_paths.proofs.Lists.{at_head, in_tail, from_filter}
-use Rattle.reiser_volume_objects.specs.reiser_walk.Items.{ReiserItem}
-use Rattle.reiser_volume_objects.specs.reiser_walk.Laws.{FitsHead}
-use Rattle.reiser_volume_objects.specs.reiser_walk.Tree.{items_of_tree}
-use Rattle.reiser_volume_objects.proofs.reiser_walk.Rules.{sound_exactly}
-use Rattle.reiser_volume_files.specs.declared.map.FileRun.{FileRun}
+use Rattle.reiser_volume.proofs.Imports.{◌≡◌, ◌≢◌, ℕ, zero, suc, ◌+◌, ◌-◌, ◌*◌, ◌<◌, ◌≤◌, ◌==◌, nat_lt, Bool, true, false, List, [], ◌∷◌, length, get_or, Contains, All, AllPairs, Option, Some, None, unwrap_or, ⊎_elim, if◌then◌else◌, refl, sym, ap, subst, ◌∙◌, true≢false, arith, eqb-true, eqb-false, ltb-true, lt-ltb, nat_tests, All-contains, Image, Kind, File, Symlink, Character, Block, Fifo, Socket, Subvolume, at_head, in_tail, from_filter, ReiserItem, FitsHead, items_of_tree, sound_exactly, FileRun, named_block, IsAligned, is_held, disk_or_hole, block_from, next_from, is_in_run, lies_at, IsFileRunBefore, AreRunsOf, file_runs, one_sort, items_name, ObjectKey, ObjectStat, stat_of_object, same_key, object_key_of, items_of, may_have, is_file, IsNamed, IsObject, no_stat, stat_at, Owns, TellsOwned, MapsTellOwned, superblock, used_of, reiser_tree_of, volume_items, IsAccepted}
+use Rattle.fs_rows.specs.declared.row.Kind.TheVariants.{Directory}
 use Rattle.reiser_volume_files.specs.declared.map.RunFrom.{RunFrom}
 use Rattle.reiser_volume_files.specs.declared.map.RunFrom.TheVariants.{Disk, Tail}
-use Rattle.reiser_volume_files.specs.Bytes.{named_block, IsAligned}
-use Rattle.reiser_volume_files.specs.Runs.{is_held, disk_or_hole, block_from, next_from, is_in_run, lies_at, IsFileRunBefore, AreRunsOf, file_runs}
 use Rattle.reiser_volume_files.proofs.Ascending.{in_run, past_run, lies_in, lies_on, file_runs_are}
-use Rattle.reiser_volume_files.proofs.Sorts.{one_sort, items_name}
 use Rattle.reiser_volume_contents.proofs.Files.{aligned_by}
-use Rattle.reiser_volume_objects.specs.declared.key.ObjectKey.{ObjectKey}
-use Rattle.reiser_volume_objects.specs.declared.stat.ObjectStat.{ObjectStat}
-use Rattle.reiser_volume_objects.specs.Items.{stat_of_object}
-use Rattle.reiser_volume_objects.specs.Keys.{same_key, object_key_of, items_of}
-use Rattle.reiser_volume_objects.specs.Kinds.{may_have, is_file}
-use Rattle.reiser_volume_objects.specs.Names.{IsNamed}
-use Rattle.reiser_volume_objects.specs.Rules.{IsObject}
-use Rattle.reiser_volume.specs.Made.{no_stat, stat_at}
-use Rattle.reiser_volume.specs.Owners.{Owns, TellsOwned, MapsTellOwned}
-use Rattle.reiser_volume.specs.Volume.{superblock, used_of, reiser_tree_of, volume_items, IsAccepted}
 use Rattle.reiser_volume.proofs.Holding.{used_length}
 use Rattle.reiser_volume.proofs.Leading.{all_of, fits_each}
 use Rattle.reiser_volume.proofs.SameRows.{none_saves}

@@ -1,20 +1,8 @@
 -- The inodes of objects whose keys ascend.
-use Rattle.std.proofs.Common.{◌≡◌, ◌<◌, ◌≤◌, ℕ, zero, suc, ◌+◌, ◌-◌, Bool, true, false, cond, not, ◌&&◌, ◌||◌, List, [], ◌∷◌, filter, get_or, count_by, Option, Some, None, refl, sym, ap, subst, ◌∙◌, if◌then◌else◌, nat_eq, ⊎_elim, arith}
-use Rattle.std.specs.Prelude.{slice_get, unwrap_or}
-use Rattle.std.specs.List.{list_any, IsDistinct, AllByRecursion}
+use Rattle.reiser_volume.proofs.Imports.{◌≡◌, ◌<◌, ◌≤◌, ℕ, zero, suc, ◌+◌, ◌-◌, Bool, true, false, cond, not, ◌&&◌, ◌||◌, List, [], ◌∷◌, filter, get_or, count_by, Option, Some, None, refl, sym, ap, subst, ◌∙◌, if◌then◌else◌, nat_eq, ⊎_elim, arith, slice_get, list_any, IsDistinct, AllByRecursion, is_eq, is_lt, ordering_reverse, cases_lt, nat_tests, Less-from_sorted, slice_get_within, unwrap_or-slice_get, ObjectKey, same_key, root, same_key-self, object_cmp, ino_of_key, object_ties, object_total}
+use Rattle.std.specs.Prelude.{unwrap_or}
 use Rattle.std.specs.List.Sorted.{IsStrictlySortedBy}
-use Rattle.std.specs.Ordering.{is_eq, is_lt, ordering_reverse}
 use Rattle.std.specs.declared.cmp.Ordering.TheVariants.{Less}
-use Rattle.std.proofs.lemmas.Bool.{cases_lt}
-use Rattle.std.proofs.lemmas.Bool.Decides.{nat_tests}
-use Rattle.std.proofs.lemmas.Map.Keys.{Less-from_sorted}
-use Rattle.std.proofs.lemmas.Option.{slice_get_within, unwrap_or-slice_get}
-use Rattle.reiser_volume_objects.specs.declared.key.ObjectKey.{ObjectKey}
-use Rattle.reiser_volume_objects.specs.Keys.{same_key, root}
-use Rattle.reiser_volume_objects.proofs.Tables.{same_key-self}
-use Rattle.reiser_volume_names.specs.Links.{object_cmp}
-use Rattle.reiser_volume_names.specs.Names.{ino_of_key}
-use Rattle.reiser_volume_names.proofs.Tabling.{object_ties, object_total}
 use Rattle.reiser_volume_names.proofs.Numbering.{place_counts, root_apart}
 use Rattle.reiser_volume.specs.Numbers.{by_inode, AreNumbered}
 

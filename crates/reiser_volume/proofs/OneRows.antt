@@ -1,26 +1,7 @@
 -- The rows of a volume are one list.
-use Rattle.std.proofs.Common.{◌≡◌, ℕ, List, [], ◌∷◌, get_or, Contains, AllPairs, Some, ⊎_elim, sym, ap, subst, ◌∙◌, arith}
+use Rattle.reiser_volume.proofs.Imports.{◌≡◌, ℕ, List, [], ◌∷◌, get_or, Contains, AllPairs, Some, ⊎_elim, sym, ap, subst, ◌∙◌, arith, cases_lt, get_or_default, Image, NameList, WholeRow, name_count, Kind, neither_above, ReiserItem, ObjectKey, Naming, ObjectStat, stat_of_object, root, kind_of_mode, AreNames, links_one, RowsAreOne, row_by, bytes_at, LeadsToObject, IsRow, IsLeastPath, superblock, volume_items}
 use Rattle.std.specs.Prelude.{◌≢◌}
-use Rattle.std.proofs.lemmas.Bool.{cases_lt}
-use Rattle.std.proofs.lemmas.List.{get_or_default}
-use Rattle.reiser_bitmap.specs.outside.History.{Image}
-use Rattle.fs_rows.specs.Rows.{NameList, WholeRow, name_count}
-use Rattle.fs_rows.specs.declared.row.Kind.{Kind}
-use Rattle.fs_paths.proofs.FirstPlaces.{neither_above}
 use Rattle.fs_paths.proofs.OneList.{rows_one}
-use Rattle.reiser_volume_objects.specs.reiser_walk.Items.{ReiserItem}
-use Rattle.reiser_volume_objects.specs.declared.key.ObjectKey.{ObjectKey}
-use Rattle.reiser_volume_objects.specs.declared.naming.Naming.{Naming}
-use Rattle.reiser_volume_objects.specs.declared.stat.ObjectStat.{ObjectStat}
-use Rattle.reiser_volume_objects.specs.Items.{stat_of_object}
-use Rattle.reiser_volume_objects.specs.Keys.{root}
-use Rattle.reiser_volume_objects.specs.Kinds.{kind_of_mode}
-use Rattle.reiser_volume_names.specs.Names.{AreNames}
-use Rattle.reiser_volume_names.proofs.Uniqueness.{links_one}
-use Rattle.reiser_volume.specs.Laws.{RowsAreOne}
-use Rattle.reiser_volume.specs.Made.{row_by, bytes_at}
-use Rattle.reiser_volume.specs.Rows.{LeadsToObject, IsRow, IsLeastPath}
-use Rattle.reiser_volume.specs.Volume.{superblock, volume_items}
 use Rattle.reiser_volume.proofs.Leading.{names_apart}
 
 -- no directory has one name twice

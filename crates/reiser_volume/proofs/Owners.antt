@@ -1,31 +1,5 @@
 -- A block that a file's map names has one owner.
-use Rattle.std.proofs.Common.{◌≡◌, ◌≢◌, ℕ, ◌+◌, ◌-◌, ◌/◌, ◌<◌, ◌≤◌, ◌==◌, true, false, List, length, get_or, count_by, sum_by, Contains, All, AllPairs, ⊎_elim, refl, sym, ap, subst, ◌∙◌, true≢false, arith}
-use Rattle.std.proofs.lemmas.Bool.{eqb-true, eq-eqb, cases_lt}
-use Rattle.std.proofs.lemmas.List.{get_or_default}
-use Rattle.std.proofs.lemmas.List.Elements.{All-contains}
-use Rattle.std.proofs.lemmas.List.Sums.{get_or-le-sum_by}
-use Rattle.reiser_bitmap.specs.outside.History.{Image}
-use Rattle.fs_paths.proofs.Counts.{count_once, count_twice}
-use Rattle.fs_paths.proofs.Lists.{from_filter}
-use Rattle.reiser_bitmap.specs.Bits.{has}
-use Rattle.reiser_bitmap.specs.System.{is_system}
-use Rattle.reiser_bitmap.proofs.MoreLaws.{system_pass}
-use Rattle.reiser_volume_objects.specs.reiser_items.Pointers.{pointers}
-use Rattle.reiser_volume_objects.proofs.reiser_items.Lists.{pointers_length}
-use Rattle.reiser_volume_objects.specs.reiser_walk.declared.block_pointer.BlockPointer.{BlockPointer}
-use Rattle.reiser_volume_objects.specs.reiser_walk.declared.reiser_tree.ReiserTree.{ReiserTree}
-use Rattle.reiser_volume_objects.specs.reiser_walk.Items.{ReiserItem, Event}
-use Rattle.reiser_volume_objects.specs.reiser_walk.Laws.{KeepsRules}
-use Rattle.reiser_volume_objects.specs.reiser_walk.Rules.{is_system_of}
-use Rattle.reiser_volume_objects.specs.reiser_walk.Tree.{tree_events, visits_in, reached_in}
-use Rattle.reiser_volume_objects.proofs.reiser_walk.Rules.{sound_exactly}
-use Rattle.reiser_volume_files.specs.Bytes.{first_byte}
-use Rattle.reiser_volume_files.proofs.Sorts.{NamesBlock, named_place}
-use Rattle.reiser_volume_objects.specs.declared.key.ObjectKey.{ObjectKey}
-use Rattle.reiser_volume_objects.specs.Keys.{same_key, object_key_of, items_of}
-use Rattle.reiser_volume_objects.proofs.Tables.{same_key-true}
-use Rattle.reiser_volume.specs.Owners.{Owns, HoldsData, OwnersAreOne}
-use Rattle.reiser_volume.specs.Volume.{superblock, used_of, reiser_tree_of, volume_items, IsAccepted}
+use Rattle.reiser_volume.proofs.Imports.{◌≡◌, ◌≢◌, ℕ, ◌+◌, ◌-◌, ◌/◌, ◌<◌, ◌≤◌, ◌==◌, true, false, List, length, get_or, count_by, sum_by, Contains, All, AllPairs, ⊎_elim, refl, sym, ap, subst, ◌∙◌, true≢false, arith, eqb-true, eq-eqb, cases_lt, get_or_default, All-contains, get_or-le-sum_by, Image, count_once, count_twice, from_filter, has, is_system, system_pass, pointers, pointers_length, BlockPointer, ReiserTree, ReiserItem, Event, KeepsRules, is_system_of, tree_events, visits_in, reached_in, sound_exactly, first_byte, NamesBlock, named_place, ObjectKey, same_key, object_key_of, items_of, same_key-true, Owns, HoldsData, OwnersAreOne, superblock, used_of, reiser_tree_of, volume_items, IsAccepted}
 use Rattle.reiser_volume.proofs.Holding.{used_length}
 use Rattle.reiser_volume.proofs.Reaching.{count_some, counted, sum_two, leads_there, visits_there, names_there, Counted, counted_inside, named_as_pointers}
 use Rattle.reiser_volume.proofs.SameRows.{none_saves}

@@ -1,22 +1,7 @@
 -- How often a walk of the tree reaches a block: as often as it visits it, and as items name it.
-use Rattle.std.proofs.Common.{◌≡◌, ◌≢◌, ℕ, zero, suc, ◌+◌, ◌<◌, ◌≤◌, ◌==◌, Bool, true, false, cond, ◌&&◌, not, nat_lt, List, [], ◌∷◌, ◌++◌, map, length, get_or, filter, sum_by, count_by, Contains, Option, Some, None, if◌then◌else◌, refl, ap, ◌∙◌, arith}
-use Rattle.std.proofs.lemmas.Bool.{eqb-true, and_parts, and_from, ne_eqb}
-use Rattle.std.proofs.lemmas.List.Sums.{sum_by-cons, sum_by-append, get_or-le-sum_by}
-use Rattle.reiser_bitmap.specs.outside.History.{Image, block_at}
-use Rattle.fs_paths.proofs.Counts.{count_cons, count_append, count_filter, count_same}
-use Rattle.fs_paths.proofs.FirstPlaces.{both_ways}
-use Rattle.fs_paths.proofs.Lists.{at_head, in_tail}
-use Rattle.reiser_volume_objects.specs.reiser_node.declared.head.ItemKind.{ItemKind}
-use Rattle.reiser_volume_objects.specs.reiser_node.declared.head.ItemKind.TheVariants.{Indirect}
-use Rattle.reiser_volume_objects.specs.reiser_node.Leaf.{count, is_leaf}
+use Rattle.reiser_volume.proofs.Imports.{◌≡◌, ◌≢◌, ℕ, zero, suc, ◌+◌, ◌<◌, ◌≤◌, ◌==◌, Bool, true, false, cond, ◌&&◌, not, nat_lt, List, [], ◌∷◌, ◌++◌, map, length, get_or, filter, sum_by, count_by, Contains, Option, Some, None, if◌then◌else◌, refl, ap, ◌∙◌, arith, eqb-true, and_parts, and_from, ne_eqb, sum_by-cons, sum_by-append, get_or-le-sum_by, Image, block_at, count_cons, count_append, count_filter, count_same, both_ways, at_head, in_tail, ItemKind, Indirect, count, is_leaf, pointers, BlockPointer, is_save_link, ReiserItem, Event, node, pointer, is_indirect, is_no_hole, held_by, blocks_named, item_at, events_of, leaf_events, Visit, at_children, node_events, visits_in, items_of_events, reached_in, at_each}
 use Rattle.reiser_volume_objects.specs.reiser_node.Inner.{is_inner, pointer_count}
-use Rattle.reiser_volume_objects.specs.reiser_items.Pointers.{pointers}
-use Rattle.reiser_volume_objects.specs.reiser_walk.declared.block_pointer.BlockPointer.{BlockPointer}
-use Rattle.reiser_volume_objects.specs.reiser_walk.Bodies.{is_save_link}
-use Rattle.reiser_volume_objects.specs.reiser_walk.Items.{ReiserItem, Event, node, pointer, is_indirect, is_no_hole, held_by, blocks_named, item_at, events_of, leaf_events}
-use Rattle.reiser_volume_objects.specs.reiser_walk.Tree.{Visit, at_children, node_events, visits_in, items_of_events, reached_in}
 use Rattle.reiser_volume_objects.proofs.reiser_walk.Events.{visits_in-append, items_in-append, reached_in-append}
-use Rattle.reiser_volume_contents.proofs.Trees.{at_each}
 
 -- an element that passes, where one is counted
 pub count_some : {X : Type 0} (p : X → Bool) (xs : List X) → 1 ≤ count_by p xs → (x : X) × Contains xs x × (p x ≡ true)

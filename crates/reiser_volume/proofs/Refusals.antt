@@ -1,43 +1,22 @@
 -- What is refused of a volume, group by group, and that an accepted one is not refused.
-use Rattle.std.proofs.Common.{◌≡◌, ℕ, ◌≤◌, ◌&&◌, Bool, true, false, cond, List, [], ◌∷◌, length, Option, Some, None, Contains, All, refl, sym, ap, subst, ◌∙◌, true≢false, arith}
-use Rattle.std.specs.Prelude.{nat_lt, Result, Err, IfErr}
-use Rattle.std.proofs.lemmas.Bool.Decides.{nat_tests}
-use Rattle.std.proofs.lemmas.List.Elements.{All-cons, All-contains}
-use Rattle.reiserfs_format.specs.declared.block.TheConstants.{SUPER_BLOCK}
-use Rattle.reiser_bitmap.specs.outside.History.{Image, block_at}
-use Rattle.reiser_bitmap.specs.refusals.declared.answer.VolAnswer.{VolAnswer}
-use Rattle.reiser_bitmap.specs.refusals.declared.answer.VolAnswer.TheVariants.{Refused, Fault, Memory}
+use Rattle.reiser_volume.proofs.Imports.{◌≡◌, ℕ, ◌≤◌, ◌&&◌, Bool, true, false, cond, List, [], ◌∷◌, length, Option, Some, None, Contains, All, refl, sym, ap, subst, ◌∙◌, true≢false, arith, Result, Err, IfErr, nat_tests, All-cons, All-contains, SUPER_BLOCK, Image, block_at, VolAnswer, Refused, Fault, Memory, has, bitmap_of, system_blocks, NamesFreeBlock, Super, superblock_fields, IsCleanSuper, superblock_refusal, superblock_rules, first_refusal, IsClean, pending_transactions, tree_damages, items_of_tree, HasNoted, AreObjects, IsObjectsRefusal, IsVolumeRule, IsVolumeAnswer, IsVerdict, RefusesVolume, IsSuperOf, IsBitmapOf, IsFoundSound, IsFrontOf, IsFrontRule, NamesFrontRule, IsFrontAnswer, RefusesFront, IsAccepted, IsRefusal, IsFrontAccepted, IsFrontRefusal, superblock, used_of, reiser_tree_of, volume_items, superblock_rule, journal_rule, bitmap_rule, front_rule, tree_rule, objects_rule, names_rule}
+use Rattle.std.specs.Prelude.{nat_lt}
 use Rattle.reiser_bitmap.specs.refusals.declared.refusal.VolumeRefusal.{VolumeRefusal}
 use Rattle.reiser_bitmap.specs.refusals.declared.refusal.VolumeRefusal.TheVariants.{NotVolume, Unclean, Unsupported, Short, JournalPending, Damaged, HasAttributes, PendingLinks, NameTaken, NameTooLong, HashCrowd}
 use Rattle.reiser_bitmap.specs.refusals.declared.rule.Rule.{Rule}
 use Rattle.reiser_bitmap.specs.refusals.declared.rule.Rule.TheVariants.{SuperField, SystemFree, NodeHead, Layout, KeyOrder, BlockFree, BlockRange, BlockTwice, Body, EntryForm, ObjectForm, Overlap, NameTwice, DirTwice, SizeRange, Reread}
 use Rattle.reiser_bitmap.specs.vol_block.Format.{has_reiser_magic}
-use Rattle.reiser_bitmap.specs.Bits.{has}
-use Rattle.reiser_bitmap.specs.Layout.{bitmap_of}
-use Rattle.reiser_bitmap.specs.System.{system_blocks, NamesFreeBlock}
-use Rattle.reiser_super.specs.declared.superblock.Super.{Super}
-use Rattle.reiser_super.specs.Superblock.{superblock_fields}
-use Rattle.reiser_super.specs.Rules.{IsCleanSuper, superblock_refusal, superblock_rules, first_refusal}
-use Rattle.reiser_super.specs.Journal.{IsClean, pending_transactions}
 use Rattle.reiser_super.specs.State.{IsPendingIn, IsJournalAnswer}
 use Rattle.reiser_super.proofs.Clean.{none_from_clean}
 use Rattle.reiser_bitmap.specs.Answers.{IsNoRefusal}
 use Rattle.reiser_volume_objects.specs.reiser_walk.Answers.{IsTreeRule}
-use Rattle.reiser_volume_objects.specs.reiser_walk.Rules.{tree_damages}
-use Rattle.reiser_volume_objects.specs.reiser_walk.Tree.{items_of_tree}
 use Rattle.reiser_volume_objects.specs.declared.table.Objects.{Objects}
-use Rattle.reiser_volume_objects.specs.Table.{HasNoted}
 use Rattle.reiser_volume_objects.specs.Read.{IsObjectsReadAnswer, BlamesTree}
 use Rattle.reiser_volume_objects.specs.Reach.{Refuses, IsObjectsAnswer, object_rules}
-use Rattle.reiser_volume_objects.specs.Rules.{AreObjects, IsObjectsRefusal}
-use Rattle.reiser_volume_objects.proofs.Broken as objects
-use Rattle.reiser_volume.specs.Answers.{IsVolumeRule, IsVolumeAnswer, IsVerdict, RefusesVolume, IsSuperOf, IsBitmapOf}
-use Rattle.reiser_volume.specs.Opened.{IsFoundSound}
 use Rattle.reiser_volume_names.specs.Refuses.{RefusesNames, IsNamesRule, IsNamesAnswer}
 use Rattle.reiser_volume.specs.declared.front.Front.{Front}
-use Rattle.reiser_volume.specs.Front.{IsFrontOf, IsFrontRule, NamesFrontRule, IsFrontAnswer, RefusesFront}
-use Rattle.reiser_volume.specs.Volume.{IsAccepted, IsRefusal, IsFrontAccepted, IsFrontRefusal, superblock, used_of, reiser_tree_of, volume_items, superblock_rule, journal_rule, bitmap_rule, front_rule, tree_rule, objects_rule, names_rule}
 use Rattle.reiser_volume_names.proofs.Broken.{names_broken}
+use Rattle.reiser_volume_objects.proofs.Broken as objects
 use Rattle.reiser_volume.proofs.Holding.{used_length}
 
 in_none : {X : Type 0} (xs : List X) (x : X) → xs ≡ [] → Contains xs x → ⊥

@@ -1,47 +1,8 @@
 -- The rows that are made for the paths of a volume are its rows.
-use Rattle.std.proofs.Common.{◌≡◌, ℕ, ◌+◌, ◌<◌, ◌≤◌, ◌%◌, ◌^◌, true, List, [], ◌∷◌, ◌++◌, map, length, get_or, take, Contains, Option, Some, None, unwrap_or, refl, sym, ap, subst, ◌∙◌, if◌then◌else◌, arith}
-use Rattle.std.specs.Ordering.{is_le}
+use Rattle.reiser_volume.proofs.Imports.{◌≡◌, ℕ, ◌+◌, ◌<◌, ◌≤◌, ◌%◌, ◌^◌, true, List, [], ◌∷◌, ◌++◌, map, length, get_or, take, Contains, Option, Some, None, unwrap_or, refl, sym, ap, subst, ◌∙◌, if◌then◌else◌, arith, is_le, MatchOption, Result, Ok, Err, slice_get, map-map, get_or-map, length-map, length-take, get_or-take, map-append, take_more, slice_get_within, get_or_from_slice_get, All-contains, Image, VolAnswer, IsFaultOrMemory, NameList, WholeRow, AscendsByPath, path_cmp, is_same_path, name_count, row_of, Kind, File, PathTo, NodeId, ArePaths, first_path, first_in, first_leads, first_before, is_least, names_counted, count_map, count_same, in_map, from_map, ReiserItem, ObjectKey, Naming, ObjectStat, stat_of_object, root, kind_of_mode, is_directory, IsNamed, IsObject, KnownObject, Volume, IsContent, IsKnownAt, IsOfVolume, row_by, bytes_at, no_stat, stat_at, kind_by, whole_row, IsOpened, links_in, LeadsToObject, IsLeastPath, IsRow, IsAccepted, AreRowsOf, superblock, volume_items, link_of, HasPaths, node_of, key_at, FitsKey}
 use Rattle.std.proofs.Math.Nat.{mod-eq_of_lt}
-use Rattle.std.specs.Option.{MatchOption}
-use Rattle.std.specs.Prelude.{Result, Ok, Err}
 use Rattle.std.specs.Result.{MatchResult}
-use Rattle.std.proofs.lemmas.Simd.{map-map}
-use Rattle.std.specs.Prelude.{slice_get}
-use Rattle.std.proofs.lemmas.List.{get_or-map, length-map, length-take, get_or-take, map-append, take_more}
-use Rattle.std.proofs.lemmas.Option.{slice_get_within, get_or_from_slice_get}
-use Rattle.std.proofs.lemmas.List.Elements.{All-contains}
-use Rattle.reiser_bitmap.specs.outside.History.{Image}
-use Rattle.reiser_bitmap.specs.refusals.declared.answer.VolAnswer.{VolAnswer}
-use Rattle.reiser_volume_contents.specs.Answers.{IsFaultOrMemory}
-use Rattle.fs_rows.specs.Rows.{NameList, WholeRow, AscendsByPath, path_cmp, is_same_path, name_count, row_of}
 use Rattle.fs_rows.specs.declared.row.Row.{Row}
-use Rattle.fs_rows.specs.declared.row.Kind.{Kind}
-use Rattle.fs_rows.specs.declared.row.Kind.TheVariants.{File}
-use Rattle.fs_paths.specs.declared.node_link.PathTo.{PathTo}
-use Rattle.fs_paths.specs.declared.node.NodeId.{NodeId}
-use Rattle.fs_paths.specs.Paths.{ArePaths, first_path}
-use Rattle.fs_paths.proofs.FirstPlaces.{first_in, first_leads, first_before, is_least, names_counted}
-use Rattle.fs_paths.proofs.Counts.{count_map, count_same}
-use Rattle.fs_paths.proofs.Lists.{in_map}
-use Rattle.reiser_volume_objects.specs.reiser_walk.Items.{ReiserItem}
-use Rattle.reiser_volume_objects.specs.declared.key.ObjectKey.{ObjectKey}
-use Rattle.reiser_volume_objects.specs.declared.naming.Naming.{Naming}
-use Rattle.reiser_volume_objects.specs.declared.stat.ObjectStat.{ObjectStat}
-use Rattle.reiser_volume_objects.specs.Items.{stat_of_object}
-use Rattle.reiser_volume_objects.specs.Keys.{root}
-use Rattle.reiser_volume_objects.specs.Kinds.{kind_of_mode, is_directory}
-use Rattle.reiser_volume_objects.specs.Names.{IsNamed}
-use Rattle.reiser_volume_objects.specs.Rules.{IsObject}
-use Rattle.reiser_volume.specs.declared.row.KnownObject.{KnownObject}
-use Rattle.reiser_volume.specs.declared.volume.Volume.{Volume}
-use Rattle.fs_rows.specs.Content.{IsContent}
-use Rattle.reiser_volume.specs.Made.{IsKnownAt, IsOfVolume, row_by, bytes_at, no_stat, stat_at, kind_by, whole_row}
-use Rattle.reiser_volume.specs.Opened.{IsOpened, links_in}
-use Rattle.reiser_volume.specs.Rows.{LeadsToObject, IsLeastPath, IsRow}
-use Rattle.reiser_volume.specs.Volume.{IsAccepted, AreRowsOf, superblock, volume_items}
-use Rattle.reiser_volume.specs.Ways.{link_of, HasPaths}
-use Rattle.fs_paths.proofs.Lists.{from_map}
-use Rattle.reiser_volume_objects.specs.Nodes.{node_of, key_at, FitsKey}
 use Rattle.reiser_volume.proofs.Leading.{up, down, leads_named}
 
 -- a node whose numbers have 32 bits stands for the object that it was made of

@@ -1,25 +1,7 @@
 -- Keys and bodies of the items decide the rows, with what the files' blocks hold.
-use Rattle.std.proofs.Common.{◌≡◌, ℕ, ◌==◌, Bool, true, false, ◌&&◌, not, List, [], if◌then◌else◌, refl, sym, ap, subst, ◌∙◌}
+use Rattle.reiser_volume.proofs.Imports.{◌≡◌, ℕ, ◌==◌, Bool, true, false, ◌&&◌, not, List, [], if◌then◌else◌, refl, sym, ap, subst, ◌∙◌, Image, WholeRow, Kind, attrs_cleared_bit, ReiserItem, file_bytes, named_decide, ObjectKey, Naming, ObjectStat, stat_of_object, root, items_of, has_bytes, kind_of_mode, is_symlink, IsNamed, AreLinks, SameFileBlocks, ItemsDecideRows, flag, HasStat, IsRow, AreReiserRows}
 use Rattle.std.specs.Prelude.{Some}
 use Rattle.std.specs.Int.{bit_at}
-use Rattle.reiser_bitmap.specs.outside.History.{Image}
-use Rattle.fs_rows.specs.Rows.{WholeRow}
-use Rattle.fs_rows.specs.declared.row.Kind.{Kind}
-use Rattle.reiser_super.specs.Superblock.{attrs_cleared_bit}
-use Rattle.reiser_volume_objects.specs.reiser_walk.Items.{ReiserItem}
-use Rattle.reiser_volume_files.specs.Bytes.{file_bytes}
-use Rattle.reiser_volume_files.proofs.Deciding.{named_decide}
-use Rattle.reiser_volume_objects.specs.declared.key.ObjectKey.{ObjectKey}
-use Rattle.reiser_volume_objects.specs.declared.naming.Naming.{Naming}
-use Rattle.reiser_volume_objects.specs.declared.stat.ObjectStat.{ObjectStat}
-use Rattle.reiser_volume_objects.specs.Items.{stat_of_object}
-use Rattle.reiser_volume_objects.specs.Keys.{root, items_of}
-use Rattle.fs_rows.specs.Kinds.{has_bytes}
-use Rattle.reiser_volume_objects.specs.Kinds.{kind_of_mode, is_symlink}
-use Rattle.reiser_volume_objects.specs.Names.{IsNamed}
-use Rattle.reiser_volume_names.specs.Links.{AreLinks}
-use Rattle.reiser_volume.specs.Laws.{SameFileBlocks, ItemsDecideRows}
-use Rattle.reiser_volume.specs.Rows.{flag, HasStat, IsRow, AreReiserRows}
 use Rattle.reiser_volume.proofs.Leading.{leads_named}
 use Rattle.reiser_volume.proofs.Unplaced.{rows_to, rows_from}
 

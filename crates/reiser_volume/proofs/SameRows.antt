@@ -1,34 +1,8 @@
 -- The used blocks of an accepted volume decide the bytes of its files, and so its rows.
-use Rattle.std.proofs.Common.{◌≡◌, ◌≢◌, ◌-◌, ℕ, Bool, true, false, not, ◌&&◌, List, [], length, filter, Contains, if◌then◌else◌, sym, ◌∙◌, ap, subst, true≢false}
-use Rattle.std.specs.List.{list_any}
-use Rattle.std.proofs.lemmas.Bool.{false_from_ne_true, ne_eqb}
-use Rattle.std.proofs.lemmas.List.Elements.{All-contains}
+use Rattle.reiser_volume.proofs.Imports.{◌≡◌, ◌≢◌, ◌-◌, ℕ, Bool, true, false, not, ◌&&◌, List, [], length, filter, Contains, if◌then◌else◌, sym, ◌∙◌, ap, subst, true≢false, list_any, false_from_ne_true, ne_eqb, All-contains, Image, WholeRow, has, ItemKind, Indirect, pointers, is_save_link, BlockPointer, ReiserTree, ReiserItem, is_indirect, is_no_hole, blocks_named, tree_damages, tree_events, reached_in, items_of_tree, Each, each_from_all, all_from_each, sound_exactly, named_block, file_bytes, named_decide, items_name, ObjectKey, Naming, object_key_of, same_key, items_of, has_bytes, SameUsed, IsRow, AreReiserRows}
 use Rattle.std.proofs.lemmas.List.Folds.{list_any-from_Any}
-use Rattle.reiser_bitmap.specs.outside.History.{Image}
-use Rattle.fs_rows.specs.Rows.{WholeRow}
-use Rattle.reiser_bitmap.specs.Bits.{has}
 use Rattle.reiser_bitmap.proofs.Ranges.{contains_filter, filter_contains}
-use Rattle.reiser_volume_objects.specs.reiser_node.declared.head.ItemKind.{ItemKind}
-use Rattle.reiser_volume_objects.specs.reiser_node.declared.head.ItemKind.TheVariants.{Indirect}
-use Rattle.reiser_volume_objects.specs.reiser_items.Pointers.{pointers}
-use Rattle.reiser_volume_objects.specs.reiser_walk.Bodies.{is_save_link}
-use Rattle.reiser_volume_objects.specs.reiser_walk.declared.block_pointer.BlockPointer.{BlockPointer}
-use Rattle.reiser_volume_objects.specs.reiser_walk.declared.reiser_tree.ReiserTree.{ReiserTree}
-use Rattle.reiser_volume_objects.specs.reiser_walk.Items.{ReiserItem, is_indirect, is_no_hole, blocks_named}
-use Rattle.reiser_volume_objects.specs.reiser_walk.Rules.{tree_damages}
-use Rattle.reiser_volume_objects.specs.reiser_walk.Tree.{tree_events, reached_in, items_of_tree}
-use Rattle.reiser_volume_objects.proofs.reiser_walk.Lists.{Each, each_from_all, all_from_each}
-use Rattle.reiser_volume_objects.proofs.reiser_walk.Rules.{sound_exactly}
-use Rattle.reiser_volume_files.specs.Bytes.{named_block, file_bytes}
-use Rattle.reiser_volume_files.proofs.Deciding.{named_decide}
-use Rattle.reiser_volume_files.proofs.Sorts.{items_name}
-use Rattle.reiser_volume_objects.specs.declared.key.ObjectKey.{ObjectKey}
-use Rattle.reiser_volume_objects.specs.declared.naming.Naming.{Naming}
-use Rattle.reiser_volume_objects.specs.Keys.{object_key_of, same_key, items_of}
-use Rattle.fs_rows.specs.Kinds.{has_bytes}
-use Rattle.reiser_volume_contents.specs.Laws.{SameUsed}
 use Rattle.reiser_volume_contents.proofs.Inside.{Names, named_inside}
-use Rattle.reiser_volume.specs.Rows.{IsRow, AreReiserRows}
 
 pub none_saves : (items : List ReiserItem) (i : ReiserItem) → list_any (λ x. is_save_link x.head) items ≡ false → Contains items i → is_save_link i.head ≡ false
 none_saves items i none among =

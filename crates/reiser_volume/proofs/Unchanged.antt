@@ -1,41 +1,9 @@
 -- The used blocks decide an accepted volume.
-use Rattle.std.proofs.Common.{◌≡◌, ◌≤◌, ◌↔◌, ◌+◌, ℕ, true, false, Bool, List, [], length, sym, ◌∙◌, ap, subst, arith}
+use Rattle.reiser_volume.proofs.Imports.{◌≡◌, ◌≤◌, ◌↔◌, ◌+◌, ℕ, true, false, Bool, List, [], length, sym, ◌∙◌, ap, subst, arith, list_any, SUPER_BLOCK, Image, block_at, WholeRow, keys, has, bitmap_block, bitmap_of, system_blocks, bitmap_decided, Super, superblock_fields, IsCleanSuper, pending_transactions, IsClean, ReiserTree, is_save_link, ReiserItem, tree_damages, items_of_events, items_of_tree, file_bytes, SameUsed, ObjectKey, stat_of_object, items_of, AreObjects, HasNoted, AreLinks, AreNamedKeys, AreNames, AreReiserRows, IsSameVolume, UsedBlocksDecide, IsOpened, links_in, superblock, used_of, reiser_tree_of, volume_items, AreRowsOf, IsAccepted, IsSoundTree, MarksSystem, Volume}
 use Rattle.std.specs.Prelude.{Contains}
-use Rattle.std.specs.List.{list_any}
-use Rattle.reiserfs_format.specs.declared.block.TheConstants.{SUPER_BLOCK}
-use Rattle.reiser_bitmap.specs.outside.History.{Image, block_at}
-use Rattle.fs_rows.specs.Rows.{WholeRow}
-use Rattle.indexmap.specs.IndexMap.{keys}
-use Rattle.reiser_bitmap.specs.Bits.{has}
-use Rattle.reiser_bitmap.specs.Layout.{bitmap_block, bitmap_of}
-use Rattle.reiser_bitmap.specs.System.{system_blocks}
-use Rattle.reiser_bitmap.proofs.MoreLaws.{bitmap_decided}
 use Rattle.reiser_bitmap.proofs.SystemBlocks.{superblock_in, bitmap_in, journal_in}
-use Rattle.reiser_super.specs.declared.superblock.Super.{Super}
-use Rattle.reiser_super.specs.Superblock.{superblock_fields}
-use Rattle.reiser_super.specs.Rules.{IsCleanSuper}
-use Rattle.reiser_super.specs.Journal.{pending_transactions, IsClean}
 use Rattle.reiser_super.proofs.Footprint.{same_pending}
-use Rattle.reiser_volume_objects.specs.reiser_walk.declared.reiser_tree.ReiserTree.{ReiserTree}
-use Rattle.reiser_volume_objects.specs.reiser_walk.Bodies.{is_save_link}
-use Rattle.reiser_volume_objects.specs.reiser_walk.Items.{ReiserItem}
-use Rattle.reiser_volume_objects.specs.reiser_walk.Rules.{tree_damages}
-use Rattle.reiser_volume_objects.specs.reiser_walk.Tree.{items_of_events, items_of_tree}
-use Rattle.reiser_volume_files.specs.Bytes.{file_bytes}
-use Rattle.reiser_volume_contents.specs.Laws.{SameUsed}
 use Rattle.reiser_volume_contents.proofs.Same.{same_tree}
-use Rattle.reiser_volume_objects.specs.declared.key.ObjectKey.{ObjectKey}
-use Rattle.reiser_volume_objects.specs.Items.{stat_of_object}
-use Rattle.reiser_volume_objects.specs.Keys.{items_of}
-use Rattle.reiser_volume_objects.specs.Rules.{AreObjects}
-use Rattle.reiser_volume_objects.specs.Table.{HasNoted}
-use Rattle.reiser_volume_names.specs.Links.{AreLinks, AreNamedKeys}
-use Rattle.reiser_volume_names.specs.Names.{AreNames}
-use Rattle.reiser_volume.specs.Rows.{AreReiserRows}
-use Rattle.reiser_volume.specs.Laws.{IsSameVolume, UsedBlocksDecide}
-use Rattle.reiser_volume.specs.Opened.{IsOpened, links_in}
-use Rattle.reiser_volume.specs.Volume.{superblock, used_of, reiser_tree_of, volume_items, AreRowsOf, IsAccepted, IsSoundTree, MarksSystem}
-use Rattle.reiser_volume.specs.declared.volume.Volume.{Volume}
 use Rattle.reiser_volume.proofs.Holding.{used_length}
 use Rattle.reiser_volume.proofs.SameRows.{bytes_same, rows_same}
 

@@ -1,29 +1,7 @@
 -- What the items of a volume say does not depend on the leaves that they lie in.
-use Rattle.std.proofs.Common.{◌≡◌, ◌↔◌, ℕ, zero, suc, ◌/◌, ◌%◌, ◌==◌, Bool, true, false, cond, List, [], ◌∷◌, ◌++◌, map, filter, Option, Some, None, unwrap_or, if◌then◌else◌, refl, sym, ap, subst, ◌∙◌}
-use Rattle.std.specs.Option.{option_map, option_or}
-use Rattle.std.proofs.lemmas.List.{map-append}
-use Rattle.std.proofs.lemmas.Simd.{map-map}
-use Rattle.reiser_bitmap.specs.outside.History.{Image}
-use Rattle.fs_paths.proofs.Lists.{in_map, from_map}
-use Rattle.reiser_volume_objects.specs.reiser_node.declared.head.ItemKind.{ItemKind}
-use Rattle.reiser_volume_objects.specs.reiser_node.declared.head.ItemKind.TheVariants.{Stat, Indirect, Direct, Directory}
+use Rattle.reiser_volume.proofs.Imports.{◌≡◌, ◌↔◌, ℕ, zero, suc, ◌/◌, ◌%◌, ◌==◌, Bool, true, false, cond, List, [], ◌∷◌, ◌++◌, map, filter, Option, Some, None, unwrap_or, if◌then◌else◌, refl, sym, ap, subst, ◌∙◌, option_map, option_or, map-append, map-map, Image, in_map, from_map, ItemKind, Stat, Indirect, Direct, Directory, EntryValue, are_entries, entries, ReiserItem, bytes_by, direct_by_kind, direct_byte, pointer_by_kind, named_block, file_byte, file_bytes, block_byte, NameList, WholeRow, ObjectKey, Naming, ObjectStat, stat_by_kind, first_stat, stat_of_object, root, same_key, object_key_of, items_of, has_bytes, is_listed, naming_by, namings_by_kind, namings_in, namings, is_followed, followed, IsReachedBy, IsNamed, AreLinks, links_one, unplaced, LeadsToObject, HasStat, IsRow, AreReiserRows}
 use Rattle.reiser_volume_objects.specs.reiser_items.declared.stat.StatData.{StatData}
 use Rattle.reiser_volume_objects.specs.reiser_items.Stat.{stat_of}
-use Rattle.reiser_volume_objects.specs.reiser_items.Entries.{EntryValue, are_entries, entries}
-use Rattle.reiser_volume_objects.specs.reiser_walk.Items.{ReiserItem}
-use Rattle.reiser_volume_files.specs.Bytes.{bytes_by, direct_by_kind, direct_byte, pointer_by_kind, named_block, file_byte, file_bytes, block_byte}
-use Rattle.fs_rows.specs.Rows.{NameList, WholeRow}
-use Rattle.reiser_volume_objects.specs.declared.key.ObjectKey.{ObjectKey}
-use Rattle.reiser_volume_objects.specs.declared.naming.Naming.{Naming}
-use Rattle.reiser_volume_objects.specs.declared.stat.ObjectStat.{ObjectStat}
-use Rattle.reiser_volume_objects.specs.Items.{stat_by_kind, first_stat, stat_of_object}
-use Rattle.reiser_volume_objects.specs.Keys.{root, same_key, object_key_of, items_of}
-use Rattle.fs_rows.specs.Kinds.{has_bytes}
-use Rattle.reiser_volume_objects.specs.Names.{is_listed, naming_by, namings_by_kind, namings_in, namings, is_followed, followed, IsReachedBy, IsNamed}
-use Rattle.reiser_volume_names.specs.Links.{AreLinks}
-use Rattle.reiser_volume_names.proofs.Uniqueness.{links_one}
-use Rattle.reiser_volume.specs.Laws.{unplaced}
-use Rattle.reiser_volume.specs.Rows.{LeadsToObject, HasStat, IsRow, AreReiserRows}
 
 abbrev bare : ReiserItem → ReiserItem
 bare i = record { leaf = 0; head = i.head; body = i.body }

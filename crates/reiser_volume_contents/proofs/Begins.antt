@@ -1,24 +1,6 @@
 -- A reader of an object begins with all its items to give.
-use Rattle.std.proofs.Common.{◌≡◌, ◌≢◌, ◌≤◌, ◌<◌, ◌-◌, ℕ, zero, suc, Bool, List, [], ◌∷◌, ◌++◌, length, drop, All, AllPairs, sym, ◌∙◌, ap, subst, arith}
-use Rattle.std.specs.List.{flat_map}
-use Rattle.reiser_volume_objects.specs.outside.History.{Image, block_at}
-use Rattle.reiser_volume_objects.specs.reiser_node.Leaf.{IsLeaf}
-use Rattle.reiser_volume_objects.specs.reiser_walk.declared.block_pointer.BlockPointer.{BlockPointer}
-use Rattle.reiser_volume_objects.specs.reiser_walk.declared.reiser_tree.ReiserTree.{ReiserTree}
-use Rattle.reiser_volume_objects.specs.reiser_walk.Items.{ReiserItem, Event}
-use Rattle.reiser_volume_objects.specs.reiser_walk.Laws.{IsNode}
-use Rattle.reiser_volume_objects.specs.reiser_walk.Rules.{tree_damages}
-use Rattle.reiser_volume_objects.specs.reiser_walk.Tree.{Visit, tree_events, visits_in, items_of_events, reached_in, items_of_tree}
-use Rattle.reiser_volume_objects.proofs.reiser_walk.Lists.{Each, Pairs, each_from_all, all_from_each, each_both, pairs_from_all_pairs, all_pairs_from_pairs}
-use Rattle.reiser_volume_objects.proofs.reiser_walk.Rules.{sound_exactly}
-use Rattle.reiser_volume_objects.specs.declared.key.ObjectKey.{ObjectKey}
-use Rattle.reiser_volume_objects.specs.declared.table.Objects.{Objects}
-use Rattle.reiser_volume_objects.specs.Keys.{items_of}
-use Rattle.reiser_volume_objects.specs.Leaves.{leaves_of}
+use Rattle.reiser_volume_contents.proofs.Imports.{◌≡◌, ◌≢◌, ◌≤◌, ◌<◌, ◌-◌, ℕ, zero, suc, Bool, List, [], ◌∷◌, ◌++◌, length, drop, All, AllPairs, sym, ◌∙◌, ap, subst, arith, flat_map, Image, block_at, IsLeaf, BlockPointer, ReiserTree, ReiserItem, Event, IsNode, tree_damages, Visit, tree_events, visits_in, items_of_events, reached_in, items_of_tree, Each, Pairs, each_from_all, all_from_each, each_both, pairs_from_all_pairs, all_pairs_from_pairs, sound_exactly, ObjectKey, Objects, items_of, leaves_of, ObjectItems, HoldsObject, object_items, leaf_items, items_ahead, IsKeyBelow, IsLeafOf, Reads, Starts, at_first, behind_all}
 use Rattle.reiser_volume_objects.specs.Table.{HasNoted}
-use Rattle.reiser_volume_contents.specs.declared.object_items.ObjectItems.{ObjectItems}
-use Rattle.reiser_volume_contents.specs.Holds.{HoldsObject, object_items}
-use Rattle.reiser_volume_contents.specs.Reads.{leaf_items, items_ahead, IsKeyBelow, IsLeafOf, Reads, Starts, at_first, behind_all}
 use Rattle.reiser_volume_contents.proofs.Looking.{no_leaf, none_ahead}
 use Rattle.reiser_volume_contents.proofs.Places.{leaves_are, from_first}
 use Rattle.reiser_volume_contents.proofs.Trees.{Distinct, leaf_blocks, each_leaf, leaves_distinct, each_is_leaf, items_by_leaves}

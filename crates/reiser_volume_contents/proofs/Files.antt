@@ -1,42 +1,19 @@
 -- The items of an object that is held are those of a file.
-use Rattle.std.proofs.Common.{◌≡◌, ◌≤◌, ◌<◌, ◌-◌, ℕ, zero, ◌==◌, nat_lt, Bool, true, false, not, ◌&&◌, ◌||◌, List, [], ◌∷◌, ◌++◌, length, filter, Option, Some, IfSome, Result, Ok, Err, IfOk, IfErr, if◌then◌else◌, refl, sym, ◌∙◌, ap, subst, append_assoc, true≢false, ⊎_elim, arith}
-use Rattle.std.specs.List.{list_any, list_all}
+use Rattle.reiser_volume_contents.proofs.Imports.{◌≡◌, ◌≤◌, ◌<◌, ◌-◌, ℕ, zero, ◌==◌, nat_lt, Bool, true, false, not, ◌&&◌, ◌||◌, List, [], ◌∷◌, ◌++◌, length, filter, Option, Some, IfSome, Result, Ok, Err, IfOk, IfErr, if◌then◌else◌, refl, sym, ◌∙◌, ap, subst, append_assoc, true≢false, ⊎_elim, arith, list_any, list_all, false≢true, nat_tests, Image, VolAnswer, Refused, Fault, Memory, ItemHead, ItemKind, BlockPointer, ReiserTree, ReiserItem, is_no_hole, is_indirect, blocks_named, FitsKind, FitsHead, tree_events, reached_in, items_of_tree, Each, Pairs, each_from_all, all_from_each, each_map, each_both, pairs_from_all_pairs, all_pairs_from_pairs, sound_exactly, AlignedByKind, IsAligned, MayFollow, target_bytes, file_bytes, tail_block, direct_content, is_inside, are_inside, ObjectKey, Objects, items_of, object_key_of, same_key, IsFault, IsFaultOrMemory, HoldsObject, AreFileItems, object_items, IsKeyBelow}
 use Rattle.std.specs.Result.{MatchResult}
-use Rattle.std.proofs.lemmas.Bool.{false≢true}
-use Rattle.std.proofs.lemmas.Bool.Decides.{nat_tests}
-use Rattle.reiser_volume_objects.specs.outside.History.{Image}
-use Rattle.reiser_volume_objects.specs.refusals.declared.answer.VolAnswer.{VolAnswer}
-use Rattle.reiser_volume_objects.specs.refusals.declared.answer.VolAnswer.TheVariants.{Refused, Fault, Memory}
 use Rattle.reiser_volume_objects.specs.vol_block.Volume.{zeros}
 use Rattle.fs_rows.specs.declared.row.Kind.TheVariants.{Symlink}
-use Rattle.reiser_volume_objects.specs.reiser_node.declared.head.ItemHead.{ItemHead}
-use Rattle.reiser_volume_objects.specs.reiser_node.declared.head.ItemKind.{ItemKind}
 use Rattle.reiser_volume_objects.specs.reiser_node.declared.head.ItemKind.TheVariants.{Stat, Indirect, Direct, Directory}
 use Rattle.reiser_volume_objects.specs.reiser_items.Pointers.{pointers}
-use Rattle.reiser_volume_objects.specs.reiser_walk.declared.block_pointer.BlockPointer.{BlockPointer}
-use Rattle.reiser_volume_objects.specs.reiser_walk.declared.reiser_tree.ReiserTree.{ReiserTree}
 use Rattle.reiser_volume_objects.specs.reiser_walk.Bodies.{is_save_link}
-use Rattle.reiser_volume_objects.specs.reiser_walk.Items.{ReiserItem, is_no_hole, is_indirect, blocks_named}
-use Rattle.reiser_volume_objects.specs.reiser_walk.Laws.{FitsKind, FitsHead}
-use Rattle.reiser_volume_objects.specs.reiser_walk.Tree.{tree_events, reached_in, items_of_tree}
-use Rattle.reiser_volume_objects.proofs.reiser_walk.Lists.{Each, Pairs, each_from_all, all_from_each, each_map, each_both, pairs_from_all_pairs, all_pairs_from_pairs}
-use Rattle.reiser_volume_objects.proofs.reiser_walk.Rules.{sound_exactly}
-use Rattle.reiser_volume_files.specs.Bytes.{AlignedByKind, IsAligned, MayFollow, target_bytes, file_bytes, tail_block, direct_content}
 use Rattle.reiser_volume_files.specs.Laws.{IsItemOf, IsNoIndirect, AreInOrder, AreItemsApart}
-use Rattle.reiser_volume_files.specs.Pieces.{is_inside, are_inside}
 use Rattle.reiser_volume_files.proofs.Deciding.{apart_follow}
 use Rattle.fs_rows.proofs.Functions.{zero_block}
 use Rattle.reiser_volume_files.proofs.Ordered.{keys_order}
 use Rattle.reiser_volume_files.proofs.Sorts.{target_is}
-use Rattle.reiser_volume_objects.specs.declared.key.ObjectKey.{ObjectKey}
-use Rattle.reiser_volume_objects.specs.declared.table.Objects.{Objects}
 use Rattle.reiser_volume_objects.specs.Items.{fits_kind}
-use Rattle.reiser_volume_objects.specs.Keys.{items_of, object_key_of, same_key}
 use Rattle.reiser_volume_objects.specs.Kinds.{may_have}
 use Rattle.reiser_volume_objects.proofs.Tables.{same_key-true, and_right}
-use Rattle.reiser_volume_contents.specs.Answers.{IsFault, IsFaultOrMemory}
-use Rattle.reiser_volume_contents.specs.Holds.{HoldsObject, AreFileItems, object_items}
-use Rattle.reiser_volume_contents.specs.Reads.{IsKeyBelow}
 use Rattle.reiser_volume_contents.proofs.Inside.{NamesBelow, named_inside}
 use Rattle.reiser_volume_contents.proofs.Same.{each_right}
 

@@ -1,13 +1,5 @@
 -- What holds of each block that a walk of the tree reaches holds of each block that an item names.
-use Rattle.std.proofs.Common.{◌≡◌, ◌<◌, ℕ, zero, suc, Bool, true, false, ◌&&◌, nat_lt, List, [], ◌∷◌, ◌++◌, map, Option, Some, None, if◌then◌else◌, refl, sym, subst}
-use Rattle.reiser_volume_objects.specs.outside.History.{Image, block_at}
-use Rattle.reiser_volume_objects.specs.reiser_node.Leaf.{count, is_leaf}
-use Rattle.reiser_volume_objects.specs.reiser_node.Inner.{is_inner, pointer_count}
-use Rattle.reiser_volume_objects.specs.reiser_walk.declared.block_pointer.BlockPointer.{BlockPointer}
-use Rattle.reiser_volume_objects.specs.reiser_walk.Items.{ReiserItem, Event, pointer, held_by, blocks_named, item_at, events_of, leaf_events}
-use Rattle.reiser_volume_objects.specs.reiser_walk.Tree.{at_children, node_events, items_of_events, reached_in}
-use Rattle.reiser_volume_objects.proofs.reiser_walk.Events.{items_in-append, reached_in-append}
-use Rattle.reiser_volume_objects.proofs.reiser_walk.Lists.{Each}
+use Rattle.reiser_volume_contents.proofs.Imports.{◌≡◌, ◌<◌, ℕ, zero, suc, Bool, true, false, ◌&&◌, nat_lt, List, [], ◌∷◌, ◌++◌, map, Option, Some, None, if◌then◌else◌, refl, sym, subst, Image, block_at, count, is_leaf, is_inner, pointer_count, BlockPointer, ReiserItem, Event, pointer, held_by, blocks_named, item_at, events_of, leaf_events, at_children, node_events, items_of_events, reached_in, items_in-append, reached_in-append, Each}
 use Rattle.reiser_volume_contents.proofs.Same.{each_left, each_right, each_append}
 use Rattle.reiser_volume_contents.proofs.Trees.{at_each}
 

@@ -1,23 +1,8 @@
 -- What a reader has still to look at, as it goes on.
-use Rattle.std.proofs.Common.{◌≡◌, ◌≤◌, ℕ, zero, suc, ◌+◌, ◌==◌, Bool, true, false, ◌&&◌, List, [], ◌∷◌, ◌++◌, length, drop, slice_get, AllPairs, All, Some, if◌then◌else◌, refl, sym, ◌∙◌, ap, subst, append_assoc, add-one, arith}
-use Rattle.std.specs.List.{flat_map}
-use Rattle.std.specs.Ordering.{is_lt, nat_cmp, ordering_then}
+use Rattle.reiser_volume_contents.proofs.Imports.{◌≡◌, ◌≤◌, ℕ, zero, suc, ◌+◌, ◌==◌, Bool, true, false, ◌&&◌, List, [], ◌∷◌, ◌++◌, length, drop, slice_get, AllPairs, All, Some, if◌then◌else◌, refl, sym, ◌∙◌, ap, subst, append_assoc, add-one, arith, flat_map, is_lt, nat_cmp, ordering_then, nat_tests, append-nil, Image, block_at, ItemHead, head_at, head_place, body_at, kind_number, ReiserItem, item_of, Each, Pairs, all_pairs_from_pairs, pairs_from_all_pairs, each_from_all, all_from_each, each_map, ObjectKey, items_of, object_key_of, same_key, ObjectItems, items_from, leaf_items, leaf_ahead, items_ahead, IsKeyBelow, IsLeafOf, IsWholeLeaf, Reads, Looks, standing, object_order}
 use Rattle.std.specs.declared.cmp.Ordering.{Ordering}
 use Rattle.std.specs.declared.cmp.Ordering.TheVariants.{Less, Equal, Greater}
-use Rattle.std.proofs.lemmas.Bool.Decides.{nat_tests}
-use Rattle.std.proofs.lemmas.List.{append-nil}
-use Rattle.reiser_volume_objects.specs.outside.History.{Image, block_at}
-use Rattle.reiser_volume_objects.specs.reiser_node.declared.head.ItemHead.{ItemHead}
-use Rattle.reiser_volume_objects.specs.reiser_node.Head.{head_at}
-use Rattle.reiser_volume_objects.specs.reiser_node.Leaf.{head_place, body_at}
-use Rattle.reiser_volume_objects.specs.reiser_items.Order.{kind_number}
 use Rattle.reiser_volume_objects.specs.reiser_walk.Hand.{item_before}
-use Rattle.reiser_volume_objects.specs.reiser_walk.Items.{ReiserItem, item_of}
-use Rattle.reiser_volume_objects.proofs.reiser_walk.Lists.{Each, Pairs, all_pairs_from_pairs, pairs_from_all_pairs, each_from_all, all_from_each, each_map}
-use Rattle.reiser_volume_objects.specs.declared.key.ObjectKey.{ObjectKey}
-use Rattle.reiser_volume_objects.specs.Keys.{items_of, object_key_of, same_key}
-use Rattle.reiser_volume_contents.specs.declared.object_items.ObjectItems.{ObjectItems}
-use Rattle.reiser_volume_contents.specs.Reads.{items_from, leaf_items, leaf_ahead, items_ahead, IsKeyBelow, IsLeafOf, IsWholeLeaf, Reads, Looks, standing, object_order}
 
 next_leaf : (leaves : List ℕ) (place b : ℕ) → slice_get leaves place ≡ Some b → drop place leaves ≡ b ∷ drop (place + 1) leaves
 next_leaf [] place b h = absurd cc

@@ -1,11 +1,5 @@
 -- Which leaf a refusal names.
-use Rattle.std.proofs.Common.{◌≡◌, ℕ, List, Result, Ok, Err, IfErr, subst, sym}
-use Rattle.reiser_volume_objects.specs.refusals.declared.answer.VolAnswer.{VolAnswer}
-use Rattle.reiser_volume_objects.specs.refusals.declared.answer.VolAnswer.TheVariants.{Refused, Fault, Memory}
-use Rattle.reiser_volume_objects.specs.declared.key.ObjectKey.{ObjectKey}
-use Rattle.reiser_volume_objects.specs.reiser_walk.Items.{ReiserItem}
-use Rattle.reiser_volume_contents.specs.Answers.{NamesBlock, NamesLeaf, NamesOwnLeaf}
-use Rattle.reiser_volume_contents.specs.Reads.{IsFrom, Starts}
+use Rattle.reiser_volume_contents.proofs.Imports.{◌≡◌, ℕ, List, Result, Ok, Err, IfErr, subst, sym, VolAnswer, Refused, Fault, Memory, ObjectKey, ReiserItem, NamesBlock, NamesLeaf, NamesOwnLeaf, IsFrom, Starts}
 
 -- a refusal of a leaf from a place on
 pub names_leaf : (first : ℕ) (leaves : List ℕ) (block : ℕ) (e : VolAnswer) → IsFrom first leaves block → NamesBlock block e → NamesLeaf first leaves e

@@ -1,22 +1,6 @@
 -- The items of an object stand in its first leaf and in those behind it.
-use Rattle.std.proofs.Common.{◌≡◌, ◌≢◌, ◌⊎◌, inl, inr, ◌≤◌, ◌<◌, ℕ, zero, suc, nat_eq, Bool, true, false, IsSome, List, [], ◌∷◌, ◌++◌, length, map, take, drop, Option, Some, None, if◌then◌else◌, refl, sym, ◌∙◌, ap, subst, append_assoc, ⊎_elim, arith}
-use Rattle.std.specs.List.{dedup_from, flat_map}
-use Rattle.std.proofs.lemmas.Bool.{eqb-true}
-use Rattle.std.proofs.lemmas.Bool.Decides.{nat_tests}
-use Rattle.std.proofs.lemmas.List.{map-append}
-use Rattle.std.proofs.lemmas.List.Concat.{flat_map-append}
+use Rattle.reiser_volume_contents.proofs.Imports.{◌≡◌, ◌≢◌, ◌⊎◌, inl, inr, ◌≤◌, ◌<◌, ℕ, zero, suc, nat_eq, Bool, true, false, IsSome, List, [], ◌∷◌, ◌++◌, length, map, take, drop, Option, Some, None, if◌then◌else◌, refl, sym, ◌∙◌, ap, subst, append_assoc, ⊎_elim, arith, dedup_from, flat_map, eqb-true, nat_tests, map-append, flat_map-append, Image, block_at, ItemHead, ItemKind, kind_at, head_at, head_of_kind, IsLeaf, count, head_place, ReiserItem, item_of, item_at, Each, ObjectKey, items_of, object_key_of, same_key, without_repeats, leaves_of, IsFirstLeaf, listed, items_from, leaf_items}
 use Rattle.std.proofs.lemmas.List.Elements.{filter-append}
-use Rattle.reiser_volume_objects.specs.outside.History.{Image, block_at}
-use Rattle.reiser_volume_objects.specs.reiser_node.declared.head.ItemHead.{ItemHead}
-use Rattle.reiser_volume_objects.specs.reiser_node.declared.head.ItemKind.{ItemKind}
-use Rattle.reiser_volume_objects.specs.reiser_node.Head.{kind_at, head_at, head_of_kind}
-use Rattle.reiser_volume_objects.specs.reiser_node.Leaf.{IsLeaf, count, head_place}
-use Rattle.reiser_volume_objects.specs.reiser_walk.Items.{ReiserItem, item_of, item_at}
-use Rattle.reiser_volume_objects.proofs.reiser_walk.Lists.{Each}
-use Rattle.reiser_volume_objects.specs.declared.key.ObjectKey.{ObjectKey}
-use Rattle.reiser_volume_objects.specs.Keys.{items_of, object_key_of, same_key}
-use Rattle.reiser_volume_objects.specs.Leaves.{without_repeats, leaves_of, IsFirstLeaf}
-use Rattle.reiser_volume_contents.specs.Reads.{listed, items_from, leaf_items}
 use Rattle.reiser_volume_contents.proofs.Same.{each_append}
 use Rattle.reiser_volume_contents.proofs.Trees.{Distinct}
 

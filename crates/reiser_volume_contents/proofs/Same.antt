@@ -1,19 +1,6 @@
 -- Where nothing is wrong with a tree, the used blocks decide it.
-use Rattle.std.proofs.Common.{◌≡◌, ◌≢◌, ◌-◌, ◌<◌, ℕ, zero, suc, Bool, true, false, ◌&&◌, nat_lt, List, [], ◌∷◌, ◌++◌, length, All, AllPairs, if◌then◌else◌, refl, sym, ◌∙◌, ap, subst}
-use Rattle.std.specs.Ordering.{is_lt}
-use Rattle.reiser_volume_objects.specs.outside.History.{Image, block_at}
-use Rattle.reiser_volume_objects.specs.reiser_node.Leaf.{count, is_leaf}
-use Rattle.reiser_volume_objects.specs.reiser_node.Inner.{is_inner, pointer_count, child_block_at}
-use Rattle.reiser_volume_objects.specs.reiser_items.Order.{key_order}
+use Rattle.reiser_volume_contents.proofs.Imports.{◌≡◌, ◌≢◌, ◌-◌, ◌<◌, ℕ, zero, suc, Bool, true, false, ◌&&◌, nat_lt, List, [], ◌∷◌, ◌++◌, length, All, AllPairs, if◌then◌else◌, refl, sym, ◌∙◌, ap, subst, is_lt, Image, block_at, count, is_leaf, is_inner, pointer_count, child_block_at, key_order, BlockPointer, Event, node, item, pointer, leaf_events, IsNode, FitsHead, is_system_of, Visit, at_children, node_events, tree_events, visits_in, items_of_events, reached_in, reached_in-append, Each, each_from_all, all_from_each, each_map, each_both, sound_exactly}
 use Rattle.reiser_volume_objects.specs.reiser_bitmap.Bits.{has}
-use Rattle.reiser_volume_objects.specs.reiser_walk.declared.block_pointer.BlockPointer.{BlockPointer}
-use Rattle.reiser_volume_objects.specs.reiser_walk.Items.{Event, node, item, pointer, leaf_events}
-use Rattle.reiser_volume_objects.specs.reiser_walk.Laws.{IsNode, FitsHead}
-use Rattle.reiser_volume_objects.specs.reiser_walk.Rules.{is_system_of}
-use Rattle.reiser_volume_objects.specs.reiser_walk.Tree.{Visit, at_children, node_events, tree_events, visits_in, items_of_events, reached_in}
-use Rattle.reiser_volume_objects.proofs.reiser_walk.Events.{reached_in-append}
-use Rattle.reiser_volume_objects.proofs.reiser_walk.Lists.{Each, each_from_all, all_from_each, each_map, each_both}
-use Rattle.reiser_volume_objects.proofs.reiser_walk.Rules.{sound_exactly}
 use Rattle.reiser_volume_contents.specs.Laws.{UsedBlocksDecide}
 
 module _ {X : Type 0} (P : X → Type 0) where

@@ -1,20 +1,5 @@
 -- The items of a tree are those of its leaves, one after the other.
-use Rattle.std.proofs.Common.{◌≡◌, ◌≢◌, ◌<◌, ℕ, zero, suc, Bool, true, false, ◌&&◌, nat_lt, List, [], ◌∷◌, ◌++◌, map, Option, Some, None, if◌then◌else◌, refl, sym, ◌∙◌, ap, append_assoc, ⊎_elim, arith}
-use Rattle.std.specs.List.{flat_map}
-use Rattle.std.proofs.lemmas.Bool.Decides.{nat_tests}
-use Rattle.std.proofs.lemmas.List.{append-nil}
-use Rattle.std.proofs.lemmas.List.Concat.{flat_map-append}
-use Rattle.reiser_volume_objects.specs.outside.History.{Image, block_at}
-use Rattle.reiser_volume_objects.specs.reiser_node.Leaf.{IsLeaf, count, is_leaf}
-use Rattle.reiser_volume_objects.specs.reiser_node.Inner.{is_inner, pointer_count, child_block_at}
-use Rattle.reiser_volume_objects.proofs.reiser_node.Grammar.{leaf_decides}
-use Rattle.reiser_volume_objects.specs.reiser_walk.declared.block_pointer.BlockPointer.{BlockPointer}
-use Rattle.reiser_volume_objects.specs.reiser_walk.Items.{ReiserItem, Event, node, item, pointer, held_by, blocks_named, item_at, events_of, leaf_events}
-use Rattle.reiser_volume_objects.specs.reiser_walk.Laws.{IsNode}
-use Rattle.reiser_volume_objects.specs.reiser_walk.Tree.{at_children, node_events, visits_in, items_of_events, reached_in}
-use Rattle.reiser_volume_objects.proofs.reiser_walk.Events.{items_in-append}
-use Rattle.reiser_volume_objects.proofs.reiser_walk.Lists.{Each, Pairs}
-use Rattle.reiser_volume_contents.specs.Reads.{listed, items_from, leaf_items}
+use Rattle.reiser_volume_contents.proofs.Imports.{◌≡◌, ◌≢◌, ◌<◌, ℕ, zero, suc, Bool, true, false, ◌&&◌, nat_lt, List, [], ◌∷◌, ◌++◌, map, Option, Some, None, if◌then◌else◌, refl, sym, ◌∙◌, ap, append_assoc, ⊎_elim, arith, flat_map, nat_tests, append-nil, flat_map-append, Image, block_at, IsLeaf, count, is_leaf, is_inner, pointer_count, child_block_at, leaf_decides, BlockPointer, ReiserItem, Event, node, item, pointer, held_by, blocks_named, item_at, events_of, leaf_events, IsNode, at_children, node_events, visits_in, items_of_events, reached_in, items_in-append, Each, Pairs, listed, items_from, leaf_items}
 
 -- what holds of each child holds of what lies below all of them
 module _ (Q : List Event → Type 0) (none : Q []) (both : (xs ys : List Event) → Q xs → Q ys → Q (xs ++ ys)) where

@@ -1,18 +1,5 @@
 -- What a marker holds after one more item.
-use Rattle.std.proofs.Common.{◌≡◌, ◌≢◌, ℕ, ◌+◌, ◌-◌, ◌*◌, ◌/◌, ◌≤◌, List, [], ◌∷◌, ◌++◌, length, take, All, Result, Ok, Err, OnOk, sym, ap, subst, ◌∙◌, arith, inl, inr, ◌⊎◌}
-use Rattle.std.proofs.lemmas.Bool.{cases_eq}
-use Rattle.std.proofs.lemmas.List.Elements.{All-nil, All-cons, All-head, All-tail}
-use Rattle.reiser_walk.specs.outside.History.{Image}
-use Rattle.reiser_walk.specs.reiser_node.declared.head.ItemKind.{ItemKind}
-use Rattle.reiser_walk.specs.reiser_node.declared.head.ItemKind.TheVariants.{Stat, Indirect, Direct, Directory}
-use Rattle.reiser_walk.specs.Items.{ReiserItem}
-use Rattle.fs_rows.specs.Held.{HoldsBytes}
-use Rattle.fs_rows.specs.Pieces.{Overlays}
-use Rattle.reiser_volume_files.specs.declared.marker.FileMarker.{FileMarker}
-use Rattle.reiser_volume_files.specs.Bytes.{first_byte, byte_count, end_of, content, EndsBy, MayFollow}
-use Rattle.reiser_volume_files.specs.Pieces.{OverlaysNamed}
-use Rattle.reiser_volume_files.specs.States.{MarksFile}
-use Rattle.fs_rows.proofs.Holding.{held_same}
+use Rattle.reiser_volume_files.proofs.Imports.{◌≡◌, ◌≢◌, ℕ, ◌+◌, ◌-◌, ◌*◌, ◌/◌, ◌≤◌, List, [], ◌∷◌, ◌++◌, length, take, All, Result, Ok, Err, OnOk, sym, ap, subst, ◌∙◌, arith, inl, inr, ◌⊎◌, cases_eq, All-nil, All-cons, All-head, All-tail, Image, ItemKind, Stat, Indirect, Direct, Directory, ReiserItem, HoldsBytes, Overlays, FileMarker, first_byte, byte_count, end_of, content, EndsBy, MayFollow, OverlaysNamed, MarksFile, held_same}
 use Rattle.reiser_volume_files.proofs.Contents.{empty_item, direct_overlays, indirect_overlays, count_direct, count_indirect}
 
 pub all_before : {X : Type 0} (P : X → Type 0) → (xs : List X) (y : X) → All P (xs ++ y ∷ []) → All P xs

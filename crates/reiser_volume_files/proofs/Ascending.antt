@@ -1,15 +1,6 @@
 -- What the runs of a function say of it.
-use Rattle.std.proofs.Common.{◌≡◌, ◌≢◌, ℕ, zero, suc, ◌+◌, ◌-◌, ◌<◌, ◌≤◌, Bool, true, false, cond, eqb, ltb, leb, List, [], ◌∷◌, Option, Some, None, All, refl, sym, ap, subst, ◌∙◌, arith, inl, inr}
-use Rattle.std.specs.Int.{div_ceil}
-use Rattle.std.specs.Prelude.{AllPairs}
-use Rattle.std.proofs.lemmas.Bool.{false≢true, cases_lt, cases_eq, cond_both, cond-true, cond-false, and_from, and_left, and_right, and_parts, eqb-true, ne_eqb, le-leb, lt-leb, lt-ltb, le-ltb}
-use Rattle.std.proofs.lemmas.List.Elements.{All-nil, All-cons, All-head, All-tail, All-weaker}
+use Rattle.reiser_volume_files.proofs.Imports.{◌≡◌, ◌≢◌, ℕ, zero, suc, ◌+◌, ◌-◌, ◌<◌, ◌≤◌, Bool, true, false, cond, eqb, ltb, leb, List, [], ◌∷◌, Option, Some, None, All, refl, sym, ap, subst, ◌∙◌, arith, inl, inr, div_ceil, AllPairs, false≢true, cases_lt, cases_eq, cond_both, cond-true, cond-false, and_from, and_left, and_right, and_parts, eqb-true, ne_eqb, le-leb, lt-leb, lt-ltb, le-ltb, All-nil, All-cons, All-head, All-tail, All-weaker, ReiserItem, FileRun, RunFrom, Disk, Tail, next_from, is_next, goes_on, run_of, longer, with_block, extended, runs_of, is_in_run, lies_at, IsFileRunBefore, AreRunsOf, block_from, file_runs}
 use Rattle.std.proofs.lemmas.List.Kept.{AllPairs-cons}
-use Rattle.reiser_walk.specs.Items.{ReiserItem}
-use Rattle.reiser_volume_files.specs.declared.map.FileRun.{FileRun}
-use Rattle.reiser_volume_files.specs.declared.map.RunFrom.{RunFrom}
-use Rattle.reiser_volume_files.specs.declared.map.RunFrom.TheVariants.{Disk, Tail}
-use Rattle.reiser_volume_files.specs.Runs.{next_from, is_next, goes_on, run_of, longer, with_block, extended, runs_of, is_in_run, lies_at, IsFileRunBefore, AreRunsOf, block_from, file_runs}
 use Rattle.reiser_volume_files.proofs.Joining.{no_runs, runs_more}
 use Rattle.reiser_volume_files.proofs.Placing.{from_past}
 

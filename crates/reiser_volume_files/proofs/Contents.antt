@@ -1,17 +1,5 @@
 -- What one more item makes of the contents of a file.
-use Rattle.std.proofs.Common.{◌≡◌, ◌≢◌, ℕ, ◌+◌, ◌-◌, ◌*◌, ◌/◌, ◌%◌, ◌<◌, ◌≤◌, min, Bool, true, false, cond, eqb, ltb, List, [], ◌∷◌, ◌++◌, length, get_or, take, Option, None, unwrap_or, All, refl, sym, ap, subst, ◌∙◌, arith, inl, inr}
-use Rattle.std.specs.Option.{option_or}
-use Rattle.std.proofs.lemmas.Bool.{cases_lt}
-use Rattle.std.proofs.lemmas.List.{get_or-take, length-take}
-use Rattle.reiser_walk.specs.outside.History.{Image}
-use Rattle.reiser_walk.specs.reiser_node.declared.head.ItemKind.{ItemKind}
-use Rattle.reiser_walk.specs.reiser_node.declared.head.ItemKind.TheVariants.{Indirect, Direct}
-use Rattle.reiser_walk.specs.reiser_items.Pointers.{pointers}
-use Rattle.reiser_walk.specs.Items.{ReiserItem}
-use Rattle.fs_rows.specs.Pieces.{Overlays}
-use Rattle.fs_rows.proofs.FileMarks.{below_size, past_size}
-use Rattle.reiser_volume_files.specs.Bytes.{first_byte, byte_count, direct_by_kind, direct_byte, pointer_by_kind, named_block, block_byte, file_byte, content, EndsBy, AlignedByKind, MayFollow}
-use Rattle.reiser_volume_files.specs.Pieces.{OverlaysNamed}
+use Rattle.reiser_volume_files.proofs.Imports.{◌≡◌, ◌≢◌, ℕ, ◌+◌, ◌-◌, ◌*◌, ◌/◌, ◌%◌, ◌<◌, ◌≤◌, min, Bool, true, false, cond, eqb, ltb, List, [], ◌∷◌, ◌++◌, length, get_or, take, Option, None, unwrap_or, All, refl, sym, ap, subst, ◌∙◌, arith, inl, inr, option_or, cases_lt, get_or-take, length-take, Image, ItemKind, Indirect, Direct, pointers, ReiserItem, Overlays, below_size, past_size, first_byte, byte_count, direct_by_kind, direct_byte, pointer_by_kind, named_block, block_byte, file_byte, content, EndsBy, AlignedByKind, MayFollow, OverlaysNamed}
 use Rattle.reiser_volume_files.proofs.Items.{covered, no_direct_past, no_direct_before, pointer_is, no_pointer_past, no_pointer_before, direct_none, named_none, direct_more, named_more, same_byte}
 
 same_below : (x y : ℕ) (n size : ℕ) → x ≡ y → cond (ltb n size) x 0 ≡ cond (ltb n size) y 0

@@ -1,13 +1,5 @@
 -- Laws of the bytes of a file.
-use Rattle.std.proofs.Common.{◌≡◌, ◌≢◌, ℕ, ◌+◌, ◌*◌, ◌/◌, ◌%◌, ◌<◌, ◌≤◌, cond, eqb, List, ◌∷◌, ◌++◌, length, get_or, unwrap_or, refl, sym, ap, subst, ◌∙◌, arith, inl, inr}
-use Rattle.std.proofs.lemmas.Bool.{cases_lt, cases_eq}
-use Rattle.std.proofs.lemmas.List.{get_or_at, get_or_append_left, length-append}
-use Rattle.std.proofs.lemmas.List.Elements.{All-from_get_or}
-use Rattle.reiser_walk.specs.outside.History.{Image, block_at}
-use Rattle.reiser_walk.specs.Items.{ReiserItem}
-use Rattle.fs_rows.proofs.Functions.{same_bytes}
-use Rattle.reiser_volume_files.specs.Bytes.{first_byte, end_of, direct_byte, named_block, block_byte, file_byte, file_bytes, EndsBy, FollowsAll}
-use Rattle.reiser_volume_files.specs.Laws.{SharesByte, AreItemsApart, AreInOrder}
+use Rattle.reiser_volume_files.proofs.Imports.{◌≡◌, ◌≢◌, ℕ, ◌+◌, ◌*◌, ◌/◌, ◌%◌, ◌<◌, ◌≤◌, cond, eqb, List, ◌∷◌, ◌++◌, length, get_or, unwrap_or, refl, sym, ap, subst, ◌∙◌, arith, inl, inr, cases_lt, cases_eq, get_or_at, get_or_append_left, length-append, All-from_get_or, Image, block_at, ReiserItem, same_bytes, first_byte, end_of, direct_byte, named_block, block_byte, file_byte, file_bytes, EndsBy, FollowsAll, SharesByte, AreItemsApart, AreInOrder}
 
 -- the bytes are the same where the named blocks are
 pub named_decide : (image other : Image) (items : List ReiserItem) (size : ℕ)

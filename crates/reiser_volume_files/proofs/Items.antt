@@ -1,16 +1,5 @@
 -- What one more item makes of the bytes of a file.
-use Rattle.std.proofs.Common.{◌≡◌, ◌≢◌, ℕ, ◌+◌, ◌-◌, ◌*◌, ◌/◌, ◌%◌, ◌<◌, ◌≤◌, true, false, cond, eqb, ltb, leb, List, [], ◌∷◌, ◌++◌, length, get_or, Option, Some, None, unwrap_or, All, refl, sym, ap, ◌∙◌, arith, inl, inr}
-use Rattle.std.specs.Option.{option_or}
-use Rattle.std.proofs.lemmas.Bool.{cases_Bool, and_parts, and_from, cond-true, cond-false, ltb-true, leb-true, lt-ltb, le-leb, lt-leb, cases_lt, eqb-true}
-use Rattle.std.proofs.lemmas.List.{get_or_past}
-use Rattle.std.proofs.lemmas.List.Elements.{All-head, All-tail}
-use Rattle.reiser_walk.specs.outside.History.{Image}
-use Rattle.reiser_walk.specs.reiser_node.declared.head.ItemKind.{ItemKind}
-use Rattle.reiser_walk.specs.reiser_node.declared.head.ItemKind.TheVariants.{Stat, Indirect, Direct, Directory}
-use Rattle.reiser_walk.specs.reiser_items.Pointers.{pointers}
-use Rattle.reiser_walk.proofs.reiser_items.Lists.{pointers_length}
-use Rattle.reiser_walk.specs.Items.{ReiserItem}
-use Rattle.reiser_volume_files.specs.Bytes.{first_byte, byte_count, is_covered, direct_by_kind, direct_byte, pointer_by_kind, named_block, block_byte, file_byte, EndsBy}
+use Rattle.reiser_volume_files.proofs.Imports.{◌≡◌, ◌≢◌, ℕ, ◌+◌, ◌-◌, ◌*◌, ◌/◌, ◌%◌, ◌<◌, ◌≤◌, true, false, cond, eqb, ltb, leb, List, [], ◌∷◌, ◌++◌, length, get_or, Option, Some, None, unwrap_or, All, refl, sym, ap, ◌∙◌, arith, inl, inr, option_or, cases_Bool, and_parts, and_from, cond-true, cond-false, ltb-true, leb-true, lt-ltb, le-leb, lt-leb, cases_lt, eqb-true, get_or_past, All-head, All-tail, Image, ItemKind, Stat, Indirect, Direct, Directory, pointers, pointers_length, ReiserItem, first_byte, byte_count, is_covered, direct_by_kind, direct_byte, pointer_by_kind, named_block, block_byte, file_byte, EndsBy}
 
 -- an item of this kind and body ends at this byte or before, if it has any
 abbrev pub EndsAt : ItemKind → ReiserItem → ℕ → Type 0

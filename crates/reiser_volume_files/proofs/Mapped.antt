@@ -1,18 +1,5 @@
 -- What a mapper holds after one more item, or after a part of one.
-use Rattle.std.proofs.Common.{◌≡◌, ◌≢◌, ℕ, ◌+◌, ◌-◌, ◌*◌, ◌/◌, ◌<◌, ◌≤◌, min, eqb, List, [], ◌∷◌, ◌++◌, length, get_or, Option, Some, None, Result, OnOk, sym, ap, subst, ◌∙◌, arith, inl, inr}
-use Rattle.std.specs.Int.{div_ceil}
-use Rattle.std.proofs.lemmas.Bool.{cases_lt, cases_eq, cond-false, ne_eqb}
-use Rattle.reiser_walk.specs.reiser_node.declared.head.ItemKind.TheVariants.{Indirect, Direct}
-use Rattle.reiser_walk.specs.reiser_items.Pointers.{pointers}
-use Rattle.reiser_walk.specs.Items.{ReiserItem}
-use Rattle.fs_rows.proofs.Joined.{joined_at, joined_below, joined_above, joined_on, joined_end}
-use Rattle.reiser_volume_files.specs.declared.map.RunFrom.{RunFrom}
-use Rattle.reiser_volume_files.specs.declared.map.RunFrom.TheVariants.{Disk}
-use Rattle.reiser_volume_files.specs.declared.mapper.FileMapper.{FileMapper}
-use Rattle.reiser_volume_files.specs.Bytes.{first_byte, byte_count, end_of, EndsBy, MayFollow}
-use Rattle.reiser_volume_files.specs.Parts.{OverlaysTail, OverlaysDisks}
-use Rattle.reiser_volume_files.specs.Runs.{block_from, disk_or_hole}
-use Rattle.reiser_volume_files.specs.States.{HoldsRuns, MapsFile}
+use Rattle.reiser_volume_files.proofs.Imports.{◌≡◌, ◌≢◌, ℕ, ◌+◌, ◌-◌, ◌*◌, ◌/◌, ◌<◌, ◌≤◌, min, eqb, List, [], ◌∷◌, ◌++◌, length, get_or, Option, Some, None, Result, OnOk, sym, ap, subst, ◌∙◌, arith, inl, inr, div_ceil, cases_lt, cases_eq, cond-false, ne_eqb, Indirect, Direct, pointers, ReiserItem, joined_at, joined_below, joined_above, joined_on, joined_end, RunFrom, Disk, FileMapper, first_byte, byte_count, end_of, EndsBy, MayFollow, OverlaysTail, OverlaysDisks, block_from, disk_or_hole, HoldsRuns, MapsFile}
 use Rattle.reiser_volume_files.proofs.Joining.{runs_same}
 use Rattle.reiser_volume_files.proofs.Adding.{all_before, all_last, on_ok, on_ok_both}
 use Rattle.reiser_volume_files.proofs.Contents.{count_direct, count_indirect}

@@ -1,16 +1,9 @@
 -- The order of the items of one object.
-use Rattle.std.proofs.Common.{◌≡◌, ℕ, ◌<◌, ◌≤◌, true, cond, eqb, ltb, List, get_or, All, sym, ap, ◌∙◌, arith, inl, inr}
-use Rattle.std.specs.Prelude.{AllPairs}
+use Rattle.reiser_volume_files.proofs.Imports.{◌≡◌, ℕ, ◌<◌, ◌≤◌, true, cond, eqb, ltb, List, get_or, All, sym, ap, ◌∙◌, arith, inl, inr, AllPairs, false≢true, cases_lt, cond-true, cond-false, le-ltb, ne_eqb, eq-eqb, All-get_or, ItemHead, ReiserItem, first_byte, IsItemOf, AreInOrder}
 use Rattle.std.specs.declared.cmp.Ordering.{Ordering}
 use Rattle.std.specs.declared.cmp.Ordering.TheVariants.{Less, Equal, Greater}
 use Rattle.std.specs.Ordering.{nat_cmp, ordering_then, is_lt}
-use Rattle.std.proofs.lemmas.Bool.{false≢true, cases_lt, cond-true, cond-false, le-ltb, ne_eqb, eq-eqb}
-use Rattle.std.proofs.lemmas.List.Elements.{All-get_or}
-use Rattle.reiser_walk.specs.reiser_node.declared.head.ItemHead.{ItemHead}
 use Rattle.reiser_walk.specs.reiser_items.Order.{kind_number, key_order}
-use Rattle.reiser_walk.specs.Items.{ReiserItem}
-use Rattle.reiser_volume_files.specs.Bytes.{first_byte}
-use Rattle.reiser_volume_files.specs.Laws.{IsItemOf, AreInOrder}
 
 same_numbers : (x y : ℕ) → x ≡ y → nat_cmp x y ≡ Equal
 same_numbers x y is = cond-false (ltb x y) Less (cond (eqb x y) Equal Greater) (le-ltb x y (omega (arith, is))) ∙ cond-true (eqb x y) Equal Greater (eq-eqb x y is)

@@ -1,16 +1,5 @@
 -- What one more item makes of where the blocks of a file lie.
-use Rattle.std.proofs.Common.{◌≡◌, ℕ, ◌+◌, ◌-◌, ◌*◌, ◌/◌, ◌%◌, ◌<◌, ◌≤◌, min, max, Bool, true, false, ◌||◌, cond, eqb, ltb, List, [], ◌∷◌, ◌++◌, length, get_or, Some, None, All, refl, sym, ap, subst, ◌∙◌, arith, inl, inr}
-use Rattle.std.specs.List.{list_any}
-use Rattle.std.proofs.lemmas.Bool.{cases_lt, cond-true, cond-false, lt-ltb, le-ltb, or_right}
-use Rattle.std.proofs.lemmas.List.Elements.{All-head, All-tail}
-use Rattle.reiser_walk.specs.reiser_node.declared.head.ItemKind.{ItemKind}
-use Rattle.reiser_walk.specs.reiser_node.declared.head.ItemKind.TheVariants.{Stat, Indirect, Direct, Directory}
-use Rattle.reiser_walk.specs.reiser_items.Pointers.{pointers}
-use Rattle.reiser_walk.specs.Items.{ReiserItem}
-use Rattle.reiser_volume_files.specs.declared.map.RunFrom.TheVariants.{Tail}
-use Rattle.reiser_volume_files.specs.Bytes.{first_byte, byte_count, pointer_by_kind, named_block, EndsBy, AlignedByKind, MayFollow}
-use Rattle.reiser_volume_files.specs.Runs.{holds_by_kind, is_held, disk_or_hole, block_from}
-use Rattle.reiser_volume_files.specs.Parts.{OverlaysTail, OverlaysDisks}
+use Rattle.reiser_volume_files.proofs.Imports.{◌≡◌, ℕ, ◌+◌, ◌-◌, ◌*◌, ◌/◌, ◌%◌, ◌<◌, ◌≤◌, min, max, Bool, true, false, ◌||◌, cond, eqb, ltb, List, [], ◌∷◌, ◌++◌, length, get_or, Some, None, All, refl, sym, ap, subst, ◌∙◌, arith, inl, inr, list_any, cases_lt, cond-true, cond-false, lt-ltb, le-ltb, or_right, All-head, All-tail, ItemKind, Stat, Indirect, Direct, Directory, pointers, ReiserItem, Tail, first_byte, byte_count, pointer_by_kind, named_block, EndsBy, AlignedByKind, MayFollow, holds_by_kind, is_held, disk_or_hole, block_from, OverlaysTail, OverlaysDisks}
 use Rattle.reiser_volume_files.proofs.Items.{EndsAt, pointer_is, no_pointer_past, no_pointer_before, named_none, named_more, same_named}
 use Rattle.reiser_volume_files.proofs.Contents.{count_direct, count_indirect}
 

@@ -1,24 +1,6 @@
 -- Each file block is of one sort.
-use Rattle.std.proofs.Common.{◌≡◌, ◌≢◌, ℕ, suc, ◌+◌, ◌-◌, ◌*◌, ◌/◌, ◌%◌, ◌<◌, ◌≤◌, min, max, true, false, cond, eqb, ltb, List, [], ◌∷◌, ◌++◌, length, get_or, take, replicate, Option, Some, None, unwrap_or, All, refl, sym, ap, subst, ◌∙◌, arith, inl, inr}
-use Rattle.std.specs.Prelude.{Contains}
-use Rattle.std.specs.Option.{option_or}
-use Rattle.std.proofs.lemmas.Bool.{false≢true, cases_Bool, cases_lt, cases_eq, cases_order, or_cases, or_parts, cond-true, cond-false, ltb-true, ltb-false, lt-ltb, le-ltb, ne_eqb}
-use Rattle.std.proofs.lemmas.List.{get_or_default, get_or_past, get_or-take, get_or_append_left, get_or-append_right, get_or-replicate, length-take, length-append, length-replicate}
-use Rattle.std.proofs.lemmas.List.Elements.{All-get_or, All-head, All-tail, Contains-get_or}
-use Rattle.reiser_walk.specs.outside.History.{Image, block_at}
+use Rattle.reiser_volume_files.proofs.Imports.{◌≡◌, ◌≢◌, ℕ, suc, ◌+◌, ◌-◌, ◌*◌, ◌/◌, ◌%◌, ◌<◌, ◌≤◌, min, max, true, false, cond, eqb, ltb, List, [], ◌∷◌, ◌++◌, length, get_or, take, replicate, Option, Some, None, unwrap_or, All, refl, sym, ap, subst, ◌∙◌, arith, inl, inr, Contains, option_or, false≢true, cases_Bool, cases_lt, cases_eq, cases_order, or_cases, or_parts, cond-true, cond-false, ltb-true, ltb-false, lt-ltb, le-ltb, ne_eqb, get_or_default, get_or_past, get_or-take, get_or_append_left, get_or-append_right, get_or-replicate, length-take, length-append, length-replicate, All-get_or, All-head, All-tail, Contains-get_or, Image, block_at, ItemKind, Stat, Indirect, Direct, Directory, pointers, pointers_length, ReiserItem, bytes_are, byte_at, length_bytes, same_block, zero_block, below_size, past_size, RunFrom, Disk, Tail, first_byte, byte_count, direct_by_kind, direct_byte, pointer_by_kind, named_block, block_byte, file_byte, content, direct_content, bytes_by, file_block, tail_block, file_bytes, target_bytes, IsAligned, AlignedByKind, holds_by_kind, is_held, disk_or_hole, block_from, SharesByte, AreItemsApart, up_to_size, held_from, IsNoIndirect, IsNamedBlock}
 use Rattle.reiser_walk.specs.vol_block.Volume.{zeros}
-use Rattle.reiser_walk.specs.reiser_node.declared.head.ItemKind.{ItemKind}
-use Rattle.reiser_walk.specs.reiser_node.declared.head.ItemKind.TheVariants.{Stat, Indirect, Direct, Directory}
-use Rattle.reiser_walk.specs.reiser_items.Pointers.{pointers}
-use Rattle.reiser_walk.proofs.reiser_items.Lists.{pointers_length}
-use Rattle.reiser_walk.specs.Items.{ReiserItem}
-use Rattle.fs_rows.proofs.Functions.{bytes_are, byte_at, length_bytes, same_block, zero_block}
-use Rattle.fs_rows.proofs.FileMarks.{below_size, past_size}
-use Rattle.reiser_volume_files.specs.declared.map.RunFrom.{RunFrom}
-use Rattle.reiser_volume_files.specs.declared.map.RunFrom.TheVariants.{Disk, Tail}
-use Rattle.reiser_volume_files.specs.Bytes.{first_byte, byte_count, direct_by_kind, direct_byte, pointer_by_kind, named_block, block_byte, file_byte, content, direct_content, bytes_by, file_block, tail_block, file_bytes, target_bytes, IsAligned, AlignedByKind}
-use Rattle.reiser_volume_files.specs.Runs.{holds_by_kind, is_held, disk_or_hole, block_from}
-use Rattle.reiser_volume_files.specs.Laws.{SharesByte, AreItemsApart, up_to_size, held_from, IsNoIndirect, IsNamedBlock}
 use Rattle.reiser_volume_files.proofs.Items.{uncovered, pointer_is, no_pointer_before}
 use Rattle.reiser_volume_files.proofs.Contents.{count_direct, count_indirect}
 use Rattle.reiser_volume_files.proofs.Placing.{from_below, from_past}

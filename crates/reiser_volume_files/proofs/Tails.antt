@@ -1,15 +1,5 @@
 -- What direct items hold of a file.
-use Rattle.std.proofs.Common.{◌≡◌, ◌≢◌, ℕ, ◌+◌, ◌-◌, ◌<◌, ◌≤◌, min, cond, ltb, List, [], ◌∷◌, ◌++◌, length, get_or, take, Option, None, unwrap_or, All, sym, ap, ◌∙◌, arith, inl, inr, ◌⊎◌}
-use Rattle.std.specs.Option.{option_or}
-use Rattle.std.proofs.lemmas.Bool.{cases_lt}
-use Rattle.std.proofs.lemmas.List.{get_or-take, length-take}
-use Rattle.reiser_walk.specs.reiser_node.declared.head.ItemKind.{ItemKind}
-use Rattle.reiser_walk.specs.reiser_node.declared.head.ItemKind.TheVariants.{Stat, Indirect, Direct, Directory}
-use Rattle.reiser_walk.specs.Items.{ReiserItem}
-use Rattle.fs_rows.specs.Pieces.{Overlays}
-use Rattle.fs_rows.proofs.Functions.{same_block}
-use Rattle.fs_rows.proofs.FileMarks.{below_size, past_size}
-use Rattle.reiser_volume_files.specs.Bytes.{first_byte, byte_count, direct_by_kind, direct_byte, direct_content, tail_block, EndsBy, MayFollow}
+use Rattle.reiser_volume_files.proofs.Imports.{◌≡◌, ◌≢◌, ℕ, ◌+◌, ◌-◌, ◌<◌, ◌≤◌, min, cond, ltb, List, [], ◌∷◌, ◌++◌, length, get_or, take, Option, None, unwrap_or, All, sym, ap, ◌∙◌, arith, inl, inr, ◌⊎◌, option_or, cases_lt, get_or-take, length-take, ItemKind, Stat, Indirect, Direct, Directory, ReiserItem, Overlays, same_block, below_size, past_size, first_byte, byte_count, direct_by_kind, direct_byte, direct_content, tail_block, EndsBy, MayFollow}
 use Rattle.reiser_volume_files.proofs.Items.{covered, no_direct_past, no_direct_before, direct_none, direct_more, same_direct}
 use Rattle.reiser_volume_files.proofs.Contents.{count_direct}
 

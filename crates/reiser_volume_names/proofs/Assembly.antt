@@ -1,38 +1,9 @@
 -- The looks at names together: all the rules are kept, or one is named that fails.
-use Rattle.std.proofs.Common.{◌≡◌, ℕ, suc, ◌/◌, ◌^◌, ◌<◌, ◌≤◌, ◌==◌, Bool, true, false, not, ◌&&◌, ◌||◌, List, [], filter, get_or, Some, None, is_some, Contains, AllPairs, refl, sym, ap, subst, ◌∙◌, true≢false, if◌then◌else◌}
-use Rattle.std.proofs.lemmas.Bool.{eqb-true}
-use Rattle.std.proofs.lemmas.List.Folds.{list_any_at, Any-from_list_any}
-use Rattle.std.proofs.lemmas.Map.Made.{AllPairs-from_IsDistinct}
-use Rattle.indexmap.specs.IndexSet.{IndexSet, contains, IsUnique}
-use Rattle.reiser_volume_objects.specs.refusals.declared.answer.VolAnswer.{VolAnswer}
-use Rattle.reiser_volume_objects.specs.refusals.declared.answer.VolAnswer.TheVariants.{Refused, Fault, Memory}
-use Rattle.reiser_volume_objects.specs.refusals.declared.refusal.VolumeRefusal.{VolumeRefusal}
+use Rattle.reiser_volume_names.proofs.Imports.{◌≡◌, ℕ, suc, ◌/◌, ◌^◌, ◌<◌, ◌≤◌, ◌==◌, Bool, true, false, not, ◌&&◌, ◌||◌, List, [], filter, get_or, Some, None, is_some, Contains, AllPairs, refl, sym, ap, subst, ◌∙◌, true≢false, if◌then◌else◌, eqb-true, list_any_at, Any-from_list_any, AllPairs-from_IsDistinct, IndexSet, contains, IsUnique, VolAnswer, Refused, Fault, Memory, VolumeRefusal, ReiserItem, ObjectKey, Naming, stat_of_object, is_directory_at, same_key, object_key_of, items_of, namings, is_followed, IsNamed, Keys, IsReach, IsDirectory, has_entries, directory_tested, directory_passes, in_filter, from_filter, same_key-true, same_key-self, NamesAnother, BlamesAgain, names_of, is_counted, BlamesCount, BlamesCrowd, BlamesExtended, AreLinks, AreNamedKeys, AreNames, BreaksNameRules, IsNamesRefusal, crowd_of, extended, extended_crowd_of, off_form, bad_name, attributes, long_name, long_target, twice, directory_twice, root_named, taken, too_many, crowd, extended_crowd, DifferInName, BlamesTwice, is_link, link_list, IsGoodName, BlamesName, HasForms, BlamesObject, is_symlink_mode, HasNoAttributes, BlamesPrivate, RefusesNames, IsNamesAnswer}
 use Rattle.reiser_volume_objects.specs.fs_rows.declared.row.Kind.TheVariants.{Directory, File, Symlink, Character, Block, Fifo, Socket}
 use Rattle.reiser_volume_objects.specs.reiser_items.Entries.{are_entries}
-use Rattle.reiser_volume_objects.specs.reiser_walk.Items.{ReiserItem}
-use Rattle.reiser_volume_objects.specs.declared.key.ObjectKey.{ObjectKey}
-use Rattle.reiser_volume_objects.specs.declared.naming.Naming.{Naming}
-use Rattle.reiser_volume_objects.specs.Items.{stat_of_object, is_directory_at}
-use Rattle.reiser_volume_objects.specs.Keys.{same_key, object_key_of, items_of}
 use Rattle.reiser_volume_objects.specs.Kinds.{kind_of_code}
-use Rattle.reiser_volume_objects.specs.Names.{namings, is_followed, IsNamed}
-use Rattle.reiser_volume_objects.specs.Reach.{Keys, IsReach}
-use Rattle.reiser_volume_objects.specs.Rules.{IsDirectory}
-use Rattle.reiser_volume_objects.specs.Summary.{has_entries}
-use Rattle.reiser_volume_objects.proofs.Checking.{directory_tested, directory_passes}
-use Rattle.reiser_volume_objects.proofs.fs_paths.Lists.{in_filter, from_filter}
-use Rattle.reiser_volume_objects.proofs.Tables.{same_key-true, same_key-self}
-use Rattle.reiser_volume_names.specs.Again.{NamesAnother, BlamesAgain}
-use Rattle.reiser_volume_names.specs.Counts.{names_of, is_counted, BlamesCount}
-use Rattle.reiser_volume_names.specs.Crowds.{BlamesCrowd}
-use Rattle.reiser_volume_names.specs.Extended.{BlamesExtended}
-use Rattle.reiser_volume_names.specs.Links.{AreLinks, AreNamedKeys}
-use Rattle.reiser_volume_names.specs.Names.{AreNames, BreaksNameRules, IsNamesRefusal, crowd_of, extended, extended_crowd_of, off_form, bad_name, attributes, long_name, long_target, twice, directory_twice, root_named, taken, too_many, crowd, extended_crowd}
-use Rattle.reiser_volume_names.specs.Once.{DifferInName, BlamesTwice}
 use Rattle.reiser_volume_names.specs.Passes as pass
-use Rattle.reiser_volume_names.specs.Passes.{is_link, link_list, IsGoodName, BlamesName, HasForms, BlamesObject, is_symlink_mode}
-use Rattle.reiser_volume_names.specs.Private.{HasNoAttributes, BlamesPrivate}
-use Rattle.reiser_volume_names.specs.Refuses.{RefusesNames, IsNamesAnswer}
 use Rattle.reiser_volume_names.proofs.Uniqueness.{same_decides, links_found}
 
 -- a symlink, as a test and as a fact

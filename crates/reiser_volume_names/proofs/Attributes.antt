@@ -1,18 +1,5 @@
 -- The private directory: what makes it hold an attribute, and that it holds none.
-use Rattle.std.proofs.Common.{◌≡◌, ℕ, zero, suc, Bool, true, false, not, ◌||◌, List, [], ◌∷◌, ◌++◌, length, filter, Some, None, Contains, inl, inr, ⊎_elim, refl, sym, ap, subst, ◌∙◌, true≢false, length-append, if◌then◌else◌, arith}
-use Rattle.std.proofs.lemmas.List.Elements.{Contains-append_left, Contains-append_right, Contains-push, Contains-push_cases}
-use Rattle.reiser_volume_objects.specs.refusals.declared.answer.VolAnswer.{VolAnswer}
-use Rattle.reiser_volume_objects.specs.refusals.declared.answer.VolAnswer.TheVariants.{Refused, Fault, Memory}
-use Rattle.reiser_volume_objects.specs.refusals.declared.refusal.VolumeRefusal.TheVariants.{HasAttributes}
-use Rattle.reiser_volume_objects.specs.reiser_walk.Items.{ReiserItem}
-use Rattle.reiser_volume_objects.specs.declared.key.ObjectKey.{ObjectKey}
-use Rattle.reiser_volume_objects.specs.declared.naming.Naming.{Naming}
-use Rattle.reiser_volume_objects.specs.Keys.{same_key}
-use Rattle.reiser_volume_objects.specs.Names.{namings, is_followed}
-use Rattle.reiser_volume_objects.specs.Reach.{Keys}
-use Rattle.reiser_volume_objects.proofs.Tables.{same_key-true, same_key-self}
-use Rattle.reiser_volume_objects.proofs.fs_paths.Lists.{in_filter, from_filter}
-use Rattle.reiser_volume_names.specs.Private.{listing, HasReadableEntries, HoldsNoAttribute, HasNoAttributes, IsBelow, IsOnly, IsExtra, AreTargets, BlamesTargets, BlamesBelow, BlamesPrivate}
+use Rattle.reiser_volume_names.proofs.Imports.{◌≡◌, ℕ, zero, suc, Bool, true, false, not, ◌||◌, List, [], ◌∷◌, ◌++◌, length, filter, Some, None, Contains, inl, inr, ⊎_elim, refl, sym, ap, subst, ◌∙◌, true≢false, length-append, if◌then◌else◌, arith, Contains-append_left, Contains-append_right, Contains-push, Contains-push_cases, VolAnswer, Refused, Fault, Memory, HasAttributes, ReiserItem, ObjectKey, Naming, same_key, namings, is_followed, Keys, same_key-true, same_key-self, in_filter, from_filter, listing, HasReadableEntries, HoldsNoAttribute, HasNoAttributes, IsBelow, IsOnly, IsExtra, AreTargets, BlamesTargets, BlamesBelow, BlamesPrivate}
 
 -- nothing is kept where nothing passes
 none_kept : {X : Type 0} (p : X → Bool) (xs : List X) → ((x : X) → Contains xs x → p x ≡ false) → filter p xs ≡ []

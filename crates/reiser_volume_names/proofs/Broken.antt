@@ -1,12 +1,5 @@
 -- Each refusal of names has its cause in a rule that fails.
-use Rattle.std.proofs.Common.{◌≡◌, ℕ, ◌<◌, ◌≤◌, List, ◌∷◌, ◌++◌, length, get_or, AllPairs, refl, sym, ap, subst, ◌∙◌, true≢false, length-append, arith}
-use Rattle.std.proofs.lemmas.List.{get_or_append_left, get_or_at}
-use Rattle.reiser_volume_objects.specs.refusals.declared.refusal.VolumeRefusal.{VolumeRefusal}
-use Rattle.reiser_volume_objects.specs.reiser_walk.Items.{ReiserItem}
-use Rattle.reiser_volume_objects.specs.declared.key.ObjectKey.{ObjectKey}
-use Rattle.reiser_volume_objects.specs.declared.naming.Naming.{Naming}
-use Rattle.reiser_volume_objects.specs.Rules.{IsDirectory}
-use Rattle.reiser_volume_names.specs.Names.{AreNames, KeepsNameRules, BreaksNameRules, IsNamesRefusal, AreIn, extended_crowd_of, off_form, bad_name, attributes, long_name, long_target, twice, directory_twice, root_named, taken, too_many, crowd, extended_crowd}
+use Rattle.reiser_volume_names.proofs.Imports.{◌≡◌, ℕ, ◌<◌, ◌≤◌, List, ◌∷◌, ◌++◌, length, get_or, AllPairs, refl, sym, ap, subst, ◌∙◌, true≢false, length-append, arith, get_or_append_left, get_or_at, VolumeRefusal, ReiserItem, ObjectKey, Naming, IsDirectory, AreNames, KeepsNameRules, BreaksNameRules, IsNamesRefusal, AreIn, extended_crowd_of, off_form, bad_name, attributes, long_name, long_target, twice, directory_twice, root_named, taken, too_many, crowd, extended_crowd}
 use Rattle.reiser_volume_names.proofs.Uniqueness.{visible_one, links_one, extended_one}
 
 -- what holds of each element and each later one holds of these two

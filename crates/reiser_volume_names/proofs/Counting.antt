@@ -1,22 +1,5 @@
 -- The counts of names, with one more link.
-use Rattle.std.proofs.Common.{◌≡◌, ℕ, ◌+◌, ◌^◌, ◌<◌, ◌≤◌, Bool, true, false, not, cond, ◌&&◌, List, [], ◌∷◌, ◌++◌, unwrap_or, Option, Some, None, is_some, refl, sym, ap, subst, ◌∙◌, true≢false, if◌then◌else◌, arith}
-use Rattle.std.specs.Map.{lookup}
-use Rattle.std.proofs.lemmas.List.Elements.{Contains-push, Contains-append_left}
-use Rattle.std.proofs.lemmas.List.Sums.{sum_by_push, sum_by-append}
-use Rattle.indexmap.specs.IndexMap.{IndexMap}
-use Rattle.reiser_volume_objects.specs.refusals.declared.answer.VolAnswer.{VolAnswer}
-use Rattle.reiser_volume_objects.specs.refusals.declared.answer.VolAnswer.TheVariants.{Refused, Fault, Memory}
-use Rattle.reiser_volume_objects.specs.refusals.declared.refusal.VolumeRefusal.TheVariants.{Damaged}
-use Rattle.reiser_volume_objects.specs.refusals.declared.rule.Rule.TheVariants.{SizeRange}
-use Rattle.reiser_volume_objects.specs.reiser_walk.Items.{ReiserItem}
-use Rattle.reiser_volume_objects.specs.declared.key.ObjectKey.{ObjectKey}
-use Rattle.reiser_volume_objects.specs.declared.naming.Naming.{Naming}
-use Rattle.reiser_volume_objects.specs.declared.stat.ObjectStat.{ObjectStat}
-use Rattle.reiser_volume_objects.specs.Items.{is_directory_at, stat_of_object}
-use Rattle.reiser_volume_objects.specs.Keys.{same_key}
-use Rattle.reiser_volume_objects.proofs.Tables.{same_key-true, same_key-self}
-use Rattle.reiser_volume_names.specs.Counts.{names_of, is_counted, CountsNames, BlamesCount}
-use Rattle.reiser_volume_names.specs.Tally.{tally, capped}
+use Rattle.reiser_volume_names.proofs.Imports.{◌≡◌, ℕ, ◌+◌, ◌^◌, ◌<◌, ◌≤◌, Bool, true, false, not, cond, ◌&&◌, List, [], ◌∷◌, ◌++◌, unwrap_or, Option, Some, None, is_some, refl, sym, ap, subst, ◌∙◌, true≢false, if◌then◌else◌, arith, lookup, Contains-push, Contains-append_left, sum_by_push, sum_by-append, IndexMap, VolAnswer, Refused, Fault, Memory, Damaged, SizeRange, ReiserItem, ObjectKey, Naming, ObjectStat, is_directory_at, stat_of_object, same_key, same_key-true, same_key-self, names_of, is_counted, CountsNames, BlamesCount, tally, capped}
 
 -- the names with one more
 names_push : (links : List Naming) (n : Naming) (key : ObjectKey) → names_of (links ++ n ∷ []) key ≡ names_of links key + cond (same_key n.target key) 1 0

@@ -1,21 +1,5 @@
 -- The sums of crowds, with one more name.
-use Rattle.std.proofs.Common.{◌≡◌, ℕ, ◌+◌, ◌<◌, ◌≤◌, ◌==◌, Bool, true, false, ◌&&◌, List, [], ◌∷◌, ◌++◌, length, unwrap_or, refl, sym, ap, subst, ◌∙◌, zero-add, if◌then◌else◌, arith}
-use Rattle.std.proofs.lemmas.Bool.{eqb-true}
-use Rattle.std.proofs.lemmas.Bool.Decides.{nat_tests}
-use Rattle.std.specs.Map.{lookup}
-use Rattle.reiser_volume_objects.specs.refusals.declared.answer.VolAnswer.{VolAnswer}
-use Rattle.reiser_volume_objects.specs.refusals.declared.answer.VolAnswer.TheVariants.{Refused, Fault, Memory}
-use Rattle.reiser_volume_objects.specs.refusals.declared.refusal.VolumeRefusal.TheVariants.{HashCrowd}
-use Rattle.castagnoli.specs.Castagnoli.{name_hash}
-use Rattle.indexmap.specs.IndexMap.{IndexMap}
-use Rattle.reiser_volume_objects.specs.declared.key.ObjectKey.{ObjectKey}
-use Rattle.reiser_volume_objects.specs.declared.naming.Naming.{Naming}
-use Rattle.reiser_volume_objects.specs.Keys.{same_key, root}
-use Rattle.reiser_volume_objects.proofs.Tables.{same_key-true, and_left, and_right}
-use Rattle.reiser_volume_names.specs.declared.crowd.Crowd.{Crowd}
-use Rattle.reiser_volume_names.specs.Crowds.{same_crowd, CrowdCounts, BlamesCrowd}
-use Rattle.reiser_volume_names.specs.Names.{crowd_of, saved_name}
-use Rattle.reiser_volume_names.specs.Tally.{tally, capped}
+use Rattle.reiser_volume_names.proofs.Imports.{◌≡◌, ℕ, ◌+◌, ◌<◌, ◌≤◌, ◌==◌, Bool, true, false, ◌&&◌, List, [], ◌∷◌, ◌++◌, length, unwrap_or, refl, sym, ap, subst, ◌∙◌, zero-add, if◌then◌else◌, arith, eqb-true, nat_tests, lookup, VolAnswer, Refused, Fault, Memory, HashCrowd, name_hash, IndexMap, ObjectKey, Naming, same_key, root, same_key-true, and_left, and_right, Crowd, same_crowd, CrowdCounts, BlamesCrowd, crowd_of, saved_name, tally, capped}
 use Rattle.reiser_volume_names.proofs.Sums.{weight_push, weight_of_part}
 
 pub same_crowd-true : (a b : Crowd) → same_crowd a b ≡ true → a ≡ b

@@ -1,14 +1,6 @@
 -- Results that are passed on.
-use Rattle.std.proofs.Common.{◌≡◌, ◌≤◌, List, Some, None, Result, Ok, Err, true, sym, subst, ◌∙◌}
-use Rattle.std.specs.Result.{MatchResult, OnOk, IfOk, IfErr}
-use Rattle.reiser_volume_objects.specs.reiser_walk.Items.{ReiserItem}
-use Rattle.reiser_volume_objects.specs.declared.key.ObjectKey.{ObjectKey}
+use Rattle.reiser_volume_names.proofs.Imports.{◌≡◌, ◌≤◌, List, Some, None, Result, Ok, Err, true, sym, subst, ◌∙◌, MatchResult, OnOk, IfOk, IfErr, ReiserItem, ObjectKey, ObjectStat, items_of, Summarises, some_same, HasForms, is_symlink_mode}
 use Rattle.reiser_volume_objects.specs.declared.object.Object.{Object}
-use Rattle.reiser_volume_objects.specs.declared.stat.ObjectStat.{ObjectStat}
-use Rattle.reiser_volume_objects.specs.Keys.{items_of}
-use Rattle.reiser_volume_objects.specs.Summary.{Summarises}
-use Rattle.reiser_volume_objects.proofs.Broken.{some_same}
-use Rattle.reiser_volume_names.specs.Passes.{HasForms, is_symlink_mode}
 
 pub passed_on : {T E : Type 0} (P Q : T → Type 0) (R S : E → Type 0) (r : Result T E) → MatchResult r P R → ((x : T) → P x → Q x) → ((e : E) → R e → S e) → MatchResult r Q S
 passed_on P Q R S (Ok x) h f g = f x h

@@ -1,22 +1,6 @@
 -- The sums of extended references, with one more name.
-use Rattle.std.proofs.Common.{◌≡◌, ℕ, ◌+◌, ◌<◌, ◌≤◌, ◌==◌, nat_lt, Bool, true, false, ◌&&◌, List, [], ◌∷◌, ◌++◌, length, refl, sym, ap, subst, ◌∙◌, append_assoc, if◌then◌else◌, arith}
-use Rattle.std.proofs.lemmas.Bool.{lt-ltb, le-ltb}
-use Rattle.std.proofs.lemmas.List.{append-nil}
-use Rattle.reiser_volume_objects.specs.refusals.declared.answer.VolAnswer.{VolAnswer}
-use Rattle.reiser_volume_objects.specs.refusals.declared.answer.VolAnswer.TheVariants.{Refused, Fault, Memory}
-use Rattle.reiser_volume_objects.specs.refusals.declared.refusal.VolumeRefusal.TheVariants.{HashCrowd}
-use Rattle.castagnoli.specs.Castagnoli.{extref_hash}
-use Rattle.indexmap.specs.IndexMap.{IndexMap}
-use Rattle.reiser_volume_objects.specs.declared.key.ObjectKey.{ObjectKey}
-use Rattle.reiser_volume_objects.specs.declared.naming.Naming.{Naming}
-use Rattle.reiser_volume_objects.specs.Keys.{same_key}
-use Rattle.reiser_volume_objects.proofs.Tables.{same_key-true, same_key-self, and_left, and_right}
-use Rattle.reiser_volume_names.specs.declared.crowd.Crowd.{Crowd}
+use Rattle.reiser_volume_names.proofs.Imports.{◌≡◌, ℕ, ◌+◌, ◌<◌, ◌≤◌, ◌==◌, nat_lt, Bool, true, false, ◌&&◌, List, [], ◌∷◌, ◌++◌, length, refl, sym, ap, subst, ◌∙◌, append_assoc, if◌then◌else◌, arith, lt-ltb, le-ltb, append-nil, VolAnswer, Refused, Fault, Memory, HashCrowd, extref_hash, IndexMap, ObjectKey, Naming, same_key, same_key-true, same_key-self, and_left, and_right, Crowd, same_crowd, same_names, CountsExtended, BlamesExtended, ino_of_key, reference_size, extended, extended_sum, tally, capped}
 use Rattle.reiser_volume_names.specs.declared.extended.NamesIn.{NamesIn}
-use Rattle.reiser_volume_names.specs.Crowds.{same_crowd}
-use Rattle.reiser_volume_names.specs.Extended.{same_names, CountsExtended, BlamesExtended}
-use Rattle.reiser_volume_names.specs.Names.{ino_of_key, reference_size, extended, extended_sum}
-use Rattle.reiser_volume_names.specs.Tally.{tally, capped}
 use Rattle.reiser_volume_names.proofs.Crowding.{same_crowd-true, same_crowd-self}
 use Rattle.reiser_volume_names.proofs.Sums.{weight_push, weight_of_part}
 

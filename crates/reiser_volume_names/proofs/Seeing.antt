@@ -1,23 +1,7 @@
 -- The names that were seen, with one more.
-use Rattle.std.proofs.Common.{◌≡◌, ℕ, ◌==◌, Bool, true, false, not, ◌&&◌, ◌||◌, List, [], ◌∷◌, ◌++◌, get_or, nat_eq, refl, sym, ap, ◌∙◌, append_assoc, true≢false, arith}
-use Rattle.std.specs.List.{list_any}
+use Rattle.reiser_volume_names.proofs.Imports.{◌≡◌, ℕ, ◌==◌, Bool, true, false, not, ◌&&◌, ◌||◌, List, [], ◌∷◌, ◌++◌, get_or, nat_eq, refl, sym, ap, ◌∙◌, append_assoc, true≢false, arith, list_any, eqb-true, nat_tests, list_any-append, list_any_at, Any-from_list_any, all_pairs_push, IndexSet, contains, VolAnswer, Refused, Fault, Memory, Damaged, NameTwice, ObjectKey, Naming, same_key, same_key-true, same_key-self, and_left, and_right, AreIn, same_name, names_as, DifferInName, HasSeenLinks, BlamesTwice}
 use Rattle.std.specs.Cmp.Lexicographic.{pointwise}
-use Rattle.std.proofs.lemmas.Bool.{eqb-true}
-use Rattle.std.proofs.lemmas.Bool.Decides.{nat_tests}
-use Rattle.std.proofs.lemmas.List.Folds.{list_any-append, list_any_at, Any-from_list_any}
-use Rattle.std.proofs.lemmas.List.Quantifiers.{all_pairs_push}
-use Rattle.indexmap.specs.IndexSet.{IndexSet, contains}
-use Rattle.reiser_volume_objects.specs.refusals.declared.answer.VolAnswer.{VolAnswer}
-use Rattle.reiser_volume_objects.specs.refusals.declared.answer.VolAnswer.TheVariants.{Refused, Fault, Memory}
-use Rattle.reiser_volume_objects.specs.refusals.declared.refusal.VolumeRefusal.TheVariants.{Damaged}
-use Rattle.reiser_volume_objects.specs.refusals.declared.rule.Rule.TheVariants.{NameTwice}
-use Rattle.reiser_volume_objects.specs.declared.key.ObjectKey.{ObjectKey}
-use Rattle.reiser_volume_objects.specs.declared.naming.Naming.{Naming}
-use Rattle.reiser_volume_objects.specs.Keys.{same_key}
-use Rattle.reiser_volume_objects.proofs.Tables.{same_key-true, same_key-self, and_left, and_right}
 use Rattle.reiser_volume_names.specs.declared.once.KeyedName.{KeyedName}
-use Rattle.reiser_volume_names.specs.Names.{AreIn}
-use Rattle.reiser_volume_names.specs.Once.{same_name, names_as, DifferInName, HasSeenLinks, BlamesTwice}
 
 -- bytes that pass the test are the same
 pub pointwise_same : (xs ys : List ℕ) → pointwise nat_eq xs ys ≡ true → xs ≡ ys

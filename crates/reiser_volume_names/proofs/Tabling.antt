@@ -1,32 +1,10 @@
 -- The table of the named objects with their stat data.
-use Rattle.std.proofs.Common.{◌≡◌, ℕ, ◌+◌, ◌<◌, ◌==◌, Bool, true, false, cond, ◌&&◌, ◌||◌, List, [], ◌∷◌, ◌++◌, length, get_or, take, Option, Some, None, is_some, Contains, refl, sym, ap, subst, ◌∙◌, true≢false, if◌then◌else◌, add-one, arith}
+use Rattle.reiser_volume_names.proofs.Imports.{◌≡◌, ℕ, ◌+◌, ◌<◌, ◌==◌, Bool, true, false, cond, ◌&&◌, ◌||◌, List, [], ◌∷◌, ◌++◌, length, get_or, take, Option, Some, None, is_some, Contains, refl, sym, ap, subst, ◌∙◌, true≢false, if◌then◌else◌, add-one, arith, IsSome, slice_get, position, IsTotalOrder, tied_then, list_any, dedup, dedup_from, IsDistinct, IsSorted, IsStrictlySortedBy, nat_cmp, is_eq, nat_tests, list_any-append, IsStrictlySortedBy-dedup, position-Some, slice_get-map, slice_get-get_or, AllPairs-from_IsDistinct, IndexMap, keys, get, IndexSet, contains, ReiserItem, ObjectKey, ObjectStat, stat_of_object, same_key, IsNamed, IsReach, some_same, same_key-true, AreNamedKeys, TellsNamed, object_cmp}
+use Rattle.indexmap.specs.IndexMap.{IsUnique}
 use Rattle.std.proofs.Math.Seq.{take-suc}
-use Rattle.std.specs.Prelude.{IsSome, slice_get, position}
 use Rattle.std.specs.Option.{MatchOption, option_map}
-use Rattle.std.specs.Cmp.{IsTotalOrder, tied_then}
-use Rattle.std.specs.List.{list_any, dedup, dedup_from, IsDistinct}
-use Rattle.std.specs.List.Sorted.{IsSorted, IsStrictlySortedBy}
-use Rattle.std.specs.Ordering.{nat_cmp, is_eq}
-use Rattle.std.proofs.lemmas.Bool.Decides.{nat_tests}
 use Rattle.std.proofs.lemmas.Cmp.{nat_cmp_total, on_total, then_total}
-use Rattle.std.proofs.lemmas.List.Folds.{list_any-append}
-use Rattle.std.proofs.lemmas.List.Kept.{IsStrictlySortedBy-dedup}
-use Rattle.std.proofs.lemmas.List.Quantifiers.{position-Some}
-use Rattle.std.proofs.lemmas.Option.{slice_get-map, slice_get-get_or}
-use Rattle.std.proofs.lemmas.Map.Made.{AllPairs-from_IsDistinct}
 use Rattle.std.proofs.lemmas.Map.Views.{Contains-keys_from_lookup, IsSome-lookup_from_Contains}
-use Rattle.indexmap.specs.IndexMap.{IndexMap, keys, get, IsUnique}
-use Rattle.indexmap.specs.IndexSet.{IndexSet, contains}
-use Rattle.reiser_volume_objects.specs.reiser_walk.Items.{ReiserItem}
-use Rattle.reiser_volume_objects.specs.declared.key.ObjectKey.{ObjectKey}
-use Rattle.reiser_volume_objects.specs.declared.stat.ObjectStat.{ObjectStat}
-use Rattle.reiser_volume_objects.specs.Items.{stat_of_object}
-use Rattle.reiser_volume_objects.specs.Keys.{same_key}
-use Rattle.reiser_volume_objects.specs.Names.{IsNamed}
-use Rattle.reiser_volume_objects.specs.Reach.{IsReach}
-use Rattle.reiser_volume_objects.proofs.Broken.{some_same}
-use Rattle.reiser_volume_objects.proofs.Tables.{same_key-true}
-use Rattle.reiser_volume_names.specs.Links.{AreNamedKeys, TellsNamed, object_cmp}
 use Rattle.reiser_volume_names.specs.Known.{HasStats, is_known}
 use Rattle.reiser_volume_names.proofs.Uniqueness.{same_decides, same_laws, flips}
 

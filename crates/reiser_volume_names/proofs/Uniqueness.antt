@@ -1,26 +1,8 @@
 -- The links of a volume are one list, and its keys one set: what depends on them does not depend on how they were found.
-use Rattle.std.proofs.Common.{◌≡◌, ℕ, ◌+◌, ◌==◌, Bool, true, false, not, ◌&&◌, List, [], ◌∷◌, length, filter, count_by, sum_by, AllPairs, refl, sym, ap, ◌∙◌, if◌then◌else◌}
-use Rattle.std.specs.Prelude.{◌≢◌}
+use Rattle.reiser_volume_names.proofs.Imports.{◌≡◌, ℕ, ◌+◌, ◌==◌, Bool, true, false, not, ◌&&◌, List, [], ◌∷◌, length, filter, count_by, sum_by, AllPairs, refl, sym, ap, ◌∙◌, if◌then◌else◌, ◌≢◌, IsEquivalence, IsDistinct, is_lt, AllPairs-filter, length-filter, IsDistinct-from_AllPairs, is_member-Decides, is_member-filter, length-from_same_keys, extref_hash, ReiserItem, ObjectKey, Naming, same_key, root, namings, is_followed, Keys, same_key-true, same_key-self, AreLinks, AreNamedKeys, TellsNamed, object_cmp, link_list, ino_of_key, extended, extended_crowd_of}
 use Rattle.std.specs.Bool.{Decides}
-use Rattle.std.specs.Cmp.{IsEquivalence}
-use Rattle.std.specs.List.{IsDistinct}
-use Rattle.std.specs.Ordering.{is_lt}
 use Rattle.std.specs.Set.{is_member}
-use Rattle.std.proofs.lemmas.List.Kept.{AllPairs-filter}
-use Rattle.std.proofs.lemmas.List.Sums.{length-filter}
-use Rattle.std.proofs.lemmas.Map.Made.{IsDistinct-from_AllPairs, is_member-Decides, is_member-filter, length-from_same_keys}
-use Rattle.castagnoli.specs.Castagnoli.{extref_hash}
 use Rattle.reiser_volume_objects.proofs.fs_paths.FirstPlaces.{both_ways}
-use Rattle.reiser_volume_objects.specs.reiser_walk.Items.{ReiserItem}
-use Rattle.reiser_volume_objects.specs.declared.key.ObjectKey.{ObjectKey}
-use Rattle.reiser_volume_objects.specs.declared.naming.Naming.{Naming}
-use Rattle.reiser_volume_objects.specs.Keys.{same_key, root}
-use Rattle.reiser_volume_objects.specs.Names.{namings, is_followed}
-use Rattle.reiser_volume_objects.specs.Reach.{Keys}
-use Rattle.reiser_volume_objects.proofs.Tables.{same_key-true, same_key-self}
-use Rattle.reiser_volume_names.specs.Links.{AreLinks, AreNamedKeys, TellsNamed, object_cmp}
-use Rattle.reiser_volume_names.specs.Passes.{link_list}
-use Rattle.reiser_volume_names.specs.Names.{ino_of_key, extended, extended_crowd_of}
 
 pub same_decides : (a b : ObjectKey) → Decides (same_key a b) (a ≡ b)
 same_decides a b = (same_key-true a b, λ e. ap (same_key a) (sym e) ∙ same_key-self a)

@@ -1,18 +1,5 @@
 -- Each refusal names a rule that fails.
-use Rattle.std.proofs.Common.{◌≡◌, ℕ, ◌<◌, List, ◌∷◌, ◌++◌, length, get_or, suc, Option, Some, None, refl, sym, ap, subst, ◌∙◌, true≢false, length-append, arith}
-use Rattle.std.proofs.lemmas.List.{get_or_append_left, get_or_at}
-use Rattle.std.proofs.lemmas.List.Folds.{list_any-from_Any}
-use Rattle.reiser_bitmap.specs.refusals.declared.refusal.VolumeRefusal.{VolumeRefusal}
-use Rattle.fs_rows.specs.declared.row.Kind.{Kind}
-use Rattle.reiser_walk.specs.Items.{ReiserItem}
-use Rattle.reiser_walk.specs.Bodies.{is_save_link}
-use Rattle.reiser_volume_objects.specs.declared.key.ObjectKey.{ObjectKey}
-use Rattle.reiser_volume_objects.specs.declared.stat.ObjectStat.{ObjectStat}
-use Rattle.reiser_volume_files.specs.Laws.{SharesByte, AreItemsApart}
-use Rattle.reiser_volume_objects.specs.Items.{IsOverlap, fits_kind}
-use Rattle.reiser_volume_objects.specs.Keys.{items_of}
-use Rattle.reiser_volume_objects.specs.Kinds.{kind_of_mode, fits_size}
-use Rattle.reiser_volume_objects.specs.Rules.{AreObjects, IsObject, IsKnownObject, IsObjectsRefusal, save_link, no_root, other_root, no_stat, unknown_kind, other_items, overlap, size_range}
+use Rattle.reiser_volume_objects.proofs.Imports.{◌≡◌, ℕ, ◌<◌, List, ◌∷◌, ◌++◌, length, get_or, suc, Option, Some, None, refl, sym, ap, subst, ◌∙◌, true≢false, length-append, arith, get_or_append_left, get_or_at, list_any-from_Any, VolumeRefusal, Kind, ReiserItem, is_save_link, ObjectKey, ObjectStat, SharesByte, AreItemsApart, IsOverlap, fits_kind, items_of, kind_of_mode, fits_size, AreObjects, IsObject, IsKnownObject, IsObjectsRefusal, save_link, no_root, other_root, no_stat, unknown_kind, other_items, overlap, size_range}
 
 -- one value is there
 pub some_same : {A : Type 0} (o : Option A) (x y : A) → o ≡ Some x → o ≡ Some y → x ≡ y

@@ -1,31 +1,9 @@
 -- That an object is in order, or which rule it breaks.
-use Rattle.std.proofs.Common.{◌≡◌, ℕ, ◌/◌, ◌==◌, ◌<◌, ◌≤◌, Bool, true, false, not, ◌&&◌, ◌||◌, List, [], ◌∷◌, length, get_or, Option, Some, None, Contains, find, refl, sym, ap, subst, ◌∙◌, true≢false, if◌then◌else◌, arith}
-use Rattle.std.specs.Option.{option_map, option_map_or}
-use Rattle.std.specs.List.{list_any, list_all}
+use Rattle.reiser_volume_objects.proofs.Imports.{◌≡◌, ℕ, ◌/◌, ◌==◌, ◌<◌, ◌≤◌, Bool, true, false, not, ◌&&◌, ◌||◌, List, [], ◌∷◌, length, get_or, Option, Some, None, Contains, find, refl, sym, ap, subst, ◌∙◌, true≢false, if◌then◌else◌, arith, option_map, option_map_or, list_any, list_all, VolumeRefusal, Damaged, PendingLinks, ObjectForm, Overlap, SizeRange, Kind, Directory, File, Symlink, Character, Block, Fifo, Socket, ReiserItem, ObjectKey, Object, ObjectStat, is_save_link, Keys, IsReach, first_save_link, items_of, same_key, Contains-append_right, Any-from_list_any, is_directory_mode, kind_of_mode, may_have, is_file, is_symlink, is_directory, fits_size, stat_of_object, is_directory_at, fits_kind, IsNamed, AreObjects, IsDirectory, IsObject, IsKnownObject, save_link, IsObjectsRefusal, unknown_kind, other_items, overlap, size_range, Summarises, has_pointers, has_bytes, has_entries, fits_summary}
 use Rattle.reiser_items.specs.reiser_node.declared.head.ItemKind.{ItemKind}
 use Rattle.reiser_items.specs.reiser_node.declared.head.ItemKind.TheVariants.{Stat, Indirect, Direct, Directory as Entries}
-use Rattle.reiser_bitmap.specs.refusals.declared.refusal.VolumeRefusal.{VolumeRefusal}
-use Rattle.reiser_bitmap.specs.refusals.declared.refusal.VolumeRefusal.TheVariants.{Damaged, PendingLinks}
-use Rattle.reiser_bitmap.specs.refusals.declared.rule.Rule.TheVariants.{ObjectForm, Overlap, SizeRange}
-use Rattle.fs_rows.specs.declared.row.Kind.{Kind}
-use Rattle.fs_rows.specs.declared.row.Kind.TheVariants.{Directory, File, Symlink, Character, Block, Fifo, Socket}
-use Rattle.reiser_walk.specs.Items.{ReiserItem}
-use Rattle.reiser_volume_objects.specs.declared.key.ObjectKey.{ObjectKey}
-use Rattle.reiser_volume_objects.specs.declared.object.Object.{Object}
-use Rattle.reiser_volume_objects.specs.declared.stat.ObjectStat.{ObjectStat}
-use Rattle.reiser_walk.specs.Bodies.{is_save_link}
-use Rattle.reiser_volume_objects.specs.Reach.{Keys, IsReach}
-use Rattle.reiser_volume_objects.specs.Table.{first_save_link}
-use Rattle.reiser_volume_objects.specs.Keys.{items_of, same_key}
 use Rattle.reiser_volume_objects.proofs.Reaching.{head_is, code_of_directory}
-use Rattle.std.proofs.lemmas.List.Elements.{Contains-append_right}
 use Rattle.reiser_volume_objects.proofs.Tables.{same_key-true}
-use Rattle.std.proofs.lemmas.List.Folds.{Any-from_list_any}
-use Rattle.reiser_volume_objects.specs.Kinds.{is_directory_mode, kind_of_mode, may_have, is_file, is_symlink, is_directory, fits_size}
-use Rattle.reiser_volume_objects.specs.Items.{stat_of_object, is_directory_at, fits_kind}
-use Rattle.reiser_volume_objects.specs.Names.{IsNamed}
-use Rattle.reiser_volume_objects.specs.Rules.{AreObjects, IsDirectory, IsObject, IsKnownObject, save_link, IsObjectsRefusal, unknown_kind, other_items, overlap, size_range}
-use Rattle.reiser_volume_objects.specs.Summary.{Summarises, has_pointers, has_bytes, has_entries, fits_summary}
 
 -- what a kind with these answers may have, where pointers, bytes and entries are among the items or not
 abbrev tests : Bool → Bool → Bool → Bool → Bool → Bool → Bool

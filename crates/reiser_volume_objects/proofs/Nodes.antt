@@ -1,17 +1,6 @@
 -- What the root reaches over the steps of entries, as nodes, is what it reaches over the entries.
-use Rattle.std.proofs.Common.{◌≡◌, ℕ, zero, suc, Bool, List, [], ◌∷◌, map, filter, Contains, ⊎_elim, refl, sym, ap, subst, ◌∙◌, arith}
-use Rattle.fs_paths.specs.declared.node_link.NodeLink.{NodeLink}
-use Rattle.fs_paths.specs.declared.node.NodeId.{NodeId}
+use Rattle.reiser_volume_objects.proofs.Imports.{◌≡◌, ℕ, zero, suc, Bool, List, [], ◌∷◌, map, filter, Contains, ⊎_elim, refl, sym, ap, subst, ◌∙◌, arith, NodeLink, NodeId, AreReached, in_map, from_map, ReiserItem, ObjectKey, Naming, root, is_followed, namings, followed, IsReachedBy, node_of, step_of, steps, TellsReached}
 use Rattle.fs_paths.specs.Reached as over
-use Rattle.fs_paths.specs.Reached.{AreReached}
-use Rattle.fs_paths.proofs.Lists.{in_map, from_map}
-use Rattle.reiser_walk.specs.Items.{ReiserItem}
-use Rattle.reiser_volume_objects.specs.declared.key.ObjectKey.{ObjectKey}
-use Rattle.reiser_volume_objects.specs.declared.naming.Naming.{Naming}
-use Rattle.reiser_volume_objects.specs.Keys.{root}
-use Rattle.reiser_volume_objects.specs.Names.{is_followed, namings, followed, IsReachedBy}
-use Rattle.reiser_volume_objects.specs.Nodes.{node_of, step_of, steps}
-use Rattle.reiser_volume_objects.specs.Reach.{TellsReached}
 
 -- objects of one node are the same
 pub node_same : (a b : ObjectKey) → node_of a ≡ node_of b → a ≡ b

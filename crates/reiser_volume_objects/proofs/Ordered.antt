@@ -1,17 +1,9 @@
 -- Where the items of a tree ascend, each comes behind those of its object.
-use Rattle.std.proofs.Common.{◌≡◌, ℕ, ◌≤◌, true, List, [], ◌∷◌, ◌++◌, length, get_or, None, length-append, refl, ap, subst, ◌∙◌, arith}
+use Rattle.reiser_volume_objects.proofs.Imports.{◌≡◌, ℕ, ◌≤◌, true, List, [], ◌∷◌, ◌++◌, length, get_or, None, length-append, refl, ap, subst, ◌∙◌, arith, nat_tests, get_or_append_left, get_or_push, ReiserItem, order_damages, ObjectKey, same_key, object_key_of, IsBehind, from_filter}
 use Rattle.std.specs.Ordering.{nat_cmp, ordering_then, is_lt}
-use Rattle.std.proofs.lemmas.Bool.Decides.{nat_tests}
-use Rattle.std.proofs.lemmas.List.{get_or_append_left, get_or_push}
 use Rattle.reiser_items.specs.Order.{key_order, kind_number}
-use Rattle.reiser_walk.specs.Items.{ReiserItem}
-use Rattle.reiser_walk.specs.Rules.{order_damages}
 use Rattle.reiser_walk.proofs.Lists.{all_pairs_from_pairs}
 use Rattle.reiser_walk.proofs.Rules.{ascending_from}
-use Rattle.reiser_volume_objects.specs.declared.key.ObjectKey.{ObjectKey}
-use Rattle.reiser_volume_objects.specs.Keys.{same_key, object_key_of}
-use Rattle.reiser_volume_objects.specs.Table.{IsBehind}
-use Rattle.fs_paths.proofs.Lists.{from_filter}
 use Rattle.reiser_volume_objects.proofs.Tables.{same_key-true}
 
 offsets : (d o f k e p g l : ℕ) → is_lt (ordering_then (ordering_then (ordering_then (nat_cmp d e) (nat_cmp o p)) (nat_cmp f g)) (nat_cmp k l)) ≡ true → d ≡ e → o ≡ p → f ≤ g

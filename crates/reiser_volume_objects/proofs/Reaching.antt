@@ -1,27 +1,6 @@
 -- How the set of named objects grows, and that in the end it is whole.
-use Rattle.std.proofs.Common.{◌≡◌, ℕ, zero, suc, ◌+◌, ◌<◌, ◌≤◌, ◌==◌, Bool, true, false, ◌||◌, List, [], ◌∷◌, length, filter, take, get_or, Option, Some, None, is_some, Result, Ok, Err, Contains, ◌⊎◌, inl, inr, ⊎_elim, refl, sym, ap, subst, ◌∙◌, true≢false, if◌then◌else◌, arith}
-use Rattle.std.proofs.lemmas.List.Elements.{Contains-get_or, Contains-push_cases, Contains-append_cases, Contains-append_right}
+use Rattle.reiser_volume_objects.proofs.Imports.{◌≡◌, ℕ, zero, suc, ◌+◌, ◌<◌, ◌≤◌, ◌==◌, Bool, true, false, ◌||◌, List, [], ◌∷◌, length, filter, take, get_or, Option, Some, None, is_some, Result, Ok, Err, Contains, ◌⊎◌, inl, inr, ⊎_elim, refl, sym, ap, subst, ◌∙◌, true≢false, if◌then◌else◌, arith, Contains-get_or, Contains-push_cases, Contains-append_cases, Contains-append_right, take_more, take_all, VolAnswer, Refused, Damaged, ObjectForm, Directory, File, Symlink, Character, Block, Fifo, Socket, NodeId, in_filter, from_filter, ReiserItem, ObjectKey, Naming, ObjectStat, same_key, root, kind_of_code, is_directory_mode, stat_of_object, is_followed, namings, followed, IsNamed, IsReachedBy, IsDirectory, other_root, no_stat, Refuses, Keys, IsSeen, AreSeen, TellsReached, Closes, FollowsEntry, Objects, HasNoted}
 use Rattle.std.specs.Result.{MatchResult}
-use Rattle.std.proofs.lemmas.List.{take_more, take_all}
-use Rattle.reiser_bitmap.specs.refusals.declared.answer.VolAnswer.{VolAnswer}
-use Rattle.reiser_bitmap.specs.refusals.declared.answer.VolAnswer.TheVariants.{Refused}
-use Rattle.reiser_bitmap.specs.refusals.declared.refusal.VolumeRefusal.TheVariants.{Damaged}
-use Rattle.reiser_bitmap.specs.refusals.declared.rule.Rule.TheVariants.{ObjectForm}
-use Rattle.fs_rows.specs.declared.row.Kind.TheVariants.{Directory, File, Symlink, Character, Block, Fifo, Socket}
-use Rattle.fs_paths.specs.declared.node.NodeId.{NodeId}
-use Rattle.fs_paths.proofs.Lists.{in_filter, from_filter}
-use Rattle.reiser_walk.specs.Items.{ReiserItem}
-use Rattle.reiser_volume_objects.specs.declared.key.ObjectKey.{ObjectKey}
-use Rattle.reiser_volume_objects.specs.declared.naming.Naming.{Naming}
-use Rattle.reiser_volume_objects.specs.declared.stat.ObjectStat.{ObjectStat}
-use Rattle.reiser_volume_objects.specs.Keys.{same_key, root}
-use Rattle.reiser_volume_objects.specs.Kinds.{kind_of_code, is_directory_mode}
-use Rattle.reiser_volume_objects.specs.Items.{stat_of_object}
-use Rattle.reiser_volume_objects.specs.Names.{is_followed, namings, followed, IsNamed, IsReachedBy}
-use Rattle.reiser_volume_objects.specs.Rules.{IsDirectory, other_root, no_stat}
-use Rattle.reiser_volume_objects.specs.Reach.{Refuses, Keys, IsSeen, AreSeen, TellsReached, Closes, FollowsEntry}
-use Rattle.reiser_volume_objects.specs.declared.table.Objects.{Objects}
-use Rattle.reiser_volume_objects.specs.Table.{HasNoted}
 use Rattle.reiser_volume_objects.proofs.Tables.{same_key-true}
 
 -- the head of a list is an element

@@ -1,18 +1,8 @@
 -- One more item of a walk is noted.
-use Rattle.std.proofs.Common.{◌≡◌, ℕ, Bool, List, [], ◌∷◌, ◌++◌, None, Option, Some, IfSome, sym, ap, subst, ◌∙◌}
-use Rattle.reiser_bitmap.specs.outside.History.{Image}
-use Rattle.reiser_bitmap.specs.refusals.declared.answer.VolAnswer.{VolAnswer}
-use Rattle.reiser_bitmap.specs.refusals.declared.answer.VolAnswer.TheVariants.{Refused, Fault, Memory}
+use Rattle.reiser_volume_objects.proofs.Imports.{◌≡◌, ℕ, Bool, List, [], ◌∷◌, ◌++◌, None, Option, Some, IfSome, sym, ap, subst, ◌∙◌, Image, VolAnswer, Refused, Fault, Memory, ReiserTree, ReiserItem, order_damages, Walks, Objects, BlamesTree, HasNoted, IsBehind}
 use Rattle.reiser_items.specs.reiser_node.declared.head.ItemHead.{ItemHead}
-use Rattle.reiser_walk.specs.declared.reiser_tree.ReiserTree.{ReiserTree}
 use Rattle.reiser_walk.specs.declared.walker.Walker.{Walker}
 use Rattle.reiser_walk.specs.Answers.{BlamesDamage}
-use Rattle.reiser_walk.specs.Items.{ReiserItem}
-use Rattle.reiser_walk.specs.Rules.{order_damages}
-use Rattle.reiser_walk.specs.Walks.{Walks}
-use Rattle.reiser_volume_objects.specs.declared.table.Objects.{Objects}
-use Rattle.reiser_volume_objects.specs.Read.{BlamesTree}
-use Rattle.reiser_volume_objects.specs.Table.{HasNoted, IsBehind}
 use Rattle.reiser_volume_objects.proofs.Ordered.{behind_given}
 
 -- the parts of the item that stands make it up

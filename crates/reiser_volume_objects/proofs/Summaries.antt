@@ -1,19 +1,8 @@
 -- The summary of an object's items, with one more item.
-use Rattle.std.proofs.Common.{◌≡◌, ℕ, ◌<◌, ◌≤◌, nat_lt, max, Bool, true, false, ◌&&◌, ◌||◌, List, [], ◌∷◌, ◌++◌, get_or, Option, Some, None, Contains, ◌⊎◌, inl, inr, ⊎_elim, refl, sym, ap, subst, ◌∙◌, append_assoc, if◌then◌else◌, arith}
-use Rattle.std.proofs.lemmas.Bool.{cases_lt, ltb-true, ltb-false}
-use Rattle.std.specs.Option.{option_or}
-use Rattle.std.specs.List.{list_any}
-use Rattle.std.proofs.lemmas.List.Elements.{Contains-get_or, Contains-push, Contains-push_cases, Contains-append_left}
-use Rattle.std.proofs.lemmas.List.Folds.{list_any-append}
+use Rattle.reiser_volume_objects.proofs.Imports.{◌≡◌, ℕ, ◌<◌, ◌≤◌, nat_lt, max, Bool, true, false, ◌&&◌, ◌||◌, List, [], ◌∷◌, ◌++◌, get_or, Option, Some, None, Contains, ◌⊎◌, inl, inr, ⊎_elim, refl, sym, ap, subst, ◌∙◌, append_assoc, if◌then◌else◌, arith, cases_lt, ltb-true, ltb-false, option_or, list_any, Contains-get_or, Contains-push, Contains-push_cases, Contains-append_left, list_any-append, ReiserItem, Object, ObjectStat, SharesByte, AreItemsApart, stat_by_kind, first_stat, IsOverlap, Summarises, with_item, overlap_at, has_pointers, has_bytes, has_entries, has_entry_form, HasForm}
 use Rattle.std.proofs.lemmas.List.Quantifiers.{all_pairs_push}
 use Rattle.std.proofs.Math.Nat.{le-max_left, le-max_right}
-use Rattle.reiser_walk.specs.Items.{ReiserItem}
-use Rattle.reiser_volume_objects.specs.declared.object.Object.{Object}
-use Rattle.reiser_volume_objects.specs.declared.stat.ObjectStat.{ObjectStat}
 use Rattle.reiser_volume_files.specs.Bytes.{first_byte, byte_count, end_of}
-use Rattle.reiser_volume_files.specs.Laws.{SharesByte, AreItemsApart}
-use Rattle.reiser_volume_objects.specs.Items.{stat_by_kind, first_stat, IsOverlap}
-use Rattle.reiser_volume_objects.specs.Summary.{Summarises, with_item, overlap_at, has_pointers, has_bytes, has_entries, has_entry_form, HasForm}
 
 -- the first stat data of a list with one more item
 first_stat-push : (xs : List ReiserItem) (i : ReiserItem) → first_stat (xs ++ i ∷ []) ≡ option_or (first_stat xs) (stat_by_kind i.head.kind i)

@@ -1,27 +1,7 @@
 -- The table of objects, with one more item.
-use Rattle.std.proofs.Common.{◌≡◌, ℕ, ◌+◌, ◌==◌, Bool, true, false, ◌&&◌, List, [], ◌∷◌, ◌++◌, length, map, filter, take, get_or, find, slice_get, Option, Some, None, refl, sym, ap, subst, ◌∙◌, append_assoc, if◌then◌else◌, arith}
-use Rattle.std.specs.Option.{option_or, option_map, option_map_or, MatchOption}
-use Rattle.std.proofs.lemmas.List.Elements.{filter-append, filter_more}
-use Rattle.std.proofs.lemmas.Bool.{eqb-true}
-use Rattle.std.proofs.lemmas.Option.{slice_get_within, get_or_from_slice_get}
-use Rattle.std.proofs.lemmas.List.{map-append}
-use Rattle.std.proofs.lemmas.Bool.Decides.{nat_tests}
-use Rattle.std.proofs.lemmas.List.Folds.{find-append}
+use Rattle.reiser_volume_objects.proofs.Imports.{◌≡◌, ℕ, ◌+◌, ◌==◌, Bool, true, false, ◌&&◌, List, [], ◌∷◌, ◌++◌, length, map, filter, take, get_or, find, slice_get, Option, Some, None, refl, sym, ap, subst, ◌∙◌, append_assoc, if◌then◌else◌, arith, option_or, option_map, option_map_or, MatchOption, filter-append, filter_more, eqb-true, slice_get_within, get_or_from_slice_get, map-append, append-nil, nat_tests, find-append, get, Updates, ReiserItem, is_save_link, ObjectKey, Naming, Object, Objects, same_key, object_key_of, items_of, is_listed, naming_by, namings_in, namings, Summarises, with_item, HasNoted, IsBehind, TellsItems, first_save_link, without_repeats, leaves_of, IsFirstLeaf}
 use Rattle.std.proofs.lemmas.Grind.{flat_map-append}
-use Rattle.std.proofs.lemmas.List.{append-nil}
-use Rattle.indexmap.specs.IndexMap.{get, Updates}
 use Rattle.reiser_items.specs.Entries.{EntryValue}
-use Rattle.reiser_walk.specs.Items.{ReiserItem}
-use Rattle.reiser_walk.specs.Bodies.{is_save_link}
-use Rattle.reiser_volume_objects.specs.declared.key.ObjectKey.{ObjectKey}
-use Rattle.reiser_volume_objects.specs.declared.naming.Naming.{Naming}
-use Rattle.reiser_volume_objects.specs.declared.object.Object.{Object}
-use Rattle.reiser_volume_objects.specs.declared.table.Objects.{Objects}
-use Rattle.reiser_volume_objects.specs.Keys.{same_key, object_key_of, items_of}
-use Rattle.reiser_volume_objects.specs.Names.{is_listed, naming_by, namings_in, namings}
-use Rattle.reiser_volume_objects.specs.Summary.{Summarises, with_item}
-use Rattle.reiser_volume_objects.specs.Table.{HasNoted, IsBehind, TellsItems, first_save_link}
-use Rattle.reiser_volume_objects.specs.Leaves.{without_repeats, leaves_of, IsFirstLeaf}
 use Rattle.reiser_volume_objects.proofs.Summaries.{summary_push}
 
 pub and_left : (a b : Bool) → (a && b) ≡ true → a ≡ true

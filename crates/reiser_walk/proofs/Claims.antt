@@ -1,10 +1,5 @@
 -- Pointers of a list, one after the other.
-use Rattle.std.proofs.Common.{◌≡◌, ℕ, zero, suc, ◌+◌, ◌≤◌, Bool, true, false, List, [], ◌∷◌, ◌++◌, length, filter, drop, Some, slice_get, refl, ◌∙◌, ap, arith}
-use Rattle.reiser_walk.specs.declared.block_pointer.BlockPointer.{BlockPointer}
-use Rattle.reiser_walk.specs.declared.reiser_tree.ReiserTree.{ReiserTree}
-use Rattle.reiser_walk.specs.Items.{held_by, is_no_hole}
-use Rattle.reiser_walk.specs.Rules.{reach_damages}
-use Rattle.reiser_walk.specs.Marks.{seen_after}
+use Rattle.reiser_walk.proofs.Imports.{◌≡◌, ℕ, zero, suc, ◌+◌, ◌≤◌, Bool, true, false, List, [], ◌∷◌, ◌++◌, length, filter, drop, Some, slice_get, refl, ◌∙◌, ap, arith, BlockPointer, ReiserTree, held_by, is_no_hole, reach_damages, seen_after}
 use Rattle.reiser_walk.proofs.Events.{reach_damages-append, seen_after-append}
 
 pub held_by-append : (holder : ℕ) (xs ys : List ℕ) → held_by holder (xs ++ ys) ≡ held_by holder xs ++ held_by holder ys

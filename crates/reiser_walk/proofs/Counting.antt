@@ -1,11 +1,6 @@
 -- One more item in a count, and a bound on all of them.
-use Rattle.std.proofs.Common.{◌≡◌, ℕ, ◌+◌, ◌<◌, ◌^◌, Bool, true, false, List, [], ◌∷◌, ◌++◌, count_by, refl, Option, Some, IfSome, not, sym, ap, arith}
+use Rattle.reiser_walk.proofs.Imports.{◌≡◌, ℕ, ◌+◌, ◌<◌, ◌^◌, Bool, true, false, List, [], ◌∷◌, ◌++◌, count_by, refl, Option, Some, IfSome, not, sym, ap, arith, ItemHead, Walker, ReiserItem, is_stat, is_stat_kind, block_count, fuel}
 use Rattle.std.proofs.lemmas.List.Sums.{sum_by-append, count_by-le-length}
-use Rattle.reiser_items.specs.reiser_node.declared.head.ItemHead.{ItemHead}
-use Rattle.reiser_walk.specs.declared.walker.Walker.{Walker}
-use Rattle.reiser_walk.specs.Items.{ReiserItem}
-use Rattle.reiser_walk.specs.Stats.{is_stat, is_stat_kind}
-use Rattle.reiser_walk.specs.Walks.{block_count, fuel}
 use Rattle.reiser_walk.proofs.Standing.{few_left}
 
 count_push : (p : ReiserItem → Bool) (xs : List ReiserItem) (x : ReiserItem) → count_by p (xs ++ x ∷ []) ≡ count_by p xs + count_by p (x ∷ [])

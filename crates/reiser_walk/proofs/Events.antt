@@ -1,18 +1,5 @@
 -- Events in two parts.
-use Rattle.std.proofs.Common.{◌≡◌, ℕ, Bool, List, [], ◌∷◌, ◌++◌, length, Option, Some, None, refl, sym, ◌∙◌, ap, append_assoc}
-use Rattle.std.specs.List.{flat_map}
-use Rattle.std.proofs.lemmas.List.Concat.{flat_map-append}
-use Rattle.reiser_bitmap.specs.outside.History.{Image}
-use Rattle.reiser_items.specs.reiser_node.declared.head.ItemHead.{ItemHead}
-use Rattle.reiser_bitmap.specs.refusals.declared.refusal.VolumeRefusal.{VolumeRefusal}
-use Rattle.reiser_bitmap.specs.refusals.declared.rule.Rule.TheVariants.{KeyOrder}
-use Rattle.reiser_walk.specs.declared.block_pointer.BlockPointer.{BlockPointer}
-use Rattle.reiser_walk.specs.declared.reiser_tree.ReiserTree.{ReiserTree}
-use Rattle.reiser_walk.specs.Items.{ReiserItem, Event, node, item, pointer}
-use Rattle.reiser_walk.specs.Tree.{Visit, visits_in, items_of_events, reached_in}
-use Rattle.reiser_walk.specs.Rules.{unless, is_above, visit_damage, reach_damage, reach_damages, order_damages, body_damage}
-use Rattle.reiser_walk.specs.Marks.{seen_after}
-use Rattle.reiser_walk.specs.Walks.{IsSoundSoFar, last_head_after}
+use Rattle.reiser_walk.proofs.Imports.{◌≡◌, ℕ, Bool, List, [], ◌∷◌, ◌++◌, length, Option, Some, None, refl, sym, ◌∙◌, ap, append_assoc, flat_map, flat_map-append, Image, ItemHead, VolumeRefusal, KeyOrder, BlockPointer, ReiserTree, ReiserItem, Event, node, item, pointer, Visit, visits_in, items_of_events, reached_in, unless, is_above, visit_damage, reach_damage, reach_damages, order_damages, body_damage, seen_after, IsSoundSoFar, last_head_after}
 
 pub visits_in-append : (xs ys : List Event) → visits_in (xs ++ ys) ≡ visits_in xs ++ visits_in ys
 visits_in-append [] ys = refl

@@ -1,15 +1,5 @@
 -- What a walk has given so far, in the words of the whole tree.
-use Rattle.std.proofs.Common.{◌≡◌, Bool, true, List, [], ◌++◌, None, length, All, AllPairs, sym, ◌∙◌, ap, subst}
-use Rattle.std.specs.List.{flat_map}
-use Rattle.std.specs.Ordering.{is_lt}
-use Rattle.reiser_bitmap.specs.outside.History.{Image}
-use Rattle.reiser_items.specs.Order.{key_order}
-use Rattle.reiser_walk.specs.declared.walker.Walker.{Walker}
-use Rattle.reiser_walk.specs.Items.{ReiserItem}
-use Rattle.reiser_walk.specs.Tree.{items_of_events, reached_in}
-use Rattle.reiser_walk.specs.Laws.{FitsHead}
-use Rattle.reiser_walk.specs.Rules.{order_damages, body_damage}
-use Rattle.reiser_walk.specs.Walks.{Walks, IsFirstPart, rest}
+use Rattle.reiser_walk.proofs.Imports.{◌≡◌, Bool, true, List, [], ◌++◌, None, length, All, AllPairs, sym, ◌∙◌, ap, subst, flat_map, is_lt, Image, key_order, Walker, ReiserItem, items_of_events, reached_in, FitsHead, order_damages, body_damage, Walks, IsFirstPart, rest}
 use Rattle.reiser_walk.proofs.Events.{items_in-append, reached_in-append}
 use Rattle.reiser_walk.proofs.Lists.{all_pairs_from_pairs}
 use Rattle.reiser_walk.proofs.Rules.{ascending_from, all_fit}

@@ -1,34 +1,14 @@
 -- Nothing is wrong with a tree exactly where each rule holds over the whole of its visits, items and reached blocks.
-use Rattle.std.proofs.Common.{◌≡◌, ◌≢◌, inl, inr, ℕ, ◌%◌, ◌^◌, ◌==◌, ◌<◌, ◌≤◌, ◌||◌, Bool, true, false, not, nat_lt, nat_le, List, [], ◌∷◌, ◌++◌, length, All, is_some, Some, None, if◌then◌else◌, refl, sym, ap, subst, arith, ⊎_elim, true≢false}
-use Rattle.std.specs.List.{flat_map}
+use Rattle.reiser_walk.proofs.Imports.{◌≡◌, ◌≢◌, inl, inr, ℕ, ◌%◌, ◌^◌, ◌==◌, ◌<◌, ◌≤◌, ◌||◌, Bool, true, false, not, nat_lt, nat_le, List, [], ◌∷◌, ◌++◌, length, All, is_some, Some, None, if◌then◌else◌, refl, sym, ap, subst, arith, ⊎_elim, true≢false, flat_map, is_lt, nat_tests, eqb_tells, Decides-and, Decides-or, Decides-eqb, Decides-like, Image, block_at, VolumeRefusal, Rule, KeyOrder, BlockFree, BlockTwice, Body, ItemHead, is_leaf, is_inner, leaf_decides, inner_decides, kind_number, key_order, has, BlockPointer, ReiserTree, is_save_link, fits_kind, is_body, ReiserItem, Event, node, item, pointer, Visit, visits_in, items_of_events, reached_in, tree_events, unless, is_node, visit_damage, is_above, is_in, is_system_of, reach_damage, reach_damages, order_damages, body_damage, tree_damages, IsNode, FitsKind, FitsHead, KeepsRules, SoundTreesKeepRules}
 use Rattle.std.specs.Bool.{Decides}
 use Rattle.std.specs.declared.cmp.Ordering.{Ordering}
 use Rattle.std.specs.declared.cmp.Ordering.TheVariants.{Less, Equal, Greater}
-use Rattle.std.specs.Ordering.{is_lt}
-use Rattle.std.proofs.lemmas.Bool.Decides.{nat_tests, eqb_tells, Decides-and, Decides-or, Decides-eqb, Decides-like}
 use Rattle.std.specs.Cmp.{IsTotalOrder}
 use Rattle.std.proofs.lemmas.Cmp.{nat_cmp_total, on_total, then_total}
-use Rattle.reiser_bitmap.specs.outside.History.{Image, block_at}
-use Rattle.reiser_bitmap.specs.refusals.declared.refusal.VolumeRefusal.{VolumeRefusal}
-use Rattle.reiser_bitmap.specs.refusals.declared.rule.Rule.{Rule}
-use Rattle.reiser_bitmap.specs.refusals.declared.rule.Rule.TheVariants.{KeyOrder, BlockFree, BlockTwice, Body}
-use Rattle.reiser_items.specs.reiser_node.declared.head.ItemHead.{ItemHead}
 use Rattle.reiser_items.specs.reiser_node.declared.head.ItemKind.{ItemKind}
 use Rattle.reiser_items.specs.reiser_node.declared.head.ItemKind.TheVariants.{Stat, Indirect, Direct, Directory}
-use Rattle.reiser_items.specs.reiser_node.Leaf.{is_leaf}
-use Rattle.reiser_items.specs.reiser_node.Inner.{is_inner}
-use Rattle.reiser_items.proofs.reiser_node.Grammar.{leaf_decides, inner_decides}
-use Rattle.reiser_items.specs.Order.{kind_number, key_order}
 use Rattle.reiser_items.specs.Stat.{stat_length, stat_of, stat_fields}
 use Rattle.reiser_items.specs.Pointers.{pointers_of}
-use Rattle.reiser_bitmap.specs.Bits.{has}
-use Rattle.reiser_walk.specs.declared.block_pointer.BlockPointer.{BlockPointer}
-use Rattle.reiser_walk.specs.declared.reiser_tree.ReiserTree.{ReiserTree}
-use Rattle.reiser_walk.specs.Bodies.{is_save_link, fits_kind, is_body}
-use Rattle.reiser_walk.specs.Items.{ReiserItem, Event, node, item, pointer}
-use Rattle.reiser_walk.specs.Tree.{Visit, visits_in, items_of_events, reached_in, tree_events}
-use Rattle.reiser_walk.specs.Rules.{unless, is_node, visit_damage, is_above, is_in, is_system_of, reach_damage, reach_damages, order_damages, body_damage, tree_damages}
-use Rattle.reiser_walk.specs.Laws.{IsNode, FitsKind, FitsHead, KeepsRules, SoundTreesKeepRules}
 use Rattle.reiser_walk.proofs.Lists.{Each, Pairs, all_from_each, each_from_all, each_map, each_both, all_pairs_from_pairs, pairs_from_all_pairs, nil_left, nil_right, both_nil, each_from_flat, flat_from_each}
 
 unless_none : (test : Bool) (b : ℕ) (r : Rule) → unless test b r ≡ [] → test ≡ true

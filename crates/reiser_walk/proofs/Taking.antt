@@ -1,25 +1,5 @@
 -- An item that is taken off the leaf in hand, with its blocks_named.
-use Rattle.std.proofs.Common.{◌≡◌, ℕ, suc, Bool, true, List, [], ◌∷◌, ◌++◌, length, map, Option, Some, None, Contains, refl, sym, ◌∙◌, ap, subst, append_assoc, ⊎_elim}
-use Rattle.std.specs.List.{flat_map}
-use Rattle.std.proofs.lemmas.List.Concat.{flat_map-append}
-use Rattle.std.proofs.lemmas.List.Elements.{Contains-append_left, Contains-append_right, Contains-append_cases}
-use Rattle.reiser_bitmap.specs.outside.History.{Image}
-use Rattle.reiser_items.specs.reiser_node.declared.head.ItemHead.{ItemHead}
-use Rattle.reiser_items.specs.reiser_node.Head.{head_at}
-use Rattle.reiser_items.specs.reiser_node.Leaf.{head_place, body_at}
-use Rattle.reiser_bitmap.specs.refusals.declared.refusal.VolumeRefusal.{VolumeRefusal}
-use Rattle.reiser_bitmap.specs.refusals.declared.rule.Rule.TheVariants.{KeyOrder, Body}
-use Rattle.reiser_walk.specs.declared.hand.LeafInHand.{LeafInHand}
-use Rattle.reiser_walk.specs.declared.block_pointer.BlockPointer.{BlockPointer}
-use Rattle.reiser_walk.specs.declared.reiser_tree.ReiserTree.{ReiserTree}
-use Rattle.reiser_walk.specs.declared.walker.Walker.{Walker}
-use Rattle.reiser_walk.specs.Bodies.{is_body}
-use Rattle.reiser_walk.specs.Items.{ReiserItem, Event, pointer, blocks_named, held_by, item_events, item_of, item_at, leaf_events}
-use Rattle.reiser_walk.specs.Tree.{tree_events, visits_in, items_of_events, reached_in}
-use Rattle.reiser_walk.specs.Rules.{unless, is_above, visit_damage, reach_damages, order_damages, body_damage, damages, tree_damages}
-use Rattle.reiser_walk.specs.Marks.{MarksSeen, seen_after}
-use Rattle.reiser_walk.specs.Hand.{leaf_rest}
-use Rattle.reiser_walk.specs.Walks.{pending, rest, last_head_after, IsSoundSoFar, Walks}
+use Rattle.reiser_walk.proofs.Imports.{◌≡◌, ℕ, suc, Bool, true, List, [], ◌∷◌, ◌++◌, length, map, Option, Some, None, Contains, refl, sym, ◌∙◌, ap, subst, append_assoc, ⊎_elim, flat_map, flat_map-append, Contains-append_left, Contains-append_right, Contains-append_cases, Image, ItemHead, head_at, head_place, body_at, VolumeRefusal, KeyOrder, Body, LeafInHand, BlockPointer, ReiserTree, Walker, is_body, ReiserItem, Event, pointer, blocks_named, held_by, item_events, item_of, item_at, leaf_events, tree_events, visits_in, items_of_events, reached_in, unless, is_above, visit_damage, reach_damages, order_damages, body_damage, damages, tree_damages, MarksSeen, seen_after, leaf_rest, pending, rest, last_head_after, IsSoundSoFar, Walks}
 use Rattle.reiser_walk.proofs.Events.{items_in-append, reached_in-append, seen_after-append, last_after-append, reach_damages-append, order_damages-append, sound_more}
 use Rattle.reiser_walk.proofs.Walking.{reach_in_all}
 

@@ -1,29 +1,6 @@
 -- Steps of a walk.
-use Rattle.std.proofs.Common.{◌≡◌, ◌≢◌, ℕ, zero, suc, ◌-◌, ◌==◌, ◌≤◌, Bool, true, false, List, [], ◌∷◌, ◌++◌, length, None, Contains, if◌then◌else◌, nat_lt, replicate, refl, sym, ◌∙◌, ap, subst, arith, append_assoc}
-use Rattle.std.specs.List.{flat_map}
-use Rattle.std.proofs.lemmas.List.{append-nil, length-replicate, get_or-replicate}
-use Rattle.std.proofs.lemmas.List.Concat.{flat_map-append}
-use Rattle.std.proofs.lemmas.List.Elements.{Contains-append_left, Contains-append_right}
-use Rattle.std.proofs.lemmas.Bool.Decides.{nat_tests}
+use Rattle.reiser_walk.proofs.Imports.{◌≡◌, ◌≢◌, ℕ, zero, suc, ◌-◌, ◌==◌, ◌≤◌, Bool, true, false, List, [], ◌∷◌, ◌++◌, length, None, Contains, if◌then◌else◌, nat_lt, replicate, refl, sym, ◌∙◌, ap, subst, arith, append_assoc, flat_map, append-nil, length-replicate, get_or-replicate, flat_map-append, Contains-append_left, Contains-append_right, nat_tests, Image, block_at, count, is_leaf, pointer_count, is_inner, has, VolumeRefusal, Damaged, ReiserTree, Step, LeafInHand, BlockPointer, Walker, ReiserItem, Event, node, leaf_events, Visit, node_events, tree_events, at_children, visits_in, items_of_events, reached_in, is_node, broken_rule, node_damage, visit_damage, reach_damage, reach_damages, damages, tree_damages, MarksSeen, seen_after, leaf_rest, step_rest, path_rest, pending, root_rest, rest, level_of, IsSoundSoFar, Walks, IsAt, inner_decides}
 use Rattle.reiserfs_format.specs.declared.block.TheConstants.{SUPER_BLOCK}
-use Rattle.reiser_bitmap.specs.outside.History.{Image, block_at}
-use Rattle.reiser_items.specs.reiser_node.Leaf.{count, is_leaf}
-use Rattle.reiser_items.specs.reiser_node.Inner.{pointer_count, is_inner}
-use Rattle.reiser_bitmap.specs.Bits.{has}
-use Rattle.reiser_bitmap.specs.refusals.declared.refusal.VolumeRefusal.{VolumeRefusal}
-use Rattle.reiser_bitmap.specs.refusals.declared.refusal.VolumeRefusal.TheVariants.{Damaged}
-use Rattle.reiser_walk.specs.declared.reiser_tree.ReiserTree.{ReiserTree}
-use Rattle.reiser_walk.specs.declared.hand.Step.{Step}
-use Rattle.reiser_walk.specs.declared.hand.LeafInHand.{LeafInHand}
-use Rattle.reiser_walk.specs.declared.block_pointer.BlockPointer.{BlockPointer}
-use Rattle.reiser_walk.specs.declared.walker.Walker.{Walker}
-use Rattle.reiser_walk.specs.Items.{ReiserItem, Event, node, leaf_events}
-use Rattle.reiser_walk.specs.Tree.{Visit, node_events, tree_events, at_children, visits_in, items_of_events, reached_in}
-use Rattle.reiser_walk.specs.Rules.{is_node, broken_rule, node_damage, visit_damage, reach_damage, reach_damages, damages, tree_damages}
-use Rattle.reiser_walk.specs.Marks.{MarksSeen, seen_after}
-use Rattle.reiser_walk.specs.Hand.{leaf_rest, step_rest, path_rest}
-use Rattle.reiser_walk.specs.Walks.{pending, root_rest, rest, level_of, IsSoundSoFar, Walks, IsAt}
-use Rattle.reiser_items.proofs.reiser_node.Grammar.{inner_decides}
 use Rattle.reiser_walk.proofs.Damages.{unless_in}
 use Rattle.reiser_walk.proofs.Events.{visits_in-append, items_in-append, reached_in-append, seen_after-append, reach_damages-append, sound_more}
 use Rattle.reiser_walk.proofs.Paths.{path_nil, path_last}

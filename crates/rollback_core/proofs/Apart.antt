@@ -1,29 +1,12 @@
 -- Where some blocks are not in use, no part of the volume lies there.
-use Rattle.std.proofs.Common.{◌≡◌, inr, ℕ, ◌/◌, eqb, nat_lt, Bool, true, false, not, ◌&&◌, List, Contains, Option, Some, None, refl, ◌∙◌, ap, subst, if◌then◌else◌}
-use Rattle.std.specs.Option.{option_and_then}
-use Rattle.std.proofs.lemmas.Bool.{and_parts}
+use Rattle.rollback_core.proofs.Imports.{◌≡◌, inr, ℕ, ◌/◌, eqb, nat_lt, Bool, true, false, not, ◌&&◌, List, Contains, Option, Some, None, refl, ◌∙◌, ap, subst, if◌then◌else◌, option_and_then, and_parts, FS_TREE, Image, ImageFile, file_block, image_place, items_at, saved_image, tree_of, IsReadable, SavedImage, own_map, own_super, Super, TreeItem, MapRange, Tree, AreExtentsApart, IsVolumeApart, is_spare, from_filter, IsInUse, IsReservedFree, content_range, file_part, file_trees, item_range, extents_apart, file_tree_among, saved_tree_among, is_reserved, UnusedBlocksLieApart}
 use Rattle.btrfs_format.specs.declared.key.TheConstants.{EXTENT_DATA}
-use Rattle.btrfs_format.specs.declared.object.TheConstants.{FS_TREE}
-use Rattle.reiser_bitmap.specs.outside.History.{Image}
 use Rattle.btr_reader.specs.btr_reader_contents.Extents.{extents_of, is_extent_of}
 use Rattle.btr_reader.specs.btr_keys.FileExtent.{FileExtentValue, file_extent_of}
-use Rattle.btr_reader.specs.Image.{ImageFile, file_block, image_place, items_at, saved_image}
-use Rattle.btr_reader.specs.Opening.{tree_of}
-use Rattle.btr_reader.specs.Parts.{IsReadable, SavedImage, own_map, own_super}
-use Rattle.btr_super.specs.declared.superblock.Super.{Super}
-use Rattle.btr_reader.specs.btr_reader_walk.Events.{TreeItem}
 use Rattle.btr_reader.specs.btr_reader_walk.Walks.{found}
-use Rattle.btr_reader.specs.btr_reader_walk.declared.map.MapRange.{MapRange}
-use Rattle.btr_reader.specs.btr_reader_walk.declared.tree.Tree.{Tree}
 use Rattle.volume_state.proofs.Placed.{has_block, no_some}
 use Rattle.volume_state.proofs.Reaching.{reached}
-use Rattle.btr_reader.specs.Apart.{AreExtentsApart, IsVolumeApart, is_spare}
-use Rattle.reiser_volume.proofs.fs_paths.Lists.{from_filter}
-use Rattle.volume_state.specs.Using.{IsInUse, IsReservedFree, content_range, file_part, file_trees, item_range}
-use Rattle.volume_state.proofs.Apart.{extents_apart, file_tree_among, saved_tree_among}
-use Rattle.reiser_bitmap.specs.vol_block.Volume.{is_reserved}
 use Rattle.reiser_bitmap.proofs.vol_block.Reserved.{decides_reserved}
-use Rattle.rollback_core.specs.SavedLaws.{UnusedBlocksLieApart}
 use Rattle.rollback_core.proofs.Trees.{AreTreesApart, of_use}
 
 when_below : (t : Bool) (o : Option ℕ) (at : ℕ) → (if t then o else None) ≡ Some at → o ≡ Some at

@@ -1,25 +1,5 @@
 -- What is prepared stands on the disk as the old volume.
-use Rattle.std.proofs.Common.{◌≡◌, ◌≢◌, ◌⊎◌, inl, inr, ⊎_elim, ℕ, zero, suc, ◌<◌, ◌≤◌, eqb, Bool, true, false, not, ◌&&◌, List, [], ◌∷◌, length, map, get_or, Contains, filter, Option, refl, sym, ◌∙◌, ap, subst, arith, true≢false}
-use Rattle.std.proofs.lemmas.Bool.{and_parts, cases_lt}
-use Rattle.std.proofs.lemmas.Bool.Decides.{nat_tests}
-use Rattle.reiser_volume.proofs.fs_paths.Lists.{from_filter, from_map, in_filter, in_map}
-use Rattle.reiser_bitmap.proofs.MoreLaws.{used_had}
-use Rattle.reiser_bitmap.specs.Bits.{has, used_blocks}
-use Rattle.reiser_bitmap.specs.outside.History.{Image, block_at}
-use Rattle.reiser_bitmap.specs.vol_block.Volume.{is_reserved}
-use Rattle.convert_steps.specs.Switch.{IsMirror}
-use Rattle.volume_state.specs.Moved.{IsOld}
-use Rattle.volume_state.specs.Saved.{block_or_hole, image_blocks}
-use Rattle.volume_state.proofs.Images.{image_block}
-use Rattle.reiser_bitmap.proofs.SystemBlocks.{superblock_in}
-use Rattle.reiser_volume.proofs.Holding.{used_length}
-use Rattle.reiser_volume.specs.Volume.{superblock}
-use Rattle.volume_state.specs.GoingBack.{CanGoBack, old_used}
-use Rattle.rollback_core.specs.Prepared.{IsWayBack}
-use Rattle.rollback_core.specs.RolledBack.{IsBack, IsRestored, IsRolledBack, StillStands, is_wiped, restored_blocks}
-use Rattle.rollback_core.specs.Writing.{AreWritesApart, AreWiped, IsSavedPlace, IsTurned, IsUnturned, IsWiped}
-use Rattle.rollback_core.specs.declared.way.Saved.{Saved}
-use Rattle.rollback_core.specs.declared.way.WayBack.{WayBack}
+use Rattle.rollback_core.proofs.Imports.{◌≡◌, ◌≢◌, ◌⊎◌, inl, inr, ⊎_elim, ℕ, zero, suc, ◌<◌, ◌≤◌, eqb, Bool, true, false, not, ◌&&◌, List, [], ◌∷◌, length, map, get_or, Contains, filter, Option, refl, sym, ◌∙◌, ap, subst, arith, true≢false, and_parts, cases_lt, nat_tests, from_filter, from_map, in_filter, in_map, used_had, has, used_blocks, Image, block_at, is_reserved, IsMirror, IsOld, block_or_hole, image_blocks, image_block, superblock_in, used_length, superblock, CanGoBack, old_used, IsWayBack, IsBack, IsRestored, IsRolledBack, StillStands, is_wiped, restored_blocks, AreWritesApart, AreWiped, IsSavedPlace, IsTurned, IsUnturned, IsWiped, Saved, WayBack}
 
 abbrev other_than : ℕ → Bool
 other_than b = not (eqb b 16)

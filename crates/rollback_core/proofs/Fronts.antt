@@ -1,20 +1,12 @@
 -- The used blocks decide superblock, journal and bitmap of a ReiserFS volume that has them in order.
-use Rattle.std.proofs.Common.{◌≡◌, ◌∙◌, ◌+◌, ℕ, true, Bool, List, [], length, sym, ap, subst, arith}
+use Rattle.rollback_core.proofs.Imports.{◌≡◌, ◌∙◌, ◌+◌, ℕ, true, Bool, List, [], length, sym, ap, subst, arith, SUPER_BLOCK, Image, block_at, SameUsed, has, bitmap_decided, bitmap_in, journal_in, superblock_in, superblock_fields, IsFrontAccepted, MarksSystem, superblock, used_of}
 use Rattle.std.specs.Prelude.{Contains}
-use Rattle.btrfs_format.specs.declared.block.TheConstants.{SUPER_BLOCK}
-use Rattle.reiser_bitmap.specs.outside.History.{Image, block_at}
-use Rattle.reiser_volume.specs.reiser_volume_contents.Laws.{SameUsed}
-use Rattle.reiser_bitmap.specs.Bits.{has}
 use Rattle.reiser_bitmap.specs.Layout.{bitmap_block, bitmap_of}
 use Rattle.reiser_bitmap.specs.System.{system_blocks}
-use Rattle.reiser_bitmap.proofs.MoreLaws.{bitmap_decided}
-use Rattle.reiser_bitmap.proofs.SystemBlocks.{bitmap_in, journal_in, superblock_in}
 use Rattle.reiser_volume.specs.reiser_super.declared.superblock.Super.{Super}
-use Rattle.reiser_volume.specs.reiser_super.Superblock.{superblock_fields}
 use Rattle.reiser_volume.specs.reiser_super.Rules.{IsCleanSuper}
 use Rattle.reiser_volume.specs.reiser_super.Journal.{IsClean, pending_transactions}
 use Rattle.reiser_volume.proofs.reiser_super.Footprint.{same_pending}
-use Rattle.reiser_volume.specs.Volume.{IsFrontAccepted, MarksSystem, superblock, used_of}
 
 -- the bitmap marks the blocks that a volume of this superblock keeps for itself
 abbrev Marks : Super → List Bool → Type 0

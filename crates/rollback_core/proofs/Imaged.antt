@@ -1,31 +1,10 @@
 -- The map of the saved image, and the volume in it.
-use Rattle.std.proofs.Common.{◌≡◌, ℕ, ◌<◌, ◌≤◌, List, [], Bool, Some, None, Ok, length, min, sym, ◌∙◌, ap, subst, arith}
-use Rattle.reiser_bitmap.specs.outside.Format.{format_in}
-use Rattle.reiser_bitmap.specs.outside.History.{Image}
-use Rattle.convert_steps.specs.command_answers.declared.answer.Answer.TheVariants as answer
-use Rattle.reiser_bitmap.specs.refusals.declared.answer.VolAnswer.{VolAnswer}
+use Rattle.rollback_core.proofs.Imports.{◌≡◌, ℕ, ◌<◌, ◌≤◌, List, [], Bool, Some, None, Ok, length, min, sym, ◌∙◌, ap, subst, arith, format_in, Image, VolAnswer, image_refusals, saved_image, IsBtrfsOpened, opening_refusals, log_tree, way_refusals, ImageMap, Super, MapRange, Btrfs, IsAccepted, superblock, used_of, used_length, length_by, image_there, map_blocks, map_places, IsOld, TellsMoved, blocks_by_map, image_blocks, CanGoBack, old_used, IsReservedFree, HasImage, HasPlaces, HasVolume, LeadsToImage, RefusesRollback, IsMapOn, by_image}
 use Rattle.reiser_bitmap.specs.refusals.declared.answer.VolAnswer.TheVariants.{Refused, Fault, Memory}
-use Rattle.btr_reader.specs.Image.{image_refusals, saved_image}
-use Rattle.btr_reader.specs.Opening.{IsBtrfsOpened, opening_refusals}
-use Rattle.btr_reader.specs.Parts.{log_tree, way_refusals}
 use Rattle.btr_reader.specs.Pieces.{map_place}
 use Rattle.btr_reader.specs.Reading.{ReadsImage}
-use Rattle.btr_reader.specs.declared.image_map.ImageMap.{ImageMap}
-use Rattle.btr_super.specs.declared.superblock.Super.{Super}
-use Rattle.btr_reader.specs.btr_reader_walk.declared.map.MapRange.{MapRange}
-use Rattle.reiser_bitmap.specs.vol_block.declared.format.Format.TheVariants.{Btrfs}
 use Rattle.reiser_volume.specs.Answers.{RefusesVolume}
-use Rattle.reiser_volume.specs.Volume.{IsAccepted, superblock, used_of}
-use Rattle.reiser_volume.proofs.Holding.{used_length}
-use Rattle.volume_state.proofs.Images.{length_by}
-use Rattle.volume_state.proofs.Mapped.{image_there, map_blocks, map_places}
-use Rattle.volume_state.specs.Moved.{IsOld, TellsMoved}
-use Rattle.volume_state.specs.Saved.{blocks_by_map, image_blocks}
-use Rattle.volume_state.specs.GoingBack.{CanGoBack, old_used}
-use Rattle.volume_state.specs.Using.{IsReservedFree}
-use Rattle.rollback_core.specs.RollbackAnswers.{HasImage, HasPlaces, HasVolume, LeadsToImage, RefusesRollback}
-use Rattle.rollback_core.specs.Opened.{IsMapOn}
-use Rattle.rollback_core.specs.Prepared.{by_image}
+use Rattle.convert_steps.specs.command_answers.declared.answer.Answer.TheVariants as answer
 use Rattle.rollback_core.proofs.Reading.{way_readable}
 
 -- ---- the map

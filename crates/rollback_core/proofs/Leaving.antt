@@ -1,10 +1,5 @@
 -- What a rollback leaves, by what was prepared and written.
-use Rattle.std.proofs.Common.{◌≡◌, ◌⊎◌, inl, inr, ⊎_elim, subst}
-use Rattle.reiser_bitmap.specs.outside.History.{History, Image, IsSettled, LeftSince, clock, reads}
-use Rattle.rollback_core.specs.Prepared.{IsWayBack}
-use Rattle.rollback_core.specs.RolledBack.{IsLeftByRollback}
-use Rattle.rollback_core.specs.Writing.{AreWritesApart, IsTurned, IsUnturned}
-use Rattle.rollback_core.specs.declared.way.WayBack.{WayBack}
+use Rattle.rollback_core.proofs.Imports.{◌≡◌, ◌⊎◌, inl, inr, ⊎_elim, subst, History, Image, IsSettled, LeftSince, clock, reads, IsWayBack, IsLeftByRollback, AreWritesApart, IsTurned, IsUnturned, WayBack}
 use Rattle.rollback_core.proofs.Back.{back, standing}
 
 -- either of the two states is one that may be left

@@ -2,6 +2,7 @@ pub mod Apart
 pub mod Back
 pub mod Fronts
 pub mod Imaged
+pub mod Imports
 pub mod Leaving
 pub mod Marked
 pub mod Mended

@@ -1,18 +1,9 @@
 -- A disk that can be opened stays one, with the same rows.
-use Rattle.std.proofs.Common.{◌≡◌, ◌∙◌, inl, List, [], ◌∷◌, Result, Err, refl, sym, ap, subst, arith}
+use Rattle.rollback_core.proofs.Imports.{◌≡◌, ◌∙◌, inl, List, [], ◌∷◌, Result, Err, refl, sym, ap, subst, arith, format_in, Image, BtrRefusal, opening_refusals, refusals_after, super_on, IsReadable, SavedImage, Superblock, Super, Format, Reiser, Btrfs, Neither, RecoveryOpens, IsLeftByRecover, IsRecoverable}
+use Rattle.btr_reader.specs.Parts.{Tree}
 use Rattle.std.specs.Prelude.{Contains}
-use Rattle.reiser_bitmap.specs.outside.Format.{format_in}
-use Rattle.reiser_bitmap.specs.outside.History.{Image}
-use Rattle.reiser_bitmap.specs.refusals.declared.refusal.BtrRefusal.{BtrRefusal}
-use Rattle.btr_reader.specs.Opening.{opening_refusals, refusals_after, super_on}
-use Rattle.btr_reader.specs.Parts.{IsReadable, SavedImage, Superblock, Tree}
-use Rattle.btr_super.specs.declared.superblock.Super.{Super}
 use Rattle.reiser_volume.specs.fs_rows.Rows.{WholeRow}
-use Rattle.reiser_bitmap.specs.vol_block.declared.format.Format.{Format}
-use Rattle.reiser_bitmap.specs.vol_block.declared.format.Format.TheVariants.{Reiser, Btrfs, Neither}
-use Rattle.rollback_core.specs.RecoveryLaws.{RecoveryOpens}
 use Rattle.rollback_core.specs.Opens.{OpensAs}
-use Rattle.rollback_core.specs.Recovered.{IsLeftByRecover, IsRecoverable}
 use Rattle.rollback_core.proofs.RecoveryFormats.{has_format}
 use Rattle.rollback_core.proofs.RecoveryKeeping.{keeps}
 

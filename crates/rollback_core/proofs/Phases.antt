@@ -1,15 +1,5 @@
 -- What a crash leaves in each phase of writing the old volume back.
-use Rattle.std.proofs.Common.{◌≡◌, ◌≢◌, ◌⊎◌, inl, inr, ⊎_elim, ℕ, ◌<◌, Bool, true, List, [], length, set, get_or, Result, Ok, Err, OnOk, sym, ◌∙◌, ap, subst, arith, get_or-set_same, get_or-set_other}
-use Rattle.std.proofs.lemmas.List.{length-set}
-use Rattle.btrfs_format.specs.declared.block.TheConstants.{FIRST_MIRROR, SECOND_MIRROR, SUPER_BLOCK}
-use Rattle.reiser_bitmap.specs.vol_block.Volume.{zeros}
-use Rattle.reiser_bitmap.specs.outside.History.{Image, History, block_at, reads, clock, IsSettled, IsBlock, LeftSince, WritesBlock, WritesOnly}
-use Rattle.reiser_bitmap.proofs.outside.Crash.{left_each, writes_length, reads_only}
-use Rattle.reiser_bitmap.proofs.outside.Phases.{left_outside, left_then, only_not, reads_outside, set_stands, write_reads}
-use Rattle.reiser_bitmap.proofs.outside.Placing.{has_place}
-use Rattle.rollback_core.specs.declared.way.Saved.{Saved}
-use Rattle.rollback_core.specs.declared.way.WayBack.{WayBack}
-use Rattle.rollback_core.specs.Writing.{AreWritesApart, AreWiped, AreWrittenBack, IsWayBackPart, IsSavedPlace, IsTurned, IsUnturned, IsWiped, IsWiping}
+use Rattle.rollback_core.proofs.Imports.{◌≡◌, ◌≢◌, ◌⊎◌, inl, inr, ⊎_elim, ℕ, ◌<◌, Bool, true, List, [], length, set, get_or, Result, Ok, Err, OnOk, sym, ◌∙◌, ap, subst, arith, get_or-set_same, get_or-set_other, length-set, FIRST_MIRROR, SECOND_MIRROR, SUPER_BLOCK, zeros, Image, History, block_at, reads, clock, IsSettled, IsBlock, LeftSince, WritesBlock, WritesOnly, left_each, writes_length, reads_only, left_outside, left_then, only_not, reads_outside, set_stands, write_reads, has_place, Saved, WayBack, AreWritesApart, AreWiped, AreWrittenBack, IsWayBackPart, IsSavedPlace, IsTurned, IsUnturned, IsWiped, IsWiping}
 
 abbrev WritesSaved : List Saved → History → History → Type 0
 WritesSaved saved = WritesOnly (λ b _. IsSavedPlace saved b)

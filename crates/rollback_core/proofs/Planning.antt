@@ -1,17 +1,5 @@
 -- What is read of the old volume is what is to be written.
-use Rattle.std.proofs.Common.{◌≡◌, ℕ, ◌+◌, ◌==◌, nat_lt, Bool, not, ◌&&◌, List, length, codes, filter, ◌∙◌, ap, subst}
-use Rattle.btrfs_format.specs.declared.block.TheConstants.{FIRST_MIRROR, SECOND_MIRROR, SUPER_BLOCK, SUPER_MAGIC_OFFSET}
-use Rattle.reiser_bitmap.specs.outside.History.{Image, block_at}
-use Rattle.reiser_bitmap.specs.vol_block.Format.{has_bytes_at}
-use Rattle.reiser_bitmap.specs.vol_block.Volume.{is_reserved}
-use Rattle.btr_reader.specs.declared.image_map.ImageMap.{ImageMap}
-use Rattle.reiser_bitmap.specs.Bits.{has, used_blocks}
-use Rattle.volume_state.specs.Saved.{image_blocks}
-use Rattle.rollback_core.specs.declared.way.WayBack.{WayBack}
-use Rattle.rollback_core.specs.Opened.{IsMapOn}
-use Rattle.rollback_core.specs.Prepared.{AreSaved, IsWayBack}
-use Rattle.rollback_core.specs.RolledBack.{rollback_summary}
-use Rattle.volume_state.specs.GoingBack.{CanGoBack, old_used}
+use Rattle.rollback_core.proofs.Imports.{◌≡◌, ℕ, ◌+◌, ◌==◌, nat_lt, Bool, not, ◌&&◌, List, length, codes, filter, ◌∙◌, ap, subst, FIRST_MIRROR, SECOND_MIRROR, SUPER_BLOCK, SUPER_MAGIC_OFFSET, Image, block_at, has_bytes_at, is_reserved, ImageMap, has, used_blocks, image_blocks, WayBack, IsMapOn, AreSaved, IsWayBack, rollback_summary, CanGoBack, old_used}
 
 -- whether a block is to become zeros, by the set of used blocks
 abbrev pub wiped_in : Image → List Bool → ℕ → Bool

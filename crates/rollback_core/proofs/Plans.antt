@@ -1,23 +1,8 @@
 -- What is planned is what is to be written.
-use Rattle.std.proofs.Common.{◌≡◌, ◌∙◌, ℕ, ◌/◌, Bool, List, length, sym, ap, subst, Ok}
-use Rattle.btrfs_format.specs.declared.block.TheConstants.{FIRST_MIRROR, SECOND_MIRROR, SUPER_BLOCK}
-use Rattle.reiser_bitmap.specs.outside.Format.{format_in}
-use Rattle.reiser_bitmap.specs.outside.History.{Image, block_at}
-use Rattle.reiser_bitmap.specs.refusals.declared.answer.VolAnswer.{VolAnswer}
-use Rattle.reiser_bitmap.specs.refusals.declared.answer.VolAnswer.TheVariants as vol
-use Rattle.btr_super.specs.Rules.{super_of}
-use Rattle.btr_super.specs.declared.superblock.Super.{Super}
-use Rattle.convert_steps.specs.command_answers.Answers.{of_volume}
+use Rattle.rollback_core.proofs.Imports.{◌≡◌, ◌∙◌, ℕ, ◌/◌, Bool, List, length, sym, ap, subst, Ok, FIRST_MIRROR, SECOND_MIRROR, SUPER_BLOCK, format_in, Image, block_at, VolAnswer, super_of, Super, of_volume, IsFrontAccepted, superblock, used_of, Format, Reiser, Btrfs, IsRefusedAs, RefusesRecover, Gives, blocks_of, copied, mended, mended_by, wiped, IsPlanned, IsInOrder, Mending}
 use Rattle.reiser_volume.specs.reiser_super.declared.superblock.Super.{Super as ReiserSuper}
 use Rattle.reiser_volume.specs.Front.{RefusesFront}
-use Rattle.reiser_volume.specs.Volume.{IsFrontAccepted, superblock, used_of}
-use Rattle.reiser_bitmap.specs.vol_block.declared.format.Format.{Format}
-use Rattle.reiser_bitmap.specs.vol_block.declared.format.Format.TheVariants.{Reiser, Btrfs}
-use Rattle.rollback_core.specs.RecoveryAnswers.{IsRefusedAs, RefusesRecover}
-use Rattle.rollback_core.specs.Mending.{Gives, blocks_of, copied, mended, mended_by, wiped}
-use Rattle.rollback_core.specs.Planned.{IsPlanned}
-use Rattle.rollback_core.specs.Recovered.{IsInOrder}
-use Rattle.rollback_core.specs.declared.mending.Mending.{Mending}
+use Rattle.reiser_bitmap.specs.refusals.declared.answer.VolAnswer.TheVariants as vol
 use Rattle.rollback_core.proofs.Supers.{super_is}
 
 module _ (image : Image) (m : Mending) where

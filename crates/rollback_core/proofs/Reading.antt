@@ -1,21 +1,9 @@
 -- What is answered of the Btrfs volume, as an answer of a rollback.
-use Rattle.std.proofs.Common.{◌≡◌, ◌≢◌, inl, inr, List, [], None, Ok, Err, Contains, refl, ap, subst, arith}
-use Rattle.reiser_bitmap.specs.outside.Format.{format_in}
-use Rattle.reiser_bitmap.specs.outside.History.{Image}
-use Rattle.convert_steps.specs.command_answers.Answers.{of_btrfs}
-use Rattle.convert_steps.specs.command_answers.declared.answer.Answer.TheVariants as answer
+use Rattle.rollback_core.proofs.Imports.{◌≡◌, ◌≢◌, inl, inr, List, [], None, Ok, Err, Contains, refl, ap, subst, arith, format_in, Image, of_btrfs, BtrRefusal, LogPending, Btrfs, IsAmong, opening_refusals, super_on, IsReadable, SavedImage, log_of, log_tree, way_refusals, one_log, Super, RefusesUse, has_log, unreadable, RefusesRollback}
 use Rattle.reiser_bitmap.specs.refusals.declared.answer.BtrAnswer.{BtrAnswer}
 use Rattle.reiser_bitmap.specs.refusals.declared.answer.BtrAnswer.TheVariants.{Refused, Fault, Memory}
-use Rattle.reiser_bitmap.specs.refusals.declared.refusal.BtrRefusal.{BtrRefusal}
-use Rattle.reiser_bitmap.specs.refusals.declared.refusal.BtrRefusal.TheVariants.{LogPending}
-use Rattle.reiser_bitmap.specs.vol_block.declared.format.Format.TheVariants.{Btrfs}
-use Rattle.btr_reader.specs.Opening.{IsAmong, opening_refusals, super_on}
-use Rattle.btr_reader.specs.Parts.{IsReadable, SavedImage, log_of, log_tree, way_refusals}
 use Rattle.btr_reader.proofs.Opens.{super_refused}
-use Rattle.btr_reader.proofs.PartsRead.{one_log}
-use Rattle.btr_super.specs.declared.superblock.Super.{Super}
-use Rattle.volume_state.specs.Using.{RefusesUse, has_log, unreadable}
-use Rattle.rollback_core.specs.RollbackAnswers.{RefusesRollback}
+use Rattle.convert_steps.specs.command_answers.declared.answer.Answer.TheVariants as answer
 
 -- ---- what is wrong with the volume
 

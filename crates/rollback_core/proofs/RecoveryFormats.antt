@@ -1,26 +1,5 @@
 -- The format of a disk whose volume is in order.
-use Rattle.std.proofs.Common.{◌≡◌, ◌∙◌, ℕ, zero, suc, ◌+◌, ◌*◌, ◌<◌, Bool, true, false, cond, nat_lt, nat_le, List, [], ◌∷◌, length, get_or, drop, codes, Result, Ok, Err, refl, sym, subst, arith}
-use Rattle.std.specs.Prelude.{nat_eq}
-use Rattle.std.specs.List.{starts_with}
-use Rattle.std.proofs.lemmas.Bool.{and_parts, eqb-true}
-use Rattle.std.proofs.lemmas.Bool.Decides.{nat_tests}
-use Rattle.std.proofs.lemmas.List.{get_or-drop}
-use Rattle.btrfs_format.specs.declared.block.TheConstants.{SUPER_BLOCK, SUPER_MAGIC_OFFSET}
-use Rattle.reiser_bitmap.specs.outside.Format.{format_in}
-use Rattle.reiser_bitmap.specs.outside.History.{Image, block_at}
-use Rattle.reiser_bitmap.specs.refusals.declared.refusal.BtrRefusal.{BtrRefusal}
-use Rattle.btr_reader.specs.Opening.{super_on}
-use Rattle.btr_reader.specs.Parts.{IsReadable, Superblock}
-use Rattle.btr_super.specs.Rules.{super_of}
-use Rattle.btr_super.specs.declared.superblock.Super.{Super}
-use Rattle.reiser_volume.specs.Volume.{IsFrontAccepted}
-use Rattle.reiser_volume.proofs.Refusals.{accepted_front}
-use Rattle.reiser_bitmap.specs.vol_block.Format.{has_bytes_at, has_reiser_magic}
-use Rattle.reiser_bitmap.specs.vol_block.Volume.{field}
-use Rattle.reiser_bitmap.specs.vol_block.declared.format.Format.{Format}
-use Rattle.reiser_bitmap.specs.vol_block.declared.format.Format.TheVariants.{Reiser, Btrfs, Neither}
-use Rattle.rollback_core.specs.RecoveryLaws.{InOrderHasFormat}
-use Rattle.rollback_core.specs.Recovered.{IsInOrder, IsRecoverable}
+use Rattle.rollback_core.proofs.Imports.{◌≡◌, ◌∙◌, ℕ, zero, suc, ◌+◌, ◌*◌, ◌<◌, Bool, true, false, cond, nat_lt, nat_le, List, [], ◌∷◌, length, get_or, drop, codes, Result, Ok, Err, refl, sym, subst, arith, nat_eq, starts_with, and_parts, eqb-true, nat_tests, get_or-drop, SUPER_BLOCK, SUPER_MAGIC_OFFSET, format_in, Image, block_at, BtrRefusal, super_on, IsReadable, Superblock, super_of, Super, IsFrontAccepted, accepted_front, has_bytes_at, has_reiser_magic, field, Format, Reiser, Btrfs, Neither, InOrderHasFormat, IsInOrder, IsRecoverable}
 use Rattle.rollback_core.proofs.Supers.{super_magic}
 
 -- ---- the two magics

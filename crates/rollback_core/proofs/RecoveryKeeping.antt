@@ -1,34 +1,9 @@
 -- What a recovery keeps.
-use Rattle.std.proofs.Common.{◌≡◌, ◌≢◌, ◌∙◌, ◌⊎◌, inl, inr, ⊎_elim, ℕ, zero, suc, Bool, not, ◌+◌, ◌/◌, ◌<◌, ◌≤◌, true, false, true≢false, cond, nat_lt, nat_le, List, length, codes, refl, sym, ap, subst, arith}
-use Rattle.std.specs.Prelude.{Contains, Ok, Err, Result, bytes_eq}
-use Rattle.std.proofs.lemmas.Bool.{cases_lt}
-use Rattle.std.proofs.lemmas.Bool.Decides.{nat_tests}
-use Rattle.std.proofs.lemmas.Slice.Eq.{bytes_eq-Decides}
-use Rattle.btrfs_format.specs.declared.block.TheConstants.{FIRST_MIRROR, SECOND_MIRROR, SUPER_BLOCK, SUPER_MAGIC_OFFSET}
-use Rattle.reiser_bitmap.specs.outside.Format.{format_in}
-use Rattle.reiser_bitmap.specs.outside.History.{Image, block_at}
-use Rattle.convert_steps.specs.command_answers.declared.answer.Answer.TheVariants as answer
-use Rattle.reiser_bitmap.specs.refusals.declared.refusal.BtrRefusal.{BtrRefusal}
+use Rattle.rollback_core.proofs.Imports.{◌≡◌, ◌≢◌, ◌∙◌, ◌⊎◌, inl, inr, ⊎_elim, ℕ, zero, suc, Bool, not, ◌+◌, ◌/◌, ◌<◌, ◌≤◌, true, false, true≢false, cond, nat_lt, nat_le, List, length, codes, refl, sym, ap, subst, arith, bytes_eq, cases_lt, nat_tests, bytes_eq-Decides, FIRST_MIRROR, SECOND_MIRROR, SUPER_BLOCK, SUPER_MAGIC_OFFSET, format_in, Image, block_at, BtrRefusal, super_of, mirror_bytes, Super, IsMirror, own_super, IsSameOutside, is_spare, is_spare_in, SameUsed, contains_filter, filter_contains, IsFrontAccepted, superblock, used_of, front_not_refused, same_volume, format, has_bytes_at, Format, Reiser, Btrfs, Neither, IsRefusedAs, IsSameBut, RecoversWhatIsInOrder, RecoveryCounts, RecoveryKeeps, RecoveryMends, RecoveryStays, blocks_of, is_torn, mended, mended_by, IsInOrder, IsLeftByRecover, IsPartly, IsRecoverable, IsRecovered, copy_blocks}
+use Rattle.std.specs.Prelude.{Contains, Ok, Err, Result}
 use Rattle.reiser_bitmap.specs.refusals.declared.refusal.VolumeRefusal.{VolumeRefusal}
-use Rattle.btr_super.specs.Rules.{super_of}
-use Rattle.btr_super.specs.Super.{mirror_bytes}
-use Rattle.btr_super.specs.declared.superblock.Super.{Super}
-use Rattle.convert_steps.specs.Switch.{IsMirror}
-use Rattle.btr_reader.specs.Parts.{own_super}
-use Rattle.btr_reader.specs.Apart.{IsSameOutside, is_spare, is_spare_in}
 use Rattle.btr_reader.proofs.Decided.{reserved_blocks_are_spare}
-use Rattle.reiser_volume.specs.reiser_volume_contents.Laws.{SameUsed}
-use Rattle.reiser_bitmap.proofs.Ranges.{contains_filter, filter_contains}
-use Rattle.reiser_volume.specs.Volume.{IsFrontAccepted, superblock, used_of}
-use Rattle.reiser_volume.proofs.Refusals.{front_not_refused}
-use Rattle.reiser_volume.proofs.Unchanged.{same_volume}
-use Rattle.reiser_bitmap.specs.vol_block.Format.{format, has_bytes_at}
-use Rattle.reiser_bitmap.specs.vol_block.declared.format.Format.{Format}
-use Rattle.reiser_bitmap.specs.vol_block.declared.format.Format.TheVariants.{Reiser, Btrfs, Neither}
-use Rattle.rollback_core.specs.RecoveryAnswers.{IsRefusedAs}
-use Rattle.rollback_core.specs.RecoveryLaws.{IsSameBut, RecoversWhatIsInOrder, RecoveryCounts, RecoveryKeeps, RecoveryMends, RecoveryStays}
-use Rattle.rollback_core.specs.Mending.{blocks_of, is_torn, mended, mended_by}
-use Rattle.rollback_core.specs.Recovered.{IsInOrder, IsLeftByRecover, IsPartly, IsRecoverable, IsRecovered, copy_blocks}
+use Rattle.convert_steps.specs.command_answers.declared.answer.Answer.TheVariants as answer
 use Rattle.rollback_core.proofs.Fronts.{front_same, used_same}
 use Rattle.rollback_core.proofs.Mended.{copy_beyond, copy_wanted, mend_again, mend_same, same_bytes, two_of, used_stays, wiped_clean}
 

@@ -1,14 +1,6 @@
 -- A volume that can be rolled back is not refused.
-use Rattle.std.proofs.Common.{◌≡◌, Some, None, refl, sym, ◌∙◌}
-use Rattle.reiser_bitmap.specs.outside.Format.{format_in}
-use Rattle.reiser_bitmap.specs.outside.History.{Image}
-use Rattle.reiser_bitmap.specs.refusals.declared.refusal.BtrRefusal.{BtrRefusal}
-use Rattle.reiser_volume.proofs.Refusals.{not_refused}
-use Rattle.volume_state.specs.Saved.{image_blocks}
-use Rattle.rollback_core.specs.RollbackLaws.{RefusedCanNotGoBack}
+use Rattle.rollback_core.proofs.Imports.{◌≡◌, Some, None, refl, sym, ◌∙◌, format_in, Image, BtrRefusal, not_refused, image_blocks, RefusedCanNotGoBack, CanGoBack, IsWayRefusal, has_log, unreadable}
 use Rattle.rollback_core.proofs.RollbackFormats.{format_read}
-use Rattle.volume_state.specs.GoingBack.{CanGoBack}
-use Rattle.volume_state.specs.Using.{IsWayRefusal, has_log, unreadable}
 use Rattle.convert_steps.specs.command_answers.declared.answer.Answer.TheVariants as answer
 use Rattle.reiser_bitmap.specs.vol_block.declared.format.Format.TheVariants as formats
 

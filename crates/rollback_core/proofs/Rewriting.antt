@@ -1,17 +1,5 @@
 -- Block 16 is written as it stands, and what is written after it.
-use Rattle.std.proofs.Common.{◌≡◌, ◌≢◌, ◌⊎◌, inl, inr, ⊎_elim, ℕ, zero, suc, ◌+◌, ◌<◌, true, List, [], ◌∷◌, Option, Some, None, Result, Ok, Err, OnOk, refl, sym, ◌∙◌, ap, subst, arith}
-use Rattle.std.specs.Prelude.{IfOk, is_some}
-use Rattle.std.proofs.lemmas.List.{ext_get_or}
-use Rattle.btrfs_format.specs.declared.block.TheConstants.{FIRST_MIRROR, SECOND_MIRROR}
-use Rattle.reiser_bitmap.specs.outside.History.{History, IsSettled, Syncs, WritesBlock, WritesOnly, after, block_at, reads, wrote, synced}
-use Rattle.reiser_bitmap.specs.vol_block.declared.block.Block.{Block}
-use Rattle.reiser_bitmap.proofs.outside.Crash.{reads_only, sync_only, write_only, writes_length, writes_none, writes_then, writes_weaker}
-use Rattle.first_sync.specs.Synced.{GoesOn, synced_now}
-use Rattle.first_sync.proofs.Synced.{goes_on}
-use Rattle.rollback_core.specs.Planned.{HasMendingRoom, writes_of}
-use Rattle.rollback_core.specs.Recovered.{IsMend, IsRecoverWrite, IsRewrite, RewritesFirst, rewritten}
-use Rattle.rollback_core.specs.declared.mending.Mending.{Mending}
-use Rattle.rollback_core.specs.declared.recovery.RecoverSummary.{RecoverSummary}
+use Rattle.rollback_core.proofs.Imports.{◌≡◌, ◌≢◌, ◌⊎◌, inl, inr, ⊎_elim, ℕ, zero, suc, ◌+◌, ◌<◌, true, List, [], ◌∷◌, Option, Some, None, Result, Ok, Err, OnOk, refl, sym, ◌∙◌, ap, subst, arith, IfOk, is_some, ext_get_or, FIRST_MIRROR, SECOND_MIRROR, History, IsSettled, Syncs, WritesBlock, WritesOnly, after, block_at, reads, wrote, synced, Block, reads_only, sync_only, write_only, writes_length, writes_none, writes_then, writes_weaker, GoesOn, synced_now, goes_on, HasMendingRoom, writes_of, IsMend, IsRecoverWrite, IsRewrite, RewritesFirst, rewritten, Mending, RecoverSummary}
 
 -- ---- block 16
 

@@ -1,19 +1,8 @@
 -- The format of a disk, by block 16 and the disk's length.
-use Rattle.std.proofs.Common.{◌≡◌, ◌<◌, ◌≤◌, Bool, true, false, cond, List, [], ◌∷◌, length, Result, Err, Contains, inl, refl, sym, ◌∙◌, ap, subst, arith}
+use Rattle.rollback_core.proofs.Imports.{◌≡◌, ◌<◌, ◌≤◌, Bool, true, false, cond, List, [], ◌∷◌, length, Result, Err, Contains, inl, refl, sym, ◌∙◌, ap, subst, arith, nat_tests, SUPER_BLOCK, format_in, Image, block_at, BtrRefusal, format, Format, opening_refusals, refusals_after, super_on, IsReadable, SavedImage, Superblock, Super, HasReadableWay}
 use Rattle.std.specs.Prelude.{nat_le}
-use Rattle.std.proofs.lemmas.Bool.Decides.{nat_tests}
-use Rattle.btrfs_format.specs.declared.block.TheConstants.{SUPER_BLOCK}
-use Rattle.reiser_bitmap.specs.outside.Format.{format_in}
-use Rattle.reiser_bitmap.specs.outside.History.{Image, block_at}
-use Rattle.reiser_bitmap.specs.refusals.declared.refusal.BtrRefusal.{BtrRefusal}
-use Rattle.reiser_bitmap.specs.vol_block.Format.{format}
-use Rattle.reiser_bitmap.specs.vol_block.declared.format.Format.{Format}
 use Rattle.reiser_bitmap.specs.vol_block.declared.format.Format.TheVariants as formats
-use Rattle.btr_reader.specs.Opening.{opening_refusals, refusals_after, super_on}
-use Rattle.btr_reader.specs.Parts.{IsReadable, SavedImage, Superblock}
-use Rattle.btr_super.specs.declared.superblock.Super.{Super}
 use Rattle.rollback_core.proofs.RecoveryFormats.{has_format}
-use Rattle.volume_state.specs.GoingBack.{HasReadableWay}
 
 chosen_long : (short : Bool) (f : Format) → short ≡ false → cond short formats.Neither f ≡ f
 chosen_long false f long = refl

@@ -1,24 +1,8 @@
 -- What a rollback and its crashes keep.
-use Rattle.std.proofs.Common.{◌≡◌, ◌≢◌, inl, inr, ⊎_elim, ℕ, ◌≤◌, ◌+◌, eqb, nat_lt, Bool, true, false, not, ◌&&◌, List, length, codes, refl, sym, ◌∙◌, ap, subst, arith, true≢false}
-use Rattle.std.proofs.lemmas.Bool.{and_parts}
-use Rattle.std.proofs.lemmas.Bool.Decides.{nat_tests}
-use Rattle.btrfs_format.specs.declared.block.TheConstants.{SUPER_MAGIC_OFFSET}
-use Rattle.reiser_bitmap.specs.outside.History.{Image, block_at}
+use Rattle.rollback_core.proofs.Imports.{◌≡◌, ◌≢◌, inl, inr, ⊎_elim, ℕ, ◌≤◌, ◌+◌, eqb, nat_lt, Bool, true, false, not, ◌&&◌, List, length, codes, refl, sym, ◌∙◌, ap, subst, arith, true≢false, and_parts, nat_tests, SUPER_MAGIC_OFFSET, Image, block_at, image_blocks, image_short, IsSameOutside, has, superblock, used_of, used_length, same_volume, has_bytes_at, is_reserved, RollbackGoesOn, RollbackKeeps, IsBack, IsRolledBack, StillStands, is_wiped, CanGoBack, old_used}
 use Rattle.volume_state.specs.Laws.{is_spare}
-use Rattle.volume_state.specs.Saved.{image_blocks}
-use Rattle.volume_state.proofs.Images.{image_short}
 use Rattle.volume_state.proofs.Staying.{spare_blocks_decide_nothing}
-use Rattle.btr_reader.specs.Apart.{IsSameOutside}
-use Rattle.reiser_bitmap.specs.Bits.{has}
-use Rattle.reiser_volume.specs.Volume.{superblock, used_of}
-use Rattle.reiser_volume.proofs.Holding.{used_length}
-use Rattle.reiser_volume.proofs.Unchanged.{same_volume}
-use Rattle.reiser_bitmap.specs.vol_block.Format.{has_bytes_at}
-use Rattle.reiser_bitmap.specs.vol_block.Volume.{is_reserved}
-use Rattle.rollback_core.specs.RollbackLaws.{RollbackGoesOn, RollbackKeeps}
-use Rattle.rollback_core.specs.RolledBack.{IsBack, IsRolledBack, StillStands, is_wiped}
 use Rattle.rollback_core.proofs.Back.{equal_or}
-use Rattle.volume_state.specs.GoingBack.{CanGoBack, old_used}
 
 -- a reserved block other than 16 is a spare one
 spare_so : (t : Bool) (b : ℕ) → t ≡ true → b ≢ 16 → (t && not (eqb b 16)) ≡ true

@@ -1,19 +1,6 @@
 -- What is written, and what a crash leaves of it.
-use Rattle.std.proofs.Common.{◌≡◌, ◌∙◌, ◌⊎◌, inl, inr, ⊎_elim, ℕ, true, ◌+◌, ◌<◌, List, length, Option, Some, None, Result, OnOk, refl, sym, ap, subst, arith}
-use Rattle.std.specs.Prelude.{IsSomeAnd, filter, is_some}
-use Rattle.btrfs_format.specs.declared.block.TheConstants.{FIRST_MIRROR, SECOND_MIRROR}
-use Rattle.reiser_bitmap.specs.outside.Format.{format_in}
-use Rattle.reiser_bitmap.specs.outside.History.{History, Image, IsSettled, LeftSince, WritesBlock, WritesOnly, block_at, clock, reads}
-use Rattle.reiser_bitmap.proofs.outside.Crash.{left_each, reads_only, write_only, writes_length, writes_then, writes_weaker}
-use Rattle.reiser_bitmap.proofs.outside.Phases.{set_stands, write_reads}
-use Rattle.convert_steps.specs.Switch.{IsMirror}
-use Rattle.reiser_bitmap.specs.vol_block.declared.block.Block.{Block}
-use Rattle.reiser_bitmap.specs.vol_block.declared.format.Format.{Format}
-use Rattle.rollback_core.specs.Mending.{given, is_torn, mended}
-use Rattle.rollback_core.specs.Planned.{IsGiven, IsGivenAt, IsGivenOrRewrite, IsPlanned, MendingStands, writes_of}
-use Rattle.rollback_core.specs.Recovered.{IsMend, IsPartly, IsRecovered, copy_blocks, recover_summary}
-use Rattle.rollback_core.specs.declared.mending.Mending.{Mending}
-use Rattle.rollback_core.specs.declared.recovery.RecoverSummary.{RecoverSummary}
+use Rattle.rollback_core.proofs.Imports.{◌≡◌, ◌∙◌, ◌⊎◌, inl, inr, ⊎_elim, ℕ, true, ◌+◌, ◌<◌, List, length, Option, Some, None, Result, OnOk, refl, sym, ap, subst, arith, IsSomeAnd, is_some, FIRST_MIRROR, SECOND_MIRROR, format_in, History, Image, IsSettled, LeftSince, WritesBlock, WritesOnly, block_at, clock, reads, left_each, reads_only, write_only, writes_length, writes_then, writes_weaker, set_stands, write_reads, IsMirror, Block, Format, given, is_torn, mended, IsGiven, IsGivenAt, IsGivenOrRewrite, IsPlanned, MendingStands, writes_of, IsMend, IsPartly, IsRecovered, copy_blocks, recover_summary, Mending, RecoverSummary}
+use Rattle.std.specs.Prelude.{filter}
 use Rattle.rollback_core.proofs.Mended.{two_of}
 
 some_given : (found : Option Block) (bytes old wanted : List ℕ) → IsSomeAnd found (λ block. bytes ≡ block.bytes) → given found old ≡ wanted → bytes ≡ wanted

@@ -1,20 +1,6 @@
 -- Where no part of a volume differs, the volume before can be had back from both disks or from neither.
-use Rattle.std.proofs.Common.{◌≡◌, ℕ, ◌<◌, min, [], List, length, Option, Some, None, refl, sym, ◌∙◌, ap, subst, arith}
-use Rattle.std.proofs.lemmas.List.{ext_get_or}
-use Rattle.reiser_bitmap.specs.outside.History.{Image, block_at}
-use Rattle.btr_reader.specs.Image.{ImageFile}
-use Rattle.btr_reader.specs.Parts.{SavedImage, own_map}
-use Rattle.btr_reader.specs.btr_reader_walk.declared.map.MapRange.{MapRange}
-use Rattle.volume_state.proofs.Images.{block_by, length_by}
-use Rattle.btr_reader.specs.Apart.{differs}
+use Rattle.rollback_core.proofs.Imports.{◌≡◌, ℕ, ◌<◌, min, [], List, length, Option, Some, None, refl, sym, ◌∙◌, ap, subst, arith, ext_get_or, Image, block_at, ImageFile, SavedImage, own_map, MapRange, block_by, length_by, differs, IsAccepted, superblock, used_of, IsOld, block_or_hole, blocks_by, file_blocks, image_blocks, place_by_file, saved_file, saved_place, CanGoBack, IsInUse, IsReserved, PartsDecideSaved, SamePartsGoBack, UnusedBlocksDecideNothing, UnusedBlocksLieApart}
 use Rattle.btr_reader.specs.MetadataLaws.{IsSameBtrfs, MetadataDecides}
-use Rattle.reiser_volume.specs.Volume.{IsAccepted, superblock, used_of}
-use Rattle.volume_state.specs.Moved.{IsOld}
-use Rattle.volume_state.specs.Saved.{block_or_hole, blocks_by, file_blocks, image_blocks, place_by_file, saved_file, saved_place}
-use Rattle.volume_state.specs.GoingBack.{CanGoBack}
-use Rattle.volume_state.specs.Using.{IsInUse}
-use Rattle.reiser_bitmap.specs.vol_block.Volume.{IsReserved}
-use Rattle.rollback_core.specs.SavedLaws.{PartsDecideSaved, SamePartsGoBack, UnusedBlocksDecideNothing, UnusedBlocksLieApart}
 use Rattle.rollback_core.proofs.Trees.{of_volume}
 use Rattle.rollback_core.proofs.Using.{alike, back, same_outside, used_same}
 

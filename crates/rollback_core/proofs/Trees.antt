@@ -1,17 +1,5 @@
 -- Trees whose nodes lie in none of some blocks.
-use Rattle.std.proofs.Common.{◌≡◌, ⊎_elim, inl, ℕ, Bool, false, List, [], ◌++◌, Contains, Option, Some, None, refl, subst, arith}
-use Rattle.btrfs_format.specs.declared.object.TheConstants.{FS_TREE}
-use Rattle.reiser_bitmap.specs.outside.History.{Image}
-use Rattle.btr_reader.specs.Opening.{chunk_tree, root_tree, tree_of}
-use Rattle.btr_reader.specs.Parts.{own_map, own_super}
-use Rattle.btr_super.specs.declared.superblock.Super.{Super}
-use Rattle.btr_reader.specs.btr_reader_walk.declared.map.MapRange.{MapRange}
-use Rattle.btr_reader.specs.btr_reader_walk.declared.tree.NodePointer.{NodePointer}
-use Rattle.btr_reader.specs.btr_reader_walk.declared.tree.Tree.{Tree}
-use Rattle.btr_reader.specs.Apart.{AreNodesApart, IsVolumeApart, boot_map, root_of, saved_tree}
-use Rattle.reiser_bitmap.proofs.Ranges.{contains_cases}
-use Rattle.volume_state.specs.Using.{IsInUse, chunk_node, file_part, file_trees, named_by, numbered, root_node, tree_if}
-use Rattle.volume_state.proofs.Apart.{file_tree_among, nodes_apart, saved_tree_among}
+use Rattle.rollback_core.proofs.Imports.{◌≡◌, ⊎_elim, inl, ℕ, Bool, false, List, [], ◌++◌, Contains, Option, Some, None, refl, subst, arith, FS_TREE, Image, chunk_tree, root_tree, tree_of, own_map, own_super, Super, MapRange, NodePointer, Tree, AreNodesApart, IsVolumeApart, boot_map, root_of, saved_tree, contains_cases, IsInUse, chunk_node, file_part, file_trees, named_by, numbered, root_node, tree_if, file_tree_among, nodes_apart, saved_tree_among}
 
 -- In none of the blocks lies the superblock, or a node of the chunk tree, the root tree, the file tree or the saved image's tree.
 pub record AreTreesApart (test : ℕ → Bool) (disk : Image) : Type 0 where

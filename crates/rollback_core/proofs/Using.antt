@@ -1,26 +1,9 @@
 -- Which blocks are in use depends on the superblock and the nodes of trees alone.
-use Rattle.std.proofs.Common.{◌≡◌, ◌↔◌, ⊎_elim, inl, inr, ℕ, Bool, true, false, not, List, ◌++◌, length, Contains, Option, Some, None, refl, sym, ◌∙◌, ap, subst}
-use Rattle.std.specs.Prelude.{bytes_eq}
-use Rattle.std.specs.Option.{option_and_then}
-use Rattle.std.proofs.lemmas.Slice.Eq.{bytes_eq-Decides}
-use Rattle.btrfs_format.specs.declared.object.TheConstants.{FS_TREE}
-use Rattle.reiser_bitmap.specs.outside.History.{Image, block_at}
+use Rattle.rollback_core.proofs.Imports.{◌≡◌, ◌↔◌, ⊎_elim, inl, inr, ℕ, Bool, true, false, not, List, ◌++◌, length, Contains, Option, Some, None, refl, sym, ◌∙◌, ap, subst, bytes_eq, option_and_then, bytes_eq-Decides, FS_TREE, Image, block_at, items_at, pointer_in, saved_location, tree_number, boot_chunks, boot_list, chunk_map, chunk_tree, root_tree, tree_of, own_map, own_super, super_in, Super, TreeEvent, TreeItem, nodes_in, MapRange, NodePointer, Tree, AreNodesApart, IsSameOutside, boot_map, differs, root_of, saved_tree, HoldsExtent, HoldsNode, HoldsNodeOf, HoldsPartOf, IsInUse, chunk_node, file_part, file_pointer, file_trees, named_by, numbered, root_node, tree_if, UsedBlocksDecideUse}
 use Rattle.btr_reader.specs.Chunks.{with_items}
-use Rattle.btr_reader.specs.Image.{items_at, pointer_in, saved_location, tree_number}
-use Rattle.btr_reader.specs.Opening.{boot_chunks, boot_list, chunk_map, chunk_tree, root_tree, tree_of}
-use Rattle.btr_reader.specs.Parts.{own_map, own_super}
 use Rattle.btr_reader.specs.Roots.{root_item}
 use Rattle.btr_reader.specs.Rows.{roots_on}
-use Rattle.btr_super.specs.Super.{super_in}
-use Rattle.btr_super.specs.declared.superblock.Super.{Super}
-use Rattle.btr_reader.specs.btr_reader_walk.Events.{TreeEvent, TreeItem, nodes_in}
-use Rattle.btr_reader.specs.btr_reader_walk.declared.map.MapRange.{MapRange}
-use Rattle.btr_reader.specs.btr_reader_walk.declared.tree.NodePointer.{NodePointer}
-use Rattle.btr_reader.specs.btr_reader_walk.declared.tree.Tree.{Tree}
-use Rattle.btr_reader.specs.Apart.{AreNodesApart, IsSameOutside, boot_map, differs, root_of, saved_tree}
 use Rattle.btr_reader.proofs.Nodes.{apart_same, found_same, met_same}
-use Rattle.volume_state.specs.Using.{HoldsExtent, HoldsNode, HoldsNodeOf, HoldsPartOf, IsInUse, chunk_node, file_part, file_pointer, file_trees, named_by, numbered, root_node, tree_if}
-use Rattle.rollback_core.specs.SavedLaws.{UsedBlocksDecideUse}
 use Rattle.rollback_core.proofs.Trees.{AreTreesApart, file_tree_apart, of_use}
 
 pub back : (test : ℕ → Bool) (disk other : Image) → IsSameOutside test disk other → IsSameOutside test other disk

@@ -1,19 +1,7 @@
 -- Nodes that ascend by address.
-use Rattle.std.proofs.Common.{◌≡◌, ℕ, suc, ◌+◌, ◌^◌, ◌<◌, List, [], ◌∷◌, ◌++◌, length, map, take, drop, get_or, refl, sym, ◌∙◌, ap, ap₂, subst, arith, map-id, min, sum}
-use Rattle.std.specs.Prelude.{AllPairs}
-use Rattle.std.specs.declared.cmp.Ordering.TheVariants.{Less}
-use Rattle.std.proofs.lemmas.Cmp.{ranked}
-use Rattle.std.proofs.lemmas.List.{get_or-map, get_or-take, length-map, length-take, map-append, drop-drop}
-use Rattle.std.proofs.lemmas.List.Sums.{sum_by-cons}
+use Rattle.space_items.proofs.Imports.{◌≡◌, ℕ, suc, ◌+◌, ◌^◌, ◌<◌, List, [], ◌∷◌, ◌++◌, length, map, take, drop, get_or, refl, sym, ◌∙◌, ap, ap₂, subst, arith, map-id, min, AllPairs, Less, ranked, get_or-map, get_or-take, length-map, length-take, map-append, drop-drop, sum_by-cons, EXTENT_TREE, NodePointer, tree_nodes, packed_leaves, tree_levels, level_pointers, AreNodes, merged_nodes, nodes_of_tree, own_at, TreeNode}
+use Rattle.std.proofs.Common.{sum}
 use Rattle.std.proofs.Math.Seq.{take-add}
-use Rattle.btrfs_format.specs.declared.object.TheConstants.{EXTENT_TREE}
-use Rattle.btr_tree.specs.btr_reader_walk.declared.tree.NodePointer.{NodePointer}
-use Rattle.btr_tree.specs.Counting.{tree_nodes}
-use Rattle.btr_tree.specs.Packing.{packed_leaves, tree_levels}
-use Rattle.btr_tree.specs.Roots.{level_pointers}
-use Rattle.space_items.specs.Nodes.{AreNodes, merged_nodes, nodes_of_tree}
-use Rattle.space_items.specs.Own.{own_at}
-use Rattle.space_items.specs.declared.node.TreeNode.{TreeNode}
 use Rattle.space_items.proofs.Describing.{node_total}
 use Rattle.space_items.proofs.Levels.{map-map, node_of, upper}
 use Rattle.space_items.proofs.Merges.{length-merge, nat_less, rises-merge}

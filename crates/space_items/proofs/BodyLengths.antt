@@ -1,8 +1,5 @@
 -- How long the bodies of the extent tree's items are.
-use Rattle.std.proofs.Common.{◌≡◌, ℕ, suc, ◌+◌, ◌*◌, ◌≤◌, List, [], ◌∷◌, length, Bool, true, false, Option, Some, None, refl, arith, length-append, cond, ltb}
-use Rattle.std.specs.List.{flat_map}
-use Rattle.btrfs_format.specs.declared.object.TheConstants.{FS_TREE}
-use Rattle.btrfs_format.specs.declared.size.TheConstants.{METADATA_ITEM_SIZE}
+use Rattle.space_items.proofs.Imports.{◌≡◌, ℕ, suc, ◌+◌, ◌*◌, ◌≤◌, List, [], ◌∷◌, length, Bool, true, false, Option, Some, None, refl, arith, length-append, cond, ltb, flat_map, FS_TREE, METADATA_ITEM_SIZE, PlannedChunk, Piece, group_item, node_item, piece_item, piece_refs, put_ref, image_refs, hash_of_ref, data_ref, TreeNode}
 use Rattle.btr_space_items.specs.BlockGroup.{block_group_bytes, block_group_layout}
 use Rattle.btr_space_items.specs.ExtentHead.{extent_head_bytes, extent_head_layout}
 use Rattle.btr_space_items.specs.InlineRef.{inline_ref_bytes, tree_block_layout, data_ref_layout}
@@ -10,10 +7,6 @@ use Rattle.btr_space_items.specs.declared.block_group.BlockGroup.{BlockGroup}
 use Rattle.btr_space_items.specs.declared.extent_head.ExtentHead.{ExtentHead}
 use Rattle.btr_space_items.specs.declared.inline_ref.InlineRef.{InlineRef}
 use Rattle.btr_space_items.specs.declared.inline_ref.InlineRef.TheVariants.{TreeBlock, DataRef}
-use Rattle.unit_plan.specs.declared.chunk.PlannedChunk.{PlannedChunk}
-use Rattle.unit_plan.specs.declared.piece.Piece.{Piece}
-use Rattle.space_items.specs.Extents.{group_item, node_item, piece_item, piece_refs, put_ref, image_refs, hash_of_ref, data_ref}
-use Rattle.space_items.specs.declared.node.TreeNode.{TreeNode}
 
 length-group_bytes : (g : BlockGroup) → length (block_group_bytes g) ≡ 24
 unfolding block_group_layout

@@ -1,22 +1,7 @@
 -- The chunks of a volume, one after the other.
-use Rattle.std.proofs.Common.{◌≡◌, ℕ, suc, ◌+◌, ◌≤◌, List, [], ◌∷◌, ◌++◌, length, map, take, get_or, Some, sym, ◌∙◌, ap, arith, take-suc, append_assoc}
-use Rattle.std.specs.Prelude.{All, AllPairs, slice_get}
+use Rattle.space_items.proofs.Imports.{◌≡◌, ℕ, suc, ◌+◌, ◌≤◌, List, [], ◌∷◌, ◌++◌, length, map, take, get_or, Some, sym, ◌∙◌, ap, arith, take-suc, append_assoc, All, AllPairs, slice_get, map-append, take_all, sum_by-cons, sum_by_more, sum_by_more_le, slice_get_within, get_or_from_slice_get, DEV_ITEM, DEV_ITEMS_OBJECTID, Key, make_key, Item, device_bytes, Ids, chunk_item, chunk_items, device_body, PlannedChunk, Plan, IsChunk, AreChunks, role_of, usable_end}
 use Rattle.std.specs.List.{sum_by}
-use Rattle.std.proofs.lemmas.List.{map-append, take_all}
-use Rattle.std.proofs.lemmas.List.Sums.{sum_by-cons, sum_by_more, sum_by_more_le}
-use Rattle.std.proofs.lemmas.Option.{slice_get_within, get_or_from_slice_get}
-use Rattle.btrfs_format.specs.declared.key.TheConstants.{DEV_ITEM}
-use Rattle.btrfs_format.specs.declared.object.TheConstants.{DEV_ITEMS_OBJECTID}
-use Rattle.btr_tree.specs.btr_keys.declared.key.Key.{Key}
-use Rattle.btr_tree.specs.btr_keys.Key.{make_key}
-use Rattle.btr_tree.specs.btr_node.Leaf.{Item}
-use Rattle.btr_space_items.specs.Device.{device_bytes}
 use Rattle.btr_space_items.specs.declared.device.Device.{Device}
-use Rattle.btr_tree.specs.vol_block.declared.ids.Ids.{Ids}
-use Rattle.space_items.specs.Chunks.{chunk_item, chunk_items, device_body}
-use Rattle.unit_plan.specs.declared.chunk.PlannedChunk.{PlannedChunk}
-use Rattle.unit_plan.specs.declared.plan.Plan.{Plan}
-use Rattle.unit_plan.specs.Chunks.{IsChunk, AreChunks, role_of, usable_end}
 use Rattle.space_items.proofs.OneList.{chunks_one}
 
 -- the blocks so far, and those of the next chunk

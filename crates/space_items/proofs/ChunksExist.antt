@@ -1,13 +1,7 @@
 -- A plan makes chunks of a volume.
-use Rattle.std.proofs.Common.{◌≡◌, ⊎_elim, ◌⊎◌, inl, inr, ℕ, zero, suc, ◌+◌, ◌-◌, ◌*◌, ◌%◌, ◌<◌, ◌&&◌, ltb, not, Bool, true, false, List, [], ◌∷◌, ◌++◌, Option, Some, None, refl, ap, subst, arith}
-use Rattle.std.specs.Prelude.{MatchOption}
-use Rattle.std.proofs.lemmas.Bool.{and_parts, ltb-true, cases_eq}
-use Rattle.unit_plan.specs.declared.chunk.PlannedChunk.{PlannedChunk}
-use Rattle.unit_plan.specs.declared.chunk.Role.{Role}
+use Rattle.space_items.proofs.Imports.{◌≡◌, ⊎_elim, ◌⊎◌, inl, inr, ℕ, zero, suc, ◌+◌, ◌-◌, ◌*◌, ◌%◌, ◌<◌, ◌&&◌, ltb, not, Bool, true, false, List, [], ◌∷◌, ◌++◌, Option, Some, None, refl, ap, subst, arith, MatchOption, and_parts, ltb-true, cases_eq, PlannedChunk, Role, Plan, AreChunks, AreChunksBy, role_by, role_of, has_role, usable_end, is_in_runs}
 use Rattle.unit_plan.specs.declared.chunk.Role.TheVariants.{System, Metadata, Data}
-use Rattle.unit_plan.specs.declared.plan.Plan.{Plan}
 use Rattle.unit_plan.specs.Choice.{is_among}
-use Rattle.unit_plan.specs.Chunks.{AreChunks, AreChunksBy, role_by, role_of, has_role, usable_end, is_in_runs}
 use Rattle.unit_plan.specs.Dividing.{IsJoined, AreBegun, IsWithChunk, chunk_from}
 use Rattle.unit_plan.proofs.Dividing.{begun, goes_on, ended, divided}
 

@@ -1,19 +1,8 @@
 -- How much of a list lies between two places.
-use Rattle.std.proofs.Common.{◌≡◌, ◌<◌, ◌≤◌, ℕ, zero, suc, ◌+◌, ◌*◌, ◌^◌, Bool, true, false, not, cond, List, [], ◌∷◌, ◌++◌, length, filter, map, take, drop, get_or, sum_by, Some, refl, sym, ap, subst, ◌∙◌, ◌&&◌, arith, length-drop}
-use Rattle.std.specs.Prelude.{nat_le, nat_lt, slice_get, All, AllPairs}
+use Rattle.space_items.proofs.Imports.{◌≡◌, ◌<◌, ◌≤◌, ℕ, zero, suc, ◌+◌, ◌*◌, ◌^◌, Bool, true, false, not, cond, List, [], ◌∷◌, ◌++◌, length, filter, map, take, drop, get_or, sum_by, Some, refl, sym, ap, subst, ◌∙◌, ◌&&◌, arith, nat_le, nat_lt, slice_get, All, AllPairs, take_all, take-append-drop, get_or-drop, map_more, All-head, All-tail, All-more, All-weaker, filter_more, filter-append, sum_by-cons, sum_by-append, sum_by-le, sum_by-take-le, slice_get_within, get_or_from_slice_get, AreNodes, bytes_of_nodes, bytes_of_pieces, used_in, ArePieces, LieBefore, group_of, Group, TreeNode, PlannedChunk, Piece}
+use Rattle.std.proofs.Common.{length-drop}
 use Rattle.std.proofs.lemmas.Bool.Decides.{nat_tests}
-use Rattle.std.proofs.lemmas.List.{take_all, take-append-drop, get_or-drop, map_more}
-use Rattle.std.proofs.lemmas.List.Elements.{All-head, All-tail, All-more, All-weaker, filter_more, filter-append}
 use Rattle.std.proofs.lemmas.List.Filters.{sum_by-filter_both}
-use Rattle.std.proofs.lemmas.List.Sums.{sum_by-cons, sum_by-append, sum_by-le, sum_by-take-le}
-use Rattle.std.proofs.lemmas.Option.{slice_get_within, get_or_from_slice_get}
-use Rattle.space_items.specs.Nodes.{AreNodes}
-use Rattle.space_items.specs.Extents.{bytes_of_nodes, bytes_of_pieces, used_in}
-use Rattle.space_items.specs.Stream.{ArePieces, LieBefore, group_of}
-use Rattle.space_items.specs.declared.groups.Group.{Group}
-use Rattle.space_items.specs.declared.node.TreeNode.{TreeNode}
-use Rattle.unit_plan.specs.declared.chunk.PlannedChunk.{PlannedChunk}
-use Rattle.unit_plan.specs.declared.piece.Piece.{Piece}
 
 pub not_in_below : (low high a : ℕ) → a < low → (nat_le low a && nat_lt a high) ≡ false
 not_in_below low high a h = grind (arith, nat_tests)

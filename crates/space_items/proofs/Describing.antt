@@ -1,20 +1,5 @@
 -- How the number of the extent tree's own nodes is found: counted again until it describes itself.
-use Rattle.std.proofs.Common.{◌≡◌, ◌≢◌, ⊎_elim, ℕ, zero, suc, ◌+◌, ◌-◌, ◌*◌, ◌<◌, ◌≤◌, List, [], ◌∷◌, ◌++◌, length, take, get_or, sym, ◌∙◌, ap, subst, subst₂, arith, append-nil}
-use Rattle.std.proofs.lemmas.Bool.{cases_lt}
-use Rattle.std.proofs.lemmas.Cmp.{nat_cmp_total, on_total}
-use Rattle.std.proofs.lemmas.List.{take_more, take_all, map_push, length-map, length-take}
-use Rattle.std.specs.Cmp.{IsTotalOrder}
-use Rattle.btrfs_format.specs.declared.object.TheConstants.{EXTENT_TREE}
-use Rattle.unit_plan.specs.declared.item_bytes.TheConstants.{NODE_BYTES}
-use Rattle.btr_tree.specs.btr_node.NodeSize.{IsNodeSize}
-use Rattle.btr_tree.specs.Counting.{Counted, Tally, bytes_of, node_bound, tree_nodes}
-use Rattle.btr_tree.specs.Roots.{lengths_of}
-use Rattle.unit_plan.specs.declared.chunk.PlannedChunk.{PlannedChunk}
-use Rattle.unit_plan.specs.declared.piece.Piece.{Piece}
-use Rattle.space_items.specs.Extents.{extent_items}
-use Rattle.space_items.specs.Nodes.{merged_nodes, nodes_at}
-use Rattle.space_items.specs.Own.{IsOwnCount, extent_bytes, nodes_with, own_at, own_bound, own_lengths}
-use Rattle.space_items.specs.declared.node.TreeNode.{TreeNode}
+use Rattle.space_items.proofs.Imports.{◌≡◌, ◌≢◌, ⊎_elim, ℕ, zero, suc, ◌+◌, ◌-◌, ◌*◌, ◌<◌, ◌≤◌, List, [], ◌∷◌, ◌++◌, length, take, get_or, sym, ◌∙◌, ap, subst, subst₂, arith, append-nil, cases_lt, nat_cmp_total, on_total, take_more, take_all, map_push, length-map, length-take, IsTotalOrder, EXTENT_TREE, NODE_BYTES, IsNodeSize, Counted, Tally, bytes_of, node_bound, tree_nodes, lengths_of, PlannedChunk, Piece, extent_items, merged_nodes, nodes_at, IsOwnCount, extent_bytes, nodes_with, own_at, own_bound, own_lengths, TreeNode}
 use Rattle.space_items.proofs.Merges.{merge, length-merge, IsMore, more_second}
 use Rattle.space_items.proofs.NodeMerge.{node_cmp}
 use Rattle.space_items.proofs.OwnBound.{bound_holds, bound_up}

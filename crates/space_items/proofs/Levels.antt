@@ -1,22 +1,8 @@
 -- The nodes of a tree, one level after the other.
-use Rattle.std.proofs.Common.{◌≡◌, ⊎_elim, ℕ, zero, suc, ◌+◌, ◌-◌, ◌<◌, ◌≤◌, List, [], ◌∷◌, ◌++◌, length, map, get_or, take, drop, refl, sym, ◌∙◌, ap, ap₂, subst, arith, append_assoc, append-nil}
-use Rattle.std.specs.List.{sum}
-use Rattle.std.specs.Int.{div_ceil}
-use Rattle.std.specs.Prelude.{All}
-use Rattle.std.proofs.lemmas.Bool.{cases_lt}
-use Rattle.std.proofs.lemmas.List.{drop_more, drop_all, drop-drop, map-append, length_push}
-use Rattle.std.proofs.lemmas.List.Elements.{All-cons, All-nil}
-use Rattle.std.proofs.lemmas.List.Sums.{sum_by-cons}
-use Rattle.btr_tree.specs.btr_node.NodeSize.{IsNodeSize}
-use Rattle.btr_tree.specs.Counting.{Tally, Counted}
-use Rattle.btr_tree.specs.Packing.{capacity, fan_out, packed_leaves, weight, tree_levels, level_sizes}
+use Rattle.space_items.proofs.Imports.{◌≡◌, ⊎_elim, ℕ, zero, suc, ◌+◌, ◌-◌, ◌<◌, ◌≤◌, List, [], ◌∷◌, ◌++◌, length, map, get_or, take, drop, refl, sym, ◌∙◌, ap, ap₂, subst, arith, append_assoc, append-nil, sum, div_ceil, All, cases_lt, drop_more, drop_all, drop-drop, map-append, length_push, All-cons, All-nil, sum_by-cons, IsNodeSize, Tally, Counted, capacity, fan_out, packed_leaves, weight, tree_levels, level_sizes, level_pointers, NodePointer, nodes_at, TreeNode}
 use Rattle.btr_tree.proofs.Climbing.{wide_fan}
 use Rattle.btr_tree.proofs.Groups.{ends_in}
-use Rattle.btr_tree.specs.Roots.{level_pointers}
 use Rattle.btr_tree.proofs.Sizes.{sizes-one, sizes-more, sizes-none, smaller}
-use Rattle.btr_tree.specs.btr_reader_walk.declared.tree.NodePointer.{NodePointer}
-use Rattle.space_items.specs.Nodes.{nodes_at}
-use Rattle.space_items.specs.declared.node.TreeNode.{TreeNode}
 
 -- no level that is listed is empty
 pub full_levels : (d fan n : ℕ) → 121 ≤ fan → 1 ≤ n → All (λ m. 1 ≤ m) (level_sizes d fan n)

@@ -1,11 +1,5 @@
 -- A plan makes one list of chunks.
-use Rattle.std.proofs.Common.{◌≡◌, ◌≢◌, ℕ, zero, suc, ◌+◌, ◌*◌, ◌%◌, ◌<◌, ◌≤◌, min, List, [], ◌∷◌, length, get_or, Option, Some, refl, sym, ◌∙◌, ap, subst, arith, ⊎_elim}
-use Rattle.std.specs.Prelude.{All, AllPairs, Any}
-use Rattle.std.proofs.lemmas.Bool.{cases_lt}
-use Rattle.unit_plan.specs.declared.chunk.PlannedChunk.{PlannedChunk}
-use Rattle.unit_plan.specs.declared.chunk.Role.{Role}
-use Rattle.unit_plan.specs.Chunks.{IsChunk, HoldsUnit, AreChunksBy, role_of, usable_end}
-use Rattle.space_items.specs.Laws.{ChunksAreOne}
+use Rattle.space_items.proofs.Imports.{◌≡◌, ◌≢◌, ℕ, zero, suc, ◌+◌, ◌*◌, ◌%◌, ◌<◌, ◌≤◌, min, List, [], ◌∷◌, length, get_or, Option, Some, refl, sym, ◌∙◌, ap, subst, arith, ⊎_elim, All, AllPairs, Any, cases_lt, PlannedChunk, Role, IsChunk, HoldsUnit, AreChunksBy, role_of, usable_end, ChunksAreOne}
 
 module _ (role : ℕ → Option Role) (usable : ℕ) where
   -- the chunks from a block on

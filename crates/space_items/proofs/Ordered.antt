@@ -1,19 +1,6 @@
 -- The items of the small lists ascend, and are short.
-use Rattle.std.proofs.Common.{◌≡◌, ◌≤◌, ◌<◌, ℕ, zero, suc, ◌+◌, ◌*◌, true, List, [], ◌∷◌, ◌++◌, length, length-append, map, get_or, refl, ap, arith, eqb, cond, Bool, false}
-use Rattle.std.specs.Prelude.{All, AllPairs, codes}
-use Rattle.std.specs.Cmp.{IsTotalOrder}
-use Rattle.std.specs.Ordering.{is_lt, nat_cmp, ordering_then}
-use Rattle.std.specs.declared.cmp.Ordering.{Ordering}
-use Rattle.std.specs.declared.cmp.Ordering.TheVariants.{Less, Equal, Greater}
-use Rattle.std.proofs.lemmas.Bool.{and_parts, and_from, false≢true}
-use Rattle.std.proofs.lemmas.Cmp.{on_total}
-use Rattle.std.proofs.lemmas.List.Elements.{All-cons, All-nil}
-use Rattle.std.proofs.lemmas.List.Kept.{AllPairs-cons}
-use Rattle.btrfs_format.specs.declared.key.TheConstants.{DEV_ITEM, ROOT_ITEM}
-use Rattle.btrfs_format.specs.declared.object.TheConstants.{DEV_ITEMS_OBJECTID}
+use Rattle.space_items.proofs.Imports.{◌≡◌, ◌≤◌, ◌<◌, ℕ, zero, suc, ◌+◌, ◌*◌, true, List, [], ◌∷◌, ◌++◌, length, length-append, map, get_or, refl, ap, arith, eqb, cond, Bool, false, All, AllPairs, codes, IsTotalOrder, is_lt, nat_cmp, ordering_then, Ordering, Less, Equal, Greater, and_parts, and_from, false≢true, on_total, All-cons, All-nil, AllPairs-cons, DEV_ITEM, ROOT_ITEM, DEV_ITEMS_OBJECTID, Ids, key_cmp, key_layout, IsBefore, make_key, device_layout, device_bytes, Item, keys_of, Ascends, ascends, is_before, PlannedChunk, Plan, IsChunk, AreChunks, role_of, usable_end, merged, item_cmp, TreeRoot, chunk_item, chunk_items, device_body, dev_extent_item, device_items, tree_root_item, other_root_items, saved_ref, default_entry, tree_uuid, zero_uuid, AreIds, ChunkItemsFit, RootItemsFit}
 use Rattle.vol_block.specs.declared.mode.TheConstants.{DIRECTORY_MODE}
-use Rattle.btr_tree.specs.vol_block.declared.ids.Ids.{Ids}
-use Rattle.btr_tree.specs.btr_keys.Key.{key_cmp, key_layout, IsBefore, make_key}
 use Rattle.btr_tree.specs.btr_keys.DirEntry.{dir_entry_head}
 use Rattle.btr_tree.specs.btr_keys.InodeRef.{inode_ref_bytes, inode_ref_head}
 use Rattle.btr_tree.specs.btr_keys.Stamp.{stamp_layout}
@@ -25,17 +12,6 @@ use Rattle.btr_space_items.specs.RootItem.{root_item_layout}
 use Rattle.btr_space_items.specs.RootRef.{root_ref_head}
 use Rattle.btr_space_items.specs.Stripe.{stripe_layout}
 use Rattle.btr_space_items.specs.DevExtent.{dev_extent_layout}
-use Rattle.btr_space_items.specs.Device.{device_layout, device_bytes}
-use Rattle.btr_tree.specs.btr_node.Leaf.{Item, keys_of}
-use Rattle.btr_tree.specs.btr_node.Order.{Ascends, ascends, is_before}
-use Rattle.unit_plan.specs.declared.chunk.PlannedChunk.{PlannedChunk}
-use Rattle.unit_plan.specs.declared.plan.Plan.{Plan}
-use Rattle.unit_plan.specs.Chunks.{IsChunk, AreChunks, role_of, usable_end}
-use Rattle.space_items.specs.Merging.{merged, item_cmp}
-use Rattle.space_items.specs.declared.node.TreeRoot.{TreeRoot}
-use Rattle.space_items.specs.Chunks.{chunk_item, chunk_items, device_body, dev_extent_item, device_items}
-use Rattle.space_items.specs.Roots.{tree_root_item, other_root_items, saved_ref, default_entry, tree_uuid, zero_uuid}
-use Rattle.space_items.specs.Laws.{AreIds, ChunkItemsFit, RootItemsFit}
 use Rattle.space_items.proofs.Merges.{nat_less, rises-merge, all-merge}
 use Rattle.space_items.proofs.Merging.{key_total}
 

@@ -1,14 +1,7 @@
 -- The bound of the number of the extent tree's own nodes holds.
-use Rattle.std.proofs.Common.{◌≡◌, ⊎_elim, ℕ, suc, ◌+◌, ◌-◌, ◌*◌, ◌/◌, ◌<◌, ◌≤◌, subst, arith, mul_comm, mul-suc, div-mul-le_self}
-use Rattle.std.specs.Int.{div_ceil}
-use Rattle.std.proofs.Math.Nat.{lt-div-mul-add}
-use Rattle.std.proofs.lemmas.Bool.{cases_lt}
-use Rattle.std.proofs.lemmas.Grind.{div_ceil_times}
+use Rattle.space_items.proofs.Imports.{◌≡◌, ⊎_elim, ℕ, suc, ◌+◌, ◌-◌, ◌*◌, ◌/◌, ◌<◌, ◌≤◌, subst, arith, mul-suc, div-mul-le_self, div_ceil, lt-div-mul-add, cases_lt, div_ceil_times, NODE_BYTES, IsNodeSize, leaf_bound, node_bound, capacity}
+use Rattle.std.proofs.Common.{mul_comm}
 use Rattle.std.proofs.lemmas.Nat.{mul-le}
-use Rattle.unit_plan.specs.declared.item_bytes.TheConstants.{NODE_BYTES}
-use Rattle.btr_tree.specs.btr_node.NodeSize.{IsNodeSize}
-use Rattle.btr_tree.specs.Counting.{leaf_bound, node_bound}
-use Rattle.btr_tree.specs.Packing.{capacity}
 
 pub roomy : (n : ℕ) → IsNodeSize n → 3995 ≤ capacity n
 roomy n size =

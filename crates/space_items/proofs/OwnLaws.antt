@@ -1,9 +1,6 @@
 -- The extent tree's own nodes were counted in the needed space.
-use Rattle.std.proofs.Common.{ℕ, ◌+◌, ◌*◌, ◌≤◌, length, arith}
-use Rattle.unit_plan.specs.declared.item_bytes.TheConstants.{BLOCK_GROUP_BYTES, EXTENT_BYTES, NODE_BYTES}
-use Rattle.btr_tree.specs.Counting.{node_bound}
+use Rattle.space_items.proofs.Imports.{ℕ, ◌+◌, ◌*◌, ◌≤◌, length, arith, BLOCK_GROUP_BYTES, EXTENT_BYTES, NODE_BYTES, node_bound, extent_bytes}
 use Rattle.unit_plan.specs.Needed.{chunk_bound, chunk_nodes, extent_tree_bytes, other_nodes}
-use Rattle.space_items.specs.Own.{extent_bytes}
 use Rattle.space_items.specs.OwnLaws.{OwnNodesAreNeeded}
 use Rattle.space_items.proofs.OwnBound.{bound_up}
 

@@ -1,16 +1,5 @@
 -- The root tree's items, one root after the other.
-use Rattle.std.proofs.Common.{◌≡◌, ◌≢◌, ◌≤◌, ◌<◌, ℕ, zero, suc, ◌+◌, ◌-◌, List, [], ◌∷◌, ◌++◌, length, map, drop, get_or, Some, sym, ap, subst, ◌∙◌, append_assoc, arith, drop-cons}
-use Rattle.std.specs.Prelude.{All, slice_get, slice_range}
-use Rattle.std.proofs.lemmas.List.{length-drop, drop-drop, get_or-drop}
-use Rattle.std.proofs.lemmas.Option.{slice_get_within, get_or_from_slice_get}
-use Rattle.btrfs_format.specs.declared.key.TheConstants.{ROOT_ITEM}
-use Rattle.btr_tree.specs.vol_block.declared.ids.Ids.{Ids}
-use Rattle.btr_tree.specs.btr_keys.declared.key.Key.{Key}
-use Rattle.btr_tree.specs.btr_keys.Key.{make_key, IsBefore}
-use Rattle.btr_tree.specs.btr_node.Leaf.{Item}
-use Rattle.space_items.specs.declared.node.TreeRoot.{TreeRoot}
-use Rattle.space_items.specs.Merging.{merged}
-use Rattle.space_items.specs.Roots.{AreBefore, tree_root_item, other_root_items}
+use Rattle.space_items.proofs.Imports.{◌≡◌, ◌≢◌, ◌≤◌, ◌<◌, ℕ, zero, suc, ◌+◌, ◌-◌, List, [], ◌∷◌, ◌++◌, length, map, drop, get_or, Some, sym, ap, subst, ◌∙◌, append_assoc, arith, drop-cons, All, slice_get, slice_range, length-drop, drop-drop, get_or-drop, slice_get_within, get_or_from_slice_get, ROOT_ITEM, Ids, Key, make_key, IsBefore, Item, TreeRoot, merged, AreBefore, tree_root_item, other_root_items}
 use Rattle.space_items.proofs.Merging.{merged_behind, merged_ahead}
 
 -- none of the other items is a root item

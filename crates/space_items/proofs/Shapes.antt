@@ -1,30 +1,6 @@
 -- The keys of the extent tree's items, and how long their bodies are.
-use Rattle.std.proofs.Common.{◌≡◌, ⊎_elim, inl, inr, ℕ, ◌+◌, ◌*◌, ◌≤◌, List, [], ◌∷◌, ◌++◌, length, map, refl, sym, ◌∙◌, ap, ap₂, subst₂, arith, sum_by}
-use Rattle.std.specs.Cmp.{IsTotalOrder}
-use Rattle.std.specs.Ordering.{nat_cmp, ordering_then}
-use Rattle.std.specs.Prelude.{All}
-use Rattle.std.specs.declared.cmp.Ordering.{Ordering}
-use Rattle.std.specs.declared.cmp.Ordering.TheVariants.{Less, Equal, Greater}
-use Rattle.std.proofs.lemmas.Cmp.{nat_cmp_total, on_total, then_total}
-use Rattle.std.proofs.lemmas.List.{map-append, length-map}
-use Rattle.std.proofs.lemmas.List.Elements.{All-cons, All-nil}
-use Rattle.std.proofs.lemmas.List.Sums.{sum_by-cons, sum_by-le}
-use Rattle.btrfs_format.specs.declared.key.TheConstants.{BLOCK_GROUP_ITEM, METADATA_ITEM}
-use Rattle.btrfs_format.specs.declared.size.TheConstants.{METADATA_ITEM_SIZE}
-use Rattle.unit_plan.specs.declared.item_bytes.TheConstants.{BLOCK_GROUP_BYTES, EXTENT_BYTES, NODE_BYTES}
-use Rattle.btr_tree.specs.btr_keys.Key.{key_cmp, make_key}
-use Rattle.btr_tree.specs.btr_keys.declared.key.Key.{Key}
-use Rattle.btr_tree.specs.btr_node.Leaf.{Item}
-use Rattle.btr_tree.specs.btr_node.NodeSize.{IsNodeSize}
-use Rattle.btr_tree.specs.Counting.{bytes_of, tree_nodes}
-use Rattle.btr_tree.specs.Packing.{weight}
-use Rattle.btr_tree.specs.Roots.{lengths_of}
+use Rattle.space_items.proofs.Imports.{◌≡◌, ⊎_elim, inl, inr, ℕ, ◌+◌, ◌*◌, ◌≤◌, List, [], ◌∷◌, ◌++◌, length, map, refl, sym, ◌∙◌, ap, ap₂, subst₂, arith, sum_by, IsTotalOrder, nat_cmp, ordering_then, All, Ordering, Less, Equal, Greater, nat_cmp_total, on_total, then_total, map-append, length-map, All-cons, All-nil, sum_by-cons, sum_by-le, BLOCK_GROUP_ITEM, METADATA_ITEM, METADATA_ITEM_SIZE, BLOCK_GROUP_BYTES, EXTENT_BYTES, NODE_BYTES, key_cmp, make_key, Key, Item, IsNodeSize, bytes_of, tree_nodes, weight, lengths_of, PlannedChunk, Piece, extent_items, group_item, node_item, piece_item, used_in, item_cmp, TreeNode}
 use Rattle.btr_tree.proofs.Falling.{never_fall}
-use Rattle.unit_plan.specs.declared.chunk.PlannedChunk.{PlannedChunk}
-use Rattle.unit_plan.specs.declared.piece.Piece.{Piece}
-use Rattle.space_items.specs.Extents.{extent_items, group_item, node_item, piece_item, used_in}
-use Rattle.space_items.specs.Merging.{item_cmp}
-use Rattle.space_items.specs.declared.node.TreeNode.{TreeNode}
 use Rattle.space_items.proofs.BodyLengths.{length-group, length-node, length-piece}
 use Rattle.space_items.proofs.Levels.{map-map}
 use Rattle.space_items.proofs.Merges.{merge, map-merge, length-merge, sum-merge, all-merge, IsMore, IsPut, IsAbove, more_in_first, more_in_second}

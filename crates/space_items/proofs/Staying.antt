@@ -1,20 +1,5 @@
 -- How many nodes the extent tree has goes by the addresses of nodes alone.
-use Rattle.std.proofs.Common.{◌≡◌, ℕ, List, length, map, take, refl, sym, ◌∙◌, ap, map-id}
-use Rattle.std.specs.Ordering.{nat_cmp}
-use Rattle.std.specs.Prelude.{All}
-use Rattle.btrfs_format.specs.declared.key.TheConstants.{METADATA_ITEM}
-use Rattle.btrfs_format.specs.declared.object.TheConstants.{EXTENT_TREE}
-use Rattle.btrfs_format.specs.declared.size.TheConstants.{METADATA_ITEM_SIZE}
-use Rattle.btr_tree.specs.btr_keys.Key.{make_key}
-use Rattle.btr_tree.specs.Counting.{tree_nodes}
-use Rattle.btr_tree.specs.Packing.{packed_leaves, tree_levels}
-use Rattle.btr_tree.specs.Roots.{lengths_of}
-use Rattle.unit_plan.specs.declared.chunk.PlannedChunk.{PlannedChunk}
-use Rattle.unit_plan.specs.declared.piece.Piece.{Piece}
-use Rattle.space_items.specs.Extents.{extent_items}
-use Rattle.space_items.specs.Nodes.{merged_nodes, nodes_of_tree}
-use Rattle.space_items.specs.Own.{OwnNodesStay, nodes_with_own, own_at, own_lengths}
-use Rattle.space_items.specs.declared.node.TreeNode.{TreeNode}
+use Rattle.space_items.proofs.Imports.{◌≡◌, ℕ, List, length, map, take, refl, sym, ◌∙◌, ap, map-id, nat_cmp, All, METADATA_ITEM, EXTENT_TREE, METADATA_ITEM_SIZE, make_key, tree_nodes, packed_leaves, tree_levels, lengths_of, PlannedChunk, Piece, extent_items, merged_nodes, nodes_of_tree, OwnNodesStay, nodes_with_own, own_at, own_lengths, TreeNode}
 use Rattle.space_items.proofs.Ascending.{addresses, upper_at}
 use Rattle.space_items.proofs.Levels.{map-map}
 use Rattle.space_items.proofs.Merges.{Across, all-merge, map-merge, map-merge-across, merge}

@@ -1,20 +1,6 @@
 -- Checksums of blocks, one behind the other, and the items that have them.
-use Rattle.std.proofs.Common.{◌≡◌, ◌<◌, ◌≤◌, ℕ, zero, suc, ◌+◌, ◌-◌, ◌*◌, ◌/◌, ◌%◌, min, Bool, true, false, cond, List, [], ◌∷◌, ◌++◌, map, drop, Some, refl, sym, ap, ◌∙◌, append_assoc, arith, ⊎_elim, eq-eqb, ne_eqb}
-use Rattle.std.specs.Prelude.{slice_get, ◌==◌}
-use Rattle.std.specs.Int.{div_ceil}
-use Rattle.std.specs.List.{flat_map, range_with_len}
-use Rattle.std.proofs.Math.Nat.{add-div_left, div-eq_of_lt, div_self, eq-or-lt_of_le, mod-eq_of_lt, mod_self, mul-add, mul-add-mod_self_left, zero-div, zero-mod}
+use Rattle.space_items.proofs.Imports.{◌≡◌, ◌<◌, ◌≤◌, ℕ, zero, suc, ◌+◌, ◌-◌, ◌*◌, ◌/◌, ◌%◌, min, Bool, true, false, cond, List, [], ◌∷◌, ◌++◌, map, drop, Some, refl, sym, ap, ◌∙◌, append_assoc, arith, ⊎_elim, eq-eqb, ne_eqb, slice_get, ◌==◌, div_ceil, flat_map, range_with_len, add-div_left, div-eq_of_lt, div_self, eq-or-lt_of_le, mod-eq_of_lt, mod_self, mul-add, mul-add-mod_self_left, zero-div, zero-mod, cases_lt, Image, Item, SumKind, Crc32c, Sha256, sums_in_item, Piece, IsPieceTaken, behind, left_of, sum_standing, sums_ahead, blocks_taken, run_items, sum_items, sums_item, SumStream}
 use Rattle.std.proofs.lemmas.List.{append-nil}
-use Rattle.std.proofs.lemmas.Bool.{cases_lt}
-use Rattle.btr_tree.specs.outside.History.{Image}
-use Rattle.btr_tree.specs.btr_node.Leaf.{Item}
-use Rattle.btr_tree.specs.csum_kinds.declared.kind.SumKind.{SumKind}
-use Rattle.btr_tree.specs.csum_kinds.declared.kind.SumKind.TheVariants.{Crc32c, Sha256}
-use Rattle.unit_plan.specs.Sums.{sums_in_item}
-use Rattle.unit_plan.specs.declared.piece.Piece.{Piece}
-use Rattle.space_items.specs.Stream.{IsPieceTaken, behind, left_of, sum_standing, sums_ahead, blocks_taken}
-use Rattle.space_items.specs.Sums.{run_items, sum_items, sums_item}
-use Rattle.space_items.specs.declared.sum_stream.SumStream.{SumStream}
 use Rattle.space_items.proofs.Nexts.{drop_next}
 
 -- the parts of one number more

@@ -1,23 +1,5 @@
 -- The items of the extent tree are counted, one after the other.
-use Rattle.std.proofs.Common.{◌≡◌, ℕ, ◌+◌, ◌-◌, ◌*◌, ◌^◌, ◌<◌, ◌≤◌, min, List, [], ◌∷◌, ◌++◌, length, get_or, refl, sym, ◌∙◌, ap, subst, arith, append_assoc, append-nil, length-append, sum_by}
-use Rattle.std.specs.Prelude.{All}
-use Rattle.std.proofs.lemmas.List.{get_or_at, map-append}
-use Rattle.std.proofs.lemmas.List.Elements.{All-head, All-tail, All-cons, All-nil}
-use Rattle.std.proofs.lemmas.List.Sums.{sum_by-cons}
-use Rattle.btrfs_format.specs.declared.size.TheConstants.{ITEM_SIZE}
-use Rattle.unit_plan.specs.declared.item_bytes.TheConstants.{EXTENT_BYTES}
-use Rattle.btr_tree.specs.btr_node.Leaf.{Item}
-use Rattle.btr_tree.specs.Counting.{Tally, Counted, bytes_of}
-use Rattle.btr_tree.specs.Packing.{weight}
-use Rattle.btr_tree.specs.Roots.{lengths_of}
-use Rattle.unit_plan.specs.Chunks.{AreChunks, usable_end}
-use Rattle.unit_plan.specs.declared.chunk.PlannedChunk.{PlannedChunk}
-use Rattle.unit_plan.specs.declared.piece.Piece.{Piece}
-use Rattle.unit_plan.specs.declared.plan.Plan.{Plan}
-use Rattle.space_items.specs.Extents.{extent_items}
-use Rattle.space_items.specs.Nodes.{AreNodes}
-use Rattle.space_items.specs.Stream.{ArePieces}
-use Rattle.space_items.specs.declared.node.TreeNode.{TreeNode}
+use Rattle.space_items.proofs.Imports.{◌≡◌, ℕ, ◌+◌, ◌-◌, ◌*◌, ◌^◌, ◌<◌, ◌≤◌, min, List, [], ◌∷◌, ◌++◌, length, get_or, refl, sym, ◌∙◌, ap, subst, arith, append_assoc, append-nil, length-append, sum_by, All, get_or_at, map-append, All-head, All-tail, All-cons, All-nil, sum_by-cons, ITEM_SIZE, EXTENT_BYTES, Item, Tally, Counted, bytes_of, weight, lengths_of, AreChunks, usable_end, PlannedChunk, Piece, Plan, extent_items, AreNodes, ArePieces, TreeNode}
 use Rattle.space_items.proofs.Counting.{apart_fit}
 use Rattle.space_items.proofs.Shapes.{bodies_short, items_few}
 

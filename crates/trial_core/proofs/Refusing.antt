@@ -1,29 +1,18 @@
 -- The answers of the steps, as those of a round and of a trial.
-use Rattle.std.proofs.Common.{◌≡◌, inl, inr, refl, sym, ◌∙◌, subst, None, Some}
-use Rattle.std.specs.Prelude.{◌≢◌}
-use Rattle.reiser_bitmap.specs.outside.History.{History, Image}
+use Rattle.trial_core.proofs.Imports.{◌≡◌, inl, inr, refl, sym, ◌∙◌, subst, None, Some, ◌≢◌, History, Image, Answer, HasBtrfsRows, IsRowsRefusal, RefusesBtrfsRows, has_log, unreadable, RefusesConvert, FrontsAreJudged, RefusalsBreakRules, IsAccepted, RefusedCanNotGoBack, CanGoBack, IsTrialReadAnswer, IsStop, LeavesRound, RefusesRound, StopsUnless, by_step, FreeAreBytes, plain}
 use Rattle.convert_core.specs.command_answers.Answers.{of_btrfs, of_volume}
-use Rattle.convert_core.specs.command_answers.declared.answer.Answer.{Answer}
-use Rattle.convert_core.specs.command_answers.declared.answer.Answer.TheVariants as answer
 use Rattle.reiser_bitmap.specs.refusals.declared.answer.BtrAnswer.{BtrAnswer}
-use Rattle.reiser_bitmap.specs.refusals.declared.answer.BtrAnswer.TheVariants as of_btr
 use Rattle.reiser_bitmap.specs.refusals.declared.answer.VolAnswer.{VolAnswer}
-use Rattle.reiser_bitmap.specs.refusals.declared.answer.VolAnswer.TheVariants as of_reiser
 use Rattle.reiser_bitmap.specs.refusals.declared.refusal.BtrRefusal.{BtrRefusal}
 use Rattle.reiser_bitmap.specs.vol_block.declared.format.Format.TheVariants.{Btrfs, Reiser}
-use Rattle.btr_reader.specs.Parts.{HasBtrfsRows, IsRowsRefusal, RefusesBtrfsRows, has_log, unreadable}
-use Rattle.convert_core.specs.Answers.{RefusesConvert}
 use Rattle.reiser_volume.specs.reiser_volume_contents.Answers.{IsFaultOrMemory}
 use Rattle.reiser_volume.specs.Answers.{RefusesVolume}
 use Rattle.reiser_volume.specs.Front.{RefusesFront}
-use Rattle.reiser_volume.specs.Laws.{FrontsAreJudged, RefusalsBreakRules}
-use Rattle.reiser_volume.specs.Volume.{IsAccepted}
 use Rattle.rollback_core.specs.RecoveryLaws.{InOrderHasFormat}
 use Rattle.rollback_core.specs.RollbackAnswers.{IsRollbackAnswer, RefusesRollback}
-use Rattle.rollback_core.specs.RollbackLaws.{RefusedCanNotGoBack}
-use Rattle.rollback_core.specs.volume_state.GoingBack.{CanGoBack}
-use Rattle.trial_core.specs.Answers.{IsTrialReadAnswer, IsStop, LeavesRound, RefusesRound, StopsUnless, by_step}
-use Rattle.trial_core.specs.Round.{FreeAreBytes, plain}
+use Rattle.convert_core.specs.command_answers.declared.answer.Answer.TheVariants as answer
+use Rattle.reiser_bitmap.specs.refusals.declared.answer.BtrAnswer.TheVariants as of_btr
+use Rattle.reiser_bitmap.specs.refusals.declared.answer.VolAnswer.TheVariants as of_reiser
 
 -- ---- of a conversion
 

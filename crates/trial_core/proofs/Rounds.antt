@@ -1,27 +1,10 @@
 -- A conversion and a rollback, from the laws on each of them.
-use Rattle.std.proofs.Common.{◌≡◌, inl, inr, Result, Ok, Err, ℕ, ◌<◌, ◌^◌, Bool, true, List, map, refl, sym, ◌∙◌, ap, subst}
-use Rattle.std.specs.Prelude.{IfErr}
-use Rattle.std.specs.Result.{MatchResult}
-use Rattle.reiser_bitmap.specs.vol_block.declared.ids.Ids.{Ids}
-use Rattle.convert_core_laws.specs.going_back.Back.{ConvertedVolumesGoBack, GoesBack}
+use Rattle.trial_core.proofs.Imports.{◌≡◌, inl, inr, Result, Ok, Err, ℕ, ◌<◌, ◌^◌, Bool, true, List, map, refl, sym, ◌∙◌, ap, subst, IfErr, MatchResult, Ids, ConvertedVolumesGoBack, GoesBack, ListsBtrfs, IsConverted, WholeRow, row_of, Row, SameUsed, History, Image, Answer, has, used_of, summary_of, used_mark, TrialSummary, IsTrialReadAnswer, LeavesRound, RefusesRound, StopsUnless, AreReiser, FreeAreBytes, IsKnownVolume, IsRound, IsTrialSummary, UsedAreBytes, plain}
 use Rattle.btr_reader.specs.btr_node.NodeSize.{IsNodeSize}
 use Rattle.btr_reader.specs.Laws.{BtrfsRowsAreOne}
-use Rattle.btr_reader.specs.Parts.{ListsBtrfs}
-use Rattle.convert_core.specs.Converted.{IsConverted}
-use Rattle.fs_rows.specs.Rows.{WholeRow, row_of}
-use Rattle.fs_rows.specs.declared.row.Row.{Row}
-use Rattle.reiser_volume.specs.reiser_volume_contents.Laws.{SameUsed}
 use Rattle.convert_core_laws.specs.opening.Opens.{ConvertedVolumesOpen, OpensAsBefore}
-use Rattle.reiser_bitmap.specs.outside.History.{History, Image}
-use Rattle.convert_core.specs.command_answers.declared.answer.Answer.{Answer}
-use Rattle.reiser_bitmap.specs.Bits.{has}
-use Rattle.reiser_volume.specs.Volume.{used_of}
 use Rattle.rollback_core.specs.RolledBack.{IsRolledBack}
 use Rattle.convert_core.specs.space_items.Laws.{AreIds}
-use Rattle.trial_core.specs.Parts.{summary_of, used_mark}
-use Rattle.trial_core.specs.declared.summary.TrialSummary.{TrialSummary}
-use Rattle.trial_core.specs.Answers.{IsTrialReadAnswer, LeavesRound, RefusesRound, StopsUnless}
-use Rattle.trial_core.specs.Round.{AreReiser, FreeAreBytes, IsKnownVolume, IsRound, IsTrialSummary, UsedAreBytes, plain}
 use Rattle.trial_core.specs.declared.known_volume.KnownVolume.{KnownVolume}
 use Rattle.trial_core.proofs.Bytes.{all_bytes, same_mark}
 use Rattle.trial_core.proofs.Refusing.{read_leaves, unless_refuses}

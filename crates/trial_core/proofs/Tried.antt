@@ -1,36 +1,16 @@
 -- A trial, from what is said of its steps.
-use Rattle.std.proofs.Common.{◌≡◌, inl, inr, ⊎_elim, Result, Ok, Err, ℕ, ◌<◌, ◌≤◌, false, ◌&&◌, List, length, map, sym, ◌∙◌, ap, subst, arith, true≢false}
-use Rattle.std.specs.Prelude.{IfErr, IsTrue, nat_lt, slice_index}
-use Rattle.std.specs.Result.{MatchResult}
-use Rattle.std.proofs.lemmas.Bool.{and_parts}
+use Rattle.trial_core.proofs.Imports.{◌≡◌, inl, inr, ⊎_elim, Result, Ok, Err, ℕ, ◌<◌, ◌≤◌, false, ◌&&◌, List, length, map, sym, ◌∙◌, ap, subst, arith, true≢false, IfErr, IsTrue, nat_lt, slice_index, MatchResult, and_parts, Ids, ConvertedVolumesGoBack, History, Image, IsSettled, WritesOnly, after, block_at, reads, synced, Answer, WholeRow, row_of, Row, has, RowsAreOne, used_of, RollbackKeeps, HasBytes, summary_of, TrialSummary, IsMakeAnswer, LeavesRefused, LeavesRound, RefusesRound, RefusesScratch, RefusesTrial, FreeAreBytes, IsRound, IsTrialSummary, IsSampleMade, IsScratch, IsTried, KeepsFree, needed_by, sample_on, trial_summary, synced_now}
 use Rattle.std.proofs.lemmas.Bool.Decides.{Decides-ltb}
-use Rattle.reiser_bitmap.specs.vol_block.declared.ids.Ids.{Ids}
-use Rattle.convert_core_laws.specs.going_back.Back.{ConvertedVolumesGoBack}
-use Rattle.reiser_bitmap.specs.outside.History.{History, Image, IsSettled, WritesOnly, after, block_at, reads, synced}
-use Rattle.convert_core.specs.command_answers.declared.answer.Answer.{Answer}
 use Rattle.reiser_bitmap.proofs.outside.Crash.{reads_only}
-use Rattle.fs_rows.specs.Rows.{WholeRow, row_of}
-use Rattle.fs_rows.specs.declared.row.Row.{Row}
-use Rattle.reiser_bitmap.specs.Bits.{has}
 use Rattle.reiser_make.specs.Layout.{IsUsed}
 use Rattle.reiser_make.specs.Maker.{usage_of}
 use Rattle.reiser_make.specs.Places.{is_taken}
 use Rattle.reiser_make.specs.Rows.{sample_rows}
 use Rattle.reiser_make.specs.Shape.{shape}
-use Rattle.reiser_volume.specs.Laws.{RowsAreOne}
-use Rattle.reiser_volume.specs.Volume.{used_of}
-use Rattle.rollback_core.specs.RollbackLaws.{RollbackKeeps}
-use Rattle.convert_core.specs.convert_trees_laws.Rows.{HasBytes}
 use Rattle.reiser_make_laws.specs.Laws.{SamplesMarkUsed}
 use Rattle.reiser_make_laws.specs.Rows.{IsAsDescribed, SamplesAreAsDescribed}
-use Rattle.trial_core.specs.Parts.{summary_of}
-use Rattle.trial_core.specs.declared.summary.TrialSummary.{TrialSummary}
-use Rattle.trial_core.specs.Answers.{IsMakeAnswer, LeavesRefused, LeavesRound, RefusesRound, RefusesScratch, RefusesTrial}
 use Rattle.trial_core.specs.Laws.{TriesKeep}
-use Rattle.trial_core.specs.Round.{FreeAreBytes, IsRound, IsTrialSummary}
-use Rattle.trial_core.specs.Trial.{IsSampleMade, IsScratch, IsTried, KeepsFree, needed_by, sample_on, trial_summary}
 use Rattle.trial_core.proofs.Rounds.{gone_back, restored}
-use Rattle.first_sync.specs.Synced.{synced_now}
 use Rattle.convert_core.specs.command_answers.declared.answer.Answer.TheVariants as answer
 
 -- ---- what was made

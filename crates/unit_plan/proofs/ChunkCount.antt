@@ -1,15 +1,5 @@
 -- No plan has more chunks than the bound.
-use Rattle.std.proofs.Common.{◌≡◌, ℕ, ◌+◌, ◌-◌, ◌*◌, ◌%◌, ◌^◌, ◌<◌, ◌≤◌, ◌&&◌, ◌||◌, ltb, leb, eqb, not, Bool, true, false, List, length, take, drop, get_or, refl, sym, ◌∙◌, ap, subst, arith, ⊎_elim}
-use Rattle.std.specs.Prelude.{Contains}
-use Rattle.std.specs.List.{filter, range_with_len}
-use Rattle.std.specs.Int.{div_ceil}
-use Rattle.std.proofs.lemmas.Bool.{cases_Bool, cases_lt, cases_eq, and_parts, and_from, and_left, or_cases, or_left, or_right, not-true, not_from_false, both_ways, eq-eqb, lt-ltb, le-leb, ltb-true, leb-true}
-use Rattle.std.proofs.lemmas.List.{length-map}
-use Rattle.reiser_bitmap.specs.Units.{is_free_unit, unit_count}
-use Rattle.reiser_bitmap.specs.Runs.{begins_run, run_from, maximal_runs, free_runs}
-use Rattle.reiser_bitmap.proofs.FreeUnits.{past_units}
-use Rattle.reiser_bitmap.proofs.Ranges.{range_contains, contains_range}
-use Rattle.unit_plan.specs.Choice.{holds_data, is_among, is_in, is_other, others, usable_units}
+use Rattle.unit_plan.proofs.Imports.{◌≡◌, ℕ, ◌+◌, ◌-◌, ◌*◌, ◌%◌, ◌^◌, ◌<◌, ◌≤◌, ◌&&◌, ◌||◌, ltb, leb, eqb, not, Bool, true, false, List, length, take, drop, get_or, refl, sym, ◌∙◌, ap, subst, arith, ⊎_elim, Contains, filter, range_with_len, div_ceil, cases_Bool, cases_lt, cases_eq, and_parts, and_from, and_left, or_cases, or_left, or_right, not-true, not_from_false, both_ways, eq-eqb, lt-ltb, le-leb, ltb-true, leb-true, length-map, is_free_unit, unit_count, begins_run, run_from, maximal_runs, free_runs, past_units, range_contains, contains_range, holds_data, is_among, is_in, is_other, others, usable_units}
 use Rattle.unit_plan.proofs.Enough.{IsLowest, part_of, IsOther, other_is}
 use Rattle.unit_plan.proofs.Sound.{others_ascend}
 use Rattle.unit_plan.proofs.Starts.{among_contains, contains_among, rank, ranked, rank_next, in_part, part_rank, free_no_data, data_there, odd_unit}

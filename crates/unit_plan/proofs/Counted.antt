@@ -1,20 +1,5 @@
 -- The chunks of a plan are few.
-use Rattle.std.proofs.Common.{◌≡◌, ◌≢◌, ℕ, zero, suc, ◌+◌, ◌-◌, ◌*◌, ◌%◌, ◌<◌, ◌≤◌, ◌&&◌, ◌||◌, eqb, leb, ltb, not, Bool, true, false, List, [], ◌∷◌, length, get_or, cond, Option, Some, None, refl, sym, ◌∙◌, ap, subst, arith, ⊎_elim}
-use Rattle.std.specs.Prelude.{All, AllPairs, MatchOption}
-use Rattle.std.proofs.lemmas.Bool.{cases_Bool, cases_lt, cases_eq, and_parts, and_from, or_cases, or_left, or_right, not-true, not_from_false, both_ways, eq-eqb, lt-ltb, le-leb, ltb-true, leb-true}
-use Rattle.std.proofs.lemmas.List.Folds.{Any-from_list_any, list_any-from_Any}
-use Rattle.reiser_bitmap.specs.Runs.{IsMaximalRun, free_runs}
-use Rattle.reiser_bitmap.specs.declared.runs.Run.{Run}
-use Rattle.reiser_bitmap.specs.Units.{is_free_unit}
-use Rattle.reiser_bitmap.proofs.FreeUnits.{decides_free_unit}
-use Rattle.unit_plan.specs.declared.chunk.PlannedChunk.{PlannedChunk}
-use Rattle.unit_plan.specs.declared.chunk.Role.{Role}
-use Rattle.unit_plan.specs.declared.chunk.Role.TheVariants.{System, Metadata, Data}
-use Rattle.unit_plan.specs.declared.plan.Plan.{Plan}
-use Rattle.unit_plan.specs.declared.need.Need.{Need}
-use Rattle.unit_plan.specs.Choice.{is_among, is_chosen, is_in, is_spare, holds_data, lowest_long, others, usable_units}
-use Rattle.unit_plan.specs.Chunks.{role_of, has_role, role_by, use_of, usable_end, is_data_unit, is_filler, is_in_runs, IsChunk, ChunksAreFew}
-use Rattle.unit_plan.specs.Laws.{AreUnitsApart, AreFreeUnits, IsSoundPlan}
+use Rattle.unit_plan.proofs.Imports.{◌≡◌, ◌≢◌, ℕ, zero, suc, ◌+◌, ◌-◌, ◌*◌, ◌%◌, ◌<◌, ◌≤◌, ◌&&◌, ◌||◌, eqb, leb, ltb, not, Bool, true, false, List, [], ◌∷◌, length, get_or, cond, Option, Some, None, refl, sym, ◌∙◌, ap, subst, arith, ⊎_elim, All, AllPairs, MatchOption, cases_Bool, cases_lt, cases_eq, and_parts, and_from, or_cases, or_left, or_right, not-true, not_from_false, both_ways, eq-eqb, lt-ltb, le-leb, ltb-true, leb-true, Any-from_list_any, list_any-from_Any, IsMaximalRun, free_runs, Run, is_free_unit, decides_free_unit, PlannedChunk, Role, System, Metadata, Data, Plan, Need, is_among, is_chosen, is_in, is_spare, holds_data, lowest_long, others, usable_units, role_of, has_role, role_by, use_of, usable_end, is_data_unit, is_filler, is_in_runs, IsChunk, ChunksAreFew, AreUnitsApart, AreFreeUnits, IsSoundPlan}
 use Rattle.unit_plan.proofs.Enough.{IsLowest, lowest_is}
 use Rattle.unit_plan.proofs.Sound.{plans_sound}
 use Rattle.unit_plan.proofs.Starts.{among_contains, free_no_data}

@@ -1,14 +1,6 @@
 -- Chunks, one after the other.
-use Rattle.std.proofs.Common.{◌≡◌, ◌≢◌, ◌⊎◌, ℕ, zero, suc, ◌+◌, ◌-◌, ◌*◌, ◌/◌, ◌%◌, ◌<◌, ◌≤◌, min, List, [], ◌∷◌, ◌++◌, length, get_or, Option, Some, None, inl, inr, refl, sym, ◌∙◌, ap, subst, arith, ⊎_elim}
-use Rattle.std.specs.Prelude.{All, AllPairs, Any, MatchOption}
-use Rattle.std.proofs.lemmas.Bool.{cases_eq, cases_lt}
-use Rattle.std.proofs.lemmas.List.{get_or_append_left, length_push}
-use Rattle.std.proofs.lemmas.List.Elements.{All-push}
+use Rattle.unit_plan.proofs.Imports.{◌≡◌, ◌≢◌, ◌⊎◌, ℕ, zero, suc, ◌+◌, ◌-◌, ◌*◌, ◌/◌, ◌%◌, ◌<◌, ◌≤◌, min, List, [], ◌∷◌, ◌++◌, length, get_or, Option, Some, None, inl, inr, refl, sym, ◌∙◌, ap, subst, arith, ⊎_elim, All, AllPairs, Any, MatchOption, cases_eq, cases_lt, get_or_append_left, length_push, All-push, PlannedChunk, Role, IsChunk, HoldsUnit, AreChunksBy, IsJoined, AreBegun, IsWithChunk, chunk_from}
 use Rattle.std.proofs.lemmas.List.Quantifiers.{all_pairs_push, Any-push}
-use Rattle.unit_plan.specs.declared.chunk.PlannedChunk.{PlannedChunk}
-use Rattle.unit_plan.specs.declared.chunk.Role.{Role}
-use Rattle.unit_plan.specs.Chunks.{IsChunk, HoldsUnit, AreChunksBy}
-use Rattle.unit_plan.specs.Dividing.{IsJoined, AreBegun, IsWithChunk, chunk_from}
 
 some_not_none : {X : Type 0} (x : X) → Some x ≡ None → ⊥
 some_not_none x e = subst (λ o. MatchOption o ⊥ (λ _. Unit {0})) e tt

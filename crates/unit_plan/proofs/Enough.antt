@@ -1,18 +1,6 @@
 -- Where the units of a plan lie.
-use Rattle.std.proofs.Common.{◌≡◌, ℕ, ◌+◌, ◌-◌, ◌<◌, ◌≤◌, max, Bool, true, false, List, [], ◌∷◌, take, drop, get_or, cond, refl, sym, ◌∙◌, ap, subst, arith, ⊎_elim}
-use Rattle.std.specs.Prelude.{All, Contains}
-use Rattle.std.specs.List.{fold, filter, range_with_len}
-use Rattle.std.proofs.lemmas.Bool.{cases_Bool, cases_lt, leb-true, leb-false, both_ways}
-use Rattle.std.proofs.lemmas.List.{get_or-take, get_or-drop, length-take, length-drop}
-use Rattle.std.proofs.lemmas.List.FromFn.{length-range_with_len, get_or-range_with_len}
-use Rattle.std.proofs.lemmas.List.Elements.{Contains-get_or, All-contains}
-use Rattle.reiser_bitmap.specs.declared.runs.Run.{Run}
-use Rattle.reiser_bitmap.specs.Runs.{IsMaximalRun, AreMaximalRuns, free_runs}
-use Rattle.reiser_bitmap.specs.Units.{is_free_unit, unit_count}
-use Rattle.reiser_bitmap.proofs.FreeUnits.{past_units}
-use Rattle.reiser_bitmap.proofs.MaximalRuns.{runs_are_maximal}
-use Rattle.reiser_bitmap.proofs.Ranges.{filter_contains, range_contains}
-use Rattle.unit_plan.specs.Choice.{longest_run, is_long, lowest_long, is_other, others, usable_units}
+use Rattle.unit_plan.proofs.Imports.{◌≡◌, ℕ, ◌+◌, ◌-◌, ◌<◌, ◌≤◌, Bool, true, false, List, [], ◌∷◌, take, drop, get_or, cond, refl, sym, ◌∙◌, ap, subst, arith, ⊎_elim, All, Contains, fold, filter, range_with_len, cases_Bool, cases_lt, leb-true, leb-false, both_ways, get_or-take, get_or-drop, length-take, length-drop, length-range_with_len, get_or-range_with_len, Contains-get_or, All-contains, Run, IsMaximalRun, AreMaximalRuns, free_runs, is_free_unit, unit_count, past_units, runs_are_maximal, filter_contains, range_contains, longest_run, is_long, lowest_long, is_other, others, usable_units}
+use Rattle.std.proofs.Common.{max}
 
 abbrev none : Run
 none = record { first = 0; count = 0 }

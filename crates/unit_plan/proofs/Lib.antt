@@ -3,6 +3,7 @@ pub mod ChunkCount
 pub mod Counted
 pub mod Dividing
 pub mod Enough
+pub mod Imports
 pub mod Lists
 pub mod Placing
 pub mod RunSums

@@ -1,13 +1,5 @@
 -- The units that some of the runs have together, and which runs stay.
-use Rattle.std.proofs.Common.{◌≡◌, ℕ, zero, suc, ◌+◌, ◌-◌, ◌/◌, ◌<◌, ◌≤◌, ◌^◌, ◌&&◌, ◌||◌, ltb, leb, eqb, Bool, true, false, List, [], ◌∷◌, ◌++◌, length, take, drop, get_or, cond, refl, sym, ◌∙◌, ap, arith, ⊎_elim, slice_index}
-use Rattle.std.specs.Prelude.{All, AllPairs}
-use Rattle.std.specs.List.{filter}
-use Rattle.std.proofs.lemmas.Bool.{cases_Bool, cases_lt, both_ways, or_right, ne_eqb, lt-ltb, le-ltb, le-leb, ltb-true}
-use Rattle.std.proofs.lemmas.List.{take-append-drop, take_more, get_or-take, get_or-drop, length-take, length-drop}
-use Rattle.std.proofs.lemmas.List.Elements.{filter-append}
-use Rattle.std.proofs.lemmas.List.Sums.{sum_by-cons, sum_by-append, sum_by-take-le}
-use Rattle.reiser_bitmap.specs.declared.runs.Run.{Run}
-use Rattle.unit_plan.specs.Staying.{units_in, is_longer, is_as_long, is_ahead, stays, staying}
+use Rattle.unit_plan.proofs.Imports.{◌≡◌, ℕ, zero, suc, ◌+◌, ◌-◌, ◌/◌, ◌<◌, ◌≤◌, ◌^◌, ◌&&◌, ◌||◌, ltb, leb, eqb, Bool, true, false, List, [], ◌∷◌, ◌++◌, length, take, drop, get_or, cond, refl, sym, ◌∙◌, ap, arith, ⊎_elim, slice_index, All, AllPairs, filter, cases_Bool, cases_lt, both_ways, or_right, ne_eqb, lt-ltb, le-ltb, le-leb, ltb-true, take-append-drop, take_more, get_or-take, get_or-drop, length-take, length-drop, filter-append, sum_by-cons, sum_by-append, sum_by-take-le, Run, units_in, is_longer, is_as_long, is_ahead, stays, staying}
 
 -- the units of the runs that pass
 abbrev pub part : (Run → Bool) → List Run → ℕ

@@ -1,22 +1,7 @@
 -- A plan has free units, and none twice.
-use Rattle.std.proofs.Common.{◌≡◌, ℕ, zero, suc, ◌+◌, ◌-◌, ◌<◌, ◌≤◌, ◌&&◌, leb, ltb, not, Bool, true, false, List, [], ◌++◌, length, take, drop, get_or, refl, sym, ◌∙◌, ap, subst, arith, ⊎_elim}
-use Rattle.std.specs.Prelude.{AllPairs, Contains}
-use Rattle.std.specs.List.{filter, range_with_len}
-use Rattle.std.proofs.lemmas.Bool.{and_parts, and_from, and_left, and_right, or_left, not-true, le-leb, lt-leb, lt-ltb, le-ltb, both_ways, cases_lt, ltb-true}
-use Rattle.std.proofs.lemmas.List.{get_or-take, get_or-drop, length-take, length-drop}
-use Rattle.std.proofs.lemmas.List.Elements.{filter-append, All-filter, All-contains}
-use Rattle.std.proofs.lemmas.List.Kept.{AllPairs-filter}
-use Rattle.std.proofs.lemmas.List.FromFn.{length-range_with_len, get_or-range_with_len}
+use Rattle.unit_plan.proofs.Imports.{◌≡◌, ℕ, zero, suc, ◌+◌, ◌-◌, ◌<◌, ◌≤◌, ◌&&◌, leb, ltb, not, Bool, true, false, List, [], ◌++◌, length, take, drop, get_or, refl, sym, ◌∙◌, ap, subst, arith, ⊎_elim, AllPairs, Contains, filter, range_with_len, and_parts, and_from, and_left, and_right, or_left, not-true, le-leb, lt-leb, lt-ltb, le-ltb, both_ways, cases_lt, ltb-true, get_or-take, get_or-drop, length-take, length-drop, filter-append, All-filter, All-contains, length-range_with_len, get_or-range_with_len, IsFreeUnit, is_free_unit, free_units, unit_count, AreMaximalRuns, IsInRun, IsMaximalRun, free_runs, Run, decides_free_unit, runs_are_maximal, range_cut, range_contains, contains_filter, all_from_contains, filter_range_same, filter_range_none, is_in, is_other, others, lowest_long, is_spare, spare_runs, usable_units, AreFreeUnits, AreLongRuns, AreUnitsApart, PlansAreSound, units_in, stays, staying}
 use Rattle.std.proofs.lemmas.List.{length-append}
-use Rattle.reiser_bitmap.specs.Units.{IsFreeUnit, is_free_unit, free_units, unit_count}
-use Rattle.reiser_bitmap.specs.Runs.{AreMaximalRuns, IsInRun, IsMaximalRun, free_runs}
-use Rattle.reiser_bitmap.specs.declared.runs.Run.{Run}
-use Rattle.reiser_bitmap.proofs.FreeUnits.{decides_free_unit}
-use Rattle.reiser_bitmap.proofs.MaximalRuns.{runs_are_maximal}
-use Rattle.reiser_bitmap.proofs.Ranges.{range_cut, range_contains, contains_filter, all_from_contains, filter_range_same, filter_range_none}
-use Rattle.unit_plan.specs.Choice.{is_in, is_other, others, lowest_long, is_spare, spare_runs, usable_units}
-use Rattle.unit_plan.specs.Laws.{AreFreeUnits, AreLongRuns, AreUnitsApart, PlansAreSound}
-use Rattle.unit_plan.specs.Staying.{units_in, stays, staying}
+use Rattle.std.proofs.lemmas.List.Kept.{AllPairs-filter}
 use Rattle.unit_plan.proofs.RunSums.{ascending_few, few_stay}
 use Rattle.unit_plan.proofs.Enough.{IsLowest, lowest_is, part_of, other_is}
 

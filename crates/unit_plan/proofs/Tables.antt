@@ -1,7 +1,5 @@
 -- Numbers in a table, each of which grows.
-use Rattle.std.proofs.Common.{◌≡◌, ℕ, ◌+◌, ◌<◌, ◌≤◌, ltb, eqb, Bool, true, false, List, length, set, cond, sym, ap, arith, ⊎_elim, slice_index}
-use Rattle.std.proofs.lemmas.Bool.{cases_eq, cases_lt, eq-eqb, ne_eqb, lt-ltb, le-ltb}
-use Rattle.std.proofs.lemmas.List.{get_or-set_same, get_or-set_other}
+use Rattle.unit_plan.proofs.Imports.{◌≡◌, ℕ, ◌+◌, ◌<◌, ◌≤◌, ltb, eqb, Bool, true, false, List, length, set, cond, sym, ap, arith, ⊎_elim, slice_index, cases_eq, cases_lt, eq-eqb, ne_eqb, lt-ltb, le-ltb, get_or-set_same, get_or-set_other}
 
 -- one place of the table
 pub put : (old : List ℕ) (place added value k : ℕ) → place < length old → value ≡ slice_index old place + added → slice_index (set old place value) k ≡ slice_index old k + cond (eqb place k) added 0

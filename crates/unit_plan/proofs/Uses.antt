@@ -1,17 +1,5 @@
 -- What the units of a plan are used for.
-use Rattle.std.proofs.Common.{◌≡◌, ℕ, ◌+◌, ◌*◌, ◌<◌, ◌≤◌, ◌||◌, ltb, leb, not, Bool, true, false, List, length, get_or, cond, Some, None, inr, refl, sym, ◌∙◌, ap, subst, arith, ⊎_elim}
-use Rattle.std.specs.Prelude.{All}
-use Rattle.std.proofs.lemmas.Bool.{cases_Bool, cases_lt, and_parts, and_from, or_cases, or_left, or_right, not-true, not_from_false, both_ways, lt-ltb, ltb-true, leb-true}
-use Rattle.std.proofs.lemmas.List.Folds.{Any-from_list_any}
-use Rattle.reiser_bitmap.specs.Runs.{IsMaximalRun}
-use Rattle.reiser_bitmap.specs.Units.{IsFreeUnit}
-use Rattle.reiser_bitmap.specs.declared.runs.Run.{Run}
-use Rattle.unit_plan.specs.declared.chunk.Role.TheVariants.{System, Metadata, Data}
-use Rattle.unit_plan.specs.declared.plan.Plan.{Plan}
-use Rattle.unit_plan.specs.declared.need.Need.{Need}
-use Rattle.unit_plan.specs.Choice.{is_in, is_among, is_chosen, holds_data, is_spare, usable_units}
-use Rattle.unit_plan.specs.Chunks.{is_in_runs, has_role, role_of, role_by, use_of, usable_end, is_filler, RolesAreUses, PlansFit}
-use Rattle.unit_plan.specs.Laws.{AreFreeUnits, IsSoundPlan}
+use Rattle.unit_plan.proofs.Imports.{◌≡◌, ℕ, ◌+◌, ◌*◌, ◌<◌, ◌≤◌, ◌||◌, ltb, leb, not, Bool, true, false, List, length, get_or, cond, Some, None, inr, refl, sym, ◌∙◌, ap, subst, arith, ⊎_elim, All, cases_Bool, cases_lt, and_parts, and_from, or_cases, or_left, or_right, not-true, not_from_false, both_ways, lt-ltb, ltb-true, leb-true, Any-from_list_any, IsMaximalRun, IsFreeUnit, Run, System, Metadata, Data, Plan, Need, is_in, is_among, is_chosen, holds_data, is_spare, usable_units, is_in_runs, has_role, role_of, role_by, use_of, usable_end, is_filler, RolesAreUses, PlansFit, AreFreeUnits, IsSoundPlan}
 use Rattle.unit_plan.proofs.Sound.{plans_sound, spare_inside}
 use Rattle.unit_plan.proofs.Starts.{among_contains, data_there}
 

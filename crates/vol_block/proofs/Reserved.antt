@@ -1,9 +1,8 @@
 -- The test of a reserved block tells the fact.
-use Rattle.std.proofs.Common.{ℕ, ◌*◌, ◌/◌, ◌≤◌, ◌<◌, ◌&&◌, leb, ltb, arith}
+use Rattle.vol_block.proofs.Imports.{ℕ, ◌*◌, ◌/◌, ◌≤◌, ◌<◌, ◌&&◌, leb, ltb, arith, IsReserved, is_reserved}
 use Rattle.std.specs.Bool.{Decides}
 use Rattle.std.proofs.lemmas.Bool.Decides.{Decides-and, Decides-or, Decides-ltb, nat_tests}
 use Rattle.btrfs_format.specs.declared.block.TheConstants.{FIRST_MIRROR, FIRST_MIRROR_END, RESERVED_BLOCKS, SECOND_MIRROR, SECOND_MIRROR_END}
-use Rattle.vol_block.specs.Volume.{IsReserved, is_reserved}
 
 decides_leb : (a b : ℕ) → Decides (leb a b) (a ≤ b)
 decides_leb a b = grind (arith, nat_tests)

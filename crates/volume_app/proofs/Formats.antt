@@ -1,14 +1,6 @@
 -- The format of a disk, by block 16 and the disk's length, and what it comes to.
-use Rattle.std.proofs.Common.{◌≡◌, ◌<◌, ◌≤◌, Bool, true, false, cond, length, refl, ◌∙◌, arith}
-use Rattle.std.specs.Prelude.{◌≢◌, nat_le}
-use Rattle.std.proofs.lemmas.Bool.Decides.{nat_tests}
-use Rattle.btrfs_format.specs.declared.block.TheConstants.{SUPER_BLOCK}
-use Rattle.reiser_volume.specs.vol_block.declared.format.Format.{Format}
+use Rattle.volume_app.proofs.Imports.{◌≡◌, ◌<◌, ◌≤◌, Bool, true, false, cond, length, refl, ◌∙◌, arith, ◌≢◌, nat_le, nat_tests, SUPER_BLOCK, Format, format, has_reiser_magic, Image, block_at, IsAccepted, format_in}
 use Rattle.reiser_volume.specs.vol_block.declared.format.Format.TheVariants as formats
-use Rattle.reiser_volume.specs.vol_block.Format.{format, has_reiser_magic}
-use Rattle.reiser_volume.specs.outside.History.{Image, block_at}
-use Rattle.reiser_volume.specs.Volume.{IsAccepted}
-use Rattle.reiser_volume.specs.outside.Format.{format_in}
 
 format_cases : (btrfs reiser : Bool) → cond btrfs formats.Btrfs (cond reiser formats.Reiser formats.Neither) ≢ formats.Btrfs → reiser ≡ true
     → cond btrfs formats.Btrfs (cond reiser formats.Reiser formats.Neither) ≡ formats.Reiser

@@ -1,6 +1,7 @@
 pub mod Convertible
 pub mod Counts
 pub mod Formats
+pub mod Imports
 pub mod Inspecting
 pub mod Listing
 pub mod Moments

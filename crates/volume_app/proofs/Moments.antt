@@ -1,12 +1,6 @@
 -- What is promised of crashes, said of every moment of a command.
-use Rattle.std.proofs.Common.{inl, inr, ⊎_elim, Some, None, refl, sym, subst}
-use Rattle.std.specs.Prelude.{Option}
+use Rattle.volume_app.proofs.Imports.{inl, inr, ⊎_elim, Some, None, refl, sym, subst, Option, Image, SpareBlocksDecideNothing, Asked, inspect, list, convert, recover, rollback, trial, help, version, LeavesTree, CrashesAtAnyMoment}
 use Rattle.first_sync.specs.Laws.{FirstSyncParts}
-use Rattle.reiser_volume.specs.outside.History.{Image}
-use Rattle.volume_state.specs.Laws.{SpareBlocksDecideNothing}
-use Rattle.volume_app.specs.Command.{Asked, inspect, list, convert, recover, rollback, trial, help, version}
-use Rattle.volume_app.specs.Headline.{LeavesTree}
-use Rattle.volume_app.specs.Laws.{CrashesAtAnyMoment}
 
 -- a disk that is as it was is one that may be left
 as_it_was : SpareBlocksDecideNothing → (asked : Option Asked) (disk : Image) → LeavesTree asked disk disk

@@ -1,42 +1,15 @@
 -- What an ending that is right for a disk comes to.
-use Rattle.std.proofs.Common.{◌≡◌, ◌⊎◌, inl, inr, ℕ, ◌-◌, ◌^◌, ◌<◌, List, refl, ap, subst, ⊎_elim, arith, Result, Ok, Err}
-use Rattle.std.specs.Prelude.{◌≢◌, Option, Some, None}
-use Rattle.reiser_volume.specs.vol_block.declared.format.Format.{Format}
-use Rattle.reiser_volume.specs.outside.Fault.{HasCause, Rose, Takes}
-use Rattle.reiser_volume.specs.outside.History.{Image}
-use Rattle.convert_core.specs.command_answers.declared.answer.Answer.{Answer}
-use Rattle.convert_core.specs.command_answers.declared.answer.Answer.TheVariants.{Volume, Btr, NoSpace, WrongFormat, ImageMissing, ImageMoved, ImageDamaged, ReservedUsed, NotSound, ImageShared, Fault, Memory}
-use Rattle.volume_app.specs.declared.ending.Ending.{Ending}
-use Rattle.volume_app.specs.declared.ending.Ending.TheVariants.{Done, Usage, Failed, OutputFault}
-use Rattle.reiser_volume.specs.vol_block.declared.ids.Ids.{Ids}
+use Rattle.volume_app.proofs.Imports.{◌≡◌, ◌⊎◌, inl, inr, ℕ, ◌-◌, ◌^◌, ◌<◌, List, refl, ap, subst, ⊎_elim, arith, Result, Ok, Err, ◌≢◌, Option, Format, HasCause, Rose, Takes, Image, Answer, Volume, Btr, NoSpace, WrongFormat, ImageMissing, ImageMoved, ImageDamaged, ReservedUsed, NotSound, ImageShared, Fault, Memory, Ending, Done, Usage, Failed, OutputFault, Ids, IsConvertible, IsSurvey, Survey, LacksSpace, IsRecoverable, HasBytes, RefusesTrial, sample_on, need, Options, Asked, inspect, list, convert, recover, rollback, trial, help, version, status, IsAccepted, format_in, IsInspectable, InspectRefuses, IsListable, ListRefuses, rows_not_refused, EndsRight, HasFaults, IsDoneWith, Prints, Reports, ending_of, meaning, IsTriable}
+use Rattle.std.specs.Prelude.{Some, None}
 use Rattle.convert_core.specs.Answers.{RefusesConvert}
-use Rattle.convert_core.specs.Converted.{IsConvertible}
-use Rattle.convert_core.specs.Surveyed.{IsSurvey}
-use Rattle.convert_core.specs.declared.survey.Survey.{Survey}
-use Rattle.convert_core.specs.convert_steps.Prepared.{LacksSpace}
 use Rattle.rollback_core.specs.RecoveryAnswers.{RefusesRecover}
-use Rattle.rollback_core.specs.Recovered.{IsRecoverable}
 use Rattle.rollback_core.proofs.RecoveryKeeping.{in_order_recovers}
 use Rattle.rollback_core.specs.RollbackAnswers.{RefusesRollback}
 use Rattle.rollback_core.proofs.Refusing.{refused_can_not}
-use Rattle.convert_core.specs.convert_trees_laws.Rows.{HasBytes}
-use Rattle.trial_core.specs.Answers.{RefusesTrial}
-use Rattle.trial_core.specs.Trial.{sample_on}
-use Rattle.unit_plan.specs.Needed.{need}
-use Rattle.convert_options.specs.declared.options.Options.{Options}
-use Rattle.volume_app.specs.Command.{Asked, inspect, list, convert, recover, rollback, trial, help, version}
-use Rattle.volume_app.specs.Ending.{status}
-use Rattle.reiser_volume.specs.Volume.{IsAccepted}
 use Rattle.reiser_volume.proofs.Refusals.{not_refused}
-use Rattle.reiser_volume.specs.outside.Format.{format_in}
-use Rattle.volume_app.specs.Inspect.{IsInspectable, InspectRefuses}
-use Rattle.volume_app.specs.Listing.{IsListable, ListRefuses}
-use Rattle.btr_reader.proofs.PartsRead.{rows_not_refused}
+use Rattle.volume_state.specs.GoingBack.{CanGoBack}
 use Rattle.volume_app.proofs.Convertible.{accepted_is_reiser}
 use Rattle.volume_app.proofs.Space.{missing}
-use Rattle.volume_app.specs.Outcome.{EndsRight, HasFaults, IsDoneWith, Prints, Reports, ending_of, meaning}
-use Rattle.volume_app.specs.Trying.{IsTriable}
-use Rattle.volume_state.specs.GoingBack.{CanGoBack}
 use Rattle.reiser_volume.specs.vol_block.declared.format.Format.TheVariants as formats
 use Rattle.reiser_volume.specs.outside.declared.fault.Fault as faults
 use Rattle.trial_core.specs.Round as trial_round

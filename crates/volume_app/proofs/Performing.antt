@@ -1,19 +1,8 @@
 -- What is said of a command that was done, or failed, from what is said of its parts.
-use Rattle.std.proofs.Common.{◌≡◌, ◌⊎◌, ⊎_elim, ℕ, Bool, false, List, Result, Ok, Err, refl, sym, ap, arith, true≢false}
-use Rattle.std.specs.Prelude.{IsTrue, Option, Some, None}
-use Rattle.reiser_volume.specs.outside.Fault.{HasCause, HasCauseOf, Takes}
-use Rattle.first_sync.specs.Synced.{EachCrashSynced, synced_now}
-use Rattle.first_sync.proofs.Synced.{synced_settled, uncalled}
-use Rattle.reiser_volume.specs.outside.History.{History, Image, IsSettled, reads}
-use Rattle.convert_core.specs.command_answers.declared.answer.Answer.{Answer}
-use Rattle.convert_core.specs.command_answers.declared.answer.Answer.TheVariants.{Fault, Memory}
-use Rattle.reiser_volume.specs.outside.declared.fault.Fault as faults
-use Rattle.volume_app.specs.Command.{Asked}
-use Rattle.volume_app.specs.Ending.{status}
+use Rattle.volume_app.proofs.Imports.{◌≡◌, ◌⊎◌, ⊎_elim, ℕ, Bool, false, List, Result, Ok, Err, refl, sym, ap, arith, true≢false, IsTrue, Option, HasCause, HasCauseOf, Takes, EachCrashSynced, synced_now, synced_settled, uncalled, History, Image, IsSettled, reads, Answer, Fault, Memory, Asked, status, EndsRight, HasFaults, IsDoneWith, IsQuiet, Knows, Performs, ending_of, Ending, Done, Usage, Failed, OutputFault}
+use Rattle.std.specs.Prelude.{Some, None}
 use Rattle.volume_app.specs.Meaning.{IsSame, Meaning, begun, no_command, reads_disk, says}
-use Rattle.volume_app.specs.Outcome.{EndsRight, HasFaults, IsDoneWith, IsQuiet, Knows, Performs, ending_of}
-use Rattle.volume_app.specs.declared.ending.Ending.{Ending}
-use Rattle.volume_app.specs.declared.ending.Ending.TheVariants.{Done, Usage, Failed, OutputFault}
+use Rattle.reiser_volume.specs.outside.declared.fault.Fault as faults
 use Rattle.volume_app.proofs.Outcomes.{prints_text}
 
 -- endings differ

@@ -1,15 +1,5 @@
 -- The promise of the program, from what is said of each command.
-use Rattle.std.proofs.Common.{◌≡◌, ◌<◌, ◌^◌, ◌-◌, ℕ, Bool, List, Some, None}
-use Rattle.std.specs.Prelude.{IsTrue, Option}
-use Rattle.first_sync.proofs.Synced.{turned}
-use Rattle.reiser_volume.specs.outside.History.{History, Image, reads}
-use Rattle.reiser_volume.specs.vol_block.declared.ids.Ids.{Ids}
-use Rattle.volume_app.specs.Command.{Asked, inspect, list, convert, recover, rollback, trial, help, version}
-use Rattle.volume_app.specs.Ending.{status}
-use Rattle.volume_app.specs.Headline.{IsToBeDone, KeepsPromise, LeavesTree, MakesTree}
-use Rattle.volume_app.specs.Outcome.{Performs, meaning}
-use Rattle.volume_app.specs.Trees.{AreBlocks}
-use Rattle.volume_app.specs.declared.ending.Ending.{Ending}
+use Rattle.volume_app.proofs.Imports.{◌≡◌, ◌<◌, ◌^◌, ◌-◌, ℕ, Bool, List, Some, None, IsTrue, Option, turned, History, Image, reads, Ids, Asked, inspect, list, convert, recover, rollback, trial, help, version, status, IsToBeDone, KeepsPromise, LeavesTree, MakesTree, Performs, meaning, AreBlocks, Ending}
 use Rattle.volume_app.proofs.Outcomes.{done_by, done_or_memory}
 
 to_be_done : (ids : Ids) (now : ℕ) (asked : Option Asked) (disk : Image) → AreBlocks disk → IsToBeDone asked disk → (meaning ids now asked).is_due disk

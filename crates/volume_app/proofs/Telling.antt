@@ -1,21 +1,14 @@
 -- What is told of a volume that was opened, and how a volume is refused.
-use Rattle.std.proofs.Common.{◌≡◌, inl, inr, ℕ, ◌-◌, ◌^◌, ◌<◌, ◌≤◌, List, [], Option, Some, None, Ok, Contains, refl, sym, ◌∙◌, ap, subst, arith}
+use Rattle.volume_app.proofs.Imports.{◌≡◌, inl, inr, ℕ, ◌-◌, ◌^◌, ◌<◌, ◌≤◌, List, [], Some, None, Ok, Contains, refl, sym, ◌∙◌, ap, subst, arith, Rose, Image, BtrAnswer, Super, opening_refusals, IsBtrfsOpened, IsAmong, own_super, own_map, way_refusals, SavedImage, IsReadable, IsBtrfsRefusal, RefusesPart, opened_super, of_disk, image_length, summary_with, summary_of}
+use Rattle.std.proofs.Common.{Option}
 use Rattle.std.specs.Option.{option_map}
-use Rattle.reiser_volume.specs.outside.Fault.{Rose}
-use Rattle.reiser_volume.specs.outside.History.{Image}
-use Rattle.reiser_volume.specs.refusals.declared.answer.BtrAnswer.{BtrAnswer}
 use Rattle.reiser_volume.specs.refusals.declared.answer.BtrAnswer.TheVariants.{Refused, Fault, Memory}
 use Rattle.reiser_volume.specs.refusals.declared.refusal.BtrRefusal.{BtrRefusal}
-use Rattle.btr_super.specs.declared.superblock.Super.{Super}
 use Rattle.btr_reader.specs.btr_reader_walk.declared.map.MapRange.{MapRange}
 use Rattle.btr_reader.specs.declared.image_map.ImageMap.{ImageMap}
 use Rattle.btr_reader.specs.Image.{ImageFile, saved_image, image_refusals}
-use Rattle.btr_reader.specs.Opening.{opening_refusals, IsBtrfsOpened, IsAmong}
 use Rattle.btr_reader.specs.Pieces.{MapsImage}
 use Rattle.btr_reader.specs.Reading.{ReadsImage}
-use Rattle.btr_reader.specs.Parts.{own_super, own_map, way_refusals, SavedImage, IsReadable, IsBtrfsRefusal, RefusesPart}
-use Rattle.btr_reader.proofs.PartsRead.{opened_super, of_disk}
-use Rattle.volume_app.specs.Told.{image_length, summary_with, summary_of}
 
 -- the image of a volume that was opened, and what is wrong on the way to it
 pub file_is : (image : Image) (s : Super) (ranges : List MapRange) → IsBtrfsOpened image s ranges → saved_image image s ranges ≡ saved_image image (own_super image) (own_map image)

@@ -1,32 +1,21 @@
 -- What commands do to the tree of files, from the laws on what they do to the blocks.
-use Rattle.std.proofs.Common.{◌≡◌, inl, inr, ⊎_elim, ◌<◌, ◌^◌, ℕ, false, sym, subst, arith}
+use Rattle.volume_app.proofs.Imports.{◌≡◌, inl, inr, ⊎_elim, ◌<◌, ◌^◌, ℕ, false, sym, subst, arith, FIRST_MIRROR, SECOND_MIRROR, Image, Ids, IsConverted, IsConvertible, IsEither, IsSomeNew, SpareBlocksDecideNothing, is_spare, IsRecovered, IsLeftByRollback, IsRolledBack, AreIds, Options, IsConvertedWhole, IsEitherWhole, AreBlocks, HasId, IsConvertedTree, KeepsTree, LeavesConvertedTree, LeavesRestoredTree}
 use Rattle.std.specs.Prelude.{length}
-use Rattle.btrfs_format.specs.declared.block.TheConstants.{FIRST_MIRROR, SECOND_MIRROR}
-use Rattle.reiser_volume.specs.outside.History.{Image}
-use Rattle.reiser_volume.specs.vol_block.declared.ids.Ids.{Ids}
 use Rattle.convert_core_laws.specs.going_back.Back.{ConvertedVolumesGoBack}
 use Rattle.convert_core_laws.proofs.going_back.Crashing.{stands}
 use Rattle.btr_reader.specs.btr_node.NodeSize.{IsNodeSize}
-use Rattle.convert_core.specs.Converted.{IsConverted, IsConvertible, IsEither, IsSomeNew}
 use Rattle.convert_core.specs.convert_steps.Switch.{IsMirror}
 use Rattle.convert_core_laws.specs.reading.Identifiers.{HasFsid}
-use Rattle.volume_state.specs.Laws.{SpareBlocksDecideNothing, is_spare}
 use Rattle.convert_core_laws.specs.opening.Opens.{ConvertedVolumesOpen}
 use Rattle.reiser_volume.specs.Laws.{UsedBlocksDecide}
 use Rattle.rollback_core.specs.RecoveryLaws.{RecoveryKeeps, RecoveryOpens}
-use Rattle.rollback_core.specs.Recovered.{IsRecovered}
-use Rattle.rollback_core.specs.Recovered as recovery
 use Rattle.rollback_core.specs.RollbackLaws.{RollbackKeeps}
-use Rattle.rollback_core.specs.RolledBack.{IsLeftByRollback, IsRolledBack}
 use Rattle.convert_core_laws.specs.soundness.Laws.{ConvertedVolumesAreSound}
-use Rattle.convert_core.specs.space_items.Laws.{AreIds}
-use Rattle.convert_options.specs.declared.options.Options.{Options}
 use Rattle.convert_options.specs.declared.options.UuidChoice.{UuidChoice}
 use Rattle.convert_options.specs.declared.options.UuidChoice.TheVariants.{New, Copy, Given}
-use Rattle.volume_app.specs.Converting.{IsConvertedWhole, IsEitherWhole}
+use Rattle.rollback_core.specs.Recovered as recovery
 use Rattle.volume_app.specs.Recovering as recovering
 use Rattle.volume_app.specs.RollingBack as rolling
-use Rattle.volume_app.specs.Trees.{AreBlocks, HasId, IsConvertedTree, KeepsTree, LeavesConvertedTree, LeavesRestoredTree}
 use Rattle.volume_app.proofs.Convertible.{converted_was}
 
 -- ---- convert

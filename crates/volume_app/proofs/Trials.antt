@@ -1,22 +1,8 @@
 -- What a trial leaves.
-use Rattle.std.proofs.Common.{◌≡◌, inl, inr, ⊎_elim, ◌≤◌, ◌<◌, ◌^◌, ℕ, ap, arith, Result, Ok, Err}
-use Rattle.reiser_volume.specs.outside.History.{History, Image, IsSettled, reads}
-use Rattle.convert_core.specs.command_answers.declared.answer.Answer.{Answer}
-use Rattle.convert_core.specs.command_answers.declared.answer.Answer.TheVariants.{Volume, Btr, NoSpace, WrongFormat, ImageMissing, ImageMoved, ImageDamaged, ReservedUsed, NotSound, ImageShared, Fault, Memory}
-use Rattle.convert_core.specs.convert_trees_laws.Rows.{HasBytes}
-use Rattle.convert_core.specs.space_items.Laws.{AreIds}
-use Rattle.trial_core.specs.Answers.{LeavesRefused, RefusesTrial}
+use Rattle.volume_app.proofs.Imports.{◌≡◌, inl, inr, ⊎_elim, ◌≤◌, ◌<◌, ◌^◌, ℕ, ap, arith, Result, Ok, Err, History, Image, IsSettled, reads, Answer, Volume, Btr, NoSpace, WrongFormat, ImageMissing, ImageMoved, ImageDamaged, ReservedUsed, NotSound, ImageShared, Fault, Memory, HasBytes, AreIds, LeavesRefused, RefusesTrial, IsTried, needed_by, Ids, status, ending_of, IsTriable, IsTriedWhole, KeepsScratch, LeavesSample, Failed, synced_now, synced_settled}
 use Rattle.trial_core.specs.Laws.{TriesKeep}
 use Rattle.trial_core.specs.Round.{plain}
-use Rattle.trial_core.specs.Trial.{IsTried, needed_by}
-use Rattle.reiser_volume.specs.vol_block.declared.ids.Ids.{Ids}
-use Rattle.volume_app.specs.Ending.{status}
-use Rattle.volume_app.specs.Outcome.{ending_of}
-use Rattle.volume_app.specs.Trying.{IsTriable, IsTriedWhole, KeepsScratch, LeavesSample}
-use Rattle.volume_app.specs.declared.ending.Ending.TheVariants.{Failed}
 use Rattle.volume_app.proofs.Convertible.{converted_was}
-use Rattle.first_sync.specs.Synced.{synced_now}
-use Rattle.first_sync.proofs.Synced.{synced_settled}
 use Rattle.reiser_volume.specs.outside.declared.fault.Fault as faults
 
 -- a trial was done on a disk that is one for it

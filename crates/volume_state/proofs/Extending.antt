@@ -1,12 +1,6 @@
 -- One item more, of those in whose ranges reserved blocks are looked for.
-use Rattle.std.proofs.Common.{◌≡◌, ⊎_elim, ℕ, ◌+◌, List, [], ◌∷◌, ◌++◌, Contains, Option, Some, None, sym, ◌∙◌, ap, subst, arith}
-use Rattle.std.proofs.lemmas.List.Elements.{Contains-append_cases, Contains-append_left, Contains-append_right}
-use Rattle.btr_node.specs.btr_keys.declared.file_extent.DiskRange.{DiskRange}
-use Rattle.btr_reader_walk.specs.Events.{TreeItem}
-use Rattle.btr_reader_walk.specs.declared.map.MapRange.{MapRange}
-use Rattle.reiser_volume.proofs.fs_paths.Lists.{at_head, head_or_tail}
+use Rattle.volume_state.proofs.Imports.{◌≡◌, ⊎_elim, ℕ, ◌+◌, List, [], ◌∷◌, ◌++◌, Contains, Option, Some, None, sym, ◌∙◌, ap, subst, arith, Contains-append_cases, Contains-append_left, Contains-append_right, DiskRange, TreeItem, MapRange, at_head, head_or_tail, HoldsExtent, LieIn, TellsReserved, item_range}
 use Rattle.volume_state.specs.Extents.{TellsRange}
-use Rattle.volume_state.specs.Using.{HoldsExtent, LieIn, TellsReserved, item_range}
 use Rattle.volume_state.proofs.Placed.{no_some, some_is}
 
 module _ (ranges : List MapRange) (blocks : ℕ) (items : List TreeItem) (i : TreeItem) where

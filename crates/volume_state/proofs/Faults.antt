@@ -1,33 +1,6 @@
 -- A node that is read by itself, and what is met below it.
-use Rattle.std.proofs.Common.{◌≡◌, ⊎_elim, ℕ, zero, suc, ◌+◌, ◌-◌, ◌≤◌, ◌<◌, eqb, Bool, true, false, ◌||◌, nat_lt, List, [], ◌∷◌, ◌++◌, map, length, get_or, Contains, None, refl, sym, ◌∙◌, ap, subst, arith, if◌then◌else◌}
-use Rattle.std.specs.List.{flat_map}
-use Rattle.std.proofs.lemmas.Bool.Decides.{nat_tests}
-use Rattle.std.proofs.lemmas.List.Elements.{Contains-append_right}
-use Rattle.reiser_bitmap.specs.outside.History.{Image}
-use Rattle.reiser_bitmap.specs.refusals.declared.answer.BtrAnswer.{BtrAnswer}
-use Rattle.reiser_bitmap.specs.refusals.declared.answer.BtrAnswer.TheVariants.{Refused, Fault, Memory}
-use Rattle.reiser_bitmap.specs.refusals.declared.refusal.BtrRefusal.{BtrRefusal}
-use Rattle.reiser_bitmap.specs.refusals.declared.refusal.BtrRefusal.TheVariants.{BadBtrfs}
-use Rattle.reiser_bitmap.specs.refusals.declared.rule.BtrRule.{BtrRule}
-use Rattle.reiser_bitmap.specs.refusals.declared.rule.BtrRule.TheVariants.{NodeHead, Unmapped}
+use Rattle.volume_state.proofs.Imports.{◌≡◌, ⊎_elim, ℕ, zero, suc, ◌+◌, ◌-◌, ◌≤◌, ◌<◌, eqb, Bool, true, false, ◌||◌, nat_lt, List, [], ◌∷◌, ◌++◌, map, length, get_or, Contains, None, refl, sym, ◌∙◌, ap, subst, arith, if◌then◌else◌, flat_map, nat_tests, Contains-append_right, Image, BtrAnswer, Refused, Fault, Memory, BtrRefusal, BadBtrfs, BtrRule, NodeHead, Unmapped, children_in, items_in, broken, inner_damages, leaf_damages, Child, TreeEvent, leaf_events, may_be_bare, node_events, nodes_in, unless_damaged, is_mapped, node_at, child_pointer, want, at_address, IsAmong, IsReadFault, below, MapRange, NodePointer, Tree, leaf_nodes, nodes_in-append, breaks, mapped_breaks, unmapped_breaks, from_flat_map, from_map, head_or_tail, in_flat_map, in_map, below_faults, below_nodes, own_faults, HoldsNode, LieIn, TellsReserved}
 use Rattle.btr_node.specs.Head.{nritems}
-use Rattle.btr_node.specs.Inner.{children_in}
-use Rattle.btr_node.specs.Leaf.{items_in}
-use Rattle.btr_node.specs.Rules.{broken, inner_damages, leaf_damages}
-use Rattle.btr_node.specs.declared.child.Child.{Child}
-use Rattle.btr_reader_walk.specs.Events.{TreeEvent, leaf_events, may_be_bare, node_events, nodes_in, unless_damaged}
-use Rattle.btr_reader_walk.specs.Map.{is_mapped, node_at}
-use Rattle.btr_reader_walk.specs.Node.{child_pointer, want}
-use Rattle.btr_reader_walk.specs.Tree.{at_address}
-use Rattle.btr_reader_walk.specs.Walks.{IsAmong, IsReadFault, below}
-use Rattle.btr_reader_walk.specs.declared.map.MapRange.{MapRange}
-use Rattle.btr_reader_walk.specs.declared.tree.NodePointer.{NodePointer}
-use Rattle.btr_reader_walk.specs.declared.tree.Tree.{Tree}
-use Rattle.btr_reader_walk.proofs.Events.{leaf_nodes, nodes_in-append}
-use Rattle.btr_reader_walk.proofs.Walking.{breaks, mapped_breaks, unmapped_breaks}
-use Rattle.reiser_volume.proofs.fs_paths.Lists.{from_flat_map, from_map, head_or_tail, in_flat_map, in_map}
-use Rattle.volume_state.specs.Nodes.{below_faults, below_nodes, own_faults}
-use Rattle.volume_state.specs.Using.{HoldsNode, LieIn, TellsReserved}
 
 rule_at : (address : ℕ) (rules : List BtrRule) (rule : BtrRule) → Contains rules rule → Contains (at_address address rules) (BadBtrfs address rule)
 rule_at address rules rule among = in_map (λ (r : BtrRule). BadBtrfs address r) rules rule among

@@ -1,18 +1,6 @@
 -- Where bytes lie by the ranges of a map.
-use Rattle.std.proofs.Common.{◌≡◌, ⊎_elim, inl, inr, ℕ, zero, suc, ◌+◌, ◌-◌, ◌*◌, ◌/◌, ◌<◌, ◌≤◌, Bool, true, false, List, [], ◌∷◌, length, get_or, take, Option, Some, None, refl, sym, ◌∙◌, ap, subst, arith, if◌then◌else◌}
+use Rattle.volume_state.proofs.Imports.{◌≡◌, ⊎_elim, inl, inr, ℕ, zero, suc, ◌+◌, ◌-◌, ◌*◌, ◌/◌, ◌<◌, ◌≤◌, Bool, true, false, List, [], ◌∷◌, length, get_or, take, Option, Some, None, refl, sym, ◌∙◌, ap, subst, arith, if◌then◌else◌, option_map, cases_lt, take_all, All-more, nat_tests, FIRST_MIRROR, FIRST_MIRROR_END, SECOND_MIRROR, SECOND_MIRROR_END, IsReserved, holds, place, second_place, MapRange, holds_bounds, IsBetween, IsMapApart, LieInCopy, LieInRange, LieInSecond, TellsBetween, LieIn, TellsReserved}
 use Rattle.std.specs.Prelude.{All}
-use Rattle.std.specs.Option.{option_map}
-use Rattle.std.proofs.lemmas.Bool.{cases_lt}
-use Rattle.std.proofs.lemmas.List.{take_all}
-use Rattle.std.proofs.lemmas.List.Elements.{All-more}
-use Rattle.std.proofs.lemmas.Bool.Decides.{nat_tests}
-use Rattle.btrfs_format.specs.declared.block.TheConstants.{FIRST_MIRROR, FIRST_MIRROR_END, SECOND_MIRROR, SECOND_MIRROR_END}
-use Rattle.reiser_bitmap.specs.vol_block.Volume.{IsReserved}
-use Rattle.btr_reader_walk.specs.Map.{holds, place, second_place}
-use Rattle.btr_reader_walk.specs.declared.map.MapRange.{MapRange}
-use Rattle.btr_reader_walk.proofs.Mapping.{holds_bounds}
-use Rattle.volume_state.specs.Reserved.{IsBetween, IsMapApart, LieInCopy, LieInRange, LieInSecond, TellsBetween}
-use Rattle.volume_state.specs.Using.{LieIn, TellsReserved}
 use Rattle.volume_state.proofs.Placed.{no_some, some_is}
 
 -- ---- reserved blocks between two

@@ -1,18 +1,5 @@
 -- The map that was read of an opened volume is that of its saved image.
-use Rattle.std.proofs.Common.{inl, inr, Contains, subst, arith, ◌≡◌, ℕ, List, [], Option, Some, None, Result, Ok, refl, ◌∙◌, ap}
-use Rattle.reiser_bitmap.specs.outside.History.{Image}
-use Rattle.reiser_bitmap.specs.refusals.declared.answer.BtrAnswer.{BtrAnswer}
-use Rattle.reiser_bitmap.specs.refusals.declared.refusal.BtrRefusal.{BtrRefusal}
-use Rattle.btr_reader.proofs.PartsRead.{of_disk}
-use Rattle.btr_reader.specs.Image.{ImageFile, image_refusals, saved_image}
-use Rattle.btr_reader.specs.Opening.{IsBtrfsOpened, opening_refusals}
-use Rattle.btr_reader.specs.Parts.{IsBtrfsRefusal, SavedImage, own_map, way_refusals}
-use Rattle.btr_reader.specs.Pieces.{MapsImage, map_place}
-use Rattle.btr_reader.specs.Reading.{ReadsImage}
-use Rattle.btr_reader.specs.declared.image_map.ImageMap.{ImageMap}
-use Rattle.btr_super.specs.declared.superblock.Super.{Super}
-use Rattle.btr_reader_walk.specs.declared.map.MapRange.{MapRange}
-use Rattle.volume_state.specs.Saved.{IsImageMissing, blocks_by, blocks_by_map, file_blocks, image_blocks, place_by_file, saved_file, saved_place}
+use Rattle.volume_state.proofs.Imports.{inl, inr, Contains, subst, arith, ◌≡◌, ℕ, List, [], Option, Some, None, Result, Ok, refl, ◌∙◌, ap, Image, BtrAnswer, BtrRefusal, of_disk, ImageFile, image_refusals, saved_image, IsBtrfsOpened, opening_refusals, IsBtrfsRefusal, SavedImage, own_map, way_refusals, MapsImage, map_place, ReadsImage, ImageMap, Super, MapRange, IsImageMissing, blocks_by, blocks_by_map, file_blocks, image_blocks, place_by_file, saved_file, saved_place}
 use Rattle.volume_state.proofs.Images.{blocks_alike}
 
 -- ---- the map of a file

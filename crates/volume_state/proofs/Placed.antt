@@ -1,17 +1,5 @@
 -- A block of the saved image is a block of an extent.
-use Rattle.std.proofs.Common.{◌≡◌, inl, ℕ, suc, ◌+◌, ◌-◌, ◌*◌, ◌/◌, ◌%◌, ◌<◌, ◌≤◌, eqb, nat_lt, nat_le, Bool, true, false, List, [], ◌∷◌, ◌++◌, Contains, Option, Some, None, refl, subst, arith, if◌then◌else◌, ◌&&◌, ◌||◌, ◌∙◌, ap}
-use Rattle.std.specs.Option.{option_map}
-use Rattle.std.proofs.lemmas.Bool.{and_parts}
-use Rattle.std.proofs.lemmas.Bool.Decides.{nat_tests}
-use Rattle.btr_reader_contents.specs.Extents.{covered_after, covers, end_after, extents_refusals, is_aligned, is_hole, range_is_aligned, refusals_at}
-use Rattle.btr_reader_contents.proofs.ExtentLists.{aligned_of, form_of_sound}
-use Rattle.btr_node.specs.btr_keys.FileExtent.{ContentValue, FileExtentValue, Inline, Prealloc, Regular, file_extent_of}
-use Rattle.btr_node.specs.btr_keys.declared.file_extent.DiskRange.{DiskRange}
-use Rattle.btr_reader.specs.Image.{block_by_extent, content_block, file_block}
-use Rattle.btr_reader_walk.specs.Events.{TreeItem}
-use Rattle.btr_reader_walk.specs.Map.{place}
-use Rattle.btr_reader_walk.specs.declared.map.MapRange.{MapRange}
-use Rattle.volume_state.specs.Using.{LieIn}
+use Rattle.volume_state.proofs.Imports.{◌≡◌, inl, ℕ, suc, ◌+◌, ◌-◌, ◌*◌, ◌/◌, ◌%◌, ◌<◌, ◌≤◌, eqb, nat_lt, nat_le, Bool, true, false, List, [], ◌∷◌, ◌++◌, Contains, Option, Some, None, refl, subst, arith, if◌then◌else◌, ◌&&◌, ◌||◌, ◌∙◌, ap, option_map, and_parts, nat_tests, covered_after, covers, end_after, extents_refusals, is_aligned, is_hole, range_is_aligned, refusals_at, aligned_of, form_of_sound, ContentValue, FileExtentValue, Inline, Prealloc, Regular, file_extent_of, DiskRange, block_by_extent, content_block, file_block, TreeItem, place, MapRange, LieIn}
 
 pub some_is : {X : Type 0} (x y : X) → (Some x ≡ Some y) → x ≡ y
 some_is x y h = cc h

@@ -1,26 +1,8 @@
 -- The file that is the saved image, and that nothing is wrong with its extents.
-use Rattle.std.proofs.Common.{◌≡◌, inl, inr, ℕ, ◌/◌, Bool, true, false, List, [], Option, Some, None, refl, sym, ◌∙◌, ap, subst, if◌then◌else◌}
-use Rattle.std.specs.Option.{option_and_then}
-use Rattle.std.proofs.lemmas.Bool.{and_parts}
-use Rattle.btrfs_format.specs.declared.object.TheConstants.{FS_TREE}
-use Rattle.reiser_bitmap.specs.outside.History.{Image}
-use Rattle.reiser_bitmap.specs.refusals.declared.refusal.BtrRefusal.{BtrRefusal}
-use Rattle.btr_reader_contents.specs.Extents.{extents_of, extents_refusals}
+use Rattle.volume_state.proofs.Imports.{◌≡◌, inl, inr, ℕ, ◌/◌, Bool, true, false, List, [], Option, Some, None, refl, sym, ◌∙◌, ap, subst, if◌then◌else◌, option_and_then, and_parts, FS_TREE, Image, BtrRefusal, extents_of, extents_refusals, ImageFile, after_pointer, after_root, entry_refusals, file_if_image, file_refusals, if_there, image_at, image_below, image_entry, image_in, image_refusals_in, inode_number, is_file_mode, is_image, items_at, own_refusals, pointer_in, refusals_below, saved_location, saved_image, tree_number, opening_refusals, or_later, tree_of, IsReadable, SavedImage, own_map, own_super, way_refusals, root_item, roots_on, Super, TreeItem, MapRange, NodePointer, root_of, saved_tree, none_in, later_none}
 use Rattle.btr_node.specs.btr_keys.Inode.{inode_of}
 use Rattle.btr_node.specs.btr_keys.declared.inode.Inode.{Inode}
 use Rattle.btr_reader.specs.btr_reader_names.Inodes.{find_inode_item}
-use Rattle.btr_reader.specs.Image.{ImageFile, after_pointer, after_root, entry_refusals, file_if_image, file_refusals, if_there, image_at, image_below, image_entry, image_in, image_refusals_in, inode_number, is_file_mode, is_image, items_at, own_refusals, pointer_in, refusals_below, saved_location, saved_image, tree_number}
-use Rattle.btr_reader.specs.Opening.{opening_refusals, or_later, tree_of}
-use Rattle.btr_reader.specs.Parts.{IsReadable, SavedImage, own_map, own_super, way_refusals}
-use Rattle.btr_reader.specs.Roots.{root_item}
-use Rattle.btr_reader.specs.Rows.{roots_on}
-use Rattle.btr_super.specs.declared.superblock.Super.{Super}
-use Rattle.btr_reader_walk.specs.Events.{TreeItem}
-use Rattle.btr_reader_walk.specs.declared.map.MapRange.{MapRange}
-use Rattle.btr_reader_walk.specs.declared.tree.NodePointer.{NodePointer}
-use Rattle.btr_reader.specs.Apart.{root_of, saved_tree}
-use Rattle.btr_reader.proofs.PartsRead.{none_in}
-use Rattle.btr_reader.proofs.Stages.{later_none}
 use Rattle.volume_state.proofs.Placed.{no_some, some_is}
 
 and_then_some : {A B : Type 0} (f : A → Option B) (o : Option A) (y : B) → option_and_then f o ≡ Some y → (x : A) × (o ≡ Some x) × (f x ≡ Some y)

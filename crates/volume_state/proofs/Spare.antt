@@ -1,35 +1,9 @@
 -- The parts of a volume that can go back lie in no spare block.
-use Rattle.std.proofs.Common.{◌≡◌, inl, inr, ℕ, ◌+◌, ◌*◌, ◌/◌, ◌<◌, eqb, nat_lt, Bool, true, false, not, ◌&&◌, List, ◌∷◌, ◌++◌, length, get_or, Contains, Option, Some, None, refl, sym, ◌∙◌, ap, subst, arith, if◌then◌else◌}
-use Rattle.std.specs.Option.{option_and_then}
-use Rattle.std.proofs.lemmas.Bool.{and_parts}
-use Rattle.std.proofs.lemmas.List.{get_or_default}
-use Rattle.btrfs_format.specs.declared.key.TheConstants.{EXTENT_DATA}
-use Rattle.btrfs_format.specs.declared.object.TheConstants.{FS_TREE}
-use Rattle.reiser_bitmap.specs.outside.History.{Image}
-use Rattle.reiser_bitmap.specs.vol_block.Volume.{is_reserved}
+use Rattle.volume_state.proofs.Imports.{◌≡◌, inl, inr, ℕ, ◌+◌, ◌*◌, ◌/◌, ◌<◌, eqb, nat_lt, Bool, true, false, not, ◌&&◌, List, ◌∷◌, ◌++◌, length, get_or, Contains, Option, Some, None, refl, sym, ◌∙◌, ap, subst, arith, if◌then◌else◌, option_and_then, and_parts, get_or_default, EXTENT_DATA, FS_TREE, Image, is_reserved, extents_of, is_extent_of, ContentValue, FileExtentValue, Inline, Prealloc, Regular, file_extent_of, ImageFile, file_block, image_place, items_at, saved_image, chunk_tree, root_tree, tree_of, own_map, own_super, Super, TreeItem, nodes_in, place, found, met, MapRange, NodePointer, Tree, AreExtentsApart, AreNodesApart, IsApart, IsContentApart, IsVolumeApart, boot_map, root_of, saved_tree, from_filter, superblock, is_spare, image_blocks, CanGoBack, HoldsExtent, HoldsNodeOf, HoldsPartOf, IsInUse, LieIn, chunk_node, content_range, file_part, file_trees, item_range, named_by, numbered, root_node, tree_if}
 use Rattle.reiser_bitmap.proofs.vol_block.Reserved.{decides_reserved}
-use Rattle.btr_reader_contents.specs.Extents.{extents_of, is_extent_of}
-use Rattle.btr_node.specs.btr_keys.FileExtent.{ContentValue, FileExtentValue, Inline, Prealloc, Regular, file_extent_of}
-use Rattle.btr_reader.specs.Image.{ImageFile, file_block, image_place, items_at, saved_image}
-use Rattle.btr_reader.specs.Opening.{chunk_tree, root_tree, tree_of}
-use Rattle.btr_reader.specs.Parts.{own_map, own_super}
-use Rattle.btr_super.specs.declared.superblock.Super.{Super}
-use Rattle.btr_reader_walk.specs.Events.{TreeItem, nodes_in}
-use Rattle.btr_reader_walk.specs.Map.{place}
-use Rattle.btr_reader_walk.specs.Walks.{found, met}
-use Rattle.btr_reader_walk.specs.declared.map.MapRange.{MapRange}
-use Rattle.btr_reader_walk.specs.declared.tree.NodePointer.{NodePointer}
-use Rattle.btr_reader_walk.specs.declared.tree.Tree.{Tree}
-use Rattle.btr_reader.specs.Apart.{AreExtentsApart, AreNodesApart, IsApart, IsContentApart, IsVolumeApart, boot_map, root_of, saved_tree}
-use Rattle.reiser_volume.proofs.fs_paths.Lists.{from_filter}
-use Rattle.reiser_volume.specs.Volume.{superblock}
-use Rattle.volume_state.specs.Laws.{is_spare}
-use Rattle.volume_state.specs.Saved.{image_blocks}
-use Rattle.volume_state.specs.GoingBack.{CanGoBack}
 use Rattle.volume_state.proofs.Placed.{has_block, no_some}
 use Rattle.volume_state.proofs.Reaching.{reached}
 use Rattle.volume_state.proofs.Apart.{extents_apart, file_tree_among, nodes_apart, saved_tree_among}
-use Rattle.volume_state.specs.Using.{HoldsExtent, HoldsNodeOf, HoldsPartOf, IsInUse, LieIn, chunk_node, content_range, file_part, file_trees, item_range, named_by, numbered, root_node, tree_if}
 
 when_below : (t : Bool) (o : Option ℕ) (at : ℕ) → (if t then o else None) ≡ Some at → o ≡ Some at
 when_below true o at is = is

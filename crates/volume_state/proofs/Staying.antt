@@ -1,30 +1,9 @@
 -- What differs in spare blocks alone can go back too.
-use Rattle.std.proofs.Common.{◌≡◌, ⊎_elim, inl, inr, ℕ, ◌<◌, min, List, [], ◌++◌, length, Contains, Option, Some, None, refl, sym, ◌∙◌, ap, subst, arith}
-use Rattle.std.specs.Option.{option_and_then}
-use Rattle.std.proofs.lemmas.List.{ext_get_or}
-use Rattle.btrfs_format.specs.declared.object.TheConstants.{FS_TREE}
-use Rattle.reiser_bitmap.specs.outside.History.{Image, block_at}
-use Rattle.btr_reader.specs.Image.{ImageFile, items_at, pointer_in, saved_location, tree_number}
-use Rattle.btr_reader.specs.Opening.{chunk_tree, root_tree}
-use Rattle.btr_reader.specs.Parts.{SavedImage, own_map, own_super}
-use Rattle.btr_reader.specs.Roots.{root_item}
-use Rattle.btr_super.specs.declared.superblock.Super.{Super}
-use Rattle.btr_reader_walk.specs.Events.{TreeEvent, TreeItem, nodes_in}
-use Rattle.btr_reader_walk.specs.declared.map.MapRange.{MapRange}
-use Rattle.btr_reader_walk.specs.declared.tree.NodePointer.{NodePointer}
-use Rattle.btr_reader_walk.specs.declared.tree.Tree.{Tree}
-use Rattle.btr_reader.specs.Apart.{AreNodesApart, IsSameOutside, boot_map, root_of}
+use Rattle.volume_state.proofs.Imports.{◌≡◌, ⊎_elim, inl, inr, ℕ, ◌<◌, min, List, [], ◌++◌, length, Contains, Option, Some, None, refl, sym, ◌∙◌, ap, subst, arith, option_and_then, ext_get_or, FS_TREE, Image, block_at, ImageFile, items_at, pointer_in, saved_location, tree_number, chunk_tree, root_tree, SavedImage, own_map, own_super, root_item, Super, TreeEvent, TreeItem, nodes_in, MapRange, NodePointer, Tree, AreNodesApart, IsSameOutside, boot_map, root_of, IsAccepted, superblock, used_of, IsReserved, SpareBlocksDecideNothing, is_spare, IsOld, block_or_hole, blocks_by, file_blocks, image_blocks, place_by_file, saved_file, saved_place, CanGoBack, HoldsExtent, HoldsNode, HoldsNodeOf, HoldsPartOf, IsInUse, chunk_node, file_part, file_pointer, file_trees, named_by, numbered, root_node, tree_if}
 use Rattle.btr_reader.specs.MetadataLaws.{IsDecided, IsSameBtrfs}
 use Rattle.btr_reader.proofs.Decided.{metadata_decides}
 use Rattle.btr_reader.proofs.Nodes.{found_same, met_same}
 use Rattle.btr_reader.proofs.Volumes.{both, items_same, roots_same}
-use Rattle.reiser_volume.specs.Volume.{IsAccepted, superblock, used_of}
-use Rattle.reiser_bitmap.specs.vol_block.Volume.{IsReserved}
-use Rattle.volume_state.specs.Laws.{SpareBlocksDecideNothing, is_spare}
-use Rattle.volume_state.specs.Moved.{IsOld}
-use Rattle.volume_state.specs.Saved.{block_or_hole, blocks_by, file_blocks, image_blocks, place_by_file, saved_file, saved_place}
-use Rattle.volume_state.specs.GoingBack.{CanGoBack}
-use Rattle.volume_state.specs.Using.{HoldsExtent, HoldsNode, HoldsNodeOf, HoldsPartOf, IsInUse, chunk_node, file_part, file_pointer, file_trees, named_by, numbered, root_node, tree_if}
 use Rattle.volume_state.proofs.Images.{block_by, length_by}
 use Rattle.volume_state.proofs.Spare.{chunks_apart, file_nodes_apart, in_use_apart, roots_apart, spare_apart, superblock_apart}
 

@@ -1,30 +1,7 @@
 -- What is told of reserved blocks, from the parts of a volume to the whole.
-use Rattle.std.proofs.Common.{◌≡◌, ⊎_elim, inr, ℕ, List, [], ◌∷◌, ◌++◌, Contains, Option, Some, None, Result, Ok, Err, refl, sym, ◌∙◌, ap, subst, arith}
-use Rattle.std.specs.Option.{option_and_then}
+use Rattle.volume_state.proofs.Imports.{◌≡◌, ⊎_elim, inr, ℕ, List, [], ◌∷◌, ◌++◌, Contains, Option, Some, None, Result, Ok, Err, refl, sym, ◌∙◌, ap, subst, arith, option_and_then, Contains-append_right, FS_TREE, Image, BtrAnswer, BtrRefusal, entry_refusals, if_there, image_refusals, image_refusals_in, items_at, pointer_in, refusals_below, root_refusals, saved_location, saved_refusals, tree_number, IsBtrfsOpened, or_later, tree_of, own_map, own_super, way_refusals, FindsNumbered, FindsSaved, FindsTree, pointer_of, root_item, roots_on, of_disk, Super, TreeItem, order_damages, IsAmong, found, wrong, MapRange, NodePointer, Tree, at_head, head_or_tail, below_faults, HoldsExtent, HoldsNodeOf, HoldsPartOf, IsInFiles, TellsReserved, file_trees, named_by, numbered, tree_if}
 use Rattle.std.specs.Result.{MatchResult}
-use Rattle.std.proofs.lemmas.List.Elements.{Contains-append_right}
-use Rattle.btrfs_format.specs.declared.object.TheConstants.{FS_TREE}
-use Rattle.reiser_bitmap.specs.outside.History.{Image}
-use Rattle.reiser_bitmap.specs.refusals.declared.answer.BtrAnswer.{BtrAnswer}
-use Rattle.reiser_bitmap.specs.refusals.declared.refusal.BtrRefusal.{BtrRefusal}
-use Rattle.btr_reader.specs.Image.{entry_refusals, if_there, image_refusals, image_refusals_in, items_at, pointer_in, refusals_below, root_refusals, saved_location, saved_refusals, tree_number}
-use Rattle.btr_reader.specs.Opening.{IsBtrfsOpened, or_later, tree_of}
-use Rattle.btr_reader.specs.Parts.{own_map, own_super, way_refusals}
-use Rattle.btr_reader.specs.Reading.{FindsNumbered, FindsSaved, FindsTree}
-use Rattle.btr_reader.specs.Roots.{pointer_of, root_item}
-use Rattle.btr_reader.specs.Rows.{roots_on}
 use Rattle.btr_reader.proofs.Among.{among_first, among_left}
-use Rattle.btr_reader.proofs.PartsRead.{of_disk}
-use Rattle.btr_super.specs.declared.superblock.Super.{Super}
-use Rattle.btr_reader_walk.specs.Events.{TreeItem}
-use Rattle.btr_reader_walk.specs.Tree.{order_damages}
-use Rattle.btr_reader_walk.specs.Walks.{IsAmong, found, wrong}
-use Rattle.btr_reader_walk.specs.declared.map.MapRange.{MapRange}
-use Rattle.btr_reader_walk.specs.declared.tree.NodePointer.{NodePointer}
-use Rattle.btr_reader_walk.specs.declared.tree.Tree.{Tree}
-use Rattle.reiser_volume.proofs.fs_paths.Lists.{at_head, head_or_tail}
-use Rattle.volume_state.specs.Nodes.{below_faults}
-use Rattle.volume_state.specs.Using.{HoldsExtent, HoldsNodeOf, HoldsPartOf, IsInFiles, TellsReserved, file_trees, named_by, numbered, tree_if}
 use Rattle.volume_state.proofs.Placed.{no_some, some_is}
 use Rattle.volume_state.proofs.Reaching.{at_root, there}
 

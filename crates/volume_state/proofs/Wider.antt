@@ -1,36 +1,8 @@
 -- A tree by a map that begins with another, where its nodes lie by the beginning. The chunk tree of an opened volume is met by its whole
 -- map as by the chunks in the superblock.
-use Rattle.std.proofs.Common.{◌≡◌, ⊎_elim, inl, inr, ℕ, zero, suc, ◌+◌, ◌-◌, ◌*◌, ◌/◌, ◌%◌, ◌<◌, eqb, Bool, true, false, ◌&&◌, List, [], ◌∷◌, ◌++◌, Contains, Option, Some, None, is_some, refl, sym, ◌∙◌, ap, subst, arith, append_assoc, true≢false, if◌then◌else◌}
-use Rattle.std.specs.List.{All, flat_map}
-use Rattle.std.specs.Option.{option_map}
-use Rattle.std.proofs.lemmas.Bool.{and_parts}
-use Rattle.std.proofs.lemmas.Bool.Decides.{nat_tests}
-use Rattle.std.proofs.lemmas.List.{append-nil}
-use Rattle.std.proofs.lemmas.List.Elements.{All-cons, All-head, All-nil, All-tail}
-use Rattle.reiser_bitmap.specs.outside.History.{Image}
-use Rattle.reiser_bitmap.specs.refusals.declared.refusal.BtrRefusal.{BtrRefusal}
-use Rattle.reiser_bitmap.specs.refusals.declared.rule.BtrRule.{BtrRule}
-use Rattle.reiser_bitmap.specs.refusals.declared.rule.BtrRule.TheVariants.{Unmapped}
-use Rattle.btr_reader_contents.proofs.ExtentLists.{none_left, none_right}
-use Rattle.btr_reader_contents.specs.Blocks.{AreInBlocks, IsInBlocks}
-use Rattle.btr_node.specs.Inner.{children_in}
-use Rattle.btr_node.specs.Leaf.{items_in}
+use Rattle.volume_state.proofs.Imports.{◌≡◌, ⊎_elim, inl, inr, ℕ, zero, suc, ◌+◌, ◌-◌, ◌*◌, ◌/◌, ◌%◌, ◌<◌, eqb, Bool, true, false, ◌&&◌, List, [], ◌∷◌, ◌++◌, Contains, Option, Some, None, is_some, refl, sym, ◌∙◌, ap, subst, arith, append_assoc, true≢false, if◌then◌else◌, All, flat_map, option_map, and_parts, nat_tests, append-nil, All-cons, All-head, All-nil, All-tail, Image, BtrRefusal, BtrRule, Unmapped, none_left, none_right, AreInBlocks, IsInBlocks, children_in, items_in, Child, chunk_in, range_of, with_chunk, with_items, ChunkAt, TreeEvent, TreeItem, items_in_events, leaf_events, may_be_bare, node, node_events, nodes_in, unless_damaged, are_mapped, block_of_place, blocks_at, holds, is_mapped, node_at, place, second_place, at_address, order_damages, pointer_damages, met, met_faults, wrong, MapRange, NodePointer, Tree, nodes_in-append, holds_bounds, mapped_at, breaks, mapped_breaks, unmapped_breaks, HoldsNodeOf}
 use Rattle.btr_node.specs.NodeSize.{IsNodeSize}
-use Rattle.btr_node.specs.declared.child.Child.{Child}
-use Rattle.btr_reader.specs.Chunks.{chunk_in, range_of, with_chunk, with_items}
-use Rattle.btr_reader.specs.declared.chunk.ChunkAt.{ChunkAt}
-use Rattle.btr_reader_walk.specs.Events.{TreeEvent, TreeItem, items_in_events, leaf_events, may_be_bare, node, node_events, nodes_in, unless_damaged}
-use Rattle.btr_reader_walk.specs.Map.{are_mapped, block_of_place, blocks_at, holds, is_mapped, node_at, place, second_place}
-use Rattle.btr_reader_walk.specs.Tree.{at_address, order_damages, pointer_damages}
-use Rattle.btr_reader_walk.specs.Walks.{met, met_faults, wrong}
-use Rattle.btr_reader_walk.specs.declared.map.MapRange.{MapRange}
-use Rattle.btr_reader_walk.specs.declared.tree.NodePointer.{NodePointer}
-use Rattle.btr_reader_walk.specs.declared.tree.Tree.{Tree}
-use Rattle.btr_reader_walk.proofs.Events.{nodes_in-append}
-use Rattle.btr_reader_walk.proofs.Mapping.{holds_bounds, mapped_at}
 use Rattle.btr_reader_walk.proofs.Subtrees.{to}
-use Rattle.btr_reader_walk.proofs.Walking.{breaks, mapped_breaks, unmapped_breaks}
-use Rattle.volume_state.specs.Using.{HoldsNodeOf}
 use Rattle.volume_state.proofs.Faults.{none_broken}
 use Rattle.volume_state.proofs.Lying.{held_so}
 use Rattle.volume_state.proofs.Placed.{no_some}

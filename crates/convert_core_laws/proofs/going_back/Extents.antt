@@ -1,40 +1,10 @@
 -- The file extents of a converted volume are those of its pieces.
-use Rattle.std.proofs.Common.{◌≡◌, ℕ, ◌*◌, eqb, Bool, true, false, is_some, List, [], ◌∷◌, length, filter, Option, Some, None, refl, sym, ap, subst, ◌∙◌, ⊎_elim, arith}
-use Rattle.std.specs.Prelude.{Contains, if◌then◌else◌}
-use Rattle.std.specs.List.{AllByRecursion}
-use Rattle.std.specs.Option.{option_and_then, option_map_or}
-use Rattle.std.proofs.lemmas.Bool.{and_from, eq-eqb, ne_eqb}
-use Rattle.std.proofs.lemmas.List.Elements.{Contains-append_cases}
-use Rattle.btrfs_format.specs.declared.key.TheConstants.{EXTENT_DATA}
-use Rattle.reiser_volume.proofs.fs_paths.Lists.{from_filter, from_map, in_filter}
-use Rattle.indexmap.specs.IndexMap.{keys}
-use Rattle.reiser_volume.specs.outside.History.{Image}
-use Rattle.btr_reader.specs.btr_keys.FileExtent.{FileExtentValue, file_extent_bytes, file_extent_of}
-use Rattle.btr_reader.specs.btr_keys.declared.file_extent.DiskRange.{DiskRange}
-use Rattle.btr_reader.specs.btr_node.Leaf.{Item}
+use Rattle.convert_core_laws.proofs.Imports.{◌≡◌, ℕ, ◌*◌, eqb, Bool, true, false, List, [], ◌∷◌, length, filter, Option, Some, None, refl, sym, ap, subst, ◌∙◌, ⊎_elim, arith, Contains, if◌then◌else◌, AllByRecursion, option_and_then, option_map_or, and_from, eq-eqb, ne_eqb, Contains-append_cases, EXTENT_DATA, from_filter, from_map, in_filter, keys, Image, FileExtentValue, file_extent_bytes, file_extent_of, DiskRange, Item, IsMaking, Making, HasPieces, made_from, file_tree_items, image_tree_items, numbered, extents_at, file_block, is_owned_by, piece_bytes, pieces_of, pieces_of_volume, source_block, image_head, image_items, Source, file_extent_items, inline_in, ino_of, size_in, fs_tree_items, length_bytes, extent_item, inline_extent, regular_extent, ascending, ascending_all, contains_cases, contains_head, contains_tail, file_byte, target_bytes, ObjectKey, items_of, IsNamed, volume_items, content_range, Piece}
+use Rattle.std.proofs.Common.{is_some}
 use Rattle.convert_core_laws.proofs.Holding.{StaysInTree, stays}
 use Rattle.convert_core_laws.proofs.Owned.{any_extents}
 use Rattle.convert_core_laws.proofs.ByteReading.{inline_read, is_extent, regular_read}
-use Rattle.convert_core.specs.convert_steps.Making.{IsMaking, Making}
-use Rattle.convert_core.specs.convert_steps.Source.{HasPieces, made_from}
-use Rattle.convert_core.specs.convert_steps.Standing.{file_tree_items, image_tree_items}
-use Rattle.convert_core.proofs.extent_pieces.Named.{numbered}
-use Rattle.convert_core.specs.file_items.Extents.{extents_at, file_block, is_owned_by, piece_bytes, pieces_of, pieces_of_volume, source_block}
-use Rattle.convert_core.specs.file_items.Small.{image_head, image_items}
-use Rattle.convert_core.specs.file_items.Tree.{Source, file_extent_items, inline_in, ino_of, size_in, fs_tree_items}
-use Rattle.reiser_volume.proofs.fs_rows.Functions.{length_bytes}
-use Rattle.convert_core.specs.btr_item_list.Extents.{extent_item, inline_extent, regular_extent}
-use Rattle.convert_core.specs.btr_item_list.Groups.{ascending}
-use Rattle.convert_core.proofs.btr_item_list.Sorting.{ascending_all}
-use Rattle.reiser_volume.proofs.reiser_bitmap.Ranges.{contains_cases, contains_head, contains_tail}
-use Rattle.reiser_volume.specs.reiser_volume_files.Bytes.{file_byte, target_bytes}
-use Rattle.reiser_volume.specs.reiser_volume_objects.declared.key.ObjectKey.{ObjectKey}
-use Rattle.reiser_volume.specs.reiser_volume_objects.Keys.{items_of}
-use Rattle.reiser_volume.specs.reiser_volume_objects.Names.{IsNamed}
-use Rattle.reiser_volume.specs.Volume.{volume_items}
-use Rattle.volume_state.specs.Using.{content_range}
 use Rattle.convert_core_laws.proofs.soundness.Uses.{piece_small}
-use Rattle.convert_core.specs.unit_plan.declared.piece.Piece.{Piece}
 use Rattle.convert_core_laws.proofs.going_back.Options.{no_some, some_is}
 
 -- ---- lists

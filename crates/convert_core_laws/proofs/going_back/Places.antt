@@ -1,33 +1,6 @@
 -- Where the blocks of the saved image lie.
-use Rattle.std.proofs.Common.{◌≡◌, ◌≤◌, ◌<◌, ℕ, ◌+◌, ◌-◌, ◌*◌, ◌/◌, eqb, nat_lt, Bool, true, false, List, [], ◌∷◌, length, map, Option, Some, None, refl, sym, ap, subst, ◌∙◌, arith}
-use Rattle.std.specs.Prelude.{Contains, if◌then◌else◌}
-use Rattle.std.specs.Option.{option_and_then, option_map}
-use Rattle.std.proofs.lemmas.Bool.{and_parts, leb-true, ltb-true}
-use Rattle.btrfs_format.specs.declared.key.TheConstants.{EXTENT_DATA}
-use Rattle.reiser_volume.proofs.fs_paths.Lists.{from_filter, in_map}
-use Rattle.reiser_volume.specs.outside.History.{Image}
-use Rattle.reiser_volume.specs.vol_block.Volume.{IsReserved, is_reserved}
-use Rattle.btr_reader.specs.btr_reader_contents.Extents.{covers, extents_of, is_extent_of}
-use Rattle.btr_reader.specs.btr_keys.FileExtent.{FileExtentValue, Regular, file_extent_of}
-use Rattle.btr_reader.specs.btr_keys.declared.inode.Inode.{Inode}
-use Rattle.btr_reader.specs.btr_node.Leaf.{Item}
-use Rattle.btr_reader.specs.btr_reader_names.Inodes.{find_inode_item}
-use Rattle.btr_reader.specs.btr_keys.Inode.{inode_of}
-use Rattle.btr_reader.specs.Image.{ImageFile, block_by_extent, content_block, file_block, file_if_image, image_at, image_entry, image_in, image_place, inode_number, is_image}
-use Rattle.btr_reader.specs.btr_reader_walk.Events.{TreeItem}
-use Rattle.btr_reader.specs.btr_reader_walk.Map.{place}
-use Rattle.btr_reader.specs.btr_reader_walk.Tree.{bare_item}
-use Rattle.btr_reader.specs.btr_reader_walk.declared.map.MapRange.{MapRange}
-use Rattle.convert_core.specs.convert_steps.Making.{IsMaking, Making}
-use Rattle.convert_core.specs.convert_steps.Standing.{image_tree_items}
-use Rattle.convert_core.proofs.Reserved.{piece_apart}
-use Rattle.convert_core_laws.specs.reading.Opened.{GivesItsOwn}
-use Rattle.convert_core.specs.extent_pieces.Laws.{HoldsBlock}
-use Rattle.convert_core.specs.file_items.Extents.{source_block}
-use Rattle.convert_core.specs.btr_item_list.Extents.{regular_extent}
-use Rattle.reiser_volume.proofs.reiser_bitmap.Ranges.{contains_head, contains_tail}
-use Rattle.reiser_volume.specs.Volume.{used_of}
-use Rattle.convert_core.specs.unit_plan.declared.piece.Piece.{Piece}
+use Rattle.convert_core_laws.proofs.Imports.{◌≡◌, ◌≤◌, ◌<◌, ℕ, ◌+◌, ◌-◌, ◌*◌, ◌/◌, eqb, nat_lt, Bool, true, false, List, [], ◌∷◌, length, map, Option, Some, None, refl, sym, ap, subst, ◌∙◌, arith, Contains, if◌then◌else◌, option_and_then, option_map, and_parts, leb-true, ltb-true, EXTENT_DATA, from_filter, in_map, Image, IsReserved, is_reserved, covers, extents_of, is_extent_of, FileExtentValue, Regular, file_extent_of, Inode, Item, find_inode_item, inode_of, ImageFile, block_by_extent, content_block, file_if_image, image_at, image_entry, image_in, image_place, inode_number, is_image, TreeItem, place, bare_item, MapRange, IsMaking, Making, image_tree_items, piece_apart, GivesItsOwn, HoldsBlock, source_block, regular_extent, contains_head, contains_tail, used_of, Piece}
+use Rattle.btr_reader.specs.Image.{file_block}
 use Rattle.convert_core_laws.proofs.going_back.Extents.{IsSavedExtent, extent_read, no_hole, range_by, saved_extent}
 use Rattle.convert_core_laws.proofs.going_back.Options.{no_some, some_is, when_true}
 use Rattle.convert_core_laws.proofs.going_back.Staying.{stays}

@@ -1,59 +1,9 @@
 -- No part of a converted volume lies in a reserved block.
-use Rattle.std.proofs.Common.{◌≡◌, ◌≤◌, ◌<◌, ℕ, ◌+◌, ◌-◌, ◌*◌, ◌/◌, eqb, Bool, true, false, List, [], ◌∷◌, ◌++◌, length, map, Option, None, Some, refl, sym, ap, subst, ◌∙◌, ⊎_elim, arith}
-use Rattle.std.specs.Prelude.{Contains, if◌then◌else◌}
-use Rattle.std.proofs.lemmas.List.{map-append}
-use Rattle.std.proofs.lemmas.List.Sorted.{Contains-permutation, IsPermutation-sym}
-use Rattle.std.proofs.lemmas.Simd.{map-map}
-use Rattle.std.specs.List.Sorted.{IsPermutation}
-use Rattle.btrfs_format.specs.declared.key.TheConstants.{EXTENT_DATA}
-use Rattle.btrfs_format.specs.declared.object.TheConstants.{CHUNK_TREE, CONV_IMAGE_SUBVOL, FS_TREE, ROOT_TREE}
-use Rattle.reiser_volume.proofs.fs_paths.Lists.{in_map}
-use Rattle.reiser_volume.specs.outside.History.{Image}
-use Rattle.reiser_volume.specs.vol_block.Volume.{IsReserved}
-use Rattle.reiser_volume.specs.vol_block.declared.ids.Ids.{Ids}
-use Rattle.btr_reader.specs.btr_keys.declared.file_extent.DiskRange.{DiskRange}
-use Rattle.btr_reader.specs.btr_node.Leaf.{Item}
-use Rattle.btr_reader.specs.btr_node.NodeSize.{IsNodeSize}
-use Rattle.btr_reader.specs.Chunks.{range_of}
-use Rattle.btr_reader.specs.Opening.{boot_list, chunk_map, chunk_tree, form_of, root_tree, tree_of}
-use Rattle.btr_reader.specs.Parts.{own_map, own_super}
-use Rattle.btr_reader.specs.declared.chunk.ChunkAt.{ChunkAt}
-use Rattle.btr_check_rules.specs.Places.{AreUnreserved, IsExtent, a_node, node_kind}
-use Rattle.btr_check_rules.specs.Recount.{Recount, Span, TreeOn, all_trees}
-use Rattle.btr_reader.specs.btr_super.declared.superblock.Super.{Super}
-use Rattle.convert_core.specs.btr_tree.Laws.{GivesItself}
-use Rattle.convert_core.specs.btr_tree.declared.climb.Root.{Root}
-use Rattle.btr_reader.specs.btr_reader_walk.Events.{TreeItem, nodes_in, walk_events}
-use Rattle.btr_reader.specs.btr_reader_walk.Map.{holds, place, second_place}
-use Rattle.btr_reader.specs.btr_reader_walk.Tree.{bare_item}
-use Rattle.btr_reader.specs.btr_reader_walk.Walks.{found}
-use Rattle.btr_reader.specs.btr_reader_walk.declared.map.MapRange.{MapRange}
-use Rattle.btr_reader.specs.btr_reader_walk.declared.tree.Form.{Form}
-use Rattle.btr_reader.specs.btr_reader_walk.declared.tree.NodePointer.{NodePointer}
-use Rattle.btr_reader.specs.btr_reader_walk.declared.tree.Tree.{Tree}
-use Rattle.convert_core.specs.convert_steps.Making.{IsMaking, Making, chunk_slots, new_ids}
-use Rattle.convert_core.specs.convert_steps.Standing.{HasTrees, file_tree_items, form, image_tree_items, root_tree_items}
-use Rattle.convert_core.specs.convert_steps.declared.trees.VolumeTrees.{VolumeTrees}
-use Rattle.convert_core.proofs.Reserved.{piece_apart}
-use Rattle.convert_core.specs.convert_steps.Superblock.{new_super}
-use Rattle.convert_core_laws.specs.reading.Laws.{IsReadableWithTrees, MapsChunks}
-use Rattle.convert_core_laws.specs.reading.Opened.{IsNewVolume, boot_part, chunk_at, map_for, other_part, range_for, super_for}
+use Rattle.convert_core_laws.proofs.Imports.{◌≡◌, ◌≤◌, ◌<◌, ℕ, ◌+◌, ◌-◌, ◌*◌, ◌/◌, eqb, Bool, true, false, List, [], ◌∷◌, ◌++◌, length, map, Option, None, Some, refl, sym, ap, subst, ◌∙◌, ⊎_elim, arith, Contains, if◌then◌else◌, map-append, Contains-permutation, IsPermutation-sym, map-map, IsPermutation, EXTENT_DATA, CHUNK_TREE, CONV_IMAGE_SUBVOL, FS_TREE, ROOT_TREE, in_map, Image, IsReserved, Ids, DiskRange, Item, IsNodeSize, range_of, boot_list, chunk_map, chunk_tree, form_of, root_tree, tree_of, own_map, own_super, ChunkAt, AreUnreserved, IsExtent, a_node, node_kind, Recount, Span, TreeOn, all_trees, Super, GivesItself, Root, TreeItem, nodes_in, walk_events, holds, place, second_place, bare_item, found, MapRange, Form, NodePointer, Tree, IsMaking, Making, chunk_slots, new_ids, HasTrees, file_tree_items, form, image_tree_items, root_tree_items, VolumeTrees, piece_apart, new_super, IsReadableWithTrees, MapsChunks, IsNewVolume, boot_part, chunk_at, map_for, other_part, range_for, super_for, boot_map, all_from_contains, contains_cases, used_of, HasPlace, HoldsExtent, HoldsNodeOf, HoldsPartOf, IsInUse, chunk_node, file_part, file_trees, root_node, recount_for, tree_for, chunk_items, TreeNode, blocks_are, pointer_to_root, Options, PlannedChunk, Piece}
 use Rattle.convert_core_laws.proofs.reading.Mapped.{boot_nodes}
 use Rattle.convert_core_laws.proofs.reading.Superblock.{size}
-use Rattle.btr_reader.specs.Apart.{boot_map}
-use Rattle.reiser_volume.proofs.reiser_bitmap.Ranges.{all_from_contains, contains_cases}
-use Rattle.reiser_volume.specs.Volume.{used_of}
-use Rattle.volume_state.specs.Using.{HasPlace, HoldsExtent, HoldsNodeOf, HoldsPartOf, IsInUse, chunk_node, file_part, file_trees, root_node}
-use Rattle.convert_core_laws.specs.soundness.Recounted.{recount_for, tree_for}
 use Rattle.convert_core_laws.proofs.soundness.Nodes.{chunk_at as chunk_nodes_at, met as met_by, packed_at}
 use Rattle.convert_core_laws.proofs.soundness.Recounting.{form_is, total_is}
-use Rattle.convert_core.specs.space_items.Chunks.{chunk_items}
-use Rattle.convert_core.specs.space_items.declared.node.TreeNode.{TreeNode}
-use Rattle.convert_trees_laws.proofs.Booting.{blocks_are}
-use Rattle.convert_core.specs.btr_tree_writer.Trees.{pointer_to_root}
-use Rattle.convert_core.specs.convert_options.declared.options.Options.{Options}
-use Rattle.convert_core.specs.unit_plan.declared.chunk.PlannedChunk.{PlannedChunk}
-use Rattle.convert_core.specs.unit_plan.declared.piece.Piece.{Piece}
 use Rattle.convert_core_laws.proofs.going_back.Extents.{IsOfPiece, body_range, file_range, saved_range}
 use Rattle.convert_core_laws.proofs.going_back.Options.{no_some, some_is, when_true}
 

@@ -1,17 +1,5 @@
 -- What a crash leaves while a volume is converted.
-use Rattle.std.proofs.Common.{◌≡◌, ◌≢◌, inl, inr, ℕ, nat_le, List, length, sym, ap, ◌∙◌, ⊎_elim, arith}
-use Rattle.std.specs.Prelude.{if◌then◌else◌}
-use Rattle.btrfs_format.specs.declared.block.TheConstants.{SUPER_BLOCK}
-use Rattle.reiser_volume.specs.outside.Format.{format_in}
-use Rattle.reiser_volume.specs.outside.History.{Image, block_at}
-use Rattle.reiser_volume.specs.vol_block.Format.{format}
-use Rattle.reiser_volume.specs.vol_block.declared.format.Format.TheVariants.{Btrfs, Neither}
-use Rattle.convert_core.specs.Converted.{KeepsOldVolume, IsConvertible}
-use Rattle.reiser_volume.proofs.reiser_bitmap.SystemBlocks.{superblock_in}
-use Rattle.reiser_volume.specs.Laws.{UsedBlocksDecide}
-use Rattle.reiser_volume.specs.Volume.{IsAccepted, superblock}
-use Rattle.convert_core.specs.convert_options.declared.options.Options.{Options}
-use Rattle.convert_core_laws.specs.opening.Opens.{ConvertedVolumesOpen, CrashesLeaveVolumes, StandsAsBefore}
+use Rattle.convert_core_laws.proofs.Imports.{◌≡◌, ◌≢◌, inl, inr, ℕ, nat_le, List, length, sym, ap, ◌∙◌, ⊎_elim, arith, if◌then◌else◌, SUPER_BLOCK, format_in, Image, block_at, format, Btrfs, Neither, KeepsOldVolume, IsConvertible, superblock_in, UsedBlocksDecide, IsAccepted, superblock, Options, ConvertedVolumesOpen, CrashesLeaveVolumes, StandsAsBefore}
 
 module _ (decide : UsedBlocksDecide) (o : Options) (image other : Image) (other_format : format_in image ≢ Btrfs) (can : IsConvertible o image) (before : KeepsOldVolume image other) where
   accepted : IsAccepted image

@@ -1,53 +1,9 @@
 -- A converted volume opens as it was before.
-use Rattle.std.proofs.Common.{◌≡◌, inr, ◌<◌, ℕ, ◌^◌, nat_le, nat_lt, Bool, true, false, List, [], ◌∷◌, length, codes, Ok, is_some, refl, sym, ap, subst, ◌∙◌, ⊎_elim, arith}
-use Rattle.std.specs.Prelude.{Contains, if◌then◌else◌}
-use Rattle.std.proofs.lemmas.Bool.{and_parts}
-use Rattle.std.proofs.lemmas.Bool.Decides.{nat_tests}
-use Rattle.btrfs_format.specs.declared.block.TheConstants.{SUPER_BLOCK, SUPER_INFO_OFFSET, SUPER_MAGIC_OFFSET}
-use Rattle.btrfs_format.specs.declared.object.TheConstants.{FS_TREE}
-use Rattle.reiser_volume.specs.outside.Format.{format_in}
-use Rattle.reiser_volume.specs.outside.History.{Image, block_at}
-use Rattle.reiser_volume.specs.refusals.declared.refusal.BtrRefusal.{BtrRefusal}
-use Rattle.reiser_volume.specs.refusals.declared.refusal.BtrRefusal.TheVariants.{BadBtrfs, Unsupported}
-use Rattle.reiser_volume.specs.refusals.declared.rule.BtrRule.TheVariants.{SuperCsum}
-use Rattle.reiser_volume.specs.refusals.declared.rule.Feature.TheVariants.{ChecksumType}
-use Rattle.reiser_volume.specs.vol_block.Format.{format, has_bytes_at, has_reiser_magic}
-use Rattle.reiser_volume.specs.vol_block.declared.format.Format.TheVariants.{Btrfs, Neither, Reiser}
-use Rattle.reiser_volume.specs.vol_block.declared.ids.Ids.{Ids}
-use Rattle.btr_reader.specs.btr_reader_names.Roots.{has_root}
-use Rattle.btr_reader.specs.btr_reader_names.Rules.{KeepsNames}
-use Rattle.btr_reader.specs.Laws.{BtrfsRowsAreOne}
-use Rattle.btr_reader.specs.Opening.{opening_refusals, super_on, tree_of}
-use Rattle.btr_reader.specs.Parts.{AreRowsOfBtrfs, IsReadable, Tree, own_map, own_super}
-use Rattle.btr_reader.specs.Rows.{roots_on}
-use Rattle.btr_reader.specs.btr_super.Rules.{bad_field, failing, field_rules, is_super, super_of, super_refusals, unless_refused}
-use Rattle.btr_reader.specs.btr_super.Sums.{csum_type_of, has_sum, known_kind}
-use Rattle.btr_reader.specs.btr_super.Super.{super_in}
-use Rattle.btr_reader.specs.btr_super.declared.superblock.Super.{Super}
-use Rattle.btr_reader.specs.btr_reader_walk.Events.{TreeItem}
-use Rattle.btr_reader.specs.btr_reader_walk.Walks.{found}
-use Rattle.convert_core_laws.specs.Converted.{ConvertedFilesAreRead, ReadsFiles}
-use Rattle.convert_core_laws.specs.Kept.{BytesAreKept}
-use Rattle.convert_core_laws.specs.Mapped.{AreRangesOf}
-use Rattle.convert_core.specs.convert_steps.Making.{IsMaking, Making}
-use Rattle.convert_core.specs.convert_steps.Source.{made_from}
-use Rattle.convert_core.specs.convert_steps.Standing.{file_tree_items}
-use Rattle.convert_core.specs.convert_steps.declared.trees.VolumeTrees.{VolumeTrees}
-use Rattle.convert_core.specs.Converted.{IsNew}
+use Rattle.convert_core_laws.proofs.Imports.{◌≡◌, inr, ◌<◌, ℕ, ◌^◌, nat_le, nat_lt, Bool, true, false, List, [], ◌∷◌, length, Ok, refl, sym, ap, subst, ◌∙◌, ⊎_elim, arith, Contains, if◌then◌else◌, and_parts, nat_tests, SUPER_BLOCK, SUPER_INFO_OFFSET, SUPER_MAGIC_OFFSET, FS_TREE, format_in, Image, block_at, BtrRefusal, BadBtrfs, Unsupported, SuperCsum, ChecksumType, format, has_bytes_at, has_reiser_magic, Btrfs, Neither, Reiser, Ids, has_root, KeepsNames, BtrfsRowsAreOne, opening_refusals, super_on, tree_of, AreRowsOfBtrfs, IsReadable, own_map, own_super, roots_on, bad_field, failing, field_rules, is_super, super_of, super_refusals, unless_refused, csum_type_of, has_sum, known_kind, super_in, Super, TreeItem, found, ConvertedFilesAreRead, ReadsFiles, BytesAreKept, AreRangesOf, IsMaking, Making, made_from, file_tree_items, VolumeTrees, IsNew, HasFsid, NewIdsFit, ConvertedIsReadable, IsReadableWithTrees, SuperblockReads, IsNewVolume, ReadsTree, super_for, ReadsSavedImage, SavedImageIsReadable, AreRowsOf, NamesKeepRules, HasBytes, KeepsBytes, RowsAreKept, AreIds, TreeNode, pointer_to_root, Options, ConvertedVolumesOpen, OpensAsBefore}
+use Rattle.std.proofs.Common.{codes, is_some}
+use Rattle.btr_reader.specs.Parts.{Tree}
 use Rattle.convert_core.proofs.Wholeness.{blocks_are}
-use Rattle.convert_core_laws.specs.reading.Identifiers.{HasFsid, NewIdsFit}
-use Rattle.convert_core_laws.specs.reading.Laws.{ConvertedIsReadable, IsReadableWithTrees, SuperblockReads}
-use Rattle.convert_core_laws.specs.reading.Opened.{IsNewVolume, ReadsTree, super_for}
-use Rattle.convert_core_laws.specs.reading.Saved.{ReadsSavedImage, SavedImageIsReadable}
 use Rattle.reiser_volume.specs.fs_rows.Rows.{WholeRow}
-use Rattle.reiser_volume.specs.Volume.{AreRowsOf}
-use Rattle.convert_trees_laws.specs.Names.{NamesKeepRules}
-use Rattle.convert_trees_laws.specs.Rows.{HasBytes, KeepsBytes, RowsAreKept}
-use Rattle.convert_core.specs.space_items.Laws.{AreIds}
-use Rattle.convert_core.specs.space_items.declared.node.TreeNode.{TreeNode}
-use Rattle.convert_core.specs.btr_tree_writer.Trees.{pointer_to_root}
-use Rattle.convert_core.specs.convert_options.declared.options.Options.{Options}
-use Rattle.convert_core_laws.specs.opening.Opens.{ConvertedVolumesOpen, OpensAsBefore}
 
 -- ---- the format of a disk whose superblock is read
 

@@ -1,58 +1,15 @@
 -- The blocks of a file are in place.
-use Rattle.std.proofs.Common.{◌≡◌, ◌≤◌, ◌<◌, ℕ, ◌+◌, ◌-◌, ◌*◌, ◌==◌, ◌&&◌, nat_le, nat_lt, Bool, true, false, List, [], ◌∷◌, length, map, filter, Option, Some, None, refl, sym, ap, subst, ◌∙◌, if◌then◌else◌, arith}
-use Rattle.std.specs.Prelude.{Contains, unwrap_or}
-use Rattle.std.specs.List.{AllByRecursion}
-use Rattle.std.specs.Option.{option_map_or}
-use Rattle.std.proofs.lemmas.Bool.{and_parts, leb-true}
-use Rattle.std.proofs.lemmas.Bool.Decides.{nat_tests}
-use Rattle.indexmap.specs.IndexMap.{keys}
-use Rattle.reiser_volume.specs.outside.History.{Image}
-use Rattle.reiser_volume.specs.vol_block.Volume.{IsReserved, is_reserved}
+use Rattle.convert_core_laws.proofs.Imports.{◌≡◌, ◌≤◌, ◌<◌, ℕ, ◌+◌, ◌-◌, ◌*◌, ◌==◌, ◌&&◌, nat_le, nat_lt, Bool, true, false, List, [], ◌∷◌, length, map, filter, Option, Some, None, refl, sym, ap, subst, ◌∙◌, arith, Contains, unwrap_or, AllByRecursion, option_map_or, and_parts, leb-true, nat_tests, keys, Image, IsReserved, is_reserved, extents_of, Item, TreeItem, bare_item, MapRange, IsMaking, Making, HasExtents, HasPieces, HoldFiles, ComesFrom, in_piece, made_from, file_tree_items, GivesItsOwn, FileAt, file_at, AreSortedKeys, HoldsBlock, all_at, numbered, reserved_no, extents_at, file_block, is_owned_by, pieces_of, Source, file_extent_items, inline_in, kind_in, ino_of, size_in, FilesAreHeld, has_bytes, Kind, File, extent_item, inline_extent, target_bytes, block_from, file_runs, RunFrom, Disk, Tail, items_of, ObjectKey, ObjectStat, used_length, stays_in_tree, is_tail, kind_by, no_stat, stat_at, superblock, used_of, volume_items, ReiserItem, HasSamePaths, Piece, AreBlocksInPlace, byte_place}
+use Rattle.std.proofs.Common.{if◌then◌else◌}
+use Rattle.convert_core.proofs.extent_pieces.Telling.{RunLies, runs_lie}
+use Rattle.reiser_volume.specs.reiser_volume_files.declared.map.FileRun.{FileRun}
+use Rattle.reiser_volume.proofs.Mapping.{maps_tell_owned}
+use Rattle.reiser_volume.specs.Owners.{Owns, TellsOwned}
 use Rattle.convert_core_laws.proofs.going_back.Staying.{stays}
-use Rattle.btr_reader.specs.btr_reader_contents.Extents.{extents_of}
-use Rattle.btr_reader.specs.btr_node.Leaf.{Item}
-use Rattle.btr_reader.specs.btr_reader_walk.Events.{TreeItem}
-use Rattle.btr_reader.specs.btr_reader_walk.Tree.{bare_item}
-use Rattle.btr_reader.specs.btr_reader_walk.declared.map.MapRange.{MapRange}
 use Rattle.convert_core_laws.proofs.Owned.{extents_found}
 use Rattle.convert_core_laws.proofs.Pieces.{all_of_inode, covers_byte, one_of_inode}
 use Rattle.convert_core_laws.proofs.ByteReading.{is_extent}
 use Rattle.convert_core_laws.proofs.Sound.{owner_is}
-use Rattle.convert_core.specs.convert_steps.Making.{IsMaking, Making}
-use Rattle.convert_core.specs.convert_steps.Source.{HasExtents, HasPieces, HoldFiles, ComesFrom, in_piece, made_from}
-use Rattle.convert_core.specs.convert_steps.Standing.{file_tree_items}
-use Rattle.convert_core_laws.specs.reading.Opened.{GivesItsOwn}
-use Rattle.convert_core.specs.extent_pieces.Files.{FileAt, file_at}
-use Rattle.convert_core.specs.extent_pieces.Laws.{AreSortedKeys, HoldsBlock}
-use Rattle.convert_core.proofs.extent_pieces.Lists.{all_at}
-use Rattle.convert_core.proofs.extent_pieces.Named.{numbered}
-use Rattle.convert_core.proofs.extent_pieces.Reserving.{reserved_no}
-use Rattle.convert_core.proofs.extent_pieces.Telling.{RunLies, runs_lie}
-use Rattle.convert_core.specs.file_items.Extents.{extents_at, file_block, is_owned_by, pieces_of}
-use Rattle.convert_core.specs.file_items.Tree.{Source, file_extent_items, inline_in, kind_in, ino_of, size_in}
-use Rattle.convert_trees_laws.specs.Held.{FilesAreHeld}
-use Rattle.reiser_volume.specs.fs_rows.Kinds.{has_bytes}
-use Rattle.reiser_volume.specs.fs_rows.declared.row.Kind.{Kind}
-use Rattle.reiser_volume.specs.fs_rows.declared.row.Kind.TheVariants.{File}
-use Rattle.convert_core.specs.btr_item_list.Extents.{extent_item, inline_extent}
-use Rattle.reiser_volume.specs.reiser_volume_files.Bytes.{target_bytes}
-use Rattle.reiser_volume.specs.reiser_volume_files.Runs.{block_from, file_runs}
-use Rattle.reiser_volume.specs.reiser_volume_files.declared.map.FileRun.{FileRun}
-use Rattle.reiser_volume.specs.reiser_volume_files.declared.map.RunFrom.{RunFrom}
-use Rattle.reiser_volume.specs.reiser_volume_files.declared.map.RunFrom.TheVariants.{Disk, Tail}
-use Rattle.reiser_volume.specs.reiser_volume_objects.Keys.{items_of}
-use Rattle.reiser_volume.specs.reiser_volume_objects.declared.key.ObjectKey.{ObjectKey}
-use Rattle.reiser_volume.specs.reiser_volume_objects.declared.stat.ObjectStat.{ObjectStat}
-use Rattle.reiser_volume.proofs.Holding.{used_length}
-use Rattle.reiser_volume.proofs.Mapping.{maps_tell_owned}
-use Rattle.reiser_volume.specs.Inline.{stays_in_tree, is_tail}
-use Rattle.reiser_volume.specs.Made.{kind_by, no_stat, stat_at}
-use Rattle.reiser_volume.specs.Owners.{Owns, TellsOwned}
-use Rattle.reiser_volume.specs.Volume.{superblock, used_of, volume_items}
-use Rattle.reiser_volume.specs.reiser_walk.Items.{ReiserItem}
-use Rattle.convert_trees_laws.specs.Names.{HasSamePaths}
-use Rattle.convert_core.specs.unit_plan.declared.piece.Piece.{Piece}
-use Rattle.convert_core_laws.specs.placement.InPlace.{AreBlocksInPlace, byte_place}
 use Rattle.convert_core_laws.proofs.placement.Extents.{bare_place, item_place, piece_at, piece_place, read_places}
 
 -- ---- small facts

@@ -1,38 +1,12 @@
 -- The data of files stays where it is.
-use Rattle.std.proofs.Common.{ℕ, ◌+◌, ◌<◌, List, subst}
-use Rattle.btrfs_format.specs.declared.object.TheConstants.{FS_TREE}
-use Rattle.reiser_volume.specs.outside.History.{Image}
+use Rattle.convert_core_laws.proofs.Imports.{ℕ, ◌+◌, ◌<◌, List, subst, FS_TREE, Image, Ids, items_at, own_map, own_super, TreeItem, IsMaking, Making, HasPieces, made_from, file_tree_items, VolumeTrees, taken_free, NewIdsFit, ConvertedIsReadable, IsReadableWithTrees, IsNewVolume, ReadsTree, Source, ino_of, FilesAreHeld, root, ObjectKey, Naming, LeadsToObject, volume_items, HasSamePaths, NamesAreKept, TreeNode, pointer_to_root, Options, ConvertedDataStays, IsInPlace, StaysInPlace}
 use Rattle.reiser_volume.specs.reiser_super.declared.superblock.Super.{Super}
-use Rattle.reiser_volume.specs.vol_block.declared.ids.Ids.{Ids}
-use Rattle.btr_reader.specs.Image.{items_at}
-use Rattle.btr_reader.specs.Parts.{own_map, own_super}
-use Rattle.btr_reader.specs.btr_reader_walk.Events.{TreeItem}
-use Rattle.convert_core.specs.convert_steps.Making.{IsMaking, Making}
-use Rattle.convert_core.specs.convert_steps.Source.{HasPieces, made_from}
-use Rattle.convert_core.specs.convert_steps.Standing.{file_tree_items}
 use Rattle.convert_core.specs.convert_steps.Switch.{IsMirrorOf}
-use Rattle.convert_core.specs.convert_steps.declared.trees.VolumeTrees.{VolumeTrees}
-use Rattle.convert_core.proofs.Moving.{taken_free}
 use Rattle.convert_core.proofs.Putting.{used_not_free}
-use Rattle.convert_core_laws.specs.reading.Identifiers.{NewIdsFit}
-use Rattle.convert_core_laws.specs.reading.Laws.{ConvertedIsReadable, IsReadableWithTrees}
-use Rattle.convert_core_laws.specs.reading.Opened.{IsNewVolume, ReadsTree}
-use Rattle.convert_core_laws.proofs.reading.SavedWay.{pointer_by}
-use Rattle.convert_core.specs.file_items.Tree.{Source, ino_of}
-use Rattle.convert_trees_laws.specs.Held.{FilesAreHeld}
 use Rattle.reiser_volume.proofs.reiser_volume_names.Uniqueness.{links_one}
-use Rattle.reiser_volume.specs.reiser_volume_objects.Keys.{root}
-use Rattle.reiser_volume.specs.reiser_volume_objects.declared.key.ObjectKey.{ObjectKey}
-use Rattle.reiser_volume.specs.reiser_volume_objects.declared.naming.Naming.{Naming}
 use Rattle.reiser_volume.specs.Opened.{links_in}
-use Rattle.reiser_volume.specs.Rows.{LeadsToObject}
-use Rattle.reiser_volume.specs.Volume.{volume_items}
-use Rattle.convert_trees_laws.specs.Names.{HasSamePaths, NamesAreKept}
+use Rattle.convert_core_laws.proofs.reading.SavedWay.{pointer_by}
 use Rattle.convert_core_laws.proofs.soundness.Recounting.{volume_for}
-use Rattle.convert_core.specs.space_items.declared.node.TreeNode.{TreeNode}
-use Rattle.convert_core.specs.btr_tree_writer.Trees.{pointer_to_root}
-use Rattle.convert_core.specs.convert_options.declared.options.Options.{Options}
-use Rattle.convert_core_laws.specs.placement.InPlace.{ConvertedDataStays, IsInPlace, StaysInPlace}
 use Rattle.convert_core_laws.proofs.placement.Files.{blocks_in_place}
 
 module _ (readable : ConvertedIsReadable) (held : FilesAreHeld) (names : NamesAreKept)

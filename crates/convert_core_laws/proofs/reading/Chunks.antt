@@ -1,43 +1,11 @@
 -- The chunks of a converted volume are read as they were written.
-use Rattle.std.proofs.Common.{◌≡◌, ◌≢◌, ◌⊎◌, ◌≤◌, ◌<◌, ℕ, suc, ◌+◌, ◌*◌, ◌%◌, ◌^◌, inl, inr, ◌&&◌, eqb, Bool, true, false, not, cond, List, [], ◌∷◌, ◌++◌, length, map, filter, max, min, Option, Some, None, refl, sym, ap, subst, ◌∙◌, ⊎_elim, arith, append_assoc}
-use Rattle.std.specs.Prelude.{AllPairs, Contains, if◌then◌else◌, nat_eq, nat_lt}
-use Rattle.std.specs.List.{AllByRecursion, flat_map, list_any}
+use Rattle.convert_core_laws.proofs.Imports.{◌≡◌, ◌≢◌, ◌⊎◌, ◌≤◌, ◌<◌, ℕ, suc, ◌+◌, ◌*◌, ◌%◌, ◌^◌, inl, inr, ◌&&◌, eqb, Bool, true, false, not, cond, List, [], ◌∷◌, ◌++◌, length, map, filter, max, min, Option, Some, None, refl, sym, ap, subst, ◌∙◌, ⊎_elim, arith, append_assoc, AllPairs, Contains, if◌then◌else◌, nat_eq, AllByRecursion, flat_map, list_any, option_map, and_from, cases_Bool, eq-eqb, le-leb, le-ltb, ne_eqb, or_left, or_right, append-nil, map-append, Contains-append_cases, flat_map-map, CHUNK_ITEM, DEV_ITEM, DEV_ITEMS_OBJECTID, FIRST_CHUNK_TREE_OBJECTID, BtrRefusal, BadBtrfs, Unsupported, ChunkForm, ChunkType, Ids, refused_unless, make_key, Key, Item, device_bytes, chunk_made, TreeItem, bare_item, MapRange, beside_refusals, chunk_in, chunk_item_refusals, chunk_refusals, chunks_refusals, is_read_kind, items_refusals, lies_on, new_chunk, overlap, same_body, same_chunk, same_mirror, same_stripe, stripes_of, with_chunk, with_items, FitsArray, array_entry, ChunkAt, is_system_role, record_bytes, contains_cases, contains_head, contains_tail, chunk_body, chunk_item, chunk_items, chunk_kind, device_body, PlannedChunk, Role, System, Metadata, Data, chunk_at, range_for}
+use Rattle.std.specs.Prelude.{nat_lt}
 use Rattle.std.specs.Cmp.Lexicographic.{pointwise}
-use Rattle.std.specs.Option.{option_map}
-use Rattle.std.proofs.lemmas.Bool.{and_from, cases_Bool, eq-eqb, le-leb, le-ltb, ne_eqb, or_left, or_right}
-use Rattle.std.proofs.lemmas.List.{append-nil, map-append}
-use Rattle.std.proofs.lemmas.List.Elements.{Contains-append_cases}
-use Rattle.std.proofs.lemmas.List.Folds.{flat_map-map}
-use Rattle.btrfs_format.specs.declared.key.TheConstants.{CHUNK_ITEM, DEV_ITEM}
-use Rattle.btrfs_format.specs.declared.object.TheConstants.{DEV_ITEMS_OBJECTID, FIRST_CHUNK_TREE_OBJECTID}
-use Rattle.reiser_volume.specs.refusals.declared.refusal.BtrRefusal.{BtrRefusal}
-use Rattle.reiser_volume.specs.refusals.declared.refusal.BtrRefusal.TheVariants.{BadBtrfs, Unsupported}
-use Rattle.reiser_volume.specs.refusals.declared.rule.BtrRule.TheVariants.{ChunkForm}
-use Rattle.reiser_volume.specs.refusals.declared.rule.Feature.TheVariants.{ChunkType}
-use Rattle.reiser_volume.specs.vol_block.declared.ids.Ids.{Ids}
-use Rattle.btr_reader.specs.btr_reader_contents.Extents.{refused_unless}
-use Rattle.btr_reader.specs.btr_keys.Key.{make_key}
-use Rattle.btr_reader.specs.btr_keys.declared.key.Key.{Key}
-use Rattle.btr_reader.specs.btr_node.Leaf.{Item}
 use Rattle.btr_reader.specs.btr_space_items.Chunk.{chunk_bytes, chunk_layout}
-use Rattle.btr_reader.specs.btr_space_items.Device.{device_bytes}
 use Rattle.btr_reader.specs.btr_space_items.Stripe.{stripe_layout}
 use Rattle.btr_reader.specs.btr_space_items.declared.chunk.Chunk.{Chunk}
 use Rattle.btr_reader.specs.btr_space_items.declared.stripe.Stripe.{Stripe}
-use Rattle.btr_reader.proofs.ArrayBack.{chunk_made}
-use Rattle.btr_reader.specs.btr_reader_walk.Events.{TreeItem}
-use Rattle.btr_reader.specs.btr_reader_walk.Tree.{bare_item}
-use Rattle.btr_reader.specs.btr_reader_walk.declared.map.MapRange.{MapRange}
-use Rattle.btr_reader.specs.Chunks.{beside_refusals, chunk_in, chunk_item_refusals, chunk_refusals, chunks_refusals, is_read_kind, items_refusals, lies_on, new_chunk, overlap, same_body, same_chunk, same_mirror, same_stripe, stripes_of, with_chunk, with_items}
-use Rattle.btr_reader.specs.Laws.{FitsArray, array_entry}
-use Rattle.btr_reader.specs.declared.chunk.ChunkAt.{ChunkAt}
-use Rattle.convert_core.specs.convert_steps.Superblock.{is_system_role, record_bytes}
-use Rattle.reiser_volume.proofs.reiser_bitmap.Ranges.{contains_cases, contains_head, contains_tail}
-use Rattle.convert_core.specs.space_items.Chunks.{chunk_body, chunk_item, chunk_items, chunk_kind, device_body}
-use Rattle.convert_core.specs.unit_plan.declared.chunk.PlannedChunk.{PlannedChunk}
-use Rattle.convert_core.specs.unit_plan.declared.chunk.Role.{Role}
-use Rattle.convert_core.specs.unit_plan.declared.chunk.Role.TheVariants.{System, Metadata, Data}
-use Rattle.convert_core_laws.specs.reading.Opened.{chunk_at, range_for}
 
 -- ---- the bootstrap array
 

@@ -1,25 +1,6 @@
 -- Each address in a chunk means itself.
-use Rattle.std.proofs.Common.{◌≡◌, ◌≤◌, ◌<◌, ℕ, ◌+◌, ◌-◌, ◌*◌, ◌/◌, ◌^◌, leb, ltb, Bool, true, false, List, [], ◌∷◌, ◌++◌, length, map, Some, sym, ap, subst, ⊎_elim, arith}
-use Rattle.std.specs.Prelude.{Contains, if◌then◌else◌, not, ◌&&◌}
-use Rattle.std.proofs.lemmas.Bool.{and_from, both_ways, cases_Bool, le-leb, lt-ltb, not_from_false}
-use Rattle.std.proofs.lemmas.Bool.Decides.{nat_tests}
-use Rattle.std.proofs.lemmas.List.Elements.{Contains-append_cases, Contains-append_left, Contains-append_right}
-use Rattle.reiser_volume.proofs.fs_paths.Lists.{from_filter, from_map, in_filter, in_map}
-use Rattle.reiser_volume.specs.outside.History.{Image}
-use Rattle.btr_reader.specs.btr_node.NodeSize.{IsNodeSize}
-use Rattle.convert_core.specs.btr_tree.Laws.{GivesItself}
-use Rattle.convert_core.specs.btr_tree.Writing.{IsInNode, IsInSlots}
-use Rattle.btr_reader.specs.btr_reader_walk.Map.{holds, place}
-use Rattle.convert_core.specs.convert_steps.Making.{IsMaking, Making, chunk_slots, slots}
-use Rattle.convert_core.specs.convert_steps.Superblock.{is_system_role}
-use Rattle.convert_core.proofs.extent_pieces.Lists.{all_at, any_from}
-use Rattle.reiser_volume.proofs.reiser_bitmap.Ranges.{contains_cases}
-use Rattle.convert_core.proofs.space_items.ChunkLists.{chunk_ends}
-use Rattle.convert_trees_laws.proofs.Booting.{chunks_of, used_few}
-use Rattle.reiser_volume.specs.Volume.{used_of}
-use Rattle.convert_core.specs.unit_plan.declared.chunk.PlannedChunk.{PlannedChunk}
-use Rattle.convert_core.specs.unit_plan.declared.chunk.Role.TheVariants.{System}
-use Rattle.convert_core_laws.specs.reading.Opened.{AreRangesFor, GivesItsOwn, boot_part, map_for, other_part, range_for}
+use Rattle.convert_core_laws.proofs.Imports.{◌≡◌, ◌≤◌, ◌<◌, ℕ, ◌+◌, ◌-◌, ◌*◌, ◌/◌, ◌^◌, leb, ltb, Bool, true, false, List, [], ◌∷◌, ◌++◌, length, map, Some, sym, ap, subst, ⊎_elim, arith, Contains, if◌then◌else◌, and_from, both_ways, cases_Bool, le-leb, lt-ltb, not_from_false, nat_tests, Contains-append_cases, Contains-append_left, Contains-append_right, from_filter, from_map, in_filter, in_map, Image, IsNodeSize, GivesItself, IsInNode, IsInSlots, holds, place, IsMaking, Making, chunk_slots, slots, is_system_role, all_at, any_from, contains_cases, chunk_ends, chunks_of, used_few, used_of, PlannedChunk, System, AreRangesFor, GivesItsOwn, boot_part, map_for, other_part, range_for}
+use Rattle.std.specs.Prelude.{not, ◌&&◌}
 use Rattle.convert_core_laws.proofs.reading.Places.{HasBlock, HasBlockOf, chunk_slot_block, piece_block, slot_block}
 
 inside : (low long a : ℕ) → low ≤ a → a < low + long → (leb low a && ltb a (low + long)) ≡ true

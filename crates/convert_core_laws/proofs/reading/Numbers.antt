@@ -1,43 +1,8 @@
 -- The numbers of a converted volume fit their fields.
-use Rattle.std.proofs.Common.{◌≡◌, ◌≤◌, ◌<◌, ℕ, suc, ◌+◌, ◌-◌, ◌*◌, ◌^◌, Bool, List, [], ◌∷◌, ◌++◌, length, take, drop, sum_by, refl, sym, ap, subst, ◌∙◌, ⊎_elim, arith, length-append, length-drop}
-use Rattle.std.specs.Prelude.{AllPairs}
-use Rattle.std.specs.List.{flat_map, range_with_len, sum}
-use Rattle.std.proofs.lemmas.List.{length-map, length-take}
-use Rattle.std.proofs.lemmas.List.FromFn.{length-range_with_len}
-use Rattle.std.proofs.lemmas.List.Sums.{sum_by-cons, sum_by-le}
-use Rattle.std.proofs.lemmas.Nat.{mul-le}
-use Rattle.std.specs.Ordering.{nat_cmp}
-use Rattle.btrfs_format.specs.declared.object.TheConstants.{CHUNK_TREE, CONV_IMAGE_SUBVOL, CSUM_TREE, DATA_RELOC_TREE, DEV_TREE, EXTENT_TREE, FS_TREE, ROOT_TREE}
-use Rattle.reiser_volume.specs.outside.History.{Image}
-use Rattle.btr_reader.specs.btr_node.NodeSize.{IsNodeSize}
-use Rattle.btr_reader.specs.btr_node.Leaf.{Item}
-use Rattle.convert_core.specs.btr_tree.Counting.{tree_nodes}
-use Rattle.convert_core.specs.btr_tree.Packing.{packed_leaves, tree_levels}
-use Rattle.convert_core.specs.btr_tree.Roots.{level_pointers, lengths_of, pointers_to}
-use Rattle.convert_core.specs.btr_tree.Building.{pointer_to}
-use Rattle.convert_core.specs.btr_tree.declared.climb.Root.{Root}
-use Rattle.convert_core.specs.convert_steps.Making.{IsMaking, Making, chunk_slots, new_ids, slots}
-use Rattle.convert_core.specs.convert_steps.Source.{HasPieces}
-use Rattle.convert_core.specs.convert_steps.Standing.{HasTrees, device_from, extents_from, file_tree_items, form, image_from, image_tree_items, nodes_from, nodes_of_others, relocation_from, root_from, root_tree_items, sum_tree_items, sums_from, used_bytes}
-use Rattle.convert_core.specs.convert_steps.declared.trees.VolumeTrees.{VolumeTrees}
-use Rattle.convert_core.proofs.Moving.{sound}
-use Rattle.convert_core.proofs.Wholeness.{are_pieces}
+use Rattle.convert_core_laws.proofs.Imports.{◌≡◌, ◌≤◌, ◌<◌, ℕ, suc, ◌+◌, ◌-◌, ◌*◌, ◌^◌, Bool, List, [], ◌∷◌, ◌++◌, length, take, drop, refl, sym, ap, subst, ◌∙◌, ⊎_elim, arith, length-append, length-drop, AllPairs, flat_map, range_with_len, sum, length-map, length-take, length-range_with_len, sum_by-cons, sum_by-le, mul-le, nat_cmp, CHUNK_TREE, CONV_IMAGE_SUBVOL, CSUM_TREE, DATA_RELOC_TREE, DEV_TREE, EXTENT_TREE, FS_TREE, ROOT_TREE, Image, IsNodeSize, Item, tree_nodes, packed_leaves, tree_levels, level_pointers, lengths_of, pointers_to, pointer_to, Root, IsMaking, Making, chunk_slots, new_ids, slots, HasPieces, HasTrees, device_from, extents_from, file_tree_items, form, image_from, image_tree_items, nodes_from, nodes_of_others, relocation_from, root_from, root_tree_items, sum_tree_items, sums_from, used_bytes, VolumeTrees, sound, are_pieces, relocation_items, free_units, is_free_unit, unit_count, used_of, chunk_items, device_items, bytes_of_nodes, bytes_of_pieces, extent_items, merged_nodes, nodes_of_tree, TreeNode, length-merge, chunks_of, used_few, TreeStands, IsSoundPlan, need, nodes_in_unit, node_places, places_in, PlannedChunk}
+use Rattle.std.proofs.Common.{sum_by}
 use Rattle.convert_core.proofs.extent_pieces.Bounding.{filter_few}
-use Rattle.convert_core.specs.file_items.Small.{relocation_items}
-use Rattle.reiser_volume.specs.reiser_bitmap.Units.{free_units, is_free_unit, unit_count}
-use Rattle.reiser_volume.specs.Volume.{used_of}
-use Rattle.convert_core.specs.space_items.Chunks.{chunk_items, device_items}
-use Rattle.convert_core.specs.space_items.Extents.{bytes_of_nodes, bytes_of_pieces, extent_items}
-use Rattle.convert_core.specs.space_items.Nodes.{merged_nodes, nodes_of_tree}
-use Rattle.convert_core.specs.space_items.declared.node.TreeNode.{TreeNode}
 use Rattle.convert_core.proofs.space_items.Counting.{apart_counted, node_place, piece_bytes, piece_place, pieces_fit}
-use Rattle.convert_core.proofs.space_items.Merges.{length-merge}
-use Rattle.convert_trees_laws.proofs.Booting.{chunks_of, used_few}
-use Rattle.convert_core.specs.btr_tree_writer.Trees.{TreeStands}
-use Rattle.convert_core.specs.unit_plan.Laws.{IsSoundPlan}
-use Rattle.convert_core.specs.unit_plan.Needed.{need, nodes_in_unit}
-use Rattle.convert_core.specs.unit_plan.Places.{node_places, places_in}
-use Rattle.convert_core.specs.unit_plan.declared.chunk.PlannedChunk.{PlannedChunk}
 
 -- ---- the slots of units
 

@@ -1,59 +1,9 @@
 -- A converted volume is opened.
-use Rattle.std.proofs.Common.{◌≡◌, ◌⊎◌, ◌≤◌, ◌<◌, ℕ, ◌+◌, ◌-◌, ◌^◌, inl, inr, true, false, List, [], ◌++◌, length, map, take, drop, get_or, replicate, Option, Some, Ok, refl, sym, ap, subst, ◌∙◌, ⊎_elim, arith}
-use Rattle.std.specs.Prelude.{All, AllPairs, Contains, unwrap_or}
-use Rattle.std.specs.List.{flat_map}
-use Rattle.std.proofs.lemmas.Bool.{both_ways, cases_lt}
-use Rattle.std.proofs.lemmas.List.{get_or_default}
-use Rattle.std.proofs.lemmas.List.Elements.{All-drop, All-take}
-use Rattle.std.proofs.lemmas.List.Kept.{AllPairs-filter}
-use Rattle.std.proofs.lemmas.Simd.{map-map}
-use Rattle.btrfs_format.specs.declared.object.TheConstants.{CHUNK_TREE, ROOT_TREE}
-use Rattle.reiser_volume.proofs.fs_paths.Lists.{from_filter, in_filter}
-use Rattle.reiser_volume.specs.outside.History.{Image}
-use Rattle.reiser_volume.specs.refusals.declared.refusal.BtrRefusal.{BtrRefusal}
-use Rattle.reiser_volume.specs.vol_block.declared.ids.Ids.{Ids}
-use Rattle.btr_reader.specs.btr_node.Leaf.{Item}
-use Rattle.btr_reader.specs.btr_node.NodeSize.{IsNodeSize}
-use Rattle.btr_reader.specs.csum_kinds.declared.kind.SumKind.{SumKind}
-use Rattle.btr_reader.specs.csum_kinds.declared.kind.SumKind.TheVariants.{Crc32c}
-use Rattle.btr_reader.specs.btr_super.Sums.{csum_number, known_kind}
-use Rattle.btr_reader.specs.Chunks.{chunks_refusals, items_refusals, range_of, with_items}
-use Rattle.btr_reader.specs.Laws.{array_entry}
-use Rattle.btr_reader.specs.Opening.{IsBtrfsOpened, boot_chunks, boot_list, boot_refusals, chunk_tree, form_of, map_from, opening_refusals, or_later, refusals_after, root_tree, super_on, tree_of, trees_refusals}
-use Rattle.btr_reader.specs.declared.chunk.ChunkAt.{ChunkAt}
-use Rattle.btr_reader.proofs.ArrayBack.{arrays_read_back}
-use Rattle.btr_reader.specs.btr_super.declared.superblock.Super.{Super}
-use Rattle.convert_core.specs.btr_tree.Laws.{GivesItself}
-use Rattle.convert_core.specs.btr_tree.declared.climb.Root.{Root}
-use Rattle.btr_reader.specs.btr_reader_walk.Tree.{bare_item}
-use Rattle.btr_reader.specs.btr_reader_walk.Walks.{found, wrong}
-use Rattle.btr_reader.specs.btr_reader_walk.declared.map.MapRange.{MapRange}
-use Rattle.btr_reader.specs.btr_reader_walk.declared.tree.Form.{Form}
-use Rattle.btr_reader.specs.btr_reader_walk.declared.tree.NodePointer.{NodePointer}
-use Rattle.btr_reader.specs.btr_reader_walk.declared.tree.Tree.{Tree}
-use Rattle.convert_core.specs.convert_steps.Making.{IsMaking, Making, chunk_slots, new_ids, slots}
-use Rattle.convert_core.specs.convert_steps.Standing.{HasTrees, form, root_from, root_tree_items}
-use Rattle.convert_core.specs.convert_steps.declared.trees.VolumeTrees.{VolumeTrees}
-use Rattle.convert_core.proofs.Wholeness.{blocks_inside}
-use Rattle.convert_core.specs.convert_steps.Superblock.{boot_bytes, is_system_role, new_super}
-use Rattle.convert_core.proofs.extent_pieces.Lists.{all_at}
-use Rattle.reiser_volume.proofs.reiser_bitmap.Ranges.{all_from_contains}
-use Rattle.reiser_volume.specs.Volume.{used_of}
-use Rattle.convert_core.specs.space_items.Chunks.{chunk_items}
-use Rattle.convert_core.specs.space_items.declared.node.TreeNode.{TreeNode}
-use Rattle.convert_core.proofs.space_items.ChunkLists.{chunk_ends}
-use Rattle.convert_trees_laws.proofs.Booting.{blocks_are, chunks_of, used_few}
-use Rattle.convert_core.specs.btr_tree_writer.Trees.{TreeStands, pointer_to_root}
-use Rattle.convert_core.specs.unit_plan.Chunks.{AreChunks, IsChunk, role_of, usable_end}
-use Rattle.convert_core.specs.unit_plan.declared.chunk.PlannedChunk.{PlannedChunk}
-use Rattle.convert_core.specs.convert_options.declared.options.Options.{Options}
-use Rattle.convert_core_laws.specs.reading.Laws.{ChunksMap, MapsChunks}
-use Rattle.convert_core_laws.specs.reading.Opened.{IsNewVolume, boot_part, chunk_at, map_for, range_for, super_for}
+use Rattle.convert_core_laws.proofs.Imports.{◌≡◌, ◌⊎◌, ◌≤◌, ◌<◌, ℕ, ◌+◌, ◌-◌, ◌^◌, inl, inr, true, false, List, [], ◌++◌, length, map, take, drop, get_or, replicate, Option, Some, Ok, refl, sym, ap, subst, ◌∙◌, ⊎_elim, arith, All, AllPairs, Contains, unwrap_or, flat_map, both_ways, cases_lt, get_or_default, All-drop, All-take, AllPairs-filter, map-map, CHUNK_TREE, ROOT_TREE, from_filter, in_filter, Image, BtrRefusal, Ids, Item, IsNodeSize, SumKind, Crc32c, csum_number, known_kind, chunks_refusals, items_refusals, range_of, with_items, array_entry, IsBtrfsOpened, boot_chunks, boot_list, boot_refusals, chunk_tree, form_of, map_from, opening_refusals, or_later, refusals_after, root_tree, super_on, tree_of, trees_refusals, ChunkAt, arrays_read_back, Super, GivesItself, Root, bare_item, found, wrong, MapRange, Form, NodePointer, Tree, IsMaking, Making, chunk_slots, new_ids, slots, HasTrees, form, root_from, root_tree_items, VolumeTrees, blocks_inside, boot_bytes, is_system_role, new_super, all_at, all_from_contains, used_of, chunk_items, TreeNode, chunk_ends, blocks_are, chunks_of, used_few, TreeStands, pointer_to_root, AreChunks, IsChunk, role_of, usable_end, PlannedChunk, Options, ChunksMap, MapsChunks, IsNewVolume, boot_part, chunk_at, map_for, range_for, super_for, known-number}
 use Rattle.convert_core_laws.proofs.reading.Chunks.{AreApart, AreRead, Come, LiesOn, all_fit, array_sound, entries_are, tree_read}
 use Rattle.convert_core_laws.proofs.reading.Mapped.{all_itself, boot_nodes, ranges_are as are_ranges_of}
 use Rattle.convert_core_laws.proofs.reading.Stood.{IsRead, read_by}
 use Rattle.convert_core_laws.proofs.reading.Superblock.{size, super_reads, own_fsid}
-use Rattle.btr_reader.proofs.btr_super.SumNumbers.{known-number}
 
 -- two chunks of a list that ascends lie apart, or are one
 two_of : (cs : List PlannedChunk) (c d : PlannedChunk) → AllPairs (λ c d. c.start + c.length ≤ d.start) cs → Contains cs c → Contains cs d → (c ≡ d) ⊎ AreApart c d

@@ -1,37 +1,6 @@
 -- Each block of a node and of a piece lies in a chunk.
-use Rattle.std.proofs.Common.{◌≡◌, ◌≢◌, ◌≤◌, ◌<◌, ℕ, ◌+◌, ◌-◌, ◌*◌, ◌/◌, inl, inr, ◌||◌, Bool, true, false, List, length, zero, suc, Some, None, refl, sym, subst, ◌∙◌, ⊎_elim, arith}
-use Rattle.std.specs.Prelude.{Contains, if◌then◌else◌, not}
-use Rattle.std.specs.List.{range_with_len}
-use Rattle.std.proofs.lemmas.Bool.{and_from, cases_Bool, cases_lt, not_from_false, or_left, or_right}
-use Rattle.std.proofs.lemmas.List.Folds.{list_any-from_Any}
-use Rattle.reiser_volume.specs.vol_block.Volume.{IsReserved, is_reserved}
-use Rattle.reiser_volume.proofs.vol_block.Reserved.{decides_reserved}
-use Rattle.reiser_volume.specs.outside.History.{Image}
-use Rattle.btr_reader.specs.btr_node.NodeSize.{IsNodeSize}
-use Rattle.convert_core.specs.btr_tree.Writing.{IsInSlots}
-use Rattle.reiser_volume.specs.reiser_bitmap.Bits.{has}
-use Rattle.reiser_volume.specs.reiser_bitmap.Units.{IsFreeUnit}
-use Rattle.reiser_volume.proofs.reiser_bitmap.Ranges.{contains_range}
-use Rattle.reiser_volume.specs.Volume.{used_of}
-use Rattle.convert_core.specs.extent_pieces.Laws.{LieWell, LiesInUnit}
-use Rattle.convert_core.proofs.extent_pieces.Lists.{all_at, any_from}
-use Rattle.convert_core.specs.unit_plan.Choice.{holds_data, is_among, is_data}
-use Rattle.convert_core.specs.unit_plan.Chunks.{AreChunks, HoldsUnit, IsChunk, is_data_unit, is_filler, role_of, usable_end, use_of}
-use Rattle.convert_core.specs.unit_plan.Needed.{need}
-use Rattle.convert_core.specs.unit_plan.Laws.{IsSoundPlan}
-use Rattle.convert_core.specs.unit_plan.declared.chunk.PlannedChunk.{PlannedChunk}
-use Rattle.convert_core.specs.unit_plan.declared.chunk.Role.{Role}
-use Rattle.convert_core.specs.unit_plan.declared.chunk.Role.TheVariants.{System, Metadata, Data}
-use Rattle.convert_core.specs.unit_plan.declared.piece.Piece.{Piece}
-use Rattle.convert_core.proofs.unit_plan.Starts.{contains_among}
-use Rattle.convert_core.proofs.unit_plan.Uses.{free_of, role_is}
-use Rattle.convert_core.specs.convert_steps.Making.{IsMaking, Making, chunk_slots, slots}
-use Rattle.convert_core.specs.convert_steps.Source.{HasPieces}
-use Rattle.convert_core.specs.Converted.{IsFree}
-use Rattle.convert_core.proofs.Moving.{can_move, metadata_free, sound, stays_or_moves, system_free, well}
-use Rattle.convert_core.proofs.Reserved.{piece_apart}
-use Rattle.convert_core.proofs.Slots.{slot_unit}
-use Rattle.convert_trees_laws.proofs.Booting.{chunks_of}
+use Rattle.convert_core_laws.proofs.Imports.{◌≡◌, ◌≢◌, ◌≤◌, ◌<◌, ℕ, ◌+◌, ◌-◌, ◌*◌, ◌/◌, inl, inr, ◌||◌, Bool, true, false, List, length, zero, suc, Some, None, refl, sym, subst, ◌∙◌, ⊎_elim, arith, Contains, if◌then◌else◌, range_with_len, and_from, cases_Bool, cases_lt, not_from_false, or_left, or_right, list_any-from_Any, IsReserved, is_reserved, decides_reserved, Image, IsNodeSize, IsInSlots, has, IsFreeUnit, contains_range, used_of, LieWell, LiesInUnit, all_at, any_from, holds_data, is_among, is_data, AreChunks, HoldsUnit, IsChunk, is_data_unit, is_filler, role_of, usable_end, use_of, need, IsSoundPlan, PlannedChunk, Role, System, Metadata, Data, Piece, contains_among, free_of, role_is, IsMaking, Making, chunk_slots, slots, HasPieces, IsFree, can_move, metadata_free, sound, stays_or_moves, system_free, well, piece_apart, slot_unit, chunks_of}
+use Rattle.std.specs.Prelude.{not}
 
 -- a chunk holds the block
 pub record HasBlock (chunks : List PlannedChunk) (b : ℕ) : Type 0 where

@@ -1,31 +1,11 @@
 -- Where the rules of names are kept, those of the root directory alone are.
-use Rattle.std.proofs.Common.{◌≡◌, ◌≤◌, ◌<◌, ℕ, zero, suc, ◌&&◌, ◌||◌, ◌==◌, Bool, true, false, not, List, [], ◌∷◌, ◌++◌, length, get_or, AllPairs, Option, Some, None, refl, sym, ap, subst, ◌∙◌, ⊎_elim, arith}
-use Rattle.std.specs.Prelude.{Contains, codes, if◌then◌else◌}
-use Rattle.std.specs.Option.{option_and_then}
-use Rattle.std.proofs.lemmas.Bool.{both_ways, cases_Bool, cases_lt, eq-eqb, eqb-true}
-use Rattle.std.proofs.lemmas.List.{get_or_default}
-use Rattle.std.proofs.lemmas.List.Elements.{Contains-append_left, Contains-append_right}
-use Rattle.btrfs_format.specs.declared.object.TheConstants.{FIRST_FREE_OBJECTID}
-use Rattle.reiser_volume.proofs.fs_paths.Lists.{in_filter}
+use Rattle.convert_core_laws.proofs.Imports.{◌≡◌, ◌≤◌, ◌<◌, ℕ, zero, suc, ◌&&◌, ◌||◌, ◌==◌, Bool, true, false, not, List, [], ◌∷◌, ◌++◌, length, get_or, Option, Some, None, refl, sym, ap, subst, ◌∙◌, ⊎_elim, arith, Contains, codes, if◌then◌else◌, option_and_then, both_ways, cases_Bool, cases_lt, eq-eqb, eqb-true, get_or_default, Contains-append_left, Contains-append_right, FIRST_FREE_OBJECTID, in_filter, BtrRefusal, BadBtrfs, Body, NoInode, NameForm, DirEntryValue, inode_of, Inode, Key, find_inode_item, inode_on, kind_of_mode, index_entry, is_index, is_name, is_saved_name, names_inode, names_tree, naming_at, naming_of, dir_indexes, own_naming, AreIn, IsOpen, KeepsNames, bad_index, bad_inode, bad_location, bad_mode, bad_name, no_root_directory, root_is_none, twice, DirIndex, entry_named, index_refusals, index_refusals_at, is_called, is_root_directory, location_refusals, name_refusals, own_index_refusals, root_refusals, saved_location, twice_refusals, TreeItem, Kind, Directory, File, Symlink, Character, Block, Fifo, Socket, Subvolume, contains_cases, contains_head, contains_tail}
+use Rattle.std.proofs.Common.{AllPairs}
+use Rattle.btr_reader.specs.btr_reader_names.Inodes.{HasKind}
+use Rattle.btr_reader.specs.btr_reader_names.Links.{is_followed, root}
 use Rattle.reiser_volume.proofs.fs_paths.Nodes.{same_name-true}
-use Rattle.reiser_volume.specs.refusals.declared.refusal.BtrRefusal.{BtrRefusal}
-use Rattle.reiser_volume.specs.refusals.declared.refusal.BtrRefusal.TheVariants.{BadBtrfs}
-use Rattle.reiser_volume.specs.refusals.declared.rule.BtrRule.TheVariants.{Body, NoInode, NameForm}
-use Rattle.btr_reader.specs.btr_keys.DirEntry.{DirEntryValue}
-use Rattle.btr_reader.specs.btr_keys.Inode.{inode_of}
-use Rattle.btr_reader.specs.btr_keys.declared.inode.Inode.{Inode}
-use Rattle.btr_reader.specs.btr_keys.declared.key.Key.{Key}
-use Rattle.btr_reader.specs.btr_reader_names.Inodes.{HasKind, find_inode_item, inode_on, kind_of_mode}
-use Rattle.btr_reader.specs.btr_reader_names.Links.{index_entry, is_followed, is_index, is_name, is_saved_name, names_inode, names_tree, naming_at, naming_of, dir_indexes, own_naming, root}
 use Rattle.btr_reader.specs.btr_reader_names.Passes.{DifferInName}
-use Rattle.btr_reader.specs.btr_reader_names.Rules.{AreIn, IsOpen, KeepsNames, bad_index, bad_inode, bad_location, bad_mode, bad_name, no_root_directory, root_is_none, twice}
-use Rattle.btr_reader.specs.btr_reader_names.declared.dir_index.DirIndex.{DirIndex}
-use Rattle.btr_reader.specs.Image.{entry_named, index_refusals, index_refusals_at, is_called, is_root_directory, location_refusals, name_refusals, own_index_refusals, root_refusals, saved_location, twice_refusals}
 use Rattle.btr_reader.proofs.RootNames.{none_twice}
-use Rattle.btr_reader.specs.btr_reader_walk.Events.{TreeItem}
-use Rattle.reiser_volume.specs.fs_rows.declared.row.Kind.{Kind}
-use Rattle.reiser_volume.specs.fs_rows.declared.row.Kind.TheVariants.{Directory, File, Symlink, Character, Block, Fifo, Socket, Subvolume}
-use Rattle.reiser_volume.proofs.reiser_bitmap.Ranges.{contains_cases, contains_head, contains_tail}
 
 -- an entry of an item is one of all
 entry_in : (items : List TreeItem) (i : TreeItem) (e : DirEntryValue) → Contains items i → is_index i ≡ true → index_entry i.body ≡ Some e → Contains (dir_indexes items) (naming_of i e)

@@ -1,35 +1,7 @@
 -- Each tree is found by its root item.
-use Rattle.std.proofs.Common.{◌≡◌, ◌≤◌, ◌<◌, ℕ, ◌*◌, ◌^◌, ◌-◌, eqb, Bool, true, false, ◌&&◌, ◌||◌, List, [], ◌∷◌, length, map, replicate, Option, Some, None, refl, ap, ◌∙◌, arith}
-use Rattle.std.specs.Prelude.{if◌then◌else◌, codes, pos}
-use Rattle.std.specs.List.{list_any}
-use Rattle.std.specs.Option.{option_and_then, option_map}
-use Rattle.std.proofs.lemmas.Bool.{le-ltb, or_left, or_right}
-use Rattle.std.specs.Int.{w64}
-use Rattle.std.proofs.lemmas.Int.{fits_signed_from_abs}
-use Rattle.std.proofs.lemmas.Nat.{mul-le}
-use Rattle.std.proofs.lemmas.List.{length-replicate}
-use Rattle.btrfs_format.specs.declared.key.TheConstants.{ROOT_BACKREF, ROOT_ITEM, ROOT_REF}
-use Rattle.btrfs_format.specs.declared.object.TheConstants.{CONV_IMAGE_SUBVOL, CSUM_TREE, DATA_RELOC_TREE, DEV_TREE, EXTENT_TREE, FS_TREE, ROOT_TREE_DIR_OBJECTID}
-use Rattle.vol_block.specs.declared.mode.TheConstants.{DIRECTORY_MODE}
-use Rattle.reiser_volume.specs.vol_block.declared.ids.Ids.{Ids}
-use Rattle.btr_reader.specs.btr_keys.Inode.{inode_layout}
-use Rattle.btr_reader.specs.btr_keys.Key.{key_layout, make_key}
-use Rattle.btr_reader.specs.btr_keys.Stamp.{stamp_layout}
-use Rattle.btr_reader.specs.btr_reader_names.Roots.{has_root, is_root_of}
-use Rattle.btr_reader.specs.btr_node.Leaf.{Item}
-use Rattle.btr_reader.specs.Roots.{last_or, pointer_of, root_item, root_pointer as read_pointer}
+use Rattle.convert_core_laws.proofs.Imports.{◌≡◌, ◌≤◌, ◌<◌, ℕ, ◌*◌, ◌^◌, ◌-◌, eqb, Bool, true, false, ◌&&◌, ◌||◌, List, [], ◌∷◌, length, map, replicate, Option, Some, None, refl, ap, ◌∙◌, arith, if◌then◌else◌, codes, pos, list_any, option_and_then, option_map, le-ltb, or_left, or_right, w64, fits_signed_from_abs, mul-le, length-replicate, ROOT_BACKREF, ROOT_ITEM, ROOT_REF, CONV_IMAGE_SUBVOL, CSUM_TREE, DATA_RELOC_TREE, DEV_TREE, EXTENT_TREE, FS_TREE, ROOT_TREE_DIR_OBJECTID, DIRECTORY_MODE, Ids, inode_layout, key_layout, make_key, stamp_layout, has_root, is_root_of, Item, last_or, pointer_of, root_item, root_pointer as read_pointer, root_items_read_back, TreeItem, bare_item, rooted_trees, VolumeTrees, AreIds, default_item, is_file_tree, root_body, root_dirid, root_items, tree_root_item as item_of_root, saved_ref, tree_uuid, TreeRoot, pointer_to_root, inode_item, inode_made, ref_item}
 use Rattle.btr_reader.specs.btr_space_items.RootItem.{root_item_bytes, root_item_layout, root_item_of}
 use Rattle.btr_reader.specs.btr_space_items.declared.root_item.RootItem.{RootItem}
-use Rattle.btr_reader.proofs.btr_space_items.Records.{root_items_read_back}
-use Rattle.btr_reader.specs.btr_reader_walk.Events.{TreeItem}
-use Rattle.btr_reader.specs.btr_reader_walk.Tree.{bare_item}
-use Rattle.convert_core.specs.convert_steps.Standing.{rooted_trees}
-use Rattle.convert_core.specs.convert_steps.declared.trees.VolumeTrees.{VolumeTrees}
-use Rattle.convert_core.specs.space_items.Laws.{AreIds}
-use Rattle.convert_core.specs.space_items.Roots.{default_item, is_file_tree, root_body, root_dirid, root_items, tree_root_item as item_of_root, saved_ref, tree_uuid}
-use Rattle.convert_core.specs.space_items.declared.node.TreeRoot.{TreeRoot}
-use Rattle.convert_core.specs.btr_tree_writer.Trees.{pointer_to_root}
-use Rattle.convert_core.specs.btr_item_list.Inodes.{inode_item, inode_made, ref_item}
 
 -- ---- what a root item leads to
 

@@ -1,60 +1,7 @@
 -- The saved image of a converted volume is read.
-use Rattle.std.proofs.Common.{◌≡◌, ◌≤◌, ◌<◌, ℕ, ◌+◌, ◌-◌, ◌*◌, ◌/◌, ◌%◌, ◌^◌, ◌&&◌, eqb, nat_lt, Bool, true, false, not, cond, List, [], ◌∷◌, ◌++◌, map, Option, Some, None, refl, sym, ap, subst, ◌∙◌, ⊎_elim, arith}
-use Rattle.std.specs.Prelude.{Contains, codes, if◌then◌else◌, pos, ◌||◌}
-use Rattle.std.specs.Int.{w64}
-use Rattle.std.specs.List.{list_any}
-use Rattle.std.specs.Option.{option_and_then}
-use Rattle.std.proofs.lemmas.Bool.{both_ways, eq-eqb, lt-ltb}
-use Rattle.std.proofs.lemmas.Int.{fits_signed_from_abs}
-use Rattle.std.proofs.lemmas.List.{append-nil}
-use Rattle.btrfs_format.specs.declared.key.TheConstants.{DIR_INDEX, DIR_ITEM, EXTENT_DATA, INODE_ITEM, INODE_REF}
-use Rattle.btrfs_format.specs.declared.object.TheConstants.{FIRST_FREE_OBJECTID}
-use Rattle.vol_block.specs.declared.mode.TheConstants.{DIRECTORY_MODE, IMAGE_MODE}
-use Rattle.reiser_volume.specs.castagnoli.Castagnoli.{name_hash}
-use Rattle.reiser_volume.specs.outside.History.{Image, block_at}
-use Rattle.reiser_volume.specs.refusals.declared.refusal.BtrRefusal.{BtrRefusal}
-use Rattle.reiser_volume.specs.vol_block.declared.ids.Ids.{Ids}
-use Rattle.reiser_volume.specs.fs_rows.declared.row.Kind.TheVariants.{File}
-use Rattle.btr_reader.specs.btr_reader_contents.Extents.{extents_of, extents_refusals}
-use Rattle.btr_reader.specs.btr_keys.DirEntry.{DirEntryValue, dir_entry_bytes, dir_entry_head, dir_items_of}
-use Rattle.btr_reader.specs.btr_keys.FileExtent.{FileExtentValue, file_extent_bytes, file_extent_of}
-use Rattle.btr_reader.specs.btr_keys.Inode.{inode_bytes, inode_layout, inode_of}
-use Rattle.btr_reader.specs.btr_keys.Key.{key_layout, make_key}
-use Rattle.btr_reader.specs.btr_keys.Stamp.{stamp_layout}
-use Rattle.btr_reader.specs.btr_keys.declared.inode.Inode.{Inode}
-use Rattle.btr_reader.specs.btr_keys.declared.key.Key.{Key}
-use Rattle.btr_reader.proofs.btr_keys.Records.{dir_items_read_back, inodes_read_back}
-use Rattle.btr_reader.specs.btr_reader_names.Inodes.{find_inode_item}
-use Rattle.btr_reader.specs.btr_reader_names.Links.{index_entry, naming_at, dir_indexes, only_one, own_naming}
-use Rattle.btr_reader.specs.btr_reader_names.declared.dir_index.DirIndex.{DirIndex}
-use Rattle.btr_reader.specs.btr_node.Leaf.{Item, keys_of}
-use Rattle.btr_reader.specs.btr_node.NodeSize.{IsNodeSize}
-use Rattle.btr_reader.specs.btr_node.Order.{ascends}
-use Rattle.btr_reader.specs.Image.{ImageFile, entry_named, file_block, file_if_image, file_refusals, if_there, image_at, image_entry, image_in, image_place, image_refusals_in, index_refusals, index_refusals_at, inode_number, is_called, is_inline, own_index_refusals, own_refusals, root_refusals, twice_refusals}
-use Rattle.btr_reader.specs.btr_reader_walk.Events.{TreeItem}
-use Rattle.btr_reader.specs.btr_reader_walk.Tree.{bare_item}
-use Rattle.btr_reader.specs.btr_reader_walk.declared.map.MapRange.{MapRange}
-use Rattle.convert_core.specs.convert_steps.Making.{IsMaking, Making}
-use Rattle.convert_core.specs.convert_steps.Standing.{image_tree_items}
-use Rattle.convert_core.specs.convert_steps.declared.trees.VolumeTrees.{VolumeTrees}
-use Rattle.convert_core.proofs.Moving.{can_move}
-use Rattle.convert_core.proofs.Wholeness.{blocks_few}
-use Rattle.convert_core.proofs.extent_pieces.Covering.{used_inside}
-use Rattle.convert_core.specs.file_items.Extents.{extents_at, piece_bytes, pieces_of_volume, source_block}
-use Rattle.convert_core.specs.file_items.Names.{entry_to, letters, root_ref}
-use Rattle.convert_core.specs.file_items.Small.{image_entries, image_flags, image_head, image_items, image_name}
-use Rattle.convert_trees_laws.specs.Keys.{ImageKeysAscend}
-use Rattle.convert_core.specs.btr_item_list.Extents.{regular_extent}
-use Rattle.convert_core.specs.btr_item_list.Inodes.{inode_item as new_item, inode_made, ref_item, stamp_of}
-use Rattle.reiser_volume.specs.reiser_bitmap.Bits.{has}
-use Rattle.reiser_volume.proofs.reiser_bitmap.Ranges.{contains_head, contains_tail}
-use Rattle.reiser_volume.specs.Volume.{used_of}
-use Rattle.convert_core.specs.space_items.declared.node.TreeNode.{TreeNode}
-use Rattle.convert_trees_laws.proofs.Booting.{blocks_are}
-use Rattle.convert_core.specs.convert_options.declared.options.Options.{Options}
-use Rattle.convert_core.specs.unit_plan.declared.piece.Piece.{Piece}
-use Rattle.convert_core_laws.specs.reading.Opened.{IsNewVolume, map_for}
-use Rattle.convert_core_laws.specs.reading.Saved.{HasSavedImage, IsImageOf, SavedImageReads}
+use Rattle.convert_core_laws.proofs.Imports.{◌≡◌, ◌≤◌, ◌<◌, ℕ, ◌+◌, ◌-◌, ◌*◌, ◌/◌, ◌%◌, ◌^◌, ◌&&◌, eqb, nat_lt, Bool, true, false, not, cond, List, [], ◌∷◌, ◌++◌, map, Option, Some, None, refl, sym, ap, subst, ◌∙◌, ⊎_elim, arith, Contains, codes, if◌then◌else◌, pos, w64, list_any, option_and_then, both_ways, eq-eqb, lt-ltb, fits_signed_from_abs, append-nil, DIR_INDEX, DIR_ITEM, EXTENT_DATA, INODE_ITEM, INODE_REF, FIRST_FREE_OBJECTID, DIRECTORY_MODE, IMAGE_MODE, name_hash, Image, block_at, BtrRefusal, Ids, File, extents_of, extents_refusals, DirEntryValue, dir_entry_bytes, dir_entry_head, dir_items_of, FileExtentValue, file_extent_bytes, file_extent_of, inode_bytes, inode_layout, inode_of, key_layout, make_key, stamp_layout, Inode, Key, dir_items_read_back, inodes_read_back, find_inode_item, index_entry, naming_at, dir_indexes, only_one, own_naming, DirIndex, Item, keys_of, IsNodeSize, ascends, ImageFile, entry_named, file_if_image, file_refusals, if_there, image_at, image_entry, image_in, image_place, image_refusals_in, index_refusals, index_refusals_at, inode_number, is_called, is_inline, own_index_refusals, own_refusals, root_refusals, twice_refusals, TreeItem, bare_item, MapRange, IsMaking, Making, image_tree_items, VolumeTrees, can_move, blocks_few, used_inside, extents_at, piece_bytes, pieces_of_volume, source_block, entry_to, letters, root_ref, image_entries, image_flags, image_head, image_items, image_name, ImageKeysAscend, regular_extent, inode_item as new_item, inode_made, ref_item, stamp_of, has, contains_head, contains_tail, used_of, TreeNode, blocks_are, Options, Piece, IsNewVolume, map_for, HasSavedImage, IsImageOf, SavedImageReads}
+use Rattle.std.specs.Prelude.{◌||◌}
+use Rattle.btr_reader.specs.Image.{file_block}
 use Rattle.convert_core_laws.proofs.reading.Chunks.{item_parts}
 use Rattle.convert_core_laws.proofs.reading.SavedExtents.{AreSources, FoundIn, IsSource, extents_sound, place_of, reads_extent, source_in, sources_bytes}
 use Rattle.convert_core_laws.proofs.reading.SavedPieces.{are_sources, held, member, six_behind}

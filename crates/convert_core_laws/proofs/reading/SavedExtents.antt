@@ -1,28 +1,6 @@
 -- The extents of the saved image.
-use Rattle.std.proofs.Common.{◌≡◌, ◌⊎◌, ◌≤◌, ◌<◌, ℕ, zero, suc, ◌+◌, ◌-◌, ◌*◌, ◌/◌, ◌%◌, ◌^◌, inl, inr, ◌&&◌, ◌||◌, eqb, ltb, Bool, true, false, List, [], ◌∷◌, ◌++◌, map, Option, Some, None, refl, sym, ap, subst, ◌∙◌, ⊎_elim, arith}
-use Rattle.std.specs.Prelude.{Contains, if◌then◌else◌}
-use Rattle.std.specs.Option.{option_map}
-use Rattle.std.proofs.lemmas.List.Sums.{sum_by-cons}
-use Rattle.std.proofs.lemmas.Bool.{and_from, and_parts, both_ways, cases_Bool, eq-eqb, le-leb, leb-true, lt-ltb, ltb-true, ne_eqb}
-use Rattle.btrfs_format.specs.declared.key.TheConstants.{EXTENT_DATA}
-use Rattle.reiser_volume.specs.refusals.declared.refusal.BtrRefusal.{BtrRefusal}
-use Rattle.reiser_volume.specs.refusals.declared.refusal.BtrRefusal.TheVariants.{BadBtrfs}
-use Rattle.reiser_volume.specs.refusals.declared.rule.BtrRule.TheVariants.{ExtentForm}
-use Rattle.btr_reader.specs.btr_reader_contents.Extents.{at_unmapped, covered_after, covers, end_after, extent_refusals, extents_refusals, has_form, place_refusals, refusals_at, refused_unless, unmapped_in}
-use Rattle.btr_reader.specs.btr_keys.FileExtent.{FileExtentValue, Regular, disk_range_layout, file_extent_bytes, file_extent_head, file_extent_of}
-use Rattle.btr_reader.specs.btr_keys.Key.{make_key}
-use Rattle.btr_reader.specs.btr_keys.declared.key.Key.{Key}
-use Rattle.btr_reader.specs.btr_keys.declared.file_extent.DiskRange.{DiskRange}
-use Rattle.btr_reader.proofs.btr_keys.Records.{file_extents_read_back}
-use Rattle.btr_reader.specs.Image.{block_by_extent, content_block, file_block}
-use Rattle.btr_reader.specs.btr_reader_walk.Events.{TreeItem}
-use Rattle.btr_reader.specs.btr_reader_walk.Map.{place}
-use Rattle.btr_reader.specs.btr_reader_walk.Tree.{bare_item}
-use Rattle.btr_reader.specs.btr_reader_walk.declared.map.MapRange.{MapRange}
-use Rattle.convert_core.specs.file_items.Extents.{extents_at, piece_bytes, source_block}
-use Rattle.convert_core.specs.btr_item_list.Extents.{regular_extent}
-use Rattle.reiser_volume.proofs.reiser_bitmap.Ranges.{contains_cases, contains_head, contains_tail}
-use Rattle.convert_core.specs.unit_plan.declared.piece.Piece.{Piece}
+use Rattle.convert_core_laws.proofs.Imports.{◌≡◌, ◌⊎◌, ◌≤◌, ◌<◌, ℕ, zero, suc, ◌+◌, ◌-◌, ◌*◌, ◌/◌, ◌%◌, ◌^◌, inl, inr, ◌&&◌, ◌||◌, eqb, ltb, Bool, true, false, List, [], ◌∷◌, ◌++◌, map, Option, Some, None, refl, sym, ap, subst, ◌∙◌, ⊎_elim, arith, Contains, if◌then◌else◌, option_map, sum_by-cons, and_from, and_parts, both_ways, cases_Bool, eq-eqb, le-leb, leb-true, lt-ltb, ltb-true, ne_eqb, EXTENT_DATA, BtrRefusal, BadBtrfs, ExtentForm, at_unmapped, covered_after, covers, end_after, extent_refusals, extents_refusals, has_form, place_refusals, refusals_at, refused_unless, unmapped_in, FileExtentValue, Regular, disk_range_layout, file_extent_bytes, file_extent_head, file_extent_of, make_key, Key, DiskRange, file_extents_read_back, block_by_extent, content_block, TreeItem, place, bare_item, MapRange, extents_at, piece_bytes, source_block, regular_extent, contains_cases, contains_head, contains_tail, Piece}
+use Rattle.btr_reader.specs.Image.{file_block}
 use Rattle.convert_core_laws.proofs.reading.Chunks.{item_parts}
 
 -- a piece that holds blocks of the volume, and whose addresses mean themselves

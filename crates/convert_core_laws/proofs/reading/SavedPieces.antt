@@ -1,44 +1,8 @@
 -- The pieces that hold blocks of the old volume, by these blocks.
-use Rattle.std.proofs.Common.{◌≡◌, ◌≤◌, ◌<◌, ℕ, zero, suc, ◌+◌, ◌*◌, ◌==◌, inl, is_some, eqb, Bool, true, false, List, [], ◌∷◌, ◌++◌, length, take, drop, filter, get_or, if◌then◌else◌, Option, Some, None, refl, sym, ap, subst, ◌∙◌, ⊎_elim, arith, length-drop}
-use Rattle.std.specs.Prelude.{Contains, MatchOption}
-use Rattle.std.specs.List.{AllByRecursion}
-use Rattle.std.specs.Option.{option_map_or}
-use Rattle.std.proofs.lemmas.Bool.{and_parts, both_ways, cases_lt, eq-eqb, le-ltb}
-use Rattle.std.specs.Ordering.{is_lt, nat_cmp}
-use Rattle.std.specs.declared.cmp.Ordering.TheVariants.{Less, Equal, Greater}
-use Rattle.std.proofs.lemmas.List.Elements.{All-contains_itself, All-drop, All-take, Contains-append_cases, Contains-append_left, Contains-append_right}
-use Rattle.std.proofs.lemmas.List.{get_or_default, take-append-drop}
-use Rattle.std.proofs.lemmas.List.Sorted.{Contains-permutation, IsPermutation-sym}
-use Rattle.btrfs_format.specs.declared.key.TheConstants.{EXTENT_DATA}
-use Rattle.reiser_volume.proofs.fs_paths.Lists.{from_filter, in_filter}
-use Rattle.reiser_volume.specs.outside.History.{Image}
-use Rattle.reiser_volume.specs.reiser_bitmap.Bits.{has}
-use Rattle.reiser_volume.proofs.reiser_bitmap.Ranges.{contains_cases, contains_head, contains_tail}
-use Rattle.reiser_volume.specs.Volume.{used_of}
-use Rattle.btr_reader.specs.btr_keys.Key.{make_key}
-use Rattle.btr_reader.specs.btr_keys.declared.key.Key.{Key}
-use Rattle.btr_reader.specs.btr_node.Leaf.{Item, keys_of}
-use Rattle.btr_reader.specs.btr_node.NodeSize.{IsNodeSize}
-use Rattle.btr_reader.specs.btr_node.Order.{ascends, is_before}
-use Rattle.btr_reader.specs.btr_reader_walk.declared.map.MapRange.{MapRange}
-use Rattle.convert_core.specs.convert_steps.Making.{IsMaking, Making}
-use Rattle.convert_core.specs.convert_steps.Source.{HasPieces}
-use Rattle.convert_core.proofs.Moving.{well}
-use Rattle.convert_core.proofs.Reserved.{piece_apart}
-use Rattle.convert_core.specs.extent_pieces.Files.{owner, tails}
-use Rattle.convert_core.specs.extent_pieces.Found.{files_of}
-use Rattle.convert_core.specs.extent_pieces.Laws.{CoverUsed, HasPlan, HoldsBlock, LieWell}
-use Rattle.convert_core.specs.extent_pieces.Pieces.{Owners}
-use Rattle.convert_core.specs.extent_pieces.Placed.{FitsPlan, at_place, at_places, blocks_of_units}
+use Rattle.convert_core_laws.proofs.Imports.{◌≡◌, ◌≤◌, ◌<◌, ℕ, zero, suc, ◌+◌, ◌*◌, ◌==◌, inl, eqb, Bool, true, false, List, [], ◌∷◌, ◌++◌, length, take, drop, filter, get_or, Option, Some, None, refl, sym, ap, subst, ◌∙◌, ⊎_elim, arith, length-drop, Contains, MatchOption, AllByRecursion, option_map_or, and_parts, both_ways, cases_lt, eq-eqb, le-ltb, is_lt, nat_cmp, Less, Equal, Greater, All-contains_itself, All-drop, All-take, Contains-append_cases, Contains-append_left, Contains-append_right, get_or_default, take-append-drop, Contains-permutation, IsPermutation-sym, EXTENT_DATA, from_filter, in_filter, Image, has, contains_cases, contains_head, contains_tail, used_of, make_key, Key, Item, keys_of, IsNodeSize, ascends, is_before, MapRange, IsMaking, Making, HasPieces, well, piece_apart, owner, tails, files_of, CoverUsed, HasPlan, HoldsBlock, LieWell, Owners, FitsPlan, at_place, at_places, blocks_of_units, pieces_cover_used, all_at, extents_at, pieces_of_volume, source_block, ascending_all, ascending_filter, used_few, Piece, map_for}
+use Rattle.std.proofs.Common.{is_some, if◌then◌else◌}
 use Rattle.convert_core.proofs.extent_pieces.Apart.{plans_have_room}
-use Rattle.convert_core.proofs.extent_pieces.Covering.{pieces_cover_used}
-use Rattle.convert_core.proofs.extent_pieces.Lists.{all_at}
 use Rattle.convert_core.proofs.extent_pieces.Placing.{length-blocks}
-use Rattle.convert_core.specs.file_items.Extents.{extents_at, pieces_of_volume, source_block}
-use Rattle.convert_core.proofs.btr_item_list.Sorting.{ascending_all, ascending_filter}
-use Rattle.convert_trees_laws.proofs.Booting.{used_few}
-use Rattle.convert_core.specs.unit_plan.declared.piece.Piece.{Piece}
-use Rattle.convert_core_laws.specs.reading.Opened.{map_for}
 use Rattle.convert_core_laws.proofs.reading.Mapped.{all_itself}
 use Rattle.convert_core_laws.proofs.reading.SavedExtents.{AreSources, Holds, IsSource}
 

@@ -1,57 +1,6 @@
 -- The way to the saved image of a converted volume.
-use Rattle.std.proofs.Common.{◌≡◌, ◌<◌, ℕ, ◌-◌, ◌^◌, eqb, true, List, [], ◌∷◌, ◌++◌, map, Option, Some, refl, sym, ap, subst, ◌∙◌, ⊎_elim, arith}
-use Rattle.std.specs.Prelude.{Contains, codes, if◌then◌else◌, unwrap_or}
-use Rattle.std.specs.List.{flat_map}
-use Rattle.std.specs.Option.{option_and_then}
-use Rattle.std.proofs.lemmas.List.Elements.{Contains-append_left, Contains-append_right}
-use Rattle.btrfs_format.specs.declared.key.TheConstants.{ROOT_ITEM}
-use Rattle.btrfs_format.specs.declared.object.TheConstants.{CONV_IMAGE_SUBVOL, FIRST_FREE_OBJECTID, FS_TREE}
-use Rattle.reiser_volume.proofs.fs_paths.Lists.{from_map, in_map}
-use Rattle.reiser_volume.specs.outside.History.{Image}
-use Rattle.reiser_volume.specs.refusals.declared.refusal.BtrRefusal.{BtrRefusal}
-use Rattle.reiser_volume.specs.vol_block.declared.ids.Ids.{Ids}
-use Rattle.btr_reader.specs.btr_keys.Key.{make_key}
-use Rattle.btr_reader.specs.btr_keys.declared.key.Key.{Key}
-use Rattle.btr_reader.specs.btr_reader_names.Links.{names_tree, dir_indexes}
-use Rattle.btr_reader.specs.btr_reader_names.Roots.{has_root}
-use Rattle.btr_reader.specs.btr_reader_names.declared.dir_index.DirIndex.{DirIndex}
-use Rattle.btr_reader.specs.Image.{after_pointer, after_root, entry_refusals, if_there, image_below, image_from, image_in, image_refusals_in, items_at, pointer_in, refusals_below, root_refusals, saved_location as entry_of_saved, tree_number}
-use Rattle.btr_reader.specs.Opening.{or_later, tree_of}
-use Rattle.btr_reader.specs.Parts.{own_map, own_super, way_refusals}
-use Rattle.btr_reader.specs.Roots.{root_item}
-use Rattle.btr_reader.specs.Rows.{roots_on}
-use Rattle.btr_reader.specs.btr_super.declared.superblock.Super.{Super}
-use Rattle.convert_core.specs.btr_tree.declared.climb.Root.{Root}
-use Rattle.btr_reader.specs.btr_node.Leaf.{Item}
-use Rattle.btr_reader.specs.btr_reader_walk.Events.{TreeItem}
-use Rattle.btr_reader.specs.btr_reader_walk.Tree.{bare_item}
-use Rattle.btr_reader.specs.btr_reader_walk.Walks.{found}
-use Rattle.btr_reader.specs.btr_reader_walk.declared.map.MapRange.{MapRange}
-use Rattle.btr_reader.specs.btr_reader_walk.declared.tree.NodePointer.{NodePointer}
-use Rattle.convert_core.specs.convert_steps.Making.{IsMaking, Making}
-use Rattle.convert_core.specs.convert_steps.Source.{made_from}
-use Rattle.convert_core.specs.convert_steps.Standing.{file_tree_items, image_tree_items}
-use Rattle.convert_core.specs.convert_steps.declared.trees.VolumeTrees.{VolumeTrees}
-use Rattle.convert_core.specs.file_items.Names.{Indexed, entry_to, indexed_in, names_in, next_index, saved_entry}
-use Rattle.convert_core.specs.file_items.Tree.{Source, kind_in, ino_of, stat_in}
-use Rattle.convert_trees_laws.specs.Entries.{EntriesAreThere, naming_by, namings_by, unplaced}
-use Rattle.convert_trees_laws.specs.Keys.{ImageKeysAscend}
-use Rattle.convert_trees_laws.proofs.Keys.{root_first}
-use Rattle.reiser_volume.specs.fs_rows.declared.row.Kind.{Kind}
-use Rattle.reiser_volume.specs.fs_rows.declared.row.Kind.TheVariants.{Directory, File}
-use Rattle.reiser_volume.specs.reiser_volume_names.Names.{ino_of_key}
-use Rattle.reiser_volume.specs.reiser_volume_objects.Keys.{root, same_key}
-use Rattle.reiser_volume.specs.reiser_volume_objects.Rules.{IsDirectory}
-use Rattle.reiser_volume.specs.reiser_volume_objects.declared.stat.ObjectStat.{ObjectStat}
-use Rattle.reiser_volume.specs.Made.{kind_by, no_stat}
-use Rattle.reiser_volume.specs.Numbers.{by_inode}
-use Rattle.reiser_volume.specs.Volume.{volume_items}
-use Rattle.convert_core.specs.space_items.declared.node.TreeNode.{TreeNode}
-use Rattle.convert_core.specs.btr_tree_writer.Trees.{pointer_to_root}
-use Rattle.convert_core.specs.convert_options.declared.options.Options.{Options}
-use Rattle.convert_core_laws.specs.reading.Laws.{IsReadableWithTrees}
-use Rattle.convert_core_laws.specs.reading.Opened.{IsNewVolume, ReadsTree}
-use Rattle.convert_core_laws.specs.reading.Saved.{HasSavedImage, KeepsFileNames, ReadsSavedImage, SavedImageIsReadable}
+use Rattle.convert_core_laws.proofs.Imports.{◌≡◌, ◌<◌, ℕ, ◌-◌, ◌^◌, eqb, true, List, [], ◌∷◌, ◌++◌, map, Option, Some, refl, sym, ap, subst, ◌∙◌, ⊎_elim, arith, Contains, codes, if◌then◌else◌, unwrap_or, flat_map, option_and_then, Contains-append_left, Contains-append_right, ROOT_ITEM, CONV_IMAGE_SUBVOL, FIRST_FREE_OBJECTID, FS_TREE, from_map, in_map, Image, BtrRefusal, Ids, make_key, Key, names_tree, dir_indexes, has_root, DirIndex, after_pointer, after_root, entry_refusals, if_there, image_below, image_in, image_refusals_in, items_at, pointer_in, refusals_below, root_refusals, saved_location as entry_of_saved, tree_number, or_later, tree_of, own_map, own_super, way_refusals, root_item, roots_on, Super, Root, Item, TreeItem, bare_item, found, MapRange, NodePointer, IsMaking, Making, made_from, file_tree_items, image_tree_items, VolumeTrees, Indexed, entry_to, indexed_in, names_in, next_index, saved_entry, Source, kind_in, ino_of, stat_in, EntriesAreThere, naming_by, namings_by, unplaced, ImageKeysAscend, root_first, Kind, Directory, File, ino_of_key, root, same_key, IsDirectory, ObjectStat, kind_by, no_stat, by_inode, volume_items, TreeNode, pointer_to_root, Options, IsReadableWithTrees, IsNewVolume, ReadsTree, HasSavedImage, KeepsFileNames, ReadsSavedImage, SavedImageIsReadable}
+use Rattle.btr_reader.specs.Image.{image_from}
 use Rattle.convert_core_laws.proofs.reading.Reading.{none_of, readable}
 use Rattle.convert_core_laws.proofs.reading.RootKept.{root_sound, saved_found}
 use Rattle.convert_core_laws.proofs.reading.Saved.{has_image}

@@ -1,33 +1,7 @@
 -- A tree that stands is read by each map that gives the addresses of its slots themselves. Its root lies at a slot.
-use Rattle.std.proofs.Common.{◌≡◌, ◌≤◌, ◌<◌, ℕ, zero, suc, ◌+◌, ◌^◌, Bool, List, [], ◌∷◌, length, map, take, drop, Some, refl, sym, ap, subst, ◌∙◌, ⊎_elim, arith}
-use Rattle.std.specs.Prelude.{All}
-use Rattle.std.specs.Int.{div_ceil}
-use Rattle.std.specs.List.{sum}
-use Rattle.std.proofs.lemmas.Bool.{cases_lt}
-use Rattle.std.proofs.lemmas.List.{length_push}
-use Rattle.std.proofs.lemmas.List.Elements.{All-append, All-drop, All-head, All-map, All-nil, All-take}
-use Rattle.std.proofs.lemmas.List.Sorted.{All-permutation, IsPermutation-sym}
-use Rattle.std.proofs.Math.Nat.{pow-suc}
-use Rattle.reiser_volume.specs.outside.History.{Image}
-use Rattle.reiser_volume.specs.refusals.declared.refusal.BtrRefusal.{BtrRefusal}
-use Rattle.btr_reader.specs.btr_node.Leaf.{Item}
-use Rattle.btr_reader.specs.btr_node.NodeSize.{IsNodeSize}
-use Rattle.convert_core.specs.btr_tree.Building.{pointer_to}
-use Rattle.convert_core.specs.btr_tree.Counting.{tree_nodes}
-use Rattle.convert_core.specs.btr_tree.Laws.{GivesItself, IsSameBy}
-use Rattle.convert_core.specs.btr_tree.Packing.{capacity, fan_out, packed_leaves, level_sizes, packed_from, tree_levels, weight}
-use Rattle.convert_core.specs.btr_tree.Roots.{level_pointers, lengths_of, pointers_to}
-use Rattle.convert_core.specs.btr_tree.declared.climb.Root.{Root}
+use Rattle.convert_core_laws.proofs.Imports.{◌≡◌, ◌≤◌, ◌<◌, ℕ, zero, suc, ◌+◌, ◌^◌, Bool, List, [], ◌∷◌, length, map, take, drop, Some, refl, sym, ap, subst, ◌∙◌, ⊎_elim, arith, All, div_ceil, sum, cases_lt, length_push, All-append, All-drop, All-head, All-map, All-nil, All-take, All-permutation, IsPermutation-sym, pow-suc, Image, BtrRefusal, Item, IsNodeSize, pointer_to, tree_nodes, GivesItself, IsSameBy, capacity, fan_out, packed_leaves, level_sizes, packed_from, tree_levels, weight, level_pointers, lengths_of, pointers_to, Root, agree, node_events, nodes_in, walk_events, may_be_bare, identity, bare_item, leaf_items, tree_refusals, when_sound, Form, MapRange, NodePointer, TreeStands, pointer_to_root}
 use Rattle.convert_core.proofs.btr_tree.Groups.{ends_in}
-use Rattle.convert_core.proofs.btr_tree.Maps.{agree}
 use Rattle.convert_core.proofs.btr_tree.Sizes.{IsSmaller, sizes-more, sizes-none, sizes-one, smaller, sum-more, sum-one}
-use Rattle.btr_reader.specs.btr_reader_walk.Events.{node_events, nodes_in, walk_events, may_be_bare}
-use Rattle.btr_reader.specs.btr_reader_walk.Map.{identity}
-use Rattle.btr_reader.specs.btr_reader_walk.Tree.{bare_item, leaf_items, tree_refusals, when_sound}
-use Rattle.btr_reader.specs.btr_reader_walk.declared.tree.Form.{Form}
-use Rattle.btr_reader.specs.btr_reader_walk.declared.map.MapRange.{MapRange}
-use Rattle.btr_reader.specs.btr_reader_walk.declared.tree.NodePointer.{NodePointer}
-use Rattle.convert_core.specs.btr_tree_writer.Trees.{TreeStands, pointer_to_root}
 
 -- what holds of the slots holds of the addresses of nodes at them
 level_all : (Q : ℕ → Type 0) (generation level skip : ℕ) (slots sizes : List ℕ) → All Q slots → All (λ p. Q p.address) (level_pointers generation level skip slots sizes)

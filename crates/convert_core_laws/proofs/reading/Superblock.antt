@@ -1,47 +1,11 @@
 -- The superblock of a converted volume reads back.
-use Rattle.std.proofs.Common.{◌≡◌, ◌≤◌, ◌<◌, ℕ, ◌-◌, ◌*◌, ◌%◌, ◌^◌, ◌++◌, ◌&&◌, eqb, Bool, true, false, List, [], ◌∷◌, length, take, drop, replicate, Some, None, Ok, refl, sym, ap, subst, ◌∙◌, ⊎_elim, arith, length-append, length-drop, ◌+◌}
-use Rattle.std.specs.Prelude.{if◌then◌else◌, bit_and}
-use Rattle.std.specs.List.{sum_by}
-use Rattle.std.proofs.lemmas.Bool.{eq-eqb, le-leb}
-use Rattle.std.proofs.lemmas.List.{length-replicate, length-take}
-use Rattle.std.proofs.lemmas.List.Elements.{All-drop, All-take}
-use Rattle.btrfs_format.specs.declared.block.TheConstants.{SUPER_BLOCK}
-use Rattle.btrfs_format.specs.declared.feature.TheConstants.{BIG_METADATA, EXTENDED_IREF, MIXED_BACKREF, NO_HOLES, SKINNY_METADATA, METADATA_UUID}
-use Rattle.reiser_volume.specs.outside.History.{Image}
-use Rattle.reiser_volume.specs.refusals.declared.refusal.BtrRefusal.{BtrRefusal}
-use Rattle.reiser_volume.specs.refusals.declared.refusal.BtrRefusal.TheVariants.{Unsupported}
-use Rattle.reiser_volume.specs.refusals.declared.rule.Feature.TheVariants.{DeviceCount, Incompat, NodeSize, SectorSize}
-use Rattle.reiser_volume.specs.vol_block.declared.ids.Ids.{Ids}
-use Rattle.btr_reader.specs.btr_node.NodeSize.{IsNodeSize}
-use Rattle.btr_reader.specs.btr_space_items.Device.{device_layout}
-use Rattle.btr_reader.specs.csum_kinds.declared.kind.SumKind.{SumKind}
-use Rattle.btr_reader.specs.btr_super.Rules.{bad_field, failing, field_rules, has_fields, is_node_size, super_of, unread_bits}
-use Rattle.btr_reader.specs.btr_super.Sums.{csum_number, known_kind}
-use Rattle.btr_reader.specs.btr_super.Super.{super_bytes, super_layout, node_fsid}
+use Rattle.convert_core_laws.proofs.Imports.{◌≡◌, ◌≤◌, ◌<◌, ℕ, ◌-◌, ◌*◌, ◌%◌, ◌^◌, ◌++◌, ◌&&◌, eqb, Bool, true, false, List, [], ◌∷◌, length, take, drop, replicate, Some, None, Ok, refl, sym, ap, subst, ◌∙◌, ⊎_elim, arith, length-append, length-drop, ◌+◌, if◌then◌else◌, bit_and, sum_by, eq-eqb, le-leb, length-replicate, length-take, All-drop, All-take, SUPER_BLOCK, BIG_METADATA, EXTENDED_IREF, MIXED_BACKREF, NO_HOLES, SKINNY_METADATA, METADATA_UUID, Image, BtrRefusal, Unsupported, DeviceCount, Incompat, NodeSize, SectorSize, Ids, IsNodeSize, device_layout, SumKind, bad_field, failing, field_rules, has_fields, is_node_size, super_of, unread_bits, csum_number, known_kind, super_bytes, super_layout, node_fsid, super_on, log_of, IsMaking, Making, chunk_slots, label_by, label_field, new_ids, slots, HasTrees, form, root_from, root_tree_items, used_bytes, VolumeTrees, blocks_few, blocks_inside, blocks_some, boot_bytes, features, is_system_role, new_super, record_bytes, chunk_item, chunk_items, device_body, all_from_contains, AreIds, TreeNode, chunk_blocks_fit, boot_fits, PlannedChunk, Options, ReadsSuperblock, SuperblockReads, IsNewVolume, super_for, known-number, number-small}
 use Rattle.btr_reader.proofs.btr_super.ReadBack.{supers_read_back}
-use Rattle.btr_reader.specs.Opening.{super_on}
-use Rattle.btr_reader.specs.Parts.{log_of}
-use Rattle.convert_core.specs.convert_steps.Making.{IsMaking, Making, chunk_slots, label_by, label_field, new_ids, slots}
-use Rattle.convert_core.specs.convert_steps.Standing.{HasTrees, form, root_from, root_tree_items, used_bytes}
-use Rattle.convert_core.specs.convert_steps.declared.trees.VolumeTrees.{VolumeTrees}
-use Rattle.convert_core.proofs.Wholeness.{blocks_few, blocks_inside, blocks_some}
-use Rattle.convert_core.specs.convert_steps.Superblock.{boot_bytes, features, is_system_role, new_super, record_bytes}
 use Rattle.convert_core.specs.convert_steps.declared.fields.NewRoots.{NewRoots}
 use Rattle.convert_core.proofs.convert_steps.Booting.{length_record}
-use Rattle.convert_core.specs.space_items.Chunks.{chunk_item, chunk_items, device_body}
-use Rattle.reiser_volume.proofs.reiser_bitmap.Ranges.{all_from_contains}
-use Rattle.convert_core.specs.space_items.Laws.{AreIds}
-use Rattle.convert_core.specs.space_items.declared.node.TreeNode.{TreeNode}
-use Rattle.convert_core.proofs.space_items.ChunkLists.{chunk_blocks_fit}
-use Rattle.convert_trees_laws.proofs.Booting.{boot_fits}
-use Rattle.convert_core.specs.unit_plan.declared.chunk.PlannedChunk.{PlannedChunk}
-use Rattle.convert_core.specs.convert_options.declared.options.Options.{Options}
-use Rattle.convert_core_laws.specs.reading.Laws.{ReadsSuperblock, SuperblockReads}
-use Rattle.convert_core_laws.specs.reading.Opened.{IsNewVolume, super_for}
 use Rattle.convert_core_laws.proofs.reading.Mapped.{chunk_slot_small, slot_small}
 use Rattle.convert_core_laws.proofs.reading.Numbers.{chunk_slots_few, size_small, slots_few, used_small}
 use Rattle.convert_core_laws.proofs.reading.Stood.{root_at, root_low}
-use Rattle.btr_reader.proofs.btr_super.SumNumbers.{known-number, number-small}
 
 -- a label's field is filled up
 label_long : (bytes : List ℕ) → length (label_field bytes) ≡ 256

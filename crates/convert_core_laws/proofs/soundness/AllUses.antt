@@ -1,41 +1,7 @@
 -- The uses of data by all trees.
-use Rattle.std.proofs.Common.{◌≡◌, ◌≤◌, ℕ, ◌+◌, ◌-◌, ◌*◌, ◌^◌, eqb, Bool, true, false, List, [], ◌∷◌, map, filter, Option, Some, None, refl, sym, ap, subst, ◌∙◌, ⊎_elim, arith}
-use Rattle.std.specs.Prelude.{All, Contains, MatchOption, if◌then◌else◌, is_some}
-use Rattle.std.specs.Option.{option_map_or}
-use Rattle.std.proofs.lemmas.List.Elements.{All-contains, All-cons, All-map, Contains-append_cases}
-use Rattle.btrfs_format.specs.declared.key.TheConstants.{DEV_ITEM, EXTENT_DATA}
-use Rattle.btrfs_format.specs.declared.object.TheConstants.{CONV_IMAGE_SUBVOL, CSUM_TREE, DATA_RELOC_TREE, DEV_ITEMS_OBJECTID, DEV_TREE, EXTENT_TREE, FS_TREE}
-use Rattle.reiser_volume.proofs.fs_paths.Lists.{from_flat_map, from_map, in_filter}
-use Rattle.reiser_volume.specs.outside.History.{Image}
-use Rattle.btr_reader.specs.btr_keys.FileExtent.{file_extent_of}
-use Rattle.btr_reader.specs.btr_keys.Key.{make_key}
-use Rattle.btr_reader.specs.btr_node.Leaf.{Item}
-use Rattle.btr_reader.specs.btr_node.NodeSize.{IsNodeSize}
-use Rattle.btr_check_rules.specs.Recount.{DataUse, IsData, Recount, Span, TreeOn, all_trees, data_uses, use_in, uses_in}
-use Rattle.btr_reader.specs.btr_space_items.Device.{device_bytes}
-use Rattle.convert_core.specs.convert_steps.Making.{IsMaking, Making, new_ids}
-use Rattle.convert_core.specs.convert_steps.Standing.{file_tree_items, image_tree_items, root_tree_items, sum_tree_items}
-use Rattle.convert_core.specs.convert_steps.declared.trees.VolumeTrees.{VolumeTrees}
-use Rattle.convert_core.proofs.Moving.{well}
-use Rattle.convert_core_laws.specs.reading.Opened.{super_for}
-use Rattle.convert_core_laws.proofs.reading.SavedPieces.{member}
-use Rattle.convert_core.proofs.extent_pieces.Lists.{all_at}
-use Rattle.convert_core.specs.file_items.Extents.{extents_at, piece_bytes, pieces_of_volume, source_block}
-use Rattle.convert_core.specs.file_items.Small.{image_head, image_items, relocation_items}
-use Rattle.convert_core.specs.btr_item_list.Extents.{extent_item, regular_extent}
-use Rattle.reiser_volume.proofs.reiser_bitmap.Ranges.{all_from_contains, contains_cases}
-use Rattle.reiser_volume.specs.Volume.{used_of}
-use Rattle.convert_core.specs.space_items.Chunks.{chunk_item, chunk_items, dev_extent_item, device_body, device_items}
-use Rattle.convert_core.specs.space_items.Extents.{extent_items, group_item, node_item, piece_item, used_in}
-use Rattle.convert_core.specs.space_items.Merging.{item_cmp, merged}
-use Rattle.convert_core.specs.space_items.Sums.{run_items, sum_items}
-use Rattle.convert_core.specs.space_items.declared.node.TreeNode.{TreeNode}
-use Rattle.convert_core.proofs.space_items.Merges.{all-merge}
-use Rattle.convert_trees_laws.proofs.Booting.{used_few}
-use Rattle.convert_core.specs.unit_plan.declared.chunk.PlannedChunk.{PlannedChunk}
-use Rattle.convert_core.specs.unit_plan.declared.piece.Piece.{Piece}
+use Rattle.convert_core_laws.proofs.Imports.{◌≡◌, ◌≤◌, ℕ, ◌+◌, ◌-◌, ◌*◌, ◌^◌, eqb, Bool, true, false, List, [], ◌∷◌, map, filter, Option, Some, None, refl, sym, ap, subst, ◌∙◌, ⊎_elim, arith, All, Contains, MatchOption, if◌then◌else◌, is_some, option_map_or, All-contains, All-cons, All-map, Contains-append_cases, DEV_ITEM, EXTENT_DATA, CONV_IMAGE_SUBVOL, CSUM_TREE, DATA_RELOC_TREE, DEV_ITEMS_OBJECTID, DEV_TREE, EXTENT_TREE, FS_TREE, from_flat_map, from_map, in_filter, Image, file_extent_of, make_key, Item, IsNodeSize, DataUse, IsData, Recount, Span, TreeOn, all_trees, data_uses, use_in, uses_in, device_bytes, IsMaking, Making, new_ids, file_tree_items, image_tree_items, root_tree_items, sum_tree_items, VolumeTrees, well, super_for, all_at, extents_at, piece_bytes, pieces_of_volume, source_block, image_head, image_items, relocation_items, extent_item, regular_extent, all_from_contains, contains_cases, used_of, chunk_item, chunk_items, dev_extent_item, device_body, device_items, extent_items, group_item, node_item, piece_item, used_in, item_cmp, merged, run_items, sum_items, TreeNode, all-merge, used_few, PlannedChunk, Piece, recount_for, tree_for}
 use Rattle.std.specs.Prelude.{length}
-use Rattle.convert_core_laws.specs.soundness.Recounted.{recount_for, tree_for}
+use Rattle.convert_core_laws.proofs.reading.SavedPieces.{member}
 use Rattle.convert_core_laws.proofs.soundness.Lists.{filter_none}
 use Rattle.convert_core_laws.proofs.soundness.Trees.{six_all}
 use Rattle.convert_core_laws.proofs.soundness.Uses.{IsUse, by_file, by_image, file_uses, piece_use, use_at, uses_from}

@@ -1,21 +1,6 @@
 -- A tree has its names where its items tell the same ones in each way.
-use Rattle.std.proofs.Common.{◌≡◌, ◌≢◌, ◌<◌, ℕ, ◌*◌, ◌==◌, true, false, cond, List, [], ◌∷◌, ◌++◌, map, filter, flat_map, Contains, sum_by, count_by, length, Some, refl, sym, ap, ap₂, subst, ◌∙◌, ⊎_elim, arith}
-use Rattle.std.specs.Prelude.{All}
-use Rattle.std.specs.List.{AllByRecursion}
-use Rattle.std.specs.List.Sorted.{IsPermutation}
-use Rattle.std.proofs.lemmas.Bool.{eqb-true}
-use Rattle.std.proofs.lemmas.List.{append-nil, map-append}
-use Rattle.std.proofs.lemmas.List.Sorted.{IsPermutation-append, IsPermutation-refl, IsPermutation-trans, sum_by-IsPermutation}
-use Rattle.btrfs_format.specs.declared.key.TheConstants.{DIR_INDEX, DIR_ITEM, EXTENT_DATA, INODE_EXTREF, INODE_ITEM, INODE_REF}
-use Rattle.reiser_volume.proofs.fs_paths.Lists.{at_head, from_filter, head_or_tail, in_tail}
-use Rattle.btr_reader.specs.btr_keys.Inode.{inode_of}
-use Rattle.btr_reader.specs.btr_keys.declared.inode.Inode.{Inode}
-use Rattle.btr_reader.specs.btr_node.Leaf.{Item}
-use Rattle.btr_check_rules.specs.Names.{AreTreeNames, AreOnForm, BackName, NamedEntry, IndexEntry, IsInode, IsThere, IsTreeEntry, back_name, directory_size, hashed_entries, index_entries, ref_name_count, names_inode_item, own_name, ref_names}
-use Rattle.btr_check_rules.specs.Recount.{TreeOn, of_kind}
-use Rattle.convert_trees_laws.proofs.Rising.{Climb, all_append}
-use Rattle.reiser_volume.proofs.reiser_bitmap.Ranges.{all_from_contains}
-use Rattle.convert_trees_laws.proofs.Lists.{all_in}
+use Rattle.convert_core_laws.proofs.Imports.{◌≡◌, ◌≢◌, ◌<◌, ℕ, ◌*◌, ◌==◌, true, false, cond, List, [], ◌∷◌, ◌++◌, map, filter, count_by, length, Some, refl, sym, ap, ap₂, subst, ◌∙◌, ⊎_elim, arith, All, AllByRecursion, IsPermutation, eqb-true, append-nil, map-append, IsPermutation-append, IsPermutation-refl, IsPermutation-trans, sum_by-IsPermutation, DIR_INDEX, DIR_ITEM, EXTENT_DATA, INODE_EXTREF, INODE_ITEM, INODE_REF, at_head, from_filter, head_or_tail, in_tail, inode_of, Inode, Item, AreTreeNames, AreOnForm, BackName, NamedEntry, IndexEntry, IsInode, IsThere, IsTreeEntry, back_name, directory_size, hashed_entries, index_entries, ref_name_count, names_inode_item, own_name, ref_names, TreeOn, of_kind, Climb, all_append, all_from_contains, all_in}
+use Rattle.std.proofs.Common.{flat_map, Contains, sum_by}
 use Rattle.convert_core_laws.proofs.soundness.NameLists.{flat_append, flat_kept, middle_swap}
 use Rattle.convert_core_laws.proofs.soundness.Telling.{IsOnForm, Told, far_of, hashed_of, if_kind, indexed_of, ref_of}
 

@@ -1,38 +1,6 @@
 -- The block groups of a converted volume tell what its chunks hold.
-use Rattle.std.proofs.Common.{◌≡◌, ◌≤◌, ℕ, ◌+◌, ◌*◌, ◌&&◌, Bool, cond, List, [], ◌∷◌, map, get_or, Some, refl, sym, ap, subst, ◌∙◌, ⊎_elim, arith, nat_le, nat_lt}
-use Rattle.std.specs.Prelude.{All, AllPairs, Contains}
-use Rattle.std.specs.List.{flat_map, sum_by}
-use Rattle.std.proofs.lemmas.List.Elements.{All-map}
-use Rattle.std.proofs.lemmas.List.Sums.{sum_by-cons}
-use Rattle.btrfs_format.specs.declared.object.TheConstants.{FIRST_CHUNK_TREE_OBJECTID}
-use Rattle.reiser_volume.proofs.fs_paths.Lists.{from_map, in_map}
-use Rattle.reiser_volume.specs.outside.History.{Image}
-use Rattle.reiser_volume.specs.vol_block.declared.ids.Ids.{Ids}
-use Rattle.btr_reader.specs.btr_node.Leaf.{Item}
-use Rattle.btr_reader.specs.btr_node.NodeSize.{IsNodeSize}
-use Rattle.btr_check_rules.specs.Groups.{AreBlockGroups, AreRanges, IsGroupOf, chunk_span, data_bytes_in, groups, node_bytes_in, bytes_used_in}
-use Rattle.btr_check_rules.specs.Recount.{IsData, Recount, Span, TreeOn, all_trees, is_within}
-use Rattle.btr_reader.specs.declared.chunk.ChunkAt.{ChunkAt}
-use Rattle.btr_reader.specs.btr_space_items.declared.block_group.BlockGroup.{BlockGroup}
-use Rattle.btr_reader.specs.btr_reader_walk.declared.tree.NodePointer.{NodePointer}
-use Rattle.convert_core.specs.convert_steps.Making.{IsMaking, Making, new_ids}
-use Rattle.convert_core.specs.convert_steps.declared.trees.VolumeTrees.{VolumeTrees}
-use Rattle.convert_core.proofs.Moving.{well}
-use Rattle.convert_core_laws.specs.reading.Identifiers.{NewIdsFit}
-use Rattle.convert_core_laws.specs.reading.Opened.{IsNewVolume, chunk_at}
+use Rattle.convert_core_laws.proofs.Imports.{◌≡◌, ◌≤◌, ℕ, ◌+◌, ◌*◌, ◌&&◌, Bool, cond, List, [], ◌∷◌, map, get_or, Some, refl, sym, ap, subst, ◌∙◌, ⊎_elim, arith, nat_le, nat_lt, All, AllPairs, Contains, flat_map, sum_by, All-map, sum_by-cons, FIRST_CHUNK_TREE_OBJECTID, from_map, in_map, Image, Ids, Item, IsNodeSize, AreBlockGroups, AreRanges, IsGroupOf, chunk_span, data_bytes_in, groups, node_bytes_in, bytes_used_in, IsData, Recount, Span, TreeOn, all_trees, is_within, ChunkAt, BlockGroup, NodePointer, IsMaking, Making, new_ids, VolumeTrees, well, NewIdsFit, IsNewVolume, chunk_at, pairs_map, FilesAreHeld, sum_alike, sum_kept, sum_mapped, all_from_contains, contains_cases, chunk_kind, bytes_of_nodes, bytes_of_pieces, group_item, is_in_chunk, used_in as used_of_chunk, TreeNode, PlannedChunk, Options, Piece, ConvertedBlockGroupsAreSound, recount_for}
 use Rattle.convert_core_laws.proofs.reading.Numbers.{used_small}
-use Rattle.convert_core.proofs.extent_pieces.Lists.{pairs_map}
-use Rattle.convert_trees_laws.specs.Held.{FilesAreHeld}
-use Rattle.convert_trees_laws.proofs.Short.{sum_alike, sum_kept, sum_mapped}
-use Rattle.reiser_volume.proofs.reiser_bitmap.Ranges.{all_from_contains, contains_cases}
-use Rattle.convert_core.specs.space_items.Chunks.{chunk_kind}
-use Rattle.convert_core.specs.space_items.Extents.{bytes_of_nodes, bytes_of_pieces, group_item, is_in_chunk, used_in as used_of_chunk}
-use Rattle.convert_core.specs.space_items.declared.node.TreeNode.{TreeNode}
-use Rattle.convert_core.specs.unit_plan.declared.chunk.PlannedChunk.{PlannedChunk}
-use Rattle.convert_core.specs.convert_options.declared.options.Options.{Options}
-use Rattle.convert_core.specs.unit_plan.declared.piece.Piece.{Piece}
-use Rattle.convert_core_laws.specs.soundness.Laws.{ConvertedBlockGroupsAreSound}
-use Rattle.convert_core_laws.specs.soundness.Recounted.{recount_for}
 use Rattle.convert_core_laws.proofs.soundness.AllUses.{data_is, span_of}
 use Rattle.convert_core_laws.proofs.soundness.Recounting.{nodesize_is, volume_for}
 use Rattle.convert_core_laws.proofs.soundness.Row.{nodes_sum}

@@ -1,20 +1,8 @@
 -- The bodies of extents are read back.
-use Rattle.std.proofs.Common.{◌≡◌, ◌≤◌, ◌<◌, ℕ, ◌^◌, nat_lt, true, false, List, [], ◌∷◌, length, refl, ap, ◌∙◌, arith}
-use Rattle.std.specs.Prelude.{AllPairs}
-use Rattle.std.specs.List.{AllByRecursion, flat_map}
-use Rattle.std.proofs.lemmas.Bool.Decides.{nat_tests}
-use Rattle.std.proofs.lemmas.List.{drop_at}
-use Rattle.std.proofs.lemmas.List.Elements.{All-cons, All-nil}
-use Rattle.std.proofs.lemmas.List.Kept.{AllPairs-cons}
-use Rattle.btr_check_rules.specs.References.{HasRefs, StandsBefore}
+use Rattle.convert_core_laws.proofs.Imports.{◌≡◌, ◌≤◌, ◌<◌, ℕ, ◌^◌, nat_lt, true, false, List, [], ◌∷◌, length, refl, ap, ◌∙◌, arith, AllPairs, AllByRecursion, flat_map, nat_tests, drop_at, All-cons, All-nil, AllPairs-cons, HasRefs, StandsBefore, FitsInline, data_ref_layout, inline_ref_bytes, inline_refs_of, tree_block_layout, InlineRef, DataRef, TreeBlock, extent_heads_read_back, extent_body}
 use Rattle.btr_reader.specs.btr_space_items.ExtentHead.{extent_head_bytes, extent_head_layout}
-use Rattle.btr_reader.specs.btr_space_items.InlineRef.{FitsInline, data_ref_layout, inline_ref_bytes, inline_refs_of, tree_block_layout}
 use Rattle.btr_reader.specs.btr_space_items.declared.extent_head.ExtentHead.{ExtentHead}
-use Rattle.btr_reader.specs.btr_space_items.declared.inline_ref.InlineRef.{InlineRef}
-use Rattle.btr_reader.specs.btr_space_items.declared.inline_ref.InlineRef.TheVariants.{DataRef, TreeBlock}
 use Rattle.btr_reader.proofs.btr_space_items.InlineLaw.{inline_refs_read_back}
-use Rattle.btr_reader.proofs.btr_space_items.Records.{extent_heads_read_back}
-use Rattle.convert_core.specs.space_items.Extents.{extent_body}
 
 abbrev head_of : ℕ → ℕ → ExtentHead
 head_of count flags = record { refs = count; generation = 1; flags = flags }

@@ -1,57 +1,12 @@
 -- The checksums of a converted volume are sound.
-use Rattle.std.proofs.Common.{◌≡◌, ◌≢◌, ◌≤◌, ◌<◌, ℕ, ◌+◌, ◌*◌, ◌/◌, ◌%◌, ◌^◌, Bool, true, false, List, [], map, Option, Some, None, refl, sym, ap, subst, ◌∙◌, ⊎_elim, true≢false, arith}
-use Rattle.std.specs.Prelude.{All, AllPairs, Contains, if◌then◌else◌, is_some, ◌↔◌}
-use Rattle.std.proofs.lemmas.List.{append-nil}
-use Rattle.btrfs_format.specs.declared.key.TheConstants.{INODE_ITEM}
-use Rattle.btrfs_format.specs.declared.object.TheConstants.{CONV_IMAGE_SUBVOL, CSUM_TREE, FS_TREE}
-use Rattle.reiser_volume.proofs.fs_paths.Lists.{from_flat_map, in_flat_map}
-use Rattle.reiser_volume.specs.outside.History.{Image}
-use Rattle.reiser_volume.specs.vol_block.declared.ids.Ids.{Ids}
-use Rattle.btr_reader.specs.btr_keys.Inode.{inode_bytes, inode_of}
-use Rattle.btr_reader.specs.btr_keys.Key.{make_key}
-use Rattle.btr_reader.specs.btr_keys.declared.inode.Inode.{Inode}
-use Rattle.btr_reader.specs.btr_node.Leaf.{Item}
-use Rattle.btr_reader.specs.btr_node.NodeSize.{IsNodeSize}
-use Rattle.btr_reader.specs.Chunks.{data_kind, range_of}
-use Rattle.btr_reader.specs.Opening.{form_of}
-use Rattle.btr_check_rules.specs.Names.{has_no_sums}
-use Rattle.btr_check_rules.specs.Places.{IsExtent, some_data}
-use Rattle.btr_check_rules.specs.Recount.{DataUse, Recount, TreeOn, all_trees, data_uses, recounted_items, uses_in}
-use Rattle.btr_check_rules.specs.Sums.{AreSums, HasBlockSum, AreSumsRight, IsSumItem, WantsSum, sum_count}
-use Rattle.btr_reader.specs.btr_reader_walk.Map.{place}
-use Rattle.btr_reader.specs.btr_reader_walk.declared.tree.Form.{Form}
-use Rattle.convert_core.specs.convert_steps.Making.{IsMaking, Making}
-use Rattle.convert_core.specs.convert_steps.Source.{HasPieces, made_from}
-use Rattle.convert_core.specs.convert_steps.Standing.{file_tree_items, image_tree_items, sum_tree_items}
-use Rattle.convert_core.specs.convert_steps.declared.trees.VolumeTrees.{VolumeTrees}
-use Rattle.convert_core.proofs.Moving.{well}
-use Rattle.convert_core.proofs.Wholeness.{blocks_few}
-use Rattle.convert_core_laws.specs.reading.Identifiers.{NewIdsFit}
-use Rattle.convert_core_laws.specs.reading.Opened.{IsNewVolume, map_for, super_for}
+use Rattle.convert_core_laws.proofs.Imports.{◌≡◌, ◌≢◌, ◌≤◌, ◌<◌, ℕ, ◌+◌, ◌*◌, ◌/◌, ◌%◌, ◌^◌, Bool, true, false, List, [], map, Option, Some, None, refl, sym, ap, subst, ◌∙◌, ⊎_elim, true≢false, arith, All, AllPairs, Contains, if◌then◌else◌, is_some, ◌↔◌, append-nil, INODE_ITEM, CONV_IMAGE_SUBVOL, CSUM_TREE, FS_TREE, from_flat_map, in_flat_map, Image, Ids, inode_bytes, inode_of, make_key, Inode, Item, IsNodeSize, data_kind, range_of, form_of, has_no_sums, IsExtent, some_data, DataUse, Recount, TreeOn, all_trees, data_uses, recounted_items, uses_in, AreSums, HasBlockSum, AreSumsRight, IsSumItem, WantsSum, sum_count, place, Form, IsMaking, Making, HasPieces, made_from, file_tree_items, image_tree_items, sum_tree_items, VolumeTrees, well, blocks_few, NewIdsFit, IsNewVolume, map_for, super_for, SumKind, two_cases, piece_bytes, pieces_of_volume, source_block, Source, inode_in, kind_in, ino_of, FilesAreHeld, InodesAreThere, ImageKeysAscend, File, all_from_contains, ObjectKey, HasBytes, block_sum, sum_items, sums_item, TreeNode, Options, Piece, recount_for, tree_for, ConvertedChecksumsAreSound}
 use Rattle.convert_core_laws.proofs.reading.SavedExtents.{AreSources, sources_bytes}
 use Rattle.convert_core_laws.proofs.reading.SavedPieces.{are_sources}
-use Rattle.btr_reader.specs.csum_kinds.declared.kind.SumKind.{SumKind}
-use Rattle.convert_core.proofs.extent_pieces.Owning.{two_cases}
-use Rattle.convert_core.specs.file_items.Extents.{piece_bytes, pieces_of_volume, source_block}
-use Rattle.convert_core.specs.file_items.Tree.{Source, inode_in, kind_in, ino_of}
-use Rattle.convert_trees_laws.specs.Held.{FilesAreHeld}
-use Rattle.convert_trees_laws.specs.Inodes.{InodesAreThere}
-use Rattle.convert_trees_laws.specs.Keys.{ImageKeysAscend}
-use Rattle.reiser_volume.specs.fs_rows.declared.row.Kind.TheVariants.{File}
-use Rattle.reiser_volume.proofs.reiser_bitmap.Ranges.{all_from_contains}
-use Rattle.reiser_volume.specs.reiser_volume_objects.declared.key.ObjectKey.{ObjectKey}
-use Rattle.convert_trees_laws.specs.Rows.{HasBytes}
-use Rattle.convert_core.specs.space_items.Sums.{block_sum, sum_items, sums_item}
-use Rattle.convert_core.specs.space_items.declared.node.TreeNode.{TreeNode}
-use Rattle.convert_core.specs.convert_options.declared.options.Options.{Options}
-use Rattle.convert_core.specs.unit_plan.declared.piece.Piece.{Piece}
-use Rattle.convert_core_laws.specs.soundness.Recounted.{recount_for, tree_for}
 use Rattle.convert_core_laws.proofs.soundness.AllUses.{span_of, uses_are}
 use Rattle.convert_core_laws.proofs.soundness.Recounting.{form_is, volume_for}
 use Rattle.convert_core_laws.proofs.soundness.Unreserved.{fit_size, good, means_itself}
 use Rattle.convert_core_laws.proofs.soundness.Used.{file_use, is_data, owned, saved_use}
 use Rattle.convert_core_laws.proofs.soundness.Uses.{IsUse, by_file, by_image, use_at}
-use Rattle.convert_core_laws.specs.soundness.Laws.{ConvertedChecksumsAreSound}
 use Rattle.convert_core_laws.proofs.soundness.Flags.{file_no_sums, file_sums, image_extents_ascend, image_inode, image_inode_reads, image_inode_there, inode_reads, inode_there, same_item}
 use Rattle.convert_core_laws.proofs.soundness.Keyed.{all_other, files_rise, saved_rise, uses_tree}
 use Rattle.convert_core_laws.proofs.soundness.Runs.{Covers}

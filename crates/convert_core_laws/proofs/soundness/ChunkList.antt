@@ -1,21 +1,6 @@
 -- The chunks of the array and of the chunk tree, each once, are those of the plan.
-use Rattle.std.proofs.Common.{◌≡◌, ◌≢◌, ◌≤◌, ℕ, ◌+◌, ◌*◌, ◌^◌, ◌&&◌, Bool, true, false, not, cond, List, [], ◌∷◌, ◌++◌, length, map, Option, Some, None, refl, sym, ap, subst, ◌∙◌, ⊎_elim, arith}
-use Rattle.std.specs.Prelude.{Contains, if◌then◌else◌}
-use Rattle.std.specs.List.{flat_map, list_any}
-use Rattle.std.specs.Option.{option_map}
-use Rattle.std.proofs.lemmas.Bool.{cases_Bool, ne_eqb, or_left, or_right}
-use Rattle.reiser_volume.specs.vol_block.declared.ids.Ids.{Ids}
-use Rattle.btr_reader.specs.btr_node.Leaf.{Item}
-use Rattle.btr_reader.proofs.ArrayBack.{chunk_made}
-use Rattle.btr_reader.specs.Chunks.{chunk_in, new_chunk, same_body, same_chunk}
-use Rattle.btr_reader.specs.declared.chunk.ChunkAt.{ChunkAt}
-use Rattle.btr_check_rules.specs.Recount.{added_chunk, chunks_on}
-use Rattle.convert_core.specs.convert_steps.Superblock.{is_system_role}
-use Rattle.convert_core_laws.specs.reading.Opened.{chunk_at, other_part}
+use Rattle.convert_core_laws.proofs.Imports.{◌≡◌, ◌≢◌, ◌≤◌, ℕ, ◌+◌, ◌*◌, ◌^◌, ◌&&◌, Bool, true, false, not, cond, List, [], ◌∷◌, ◌++◌, length, map, Option, Some, None, refl, sym, ap, subst, ◌∙◌, ⊎_elim, arith, Contains, if◌then◌else◌, flat_map, list_any, option_map, cases_Bool, ne_eqb, or_left, or_right, Ids, Item, chunk_made, chunk_in, new_chunk, same_body, same_chunk, ChunkAt, added_chunk, chunks_on, is_system_role, chunk_at, other_part, contains_cases, contains_head, contains_tail, chunk_body, chunk_item, chunk_items, PlannedChunk}
 use Rattle.convert_core_laws.proofs.reading.Chunks.{all_fit, same_itself}
-use Rattle.reiser_volume.proofs.reiser_bitmap.Ranges.{contains_cases, contains_head, contains_tail}
-use Rattle.convert_core.specs.space_items.Chunks.{chunk_body, chunk_item, chunk_items}
-use Rattle.convert_core.specs.unit_plan.declared.chunk.PlannedChunk.{PlannedChunk}
 
 -- a chunk of the array is no new one
 known : (ids : Ids) (boot : List PlannedChunk) (c : PlannedChunk) → Contains boot c → list_any (same_chunk (chunk_at ids c)) (map (chunk_at ids) boot) ≡ true

@@ -1,18 +1,6 @@
 -- An extent's item tells of the uses of its range: where there is one, and where there are two by different trees.
-use Rattle.std.proofs.Common.{◌≡◌, ◌≢◌, ◌⊎◌, ℕ, eqb, Bool, true, List, [], ◌∷◌, refl, sym, ap, subst, ◌∙◌, ⊎_elim, arith, ◌&&◌}
-use Rattle.std.specs.Prelude.{Contains}
+use Rattle.convert_core_laws.proofs.Imports.{◌≡◌, ◌≢◌, ◌⊎◌, ℕ, eqb, Bool, true, List, [], ◌∷◌, refl, sym, ap, subst, ◌∙◌, ⊎_elim, arith, ◌&&◌, Contains, and_from, and_parts, eq-eqb, eqb-true, All-cons, All-nil, AllPairs-cons, EXTENT_FLAG_DATA, EXTENT_ITEM, at_head, in_tail, Item, DataUse, Recount, data_uses, CountsUses, HasRefs, IsDataItem, is_of_range, is_use, same_ref, InlineRef, DataRef}
 use Rattle.std.specs.List.{count_by}
-use Rattle.std.proofs.lemmas.Bool.{and_from, and_parts, eq-eqb, eqb-true}
-use Rattle.std.proofs.lemmas.List.Elements.{All-cons, All-nil}
-use Rattle.std.proofs.lemmas.List.Kept.{AllPairs-cons}
-use Rattle.btrfs_format.specs.declared.flag.TheConstants.{EXTENT_FLAG_DATA}
-use Rattle.btrfs_format.specs.declared.key.TheConstants.{EXTENT_ITEM}
-use Rattle.reiser_volume.proofs.fs_paths.Lists.{at_head, in_tail}
-use Rattle.btr_reader.specs.btr_node.Leaf.{Item}
-use Rattle.btr_check_rules.specs.Recount.{DataUse, Recount, data_uses}
-use Rattle.btr_check_rules.specs.References.{CountsUses, HasRefs, IsDataItem, is_of_range, is_use, same_ref}
-use Rattle.btr_reader.specs.btr_space_items.declared.inline_ref.InlineRef.{InlineRef}
-use Rattle.btr_reader.specs.btr_space_items.declared.inline_ref.InlineRef.TheVariants.{DataRef}
 use Rattle.convert_core_laws.proofs.soundness.Distinct.{AreDistinct, one_passes, two_pass}
 
 -- the reference that a use is

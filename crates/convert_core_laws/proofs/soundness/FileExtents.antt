@@ -1,51 +1,7 @@
 -- The file extents of a converted volume keep the rules of Linux.
-use Rattle.std.proofs.Common.{◌≡◌, ◌≢◌, ◌≤◌, ◌<◌, ℕ, ◌+◌, ◌*◌, ◌/◌, ◌%◌, ◌^◌, ◌==◌, ◌&&◌, Bool, true, false, List, [], ◌∷◌, ◌++◌, map, filter, length, Contains, All, AllPairs, Some, refl, sym, ap, subst, ◌∙◌, ⊎_elim, if◌then◌else◌, true≢false, arith}
-use Rattle.std.specs.List.{AllByRecursion}
-use Rattle.std.proofs.lemmas.Bool.{and_from, eq-eqb, eqb-true}
-use Rattle.std.proofs.lemmas.List.Elements.{All-from_recursion, All-nil}
-use Rattle.std.proofs.lemmas.List.Kept.{AllPairs-filter}
-use Rattle.btrfs_format.specs.declared.feature.TheConstants.{NO_HOLES}
-use Rattle.btrfs_format.specs.declared.key.TheConstants.{EXTENT_DATA}
-use Rattle.btrfs_format.specs.declared.object.TheConstants.{FIRST_FREE_OBJECTID}
-use Rattle.indexmap.specs.IndexMap.{keys}
-use Rattle.reiser_volume.specs.outside.History.{Image}
-use Rattle.btr_reader.specs.btr_keys.FileExtent.{FileExtentValue, file_extent_of}
-use Rattle.btr_reader.specs.btr_keys.declared.inode.Inode.{Inode}
-use Rattle.btr_reader.specs.btr_node.Leaf.{Item}
-use Rattle.btr_reader.specs.btr_reader_walk.declared.map.MapRange.{MapRange}
-use Rattle.btr_reader.specs.btr_reader_walk.declared.tree.NodePointer.{NodePointer}
-use Rattle.btr_reader.specs.btr_super.declared.superblock.Super.{Super}
-use Rattle.btr_check_rules.specs.Files.{AreExtents, EndsBefore, KeepsExtent, covered, extents_in}
-use Rattle.btr_check_rules.specs.Inodes.{HasKind}
-use Rattle.btr_check_rules.specs.Names.{is_of_inode}
-use Rattle.btr_check_rules.specs.Recount.{TreeOn, has_feature, of_kind}
-use Rattle.convert_core.proofs.Moving.{well}
-use Rattle.convert_core.proofs.extent_pieces.Lists.{all_at}
-use Rattle.convert_core.proofs.extent_pieces.Named.{numbered}
-use Rattle.convert_core.specs.btr_item_list.Extents.{extent_item, inline_extent, regular_extent}
-use Rattle.convert_core.specs.convert_steps.Making.{IsMaking, Making}
-use Rattle.convert_core.specs.convert_steps.Source.{HasPieces}
-use Rattle.convert_core.specs.extent_pieces.Laws.{AreSortedKeys}
-use Rattle.convert_core.specs.file_items.Extents.{extents_at, file_block, pieces_of, pieces_of_volume, source_block}
-use Rattle.convert_core.specs.file_items.Small.{image_entries, image_head, image_items, relocation_items, root_directory_items}
-use Rattle.convert_core.specs.file_items.Tree.{Source, file_extent_items, fs_tree_items, ino_of, inline_in, kind_in, size_in}
-use Rattle.convert_core.specs.unit_plan.declared.piece.Piece.{Piece}
-use Rattle.convert_trees_laws.specs.Held.{FilesAreHeld}
-use Rattle.convert_trees_laws.specs.Inodes.{InodesAreThere}
-use Rattle.convert_trees_laws.specs.Rows.{HasBytes}
-use Rattle.convert_trees_laws.proofs.Lists.{Apart, all_in}
-use Rattle.convert_trees_laws.proofs.Rising.{all_append, all_mapped}
-use Rattle.reiser_volume.proofs.fs_paths.Lists.{from_filter, in_filter}
-use Rattle.reiser_volume.proofs.fs_rows.Functions.{length_bytes}
-use Rattle.reiser_volume.proofs.reiser_bitmap.Ranges.{all_from_contains}
-use Rattle.reiser_volume.specs.Volume.{volume_items}
-use Rattle.reiser_volume.specs.fs_rows.Kinds.{has_bytes}
-use Rattle.reiser_volume.specs.fs_rows.declared.row.Kind.{Kind}
-use Rattle.reiser_volume.specs.fs_rows.declared.row.Kind.TheVariants.{File}
-use Rattle.reiser_volume.specs.reiser_volume_files.Bytes.{file_byte, target_bytes}
-use Rattle.reiser_volume.specs.reiser_volume_objects.Keys.{items_of}
-use Rattle.reiser_volume.specs.reiser_volume_objects.Names.{IsNamed}
-use Rattle.reiser_volume.specs.reiser_volume_objects.declared.key.ObjectKey.{ObjectKey}
+use Rattle.convert_core_laws.proofs.Imports.{◌≡◌, ◌≢◌, ◌≤◌, ◌<◌, ℕ, ◌+◌, ◌*◌, ◌/◌, ◌%◌, ◌^◌, ◌==◌, ◌&&◌, Bool, true, false, List, [], ◌∷◌, ◌++◌, map, filter, length, Some, refl, sym, ap, subst, ◌∙◌, ⊎_elim, true≢false, arith, AllByRecursion, and_from, eq-eqb, eqb-true, All-from_recursion, All-nil, AllPairs-filter, NO_HOLES, EXTENT_DATA, FIRST_FREE_OBJECTID, keys, Image, FileExtentValue, file_extent_of, Inode, Item, MapRange, NodePointer, Super, AreExtents, KeepsExtent, covered, extents_in, HasKind, is_of_inode, TreeOn, has_feature, of_kind, well, all_at, numbered, extent_item, inline_extent, regular_extent, IsMaking, Making, HasPieces, AreSortedKeys, extents_at, file_block, pieces_of, pieces_of_volume, source_block, image_entries, image_head, image_items, relocation_items, root_directory_items, Source, file_extent_items, fs_tree_items, ino_of, inline_in, kind_in, size_in, Piece, FilesAreHeld, InodesAreThere, HasBytes, Apart, all_in, all_append, all_mapped, from_filter, in_filter, length_bytes, all_from_contains, volume_items, has_bytes, Kind, File, file_byte, target_bytes, items_of, IsNamed, ObjectKey}
+use Rattle.std.proofs.Common.{Contains, All, AllPairs, if◌then◌else◌}
+use Rattle.btr_check_rules.specs.Files.{EndsBefore}
 use Rattle.convert_core_laws.proofs.ByteReading.{inline_read, is_extent, regular_read}
 use Rattle.convert_core_laws.proofs.Holding.{StaysInTree, stays}
 use Rattle.convert_core_laws.proofs.Owned.{any_extents}

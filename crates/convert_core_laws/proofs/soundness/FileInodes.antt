@@ -1,48 +1,7 @@
 -- The inodes and the entries of the file tree keep the rules of Linux.
-use Rattle.std.proofs.Common.{◌≡◌, ◌≢◌, ◌≤◌, ◌<◌, ℕ, zero, suc, ◌+◌, ◌/◌, ◌^◌, ◌==◌, Bool, true, false, cond, not, List, [], ◌∷◌, ◌++◌, map, filter, flat_map, count_by, length, Contains, All, AllPairs, Option, Some, None, is_some, refl, sym, ap, subst, ◌∙◌, ⊎_elim, if◌then◌else◌, true≢false, arith}
-use Rattle.std.specs.List.{AllByRecursion}
-use Rattle.std.proofs.lemmas.Bool.{cases_lt, eq-eqb, eqb-true, ne_eqb}
-use Rattle.std.proofs.lemmas.List.Elements.{All-from_recursion}
-use Rattle.std.proofs.lemmas.List.Kept.{AllPairs-cons}
-use Rattle.std.proofs.lemmas.List.Sums.{sum_by-cons}
-use Rattle.btrfs_format.specs.declared.flag.TheConstants.{FT_DIR}
-use Rattle.btrfs_format.specs.declared.object.TheConstants.{FIRST_FREE_OBJECTID}
-use Rattle.indexmap.specs.IndexMap.{keys}
-use Rattle.reiser_volume.specs.outside.History.{Image}
-use Rattle.btr_reader.specs.btr_keys.Inode.{inode_bytes}
-use Rattle.btr_reader.specs.btr_node.Leaf.{Item}
-use Rattle.btr_reader.specs.btr_reader_names.Links.{is_name}
-use Rattle.btr_reader.specs.btr_reader_walk.declared.tree.NodePointer.{NodePointer}
-use Rattle.btr_reader.specs.btr_super.declared.superblock.Super.{Super}
-use Rattle.btr_check_rules.specs.Inodes.{AreInodes, HasInode, HasKind, IsDirEntry, IsOwned, KeepsInode, SameName, entry_type, is_orphan}
-use Rattle.btr_check_rules.specs.Names.{IndexEntry, IsThere, index_entries, names_inode_item, ref_name_count}
-use Rattle.btr_check_rules.specs.Recount.{TreeOn}
-use Rattle.convert_core.proofs.extent_pieces.Owning.{two_cases}
-use Rattle.convert_core.specs.convert_steps.Making.{IsMaking, Making}
-use Rattle.convert_core.specs.convert_steps.Source.{HasPieces}
-use Rattle.convert_core.specs.file_items.Names.{IndexedLink as Link, Indexed, entry_kind, indexed, indexed_in, indexed_links, names_in, next_index, saved_entry}
-use Rattle.convert_core.specs.file_items.Tree.{Source, fs_tree_items, ino_of, inode_in, kind_in, link_count, object_items, stat_in}
-use Rattle.convert_trees_laws.specs.Inodes.{InodesAreThere}
-use Rattle.convert_trees_laws.specs.Rows.{HasBytes}
-use Rattle.convert_trees_laws.proofs.Keys.{inodes_climb}
-use Rattle.convert_trees_laws.proofs.Known.{directories_apart, is_directory_there, kind_is, links_short, names_apart, root_known}
-use Rattle.convert_trees_laws.proofs.Linking.{entries_apart, is_link}
-use Rattle.convert_trees_laws.proofs.Lists.{Across, Apart, all_from, all_in, apart_both, apart_climb, apart_flat, apart_from, apart_map, apart_with}
-use Rattle.convert_trees_laws.proofs.Telling.{good_link, one_object, root_number}
-use Rattle.reiser_volume.proofs.fs_paths.Lists.{from_filter, from_flat_map, from_map, head_or_tail, in_filter}
-use Rattle.reiser_volume.proofs.reiser_bitmap.Ranges.{all_from_contains}
-use Rattle.reiser_volume.specs.fs_rows.Kinds.{is_directory, kind_of_code}
-use Rattle.reiser_volume.specs.fs_rows.declared.row.Kind.{Kind}
-use Rattle.reiser_volume.specs.fs_rows.declared.row.Kind.TheVariants.{Directory, File, Symlink, Character, Block, Fifo, Socket, Subvolume}
-use Rattle.reiser_volume.specs.reiser_volume_objects.Keys.{root, same_key}
+use Rattle.convert_core_laws.proofs.Imports.{◌≡◌, ◌≢◌, ◌≤◌, ◌<◌, ℕ, zero, suc, ◌+◌, ◌/◌, ◌^◌, ◌==◌, Bool, true, false, cond, not, List, [], ◌∷◌, ◌++◌, map, filter, count_by, length, Option, Some, None, refl, sym, ap, subst, ◌∙◌, ⊎_elim, true≢false, arith, AllByRecursion, cases_lt, eq-eqb, eqb-true, ne_eqb, All-from_recursion, AllPairs-cons, sum_by-cons, FT_DIR, FIRST_FREE_OBJECTID, keys, Image, inode_bytes, Item, is_name, NodePointer, Super, AreInodes, HasInode, HasKind, IsDirEntry, IsOwned, KeepsInode, SameName, entry_type, is_orphan, IndexEntry, IsThere, index_entries, names_inode_item, ref_name_count, TreeOn, two_cases, IsMaking, Making, HasPieces, IndexedLink as Link, Indexed, entry_kind, indexed, indexed_in, indexed_links, names_in, next_index, saved_entry, Source, fs_tree_items, ino_of, inode_in, kind_in, link_count, object_items, stat_in, InodesAreThere, HasBytes, inodes_climb, directories_apart, is_directory_there, kind_is, links_short, names_apart, root_known, entries_apart, is_link, Across, Apart, all_from, all_in, apart_both, apart_climb, apart_flat, apart_from, apart_map, apart_with, good_link, one_object, root_number, from_filter, from_flat_map, from_map, head_or_tail, in_filter, all_from_contains, is_directory, kind_of_code, Kind, Directory, File, Symlink, Character, Block, Fifo, Socket, Subvolume, root, same_key, IsNamed, IsReachedBy, followed, is_followed, namings, IsDirectory, ObjectKey, Naming, volume_items, accepted_is_small, same_key-self, same_key-true}
+use Rattle.std.proofs.Common.{flat_map, Contains, All, AllPairs, is_some, if◌then◌else◌}
 use Rattle.reiser_volume.specs.reiser_volume_objects.Kinds.{kind_of_mode}
-use Rattle.reiser_volume.specs.reiser_volume_objects.Names.{IsNamed, IsReachedBy, followed, is_followed, namings}
-use Rattle.reiser_volume.specs.reiser_volume_objects.Rules.{IsDirectory}
-use Rattle.reiser_volume.specs.reiser_volume_objects.declared.key.ObjectKey.{ObjectKey}
-use Rattle.reiser_volume.specs.reiser_volume_objects.declared.naming.Naming.{Naming}
-use Rattle.reiser_volume.specs.Volume.{volume_items}
-use Rattle.reiser_volume.proofs.Bounds.{accepted_is_small}
-use Rattle.reiser_volume.proofs.reiser_volume_objects.Tables.{same_key-self, same_key-true}
 use Rattle.convert_core_laws.proofs.Owned.{IsOf, of_object}
 use Rattle.convert_core_laws.proofs.soundness.Assembling.{entries_are}
 use Rattle.convert_core_laws.proofs.soundness.Distinct.{AreDistinct, none_pass, one_passes}

@@ -1,55 +1,8 @@
 -- The inodes of a converted volume: where they stand, and whether their data has checksums.
-use Rattle.std.proofs.Common.{◌≡◌, ◌≤◌, ◌<◌, ℕ, ◌+◌, ◌*◌, ◌%◌, ◌^◌, Bool, true, false, not, ◌&&◌, List, [], ◌∷◌, ◌++◌, filter, map, Some, pos, refl, sym, ap, subst, ◌∙◌, ⊎_elim, arith}
-use Rattle.std.specs.Prelude.{Contains, if◌then◌else◌}
-use Rattle.std.specs.Int.{w64}
-use Rattle.std.specs.Option.{option_and_then}
-use Rattle.std.specs.declared.cmp.Ordering.TheVariants.{Less}
-use Rattle.std.proofs.lemmas.Bool.{cases_Bool, eq-eqb, ne_eqb, not_from_false}
-use Rattle.std.proofs.lemmas.Int.{fits_signed_from_abs}
-use Rattle.std.proofs.lemmas.List.{map-append}
-use Rattle.std.proofs.lemmas.List.Elements.{Contains-append_left, Contains-append_right}
-use Rattle.btrfs_format.specs.declared.flag.TheConstants.{INODE_APPEND, INODE_IMMUTABLE, INODE_NOATIME, INODE_NODATASUM, INODE_NODUMP, INODE_SYNC}
-use Rattle.btrfs_format.specs.declared.object.TheConstants.{FIRST_FREE_OBJECTID}
-use Rattle.vol_block.specs.declared.mode.TheConstants.{IMAGE_MODE}
-use Rattle.indexmap.specs.IndexMap.{keys}
-use Rattle.reiser_volume.proofs.fs_paths.Lists.{in_filter, in_flat_map}
-use Rattle.reiser_volume.specs.outside.History.{Image}
-use Rattle.btr_reader.specs.btr_keys.Inode.{inode_bytes, inode_layout, inode_of}
-use Rattle.btr_reader.specs.btr_keys.Stamp.{stamp_layout}
-use Rattle.btr_reader.specs.btr_keys.declared.inode.Inode.{Inode}
-use Rattle.btr_reader.proofs.btr_keys.Records.{inodes_read_back}
-use Rattle.btr_reader.specs.btr_node.Leaf.{Item, keys_of}
-use Rattle.btr_reader.specs.btr_node.Order.{ascends}
+use Rattle.convert_core_laws.proofs.Imports.{◌≡◌, ◌≤◌, ◌<◌, ℕ, ◌+◌, ◌*◌, ◌%◌, ◌^◌, Bool, true, false, not, ◌&&◌, List, [], ◌∷◌, ◌++◌, filter, map, Some, refl, sym, ap, subst, ◌∙◌, ⊎_elim, arith, Contains, if◌then◌else◌, w64, option_and_then, Less, cases_Bool, eq-eqb, ne_eqb, not_from_false, fits_signed_from_abs, map-append, Contains-append_left, Contains-append_right, INODE_APPEND, INODE_IMMUTABLE, INODE_NOATIME, INODE_NODATASUM, INODE_NODUMP, INODE_SYNC, FIRST_FREE_OBJECTID, IMAGE_MODE, keys, in_filter, in_flat_map, Image, inode_bytes, inode_layout, inode_of, stamp_layout, Inode, inodes_read_back, Item, keys_of, ascends, has_no_sums, TreeItem, bare_item, HasPieces, made_from, two_cases, extents_at, piece_bytes, pieces_of_volume, source_block, if_set, inode_flags, image_entries, image_flags, image_head, image_items, image_name, root_directory_items, Source, content_items, inode_in, kind_in, name_items, ino_of, object_items, stat_in, fs_tree_items, InodesAreThere, is_file, is_symlink, Kind, File, inode_item, inode_made, ref_item, stamp_of, contains_head, contains_tail, root, same_key, ObjectKey, ObjectStat, same_key-true, by_inode, flag, Volume, HasBytes, item_cmp, Rise, Options, Piece, Plan}
+use Rattle.std.proofs.Common.{pos}
 use Rattle.btr_reader.proofs.btr_node.Ascending.{second_ascends}
-use Rattle.btr_check_rules.specs.Names.{has_no_sums}
-use Rattle.btr_reader.specs.btr_reader_walk.Events.{TreeItem}
-use Rattle.btr_reader.specs.btr_reader_walk.Tree.{bare_item}
-use Rattle.convert_core.specs.convert_steps.Source.{HasPieces, made_from}
-use Rattle.convert_core.proofs.extent_pieces.Owning.{two_cases}
-use Rattle.convert_core.specs.file_items.Extents.{extents_at, piece_bytes, pieces_of_volume, source_block}
-use Rattle.convert_core.specs.file_items.Inodes.{if_set, inode_flags}
-use Rattle.convert_core.specs.file_items.Small.{image_entries, image_flags, image_head, image_items, image_name, root_directory_items}
-use Rattle.convert_core.specs.file_items.Tree.{Source, content_items, inode_in, kind_in, name_items, ino_of, object_items, stat_in, fs_tree_items}
-use Rattle.convert_trees_laws.specs.Inodes.{InodesAreThere}
-use Rattle.reiser_volume.specs.fs_rows.Kinds.{is_file, is_symlink}
-use Rattle.reiser_volume.specs.fs_rows.declared.row.Kind.{Kind}
-use Rattle.reiser_volume.specs.fs_rows.declared.row.Kind.TheVariants.{File}
-use Rattle.convert_core.specs.btr_item_list.Inodes.{inode_item, inode_made, ref_item, stamp_of}
-use Rattle.reiser_volume.proofs.reiser_bitmap.Ranges.{contains_head, contains_tail}
-use Rattle.reiser_volume.specs.reiser_volume_objects.Keys.{root, same_key}
-use Rattle.reiser_volume.specs.reiser_volume_objects.declared.key.ObjectKey.{ObjectKey}
-use Rattle.reiser_volume.specs.reiser_volume_objects.declared.stat.ObjectStat.{ObjectStat}
-use Rattle.reiser_volume.proofs.reiser_volume_objects.Tables.{same_key-true}
-use Rattle.reiser_volume.specs.Numbers.{by_inode}
-use Rattle.reiser_volume.specs.Rows.{flag}
-use Rattle.reiser_volume.specs.declared.volume.Volume.{Volume}
-use Rattle.convert_trees_laws.specs.Rows.{HasBytes}
 use Rattle.convert_trees_laws.proofs.Exact.{inodes_are_read}
-use Rattle.convert_core.specs.space_items.Merging.{item_cmp}
-use Rattle.convert_core.proofs.space_items.Ordered.{Rise}
-use Rattle.convert_core.specs.convert_options.declared.options.Options.{Options}
-use Rattle.convert_core.specs.unit_plan.declared.piece.Piece.{Piece}
-use Rattle.convert_core.specs.unit_plan.declared.plan.Plan.{Plan}
 use Rattle.convert_core_laws.proofs.soundness.Keyed.{no_two}
 
 -- of items that ascend two with one key are one

@@ -1,43 +1,11 @@
 -- The names of a converted volume are sound.
-use Rattle.std.proofs.Common.{◌≤◌, ◌<◌, ℕ, ◌-◌, ◌^◌, List, [], ◌∷◌, filter, refl, sym, subst, arith}
-use Rattle.std.specs.Prelude.{is_some}
-use Rattle.std.specs.List.{AllByRecursion}
-use Rattle.std.proofs.lemmas.List.Elements.{All-cons, All-nil}
-use Rattle.std.proofs.lemmas.List.Sorted.{Contains-permutation}
-use Rattle.btrfs_format.specs.declared.object.TheConstants.{CONV_IMAGE_SUBVOL, DATA_RELOC_TREE, FS_TREE}
-use Rattle.reiser_volume.specs.outside.History.{Image}
-use Rattle.reiser_volume.specs.vol_block.declared.ids.Ids.{Ids}
-use Rattle.btr_reader.specs.btr_node.NodeSize.{IsNodeSize}
-use Rattle.btr_check_rules.specs.Files.{AreExtents, HaveExtents}
-use Rattle.btr_check_rules.specs.Inodes.{AreInodes, HaveInodes}
-use Rattle.btr_check_rules.specs.Names.{AreTreeNames, HaveNames}
-use Rattle.btr_check_rules.specs.Recount.{Recount, TreeOn}
-use Rattle.convert_core.specs.convert_steps.Making.{IsMaking, Making}
-use Rattle.convert_core.specs.convert_steps.Source.{HasPieces}
-use Rattle.convert_core.specs.convert_steps.Standing.{file_tree_items, image_tree_items, root_tree_items}
-use Rattle.convert_core.specs.convert_steps.declared.trees.VolumeTrees.{VolumeTrees}
-use Rattle.convert_core.proofs.Wholeness.{blocks_few}
-use Rattle.convert_core_laws.specs.reading.Identifiers.{NewIdsFit}
-use Rattle.convert_core_laws.specs.reading.Opened.{IsNewVolume, map_for, super_for}
+use Rattle.convert_core_laws.proofs.Imports.{◌≤◌, ◌<◌, ℕ, ◌-◌, ◌^◌, List, [], ◌∷◌, filter, refl, sym, subst, arith, is_some, AllByRecursion, All-cons, All-nil, Contains-permutation, CONV_IMAGE_SUBVOL, DATA_RELOC_TREE, FS_TREE, Image, Ids, IsNodeSize, AreExtents, HaveExtents, AreInodes, HaveInodes, AreTreeNames, HaveNames, Recount, TreeOn, IsMaking, Making, HasPieces, file_tree_items, image_tree_items, root_tree_items, VolumeTrees, blocks_few, NewIdsFit, IsNewVolume, map_for, super_for, piece_bytes, pieces_of_volume, source_block, relocation_items, FilesAreHeld, InodesAreThere, ImageKeysAscend, from_filter, HasBytes, all_from, TreeNode, Options, Piece, recount_for, tree_for, ConvertedFileExtentsAreSound, ConvertedInodesAreSound, ConvertedNamesAreSound}
 use Rattle.convert_core_laws.proofs.reading.SavedExtents.{AreSources, sources_bytes}
 use Rattle.convert_core_laws.proofs.reading.SavedPieces.{are_sources}
-use Rattle.convert_core.specs.file_items.Extents.{piece_bytes, pieces_of_volume, source_block}
-use Rattle.convert_core.specs.file_items.Small.{relocation_items}
-use Rattle.convert_trees_laws.specs.Held.{FilesAreHeld}
-use Rattle.convert_trees_laws.specs.Inodes.{InodesAreThere}
-use Rattle.convert_trees_laws.specs.Keys.{ImageKeysAscend}
-use Rattle.reiser_volume.proofs.fs_paths.Lists.{from_filter}
-use Rattle.convert_trees_laws.specs.Rows.{HasBytes}
-use Rattle.convert_trees_laws.proofs.Lists.{all_from}
-use Rattle.convert_core.specs.space_items.declared.node.TreeNode.{TreeNode}
-use Rattle.convert_core.specs.convert_options.declared.options.Options.{Options}
-use Rattle.convert_core.specs.unit_plan.declared.piece.Piece.{Piece}
-use Rattle.convert_core_laws.specs.soundness.Recounted.{recount_for, tree_for}
 use Rattle.convert_core_laws.proofs.soundness.Recounting.{generation_is, volume_for, without_holes}
 use Rattle.convert_core_laws.proofs.soundness.Unreserved.{fit_size}
 use Rattle.convert_core_laws.proofs.soundness.Uses.{piece_small}
 use Rattle.convert_core_laws.proofs.soundness.Flags.{image_extents_ascend}
-use Rattle.convert_core_laws.specs.soundness.Laws.{ConvertedFileExtentsAreSound, ConvertedInodesAreSound, ConvertedNamesAreSound}
 use Rattle.convert_core_laws.proofs.soundness.Entered.{file_names}
 use Rattle.convert_core_laws.proofs.soundness.FileExtents.{file_extents, relocation_extents, saved_extents}
 use Rattle.convert_core_laws.proofs.soundness.FileInodes.{file_inodes}

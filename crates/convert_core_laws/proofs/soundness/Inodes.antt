@@ -1,59 +1,11 @@
 -- What the inodes of the file tree tell is so.
-use Rattle.std.proofs.Common.{◌≡◌, ◌≢◌, ◌≤◌, ◌<◌, ℕ, ◌+◌, ◌*◌, ◌^◌, ◌==◌, ◌&&◌, Bool, true, false, not, cond, List, [], ◌∷◌, ◌++◌, length, map, filter, flat_map, count_by, sum_by, Contains, Option, Some, refl, sym, ap, subst, ◌∙◌, ⊎_elim, if◌then◌else◌, true≢false, arith}
-use Rattle.std.specs.List.{AllByRecursion}
-use Rattle.std.proofs.lemmas.Bool.{and_parts, eq-eqb, eqb-true, ne_eqb}
-use Rattle.std.proofs.lemmas.List.Sorted.{sum_by-IsPermutation}
-use Rattle.std.proofs.lemmas.List.Sums.{sum_by-cons}
-use Rattle.btrfs_format.specs.declared.flag.TheConstants.{INODE_NODATASUM}
-use Rattle.btrfs_format.specs.declared.key.TheConstants.{EXTENT_DATA, INODE_ITEM, INODE_REF}
-use Rattle.btrfs_format.specs.declared.object.TheConstants.{FS_TREE}
-use Rattle.indexmap.specs.IndexMap.{keys}
-use Rattle.reiser_volume.specs.outside.History.{Image}
-use Rattle.btr_reader.specs.btr_keys.FileExtent.{file_extent_of}
-use Rattle.btr_reader.specs.btr_keys.Inode.{inode_bytes, inode_of}
-use Rattle.btr_reader.specs.btr_keys.Key.{make_key}
-use Rattle.btr_reader.specs.btr_keys.declared.inode.Inode.{Inode}
-use Rattle.btr_reader.specs.btr_reader_names.Inodes.{kind_of_mode}
-use Rattle.btr_reader.specs.btr_node.Leaf.{Item}
-use Rattle.btr_check_rules.specs.Names.{BackName, IndexEntry, IsInode, directory_size, has_no_sums, inode_nbytes, is_of_inode, ref_name_count, nbytes_of, own_name}
-use Rattle.btr_check_rules.specs.Recount.{TreeOn}
-use Rattle.btr_reader.specs.btr_reader_walk.declared.tree.NodePointer.{NodePointer}
+use Rattle.convert_core_laws.proofs.Imports.{◌≡◌, ◌≢◌, ◌≤◌, ◌<◌, ℕ, ◌+◌, ◌*◌, ◌^◌, ◌==◌, ◌&&◌, Bool, true, false, not, cond, List, [], ◌∷◌, ◌++◌, length, map, filter, count_by, Option, Some, refl, sym, ap, subst, ◌∙◌, ⊎_elim, true≢false, arith, AllByRecursion, and_parts, eq-eqb, eqb-true, ne_eqb, sum_by-IsPermutation, sum_by-cons, INODE_NODATASUM, EXTENT_DATA, INODE_ITEM, INODE_REF, FS_TREE, keys, Image, file_extent_of, inode_bytes, inode_of, make_key, Inode, kind_of_mode, Item, BackName, IndexEntry, IsInode, directory_size, has_no_sums, inode_nbytes, is_of_inode, ref_name_count, nbytes_of, own_name, TreeOn, NodePointer, IsMaking, Making, HasPieces, AreSortedKeys, numbered, extents_at, file_block, is_owned_by, piece_bytes, pieces_of, Indexed, indexed_links, indexed_in, Source, nbytes_by, content_items, file_extent_items, inline_in, inode_in, kind_in, link_count, name_items, ino_of, object_items, size_by, size_in, stat_in, fs_tree_items, if_set, FilesAreHeld, InodesAreThere, sum_links, sum_mapped, length_bytes, has_bytes, is_directory, is_file, Kind, Directory, File, Symlink, Character, Block, Fifo, Socket, Subvolume, extent_item, inline_extent, regular_extent, inode_item, at_head, from_flat_map, from_map, head_or_tail, in_tail, from_filter, file_byte, target_bytes, items_of, root, same_key, IsNamed, ObjectKey, Naming, same_key-self, same_key-true, stays_in_tree, volume_items, HasBytes, directory_there, kind_is, root_known, tree_kind_is, all_in, good_link, one_object, root_number, size_of_inode, Piece}
+use Rattle.std.proofs.Common.{flat_map, sum_by, Contains, if◌then◌else◌}
 use Rattle.convert_core_laws.proofs.Holding.{StaysInTree, stays}
 use Rattle.convert_core_laws.proofs.Owned.{any_extents, extents_found}
 use Rattle.convert_core_laws.proofs.Pieces.{all_of_inode}
 use Rattle.convert_core_laws.proofs.ByteReading.{inline_read, is_extent, regular_read}
 use Rattle.convert_core_laws.proofs.Sound.{owner_is}
-use Rattle.convert_core.specs.convert_steps.Making.{IsMaking, Making}
-use Rattle.convert_core.specs.convert_steps.Source.{HasPieces}
-use Rattle.convert_core.specs.extent_pieces.Laws.{AreSortedKeys}
-use Rattle.convert_core.proofs.extent_pieces.Named.{numbered}
-use Rattle.convert_core.specs.file_items.Extents.{extents_at, file_block, is_owned_by, piece_bytes, pieces_of}
-use Rattle.convert_core.specs.file_items.Names.{Indexed, indexed_links, indexed_in}
-use Rattle.convert_core.specs.file_items.Tree.{Source, nbytes_by, content_items, file_extent_items, inline_in, inode_in, kind_in, link_count, name_items, ino_of, object_items, size_by, size_in, stat_in, fs_tree_items}
-use Rattle.convert_core.specs.file_items.Inodes.{if_set}
-use Rattle.convert_trees_laws.specs.Held.{FilesAreHeld}
-use Rattle.convert_trees_laws.specs.Inodes.{InodesAreThere}
-use Rattle.convert_trees_laws.proofs.Short.{sum_links, sum_mapped}
-use Rattle.reiser_volume.proofs.fs_rows.Functions.{length_bytes}
-use Rattle.reiser_volume.specs.fs_rows.Kinds.{has_bytes, is_directory, is_file}
-use Rattle.reiser_volume.specs.fs_rows.declared.row.Kind.{Kind}
-use Rattle.reiser_volume.specs.fs_rows.declared.row.Kind.TheVariants.{Directory, File, Symlink, Character, Block, Fifo, Socket, Subvolume}
-use Rattle.convert_core.specs.btr_item_list.Extents.{extent_item, inline_extent, regular_extent}
-use Rattle.convert_core.specs.btr_item_list.Inodes.{inode_item}
-use Rattle.reiser_volume.proofs.fs_paths.Lists.{at_head, from_flat_map, from_map, head_or_tail, in_tail, from_filter}
-use Rattle.reiser_volume.specs.reiser_volume_files.Bytes.{file_byte, target_bytes}
-use Rattle.reiser_volume.specs.reiser_volume_objects.Keys.{items_of, root, same_key}
-use Rattle.reiser_volume.specs.reiser_volume_objects.Names.{IsNamed}
-use Rattle.reiser_volume.specs.reiser_volume_objects.declared.key.ObjectKey.{ObjectKey}
-use Rattle.reiser_volume.specs.reiser_volume_objects.declared.naming.Naming.{Naming}
-use Rattle.reiser_volume.proofs.reiser_volume_objects.Tables.{same_key-self, same_key-true}
-use Rattle.reiser_volume.specs.Inline.{stays_in_tree}
-use Rattle.reiser_volume.specs.Volume.{volume_items}
-use Rattle.convert_trees_laws.specs.Rows.{HasBytes}
-use Rattle.convert_trees_laws.proofs.Known.{directory_there, kind_is, root_known, tree_kind_is}
-use Rattle.convert_trees_laws.proofs.Lists.{all_in}
-use Rattle.convert_trees_laws.proofs.Telling.{good_link, one_object, root_number, size_of_inode}
-use Rattle.convert_core.specs.unit_plan.declared.piece.Piece.{Piece}
 use Rattle.convert_core_laws.proofs.soundness.Uses.{piece_small}
 use Rattle.convert_core_laws.proofs.soundness.Flags.{flag_bit, inode_reads}
 use Rattle.convert_core_laws.proofs.soundness.Assembling.{Tells, count_is, flat_one, size_is}

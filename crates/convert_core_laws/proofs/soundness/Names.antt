@@ -1,32 +1,6 @@
 -- The names that directories of the file tree tell are those that inodes tell.
-use Rattle.std.proofs.Common.{◌≡◌, ◌<◌, ℕ, Bool, true, false, not, List, [], ◌∷◌, ◌++◌, map, filter, flat_map, Contains, refl, sym, ap, subst, ◌∙◌, ⊎_elim, if◌then◌else◌, arith}
-use Rattle.std.specs.List.Sorted.{IsPermutation}
-use Rattle.std.proofs.lemmas.Bool.{cases_Bool, not_from_false}
-use Rattle.std.proofs.lemmas.List.{append-nil}
-use Rattle.std.proofs.lemmas.List.Elements.{filter-append}
-use Rattle.std.proofs.lemmas.List.Sorted.{IsPermutation-cons, IsPermutation-map, IsPermutation-sym, IsPermutation-trans}
-use Rattle.indexmap.specs.IndexMap.{keys}
-use Rattle.reiser_volume.specs.outside.History.{Image}
-use Rattle.btr_check_rules.specs.Names.{BackName, back_name, names_inode_item, own_name}
-use Rattle.convert_core.specs.convert_steps.Making.{IsMaking, Making}
-use Rattle.convert_core.specs.convert_steps.Source.{HasPieces}
-use Rattle.convert_core.specs.extent_pieces.Laws.{AreSortedKeys}
-use Rattle.convert_core.proofs.extent_pieces.Named.{numbered}
-use Rattle.convert_core.specs.file_items.Names.{IndexedLink as Link, Indexed, indexed_links, indexed, indexed_in, names_in, names_of, next_index, parent_of, saved_entry}
-use Rattle.convert_core.specs.file_items.Tree.{Source, kind_in, ino_of, object_items, fs_tree_items}
-use Rattle.convert_trees_laws.proofs.Keys.{inodes_climb}
-use Rattle.convert_trees_laws.proofs.Rising.{Climb}
-use Rattle.reiser_volume.specs.fs_rows.declared.row.Kind.{Kind}
-use Rattle.reiser_volume.specs.fs_rows.declared.row.Kind.TheVariants.{Directory, File, Symlink, Character, Block, Fifo, Socket, Subvolume}
-use Rattle.reiser_volume.proofs.fs_paths.Lists.{at_head, from_filter, from_map, head_or_tail, in_filter, in_tail}
-use Rattle.reiser_volume.specs.reiser_volume_objects.Keys.{root, same_key}
-use Rattle.reiser_volume.specs.reiser_volume_objects.declared.key.ObjectKey.{ObjectKey}
-use Rattle.reiser_volume.proofs.reiser_volume_objects.Tables.{same_key-self, same_key-true}
-use Rattle.reiser_volume.specs.Numbers.{by_inode}
-use Rattle.convert_trees_laws.proofs.Known.{root_known}
-use Rattle.convert_trees_laws.proofs.Linking.{is_link}
-use Rattle.convert_trees_laws.proofs.Lists.{all_from, all_in, kept_map}
-use Rattle.convert_trees_laws.proofs.Telling.{good_link, link_directory}
+use Rattle.convert_core_laws.proofs.Imports.{◌≡◌, ◌<◌, ℕ, Bool, true, false, not, List, [], ◌∷◌, ◌++◌, map, filter, refl, sym, ap, subst, ◌∙◌, ⊎_elim, arith, IsPermutation, cases_Bool, not_from_false, append-nil, filter-append, IsPermutation-cons, IsPermutation-map, IsPermutation-sym, IsPermutation-trans, keys, Image, BackName, back_name, names_inode_item, own_name, IsMaking, Making, HasPieces, AreSortedKeys, numbered, IndexedLink as Link, Indexed, indexed_links, indexed, indexed_in, names_in, names_of, next_index, parent_of, saved_entry, Source, kind_in, ino_of, object_items, fs_tree_items, inodes_climb, Climb, Kind, Directory, File, Symlink, Character, Block, Fifo, Socket, Subvolume, at_head, from_filter, from_map, head_or_tail, in_filter, in_tail, root, same_key, ObjectKey, same_key-self, same_key-true, by_inode, root_known, is_link, all_from, all_in, kept_map, good_link, link_directory}
+use Rattle.std.proofs.Common.{flat_map, Contains, if◌then◌else◌}
 use Rattle.convert_core_laws.proofs.soundness.Assembling.{Tells, tells_flat}
 use Rattle.convert_core_laws.proofs.soundness.NameLists.{AreApart, flat_same, kept_all, kept_flat, mapped_flat, parts_all}
 use Rattle.convert_core_laws.proofs.soundness.Objects.{back, indexes, link_among, listed, names, s, tells_object}

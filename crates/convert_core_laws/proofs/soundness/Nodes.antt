@@ -1,40 +1,6 @@
 -- The nodes of a converted volume lie at their slots.
-use Rattle.std.proofs.Common.{◌≡◌, ◌≢◌, ℕ, suc, ◌+◌, ◌-◌, ◌^◌, List, [], ◌∷◌, length, take, drop, refl, sym, subst, arith}
-use Rattle.std.specs.Prelude.{All, Contains}
-use Rattle.std.specs.List.Sorted.{IsPermutation}
-use Rattle.std.proofs.lemmas.List.Elements.{All-append, All-contains, All-contains_itself, All-cons, All-drop, All-map, All-nil, All-take}
-use Rattle.std.proofs.lemmas.List.Sorted.{All-permutation, IsPermutation-sym}
-use Rattle.btrfs_format.specs.declared.object.TheConstants.{CHUNK_TREE, CONV_IMAGE_SUBVOL, CSUM_TREE, DATA_RELOC_TREE, DEV_TREE, EXTENT_TREE, FS_TREE, ROOT_TREE}
-use Rattle.reiser_volume.specs.outside.History.{Image}
-use Rattle.reiser_volume.specs.vol_block.declared.ids.Ids.{Ids}
-use Rattle.btr_reader.specs.btr_node.Leaf.{Item}
-use Rattle.btr_reader.specs.Opening.{chunk_map}
-use Rattle.btr_check_rules.specs.Recount.{Recount, TreeOn, all_trees}
-use Rattle.btr_reader.specs.btr_super.declared.superblock.Super.{Super}
-use Rattle.convert_core.specs.btr_tree.Building.{pointer_to}
-use Rattle.convert_core.specs.btr_tree.Laws.{GivesItself, IsSameBy}
-use Rattle.convert_core.specs.btr_tree.Packing.{packed_leaves, tree_levels}
-use Rattle.convert_core.specs.btr_tree.Roots.{level_pointers, lengths_of, pointers_to}
-use Rattle.convert_core.specs.btr_tree.declared.climb.Root.{Root}
-use Rattle.convert_core.proofs.btr_tree.Maps.{agree}
-use Rattle.btr_reader.specs.btr_reader_walk.Events.{TreeEvent, nodes_in, walk_events}
-use Rattle.btr_reader.specs.btr_reader_walk.Map.{identity}
-use Rattle.btr_reader.specs.btr_reader_walk.declared.map.MapRange.{MapRange}
-use Rattle.btr_reader.specs.btr_reader_walk.declared.tree.Form.{Form}
-use Rattle.btr_reader.specs.btr_reader_walk.declared.tree.NodePointer.{NodePointer}
-use Rattle.convert_core.specs.convert_steps.Making.{Making, chunk_slots, new_ids, slots}
-use Rattle.convert_core.specs.convert_steps.Standing.{HasTrees, device_from, extents_from, file_tree_items, form, image_from, image_tree_items, relocation_from, root_from, root_tree_items, sum_tree_items, sums_from}
-use Rattle.convert_core.specs.convert_steps.declared.trees.VolumeTrees.{VolumeTrees}
-use Rattle.convert_core_laws.specs.reading.Opened.{IsNewVolume, super_for}
+use Rattle.convert_core_laws.proofs.Imports.{◌≡◌, ◌≢◌, ℕ, suc, ◌+◌, ◌-◌, ◌^◌, List, [], ◌∷◌, length, take, drop, refl, sym, subst, arith, All, Contains, IsPermutation, All-append, All-contains, All-contains_itself, All-cons, All-drop, All-map, All-nil, All-take, All-permutation, IsPermutation-sym, CHUNK_TREE, CONV_IMAGE_SUBVOL, CSUM_TREE, DATA_RELOC_TREE, DEV_TREE, EXTENT_TREE, FS_TREE, ROOT_TREE, Image, Ids, Item, chunk_map, Recount, TreeOn, all_trees, Super, pointer_to, GivesItself, IsSameBy, packed_leaves, tree_levels, level_pointers, lengths_of, pointers_to, Root, agree, TreeEvent, nodes_in, walk_events, identity, MapRange, Form, NodePointer, Making, chunk_slots, new_ids, slots, HasTrees, device_from, extents_from, file_tree_items, form, image_from, image_tree_items, relocation_from, root_from, root_tree_items, sum_tree_items, sums_from, VolumeTrees, IsNewVolume, super_for, relocation_items, all_from_contains, chunk_items, device_items, extent_items, TreeNode, TreeStands, pointer_to_root, Options, recount_for, tree_for}
 use Rattle.convert_core_laws.proofs.reading.Opening.{maps_chunks}
-use Rattle.convert_core.specs.file_items.Small.{relocation_items}
-use Rattle.reiser_volume.proofs.reiser_bitmap.Ranges.{all_from_contains}
-use Rattle.convert_core.specs.space_items.Chunks.{chunk_items, device_items}
-use Rattle.convert_core.specs.space_items.Extents.{extent_items}
-use Rattle.convert_core.specs.space_items.declared.node.TreeNode.{TreeNode}
-use Rattle.convert_core.specs.btr_tree_writer.Trees.{TreeStands, pointer_to_root}
-use Rattle.convert_core.specs.convert_options.declared.options.Options.{Options}
-use Rattle.convert_core_laws.specs.soundness.Recounted.{recount_for, tree_for}
 use Rattle.convert_core_laws.proofs.soundness.Recounting.{form_is}
 use Rattle.convert_core_laws.proofs.soundness.Trees.{map_is, six_all}
 

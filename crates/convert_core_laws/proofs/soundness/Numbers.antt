@@ -1,17 +1,7 @@
 -- Numbers of inodes fit, and keys of different kinds differ.
-use Rattle.std.proofs.Common.{◌≡◌, ◌≢◌, ◌≤◌, ◌<◌, ◌+◌, ◌^◌, Bool, true, false, not, ◌&&◌, List, length, refl, arith}
-use Rattle.std.specs.Prelude.{if◌then◌else◌}
+use Rattle.convert_core_laws.proofs.Imports.{◌≡◌, ◌≢◌, ◌≤◌, ◌<◌, ◌+◌, ◌^◌, Bool, true, false, not, ◌&&◌, List, length, refl, arith, if◌then◌else◌, is_lt, nat_cmp, ordering_then, Ordering, Less, Equal, Greater, count_by-le-length, key_cmp, Key, ino_of_key, root, same_key, ObjectKey}
 use Rattle.std.specs.List.{count_by}
-use Rattle.std.specs.Ordering.{is_lt, nat_cmp, ordering_then}
-use Rattle.std.specs.declared.cmp.Ordering.{Ordering}
-use Rattle.std.specs.declared.cmp.Ordering.TheVariants.{Less, Equal, Greater}
-use Rattle.std.proofs.lemmas.List.Sums.{count_by-le-length}
-use Rattle.btr_reader.specs.btr_keys.Key.{key_cmp}
-use Rattle.btr_reader.specs.btr_keys.declared.key.Key.{Key}
 use Rattle.reiser_volume.specs.reiser_volume_names.Links.{object_cmp}
-use Rattle.reiser_volume.specs.reiser_volume_names.Names.{ino_of_key}
-use Rattle.reiser_volume.specs.reiser_volume_objects.Keys.{root, same_key}
-use Rattle.reiser_volume.specs.reiser_volume_objects.declared.key.ObjectKey.{ObjectKey}
 use Rattle.convert_core_laws.proofs.soundness.Row.{differ}
 
 -- numbers of inodes fit

@@ -1,50 +1,9 @@
 -- What the items of one object of the file tree tell.
-use Rattle.std.proofs.Common.{◌≡◌, ◌≤◌, ℕ, ◌+◌, ◌^◌, Bool, true, false, not, List, [], ◌∷◌, ◌++◌, append_assoc, length, length-append, map, filter, flat_map, count_by, Contains, refl, sym, ap, subst, ◌∙◌, ⊎_elim, if◌then◌else◌, arith}
-use Rattle.std.specs.List.{AllByRecursion}
-use Rattle.std.specs.List.Sorted.{IsPermutation}
-use Rattle.std.proofs.lemmas.List.{append-nil, map-append}
-use Rattle.std.proofs.lemmas.List.Sorted.{Contains-permutation, IsPermutation-append, IsPermutation-filter_both, IsPermutation-map, IsPermutation-refl, IsPermutation-sym, IsPermutation-trans}
-use Rattle.std.proofs.lemmas.List.Sums.{count_by-le-length}
-use Rattle.btrfs_format.specs.declared.key.TheConstants.{DIR_INDEX, DIR_ITEM, INODE_EXTREF, INODE_REF}
-use Rattle.btrfs_format.specs.declared.object.TheConstants.{FIRST_FREE_OBJECTID}
-use Rattle.reiser_volume.specs.castagnoli.Castagnoli.{extref_hash, name_hash}
-use Rattle.indexmap.specs.IndexMap.{keys}
-use Rattle.reiser_volume.specs.outside.History.{Image}
-use Rattle.btr_reader.specs.btr_keys.DirEntry.{dir_entry_bytes}
-use Rattle.btr_reader.specs.btr_keys.Extref.{extref_bytes, extref_head}
-use Rattle.btr_reader.specs.btr_keys.InodeRef.{InodeRefValue, inode_ref_bytes, inode_ref_head}
-use Rattle.btr_reader.specs.btr_keys.Key.{make_key}
-use Rattle.btr_reader.specs.btr_node.Leaf.{Item}
-use Rattle.btr_check_rules.specs.Names.{BackName, NamedEntry, IndexEntry, own_name}
+use Rattle.convert_core_laws.proofs.Imports.{◌≡◌, ◌≤◌, ℕ, ◌+◌, ◌^◌, Bool, true, false, not, List, [], ◌∷◌, ◌++◌, append_assoc, length, length-append, map, filter, count_by, refl, sym, ap, subst, ◌∙◌, ⊎_elim, arith, AllByRecursion, IsPermutation, append-nil, map-append, Contains-permutation, IsPermutation-append, IsPermutation-filter_both, IsPermutation-map, IsPermutation-refl, IsPermutation-sym, IsPermutation-trans, count_by-le-length, DIR_INDEX, DIR_ITEM, INODE_EXTREF, INODE_REF, FIRST_FREE_OBJECTID, extref_hash, name_hash, keys, Image, dir_entry_bytes, extref_bytes, extref_head, InodeRefValue, inode_ref_bytes, inode_ref_head, make_key, Item, BackName, NamedEntry, IndexEntry, own_name, IsMaking, Making, HasPieces, made_from, extents_at, file_block, pieces_of, IndexedLink as Link, Indexed, indexed_links, entries_behind, entry_behind, extref, extrefs, indexed, indexed_in, inode_ref, inode_refs, names_in, names_of, next_index, parent_of, root_ref, saved_entry, Source, content_items, file_extent_items, inline_in, inode_in, kind_in, name_items, ino_of, object_items, size_in, name_items_other, name_items_root, all_append, all_mapped, all_true, length_bytes, Kind, Directory, File, Symlink, Character, Block, Fifo, Socket, Subvolume, extent_item, inline_extent, regular_extent, ascending, grouped, inode_item, from_filter, head_or_tail, in_filter, file_byte, target_bytes, items_of, root, same_key, IsNamed, ObjectKey, Naming, same_key-self, volume_items, accepted_is_small, links_short, is_link, all_from, Piece}
+use Rattle.std.proofs.Common.{flat_map, Contains, if◌then◌else◌}
 use Rattle.convert_core_laws.proofs.Holding.{StaysInTree, stays}
 use Rattle.convert_core_laws.proofs.Pieces.{all_of_inode}
 use Rattle.convert_core_laws.proofs.ByteReading.{inline_read, regular_read}
-use Rattle.convert_core.specs.convert_steps.Making.{IsMaking, Making}
-use Rattle.convert_core.specs.convert_steps.Source.{HasPieces, made_from}
-use Rattle.convert_core.specs.file_items.Extents.{extents_at, file_block, pieces_of}
-use Rattle.convert_core.specs.file_items.Names.{IndexedLink as Link, Indexed, indexed_links, entries_behind, entry_behind, extref, extrefs, indexed, indexed_in, inode_ref, inode_refs, names_in, names_of, next_index, parent_of, root_ref, saved_entry}
-use Rattle.convert_core.specs.file_items.Tree.{Source, content_items, file_extent_items, inline_in, inode_in, kind_in, name_items, ino_of, object_items, size_in}
-use Rattle.convert_core.proofs.file_items.Named.{name_items_other, name_items_root}
-use Rattle.convert_trees_laws.proofs.Rising.{all_append, all_mapped, all_true}
-use Rattle.reiser_volume.proofs.fs_rows.Functions.{length_bytes}
-use Rattle.reiser_volume.specs.fs_rows.declared.row.Kind.{Kind}
-use Rattle.reiser_volume.specs.fs_rows.declared.row.Kind.TheVariants.{Directory, File, Symlink, Character, Block, Fifo, Socket, Subvolume}
-use Rattle.convert_core.specs.btr_item_list.Extents.{extent_item, inline_extent, regular_extent}
-use Rattle.convert_core.specs.btr_item_list.Groups.{ascending, grouped}
-use Rattle.convert_core.specs.btr_item_list.Inodes.{inode_item}
-use Rattle.reiser_volume.proofs.fs_paths.Lists.{from_filter, head_or_tail, in_filter}
-use Rattle.reiser_volume.specs.reiser_volume_files.Bytes.{file_byte, target_bytes}
-use Rattle.reiser_volume.specs.reiser_volume_objects.Keys.{items_of, root, same_key}
-use Rattle.reiser_volume.specs.reiser_volume_objects.Names.{IsNamed}
-use Rattle.reiser_volume.specs.reiser_volume_objects.declared.key.ObjectKey.{ObjectKey}
-use Rattle.reiser_volume.specs.reiser_volume_objects.declared.naming.Naming.{Naming}
-use Rattle.reiser_volume.proofs.reiser_volume_objects.Tables.{same_key-self}
-use Rattle.reiser_volume.specs.Volume.{volume_items}
-use Rattle.reiser_volume.proofs.Bounds.{accepted_is_small}
-use Rattle.convert_trees_laws.proofs.Known.{links_short}
-use Rattle.convert_trees_laws.proofs.Linking.{is_link}
-use Rattle.convert_trees_laws.proofs.Lists.{all_from}
-use Rattle.convert_core.specs.unit_plan.declared.piece.Piece.{Piece}
 use Rattle.convert_core_laws.proofs.soundness.Uses.{piece_small}
 use Rattle.convert_core_laws.proofs.soundness.Numbers.{inode_low}
 use Rattle.convert_core_laws.proofs.soundness.Assembling.{Tells, entry_part, tells_of}

@@ -1,30 +1,7 @@
 -- The fields of a converted volume's superblock, and its chunks as they are read.
-use Rattle.std.proofs.Common.{◌≡◌, ℕ, ◌+◌, ◌*◌, ◌==◌, Bool, true, false, not, bit_and, if◌then◌else◌, List, ◌++◌, Option, refl, sym, ap, subst, ◌∙◌}
-use Rattle.std.specs.Prelude.{unwrap_or}
-use Rattle.btrfs_format.specs.declared.feature.TheConstants.{BIG_METADATA, EXTENDED_IREF, MIXED_BACKREF, NO_HOLES, SKINNY_METADATA}
-use Rattle.reiser_volume.specs.outside.History.{Image}
-use Rattle.reiser_volume.specs.vol_block.declared.ids.Ids.{Ids}
-use Rattle.btr_reader.specs.Opening.{form_of}
-use Rattle.btr_reader.specs.csum_kinds.declared.kind.SumKind.{SumKind}
-use Rattle.btr_reader.specs.csum_kinds.declared.kind.SumKind.TheVariants.{Crc32c}
-use Rattle.btr_reader.specs.btr_super.Sums.{csum_number, known_kind}
-use Rattle.btr_reader.specs.btr_reader_walk.declared.tree.Form.{Form}
-use Rattle.btr_check_rules.specs.Recount.{has_feature}
-use Rattle.convert_core.specs.convert_steps.Making.{Making, new_ids}
-use Rattle.convert_core.specs.convert_steps.Standing.{form, used_bytes}
-use Rattle.convert_core.specs.convert_steps.declared.trees.VolumeTrees.{VolumeTrees}
-use Rattle.convert_core.specs.Converted.{IsNew}
-use Rattle.convert_core.specs.convert_steps.Superblock.{new_super}
-use Rattle.convert_core_laws.specs.reading.Identifiers.{HasFsid, NewIdsFit}
-use Rattle.convert_core_laws.specs.reading.Opened.{IsNewVolume, boot_part, other_part, super_for}
-use Rattle.btr_reader.specs.btr_node.NodeSize.{IsNodeSize}
-use Rattle.convert_core.specs.space_items.Chunks.{device_body}
-use Rattle.convert_core.specs.space_items.Laws.{AreIds}
-use Rattle.convert_core.specs.space_items.declared.node.TreeNode.{TreeNode}
-use Rattle.convert_core.specs.unit_plan.declared.chunk.PlannedChunk.{PlannedChunk}
-use Rattle.convert_core.specs.convert_options.declared.options.Options.{Options}
+use Rattle.convert_core_laws.proofs.Imports.{◌≡◌, ℕ, ◌+◌, ◌*◌, ◌==◌, Bool, true, false, not, List, ◌++◌, Option, refl, sym, ap, subst, ◌∙◌, unwrap_or, BIG_METADATA, EXTENDED_IREF, MIXED_BACKREF, NO_HOLES, SKINNY_METADATA, Image, Ids, form_of, SumKind, Crc32c, csum_number, known_kind, Form, has_feature, Making, new_ids, form, used_bytes, VolumeTrees, IsNew, new_super, HasFsid, NewIdsFit, IsNewVolume, boot_part, other_part, super_for, IsNodeSize, device_body, AreIds, TreeNode, PlannedChunk, Options, known-number}
+use Rattle.std.proofs.Common.{bit_and, if◌then◌else◌}
 use Rattle.convert_core_laws.proofs.reading.Superblock.{own_fsid}
-use Rattle.btr_reader.proofs.btr_super.SumNumbers.{known-number}
 
 -- a volume of the premises is one that opens
 pub volume_for : NewIdsFit → (o : Options) (ids : Ids) (now : ℕ) (image other : Image) (m : Making) (r : VolumeTrees) (nodes : List TreeNode) → IsNew o ids now image other m r nodes → IsNodeSize o.nodesize → AreIds ids → HasFsid image o.uuid

@@ -1,54 +1,6 @@
 -- The references of a converted volume are sound: its extent tree is the recount of all nodes and of all uses of data.
-use Rattle.std.proofs.Common.{◌≡◌, ◌≢◌, ◌⊎◌, ◌≤◌, ◌<◌, ℕ, ◌+◌, ◌-◌, ◌*◌, ◌%◌, ◌^◌, inl, inr, Bool, true, false, List, [], ◌∷◌, length, map, Option, Some, None, refl, sym, ap, subst, ◌∙◌, ⊎_elim, true≢false, arith}
-use Rattle.std.specs.List.{AllByRecursion}
-use Rattle.std.specs.Prelude.{All, AllPairs, Contains, nat_lt, if◌then◌else◌, is_some}
-use Rattle.std.specs.Option.{option_map_or}
-use Rattle.std.specs.declared.cmp.Ordering.TheVariants.{Equal}
-use Rattle.std.proofs.lemmas.Bool.{eq-eqb}
-use Rattle.std.proofs.lemmas.List.Elements.{All-cons, All-contains, All-map}
-use Rattle.btrfs_format.specs.declared.flag.TheConstants.{EXTENT_FLAG_DATA, EXTENT_FLAG_TREE_BLOCK}
-use Rattle.btrfs_format.specs.declared.key.TheConstants.{BLOCK_GROUP_ITEM, EXTENT_ITEM, METADATA_ITEM}
-use Rattle.btrfs_format.specs.declared.object.TheConstants.{CONV_IMAGE_SUBVOL, CSUM_TREE, DATA_RELOC_TREE, DEV_TREE, EXTENT_TREE, FS_TREE}
-use Rattle.reiser_volume.proofs.fs_paths.Lists.{from_map, in_map}
-use Rattle.indexmap.specs.IndexMap.{keys}
-use Rattle.reiser_volume.specs.outside.History.{Image}
-use Rattle.reiser_volume.specs.vol_block.declared.ids.Ids.{Ids}
-use Rattle.btr_reader.specs.btr_keys.Key.{make_key}
-use Rattle.btr_reader.specs.btr_keys.declared.key.Key.{Key}
-use Rattle.btr_reader.specs.btr_node.Leaf.{Item}
-use Rattle.btr_reader.specs.btr_node.NodeSize.{IsNodeSize}
-use Rattle.btr_check_rules.specs.Recount.{DataUse, Recount, TreeOn, all_trees, data_uses, recounted_items}
-use Rattle.btr_check_rules.specs.References.{AreReferences, FitFeatures, HasKey, HasRefs, IsDataItem, IsNodeItem, IsWhole, StandsBefore, is_group}
-use Rattle.btr_reader.specs.btr_space_items.InlineRef.{FitsInline}
-use Rattle.btr_reader.specs.btr_space_items.declared.inline_ref.InlineRef.{InlineRef}
-use Rattle.btr_reader.specs.btr_space_items.declared.inline_ref.InlineRef.TheVariants.{TreeBlock}
-use Rattle.btr_reader.specs.btr_reader_walk.declared.tree.NodePointer.{NodePointer}
-use Rattle.convert_core.specs.convert_steps.Making.{IsMaking, Making, new_ids}
-use Rattle.convert_core.specs.convert_steps.Source.{HasPieces, made_from}
-use Rattle.convert_core.specs.convert_steps.Standing.{file_tree_items, image_tree_items, sum_tree_items}
-use Rattle.convert_core.specs.convert_steps.declared.trees.VolumeTrees.{VolumeTrees}
-use Rattle.convert_core.proofs.Moving.{well}
-use Rattle.convert_core_laws.specs.reading.Identifiers.{NewIdsFit}
-use Rattle.convert_core_laws.specs.reading.Opened.{IsNewVolume, super_for}
-use Rattle.convert_core.proofs.extent_pieces.Lists.{all_at}
-use Rattle.convert_core.proofs.extent_pieces.Owning.{two_cases}
-use Rattle.convert_core.specs.file_items.Extents.{file_block, source_block}
-use Rattle.convert_core.specs.file_items.Small.{relocation_items}
-use Rattle.convert_core.specs.file_items.Tree.{ino_of}
-use Rattle.convert_trees_laws.specs.Held.{FilesAreHeld}
-use Rattle.convert_trees_laws.specs.Keys.{ImageKeysAscend}
-use Rattle.reiser_volume.proofs.reiser_bitmap.Ranges.{all_from_contains}
-use Rattle.reiser_volume.proofs.Bounds.{accepted_is_small}
-use Rattle.convert_core.specs.space_items.Chunks.{device_items}
-use Rattle.convert_core.specs.space_items.Extents.{data_ref, extent_body, extent_items, group_item, hash_of_ref, image_refs, node_item, owner_refs, piece_item, put_refs, used_in}
-use Rattle.convert_core.specs.space_items.Merging.{item_cmp, merged}
-use Rattle.convert_core.specs.space_items.declared.node.TreeNode.{TreeNode}
-use Rattle.convert_core.proofs.space_items.Merges.{all-merge}
-use Rattle.std.proofs.lemmas.List.{append-nil}
-use Rattle.convert_core.specs.unit_plan.declared.chunk.PlannedChunk.{PlannedChunk}
-use Rattle.convert_core.specs.convert_options.declared.options.Options.{Options}
-use Rattle.convert_core.specs.unit_plan.declared.piece.Piece.{Piece}
-use Rattle.convert_core_laws.specs.soundness.Recounted.{recount_for, tree_for}
+use Rattle.convert_core_laws.proofs.Imports.{◌≡◌, ◌≢◌, ◌⊎◌, ◌≤◌, ◌<◌, ℕ, ◌+◌, ◌-◌, ◌*◌, ◌%◌, ◌^◌, inl, inr, Bool, true, false, List, [], ◌∷◌, length, map, Option, Some, None, refl, sym, ap, subst, ◌∙◌, ⊎_elim, true≢false, arith, AllByRecursion, All, AllPairs, Contains, if◌then◌else◌, is_some, option_map_or, Equal, eq-eqb, All-cons, All-contains, All-map, EXTENT_FLAG_DATA, EXTENT_FLAG_TREE_BLOCK, BLOCK_GROUP_ITEM, EXTENT_ITEM, METADATA_ITEM, CONV_IMAGE_SUBVOL, CSUM_TREE, DATA_RELOC_TREE, DEV_TREE, EXTENT_TREE, FS_TREE, from_map, in_map, keys, Image, Ids, make_key, Key, Item, IsNodeSize, DataUse, Recount, TreeOn, all_trees, data_uses, recounted_items, AreReferences, FitFeatures, HasKey, HasRefs, IsDataItem, IsNodeItem, IsWhole, StandsBefore, is_group, FitsInline, InlineRef, TreeBlock, NodePointer, IsMaking, Making, new_ids, HasPieces, made_from, file_tree_items, image_tree_items, sum_tree_items, VolumeTrees, well, NewIdsFit, IsNewVolume, super_for, all_at, two_cases, file_block, source_block, relocation_items, ino_of, FilesAreHeld, ImageKeysAscend, all_from_contains, accepted_is_small, device_items, data_ref, extent_body, extent_items, group_item, hash_of_ref, image_refs, node_item, owner_refs, piece_item, put_refs, used_in, item_cmp, merged, TreeNode, all-merge, append-nil, PlannedChunk, Options, Piece, recount_for, tree_for, ConvertedReferencesAreSound}
+use Rattle.std.specs.Prelude.{nat_lt}
 use Rattle.convert_core_laws.proofs.soundness.AllUses.{from_is, source_low, uses_are}
 use Rattle.convert_core_laws.proofs.soundness.Nodes.{LiesAt, node_lies, of_chunks, of_others}
 use Rattle.convert_core_laws.proofs.soundness.Recounting.{generation_is, volume_for, with_extended, with_skinny}
@@ -56,7 +8,6 @@ use Rattle.convert_core_laws.proofs.soundness.Trees.{six_all}
 use Rattle.convert_core_laws.proofs.soundness.Unreserved.{fit_size, place_whole}
 use Rattle.convert_core_laws.proofs.soundness.Used.{file_use, owned, saved_use}
 use Rattle.convert_core_laws.proofs.soundness.Uses.{IsUse, by_file, by_image, owner_low, use_at}
-use Rattle.convert_core_laws.specs.soundness.Laws.{ConvertedReferencesAreSound}
 use Rattle.convert_core_laws.proofs.soundness.Bodies.{data_fits, has_refs, hash_above, hash_below, node_fits, one_alone, two_ordered}
 use Rattle.convert_core_laws.proofs.soundness.DataItems.{one_ref, two_refs}
 use Rattle.convert_core_laws.proofs.soundness.Distinct.{AreDistinct}

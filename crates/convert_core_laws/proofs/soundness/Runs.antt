@@ -1,18 +1,6 @@
 -- Checksums of blocks one behind the other, and the items that have at most so many of them each.
-use Rattle.std.proofs.Common.{◌≡◌, ◌≤◌, ◌<◌, ℕ, zero, suc, ◌+◌, ◌-◌, ◌*◌, ◌/◌, min, List, ◌++◌, length, length-append, map, take, drop, get_or, refl, sym, ap, ◌∙◌, arith}
-use Rattle.std.specs.Prelude.{AllPairs, Contains}
-use Rattle.std.specs.Int.{div_ceil}
-use Rattle.std.specs.List.{flat_map, range_with_len}
-use Rattle.std.proofs.Math.Nat.{mul-suc, mul-zero}
-use Rattle.std.proofs.Math.Seq.{drop-append-add}
-use Rattle.std.proofs.lemmas.List.{take_at}
-use Rattle.std.proofs.lemmas.List.FromFn.{get_or-range_with_len, length-range_with_len}
-use Rattle.btr_reader.specs.csum_kinds.declared.kind.SumKind.{SumKind}
-use Rattle.btr_reader.specs.csum_kinds.declared.kind.SumKind.TheVariants.{Crc32c, Sha256}
+use Rattle.convert_core_laws.proofs.Imports.{◌≡◌, ◌≤◌, ◌<◌, ℕ, zero, suc, ◌+◌, ◌-◌, ◌*◌, ◌/◌, min, List, ◌++◌, length, length-append, map, take, drop, get_or, refl, sym, ap, ◌∙◌, arith, AllPairs, Contains, div_ceil, flat_map, range_with_len, mul-suc, mul-zero, drop-append-add, take_at, get_or-range_with_len, length-range_with_len, SumKind, Crc32c, Sha256, pairs_map, from_map, in_map, contains_range, range_contains}
 use Rattle.convert_core.specs.unit_plan.Sums.{sums_in_item}
-use Rattle.convert_core.proofs.extent_pieces.Lists.{pairs_map}
-use Rattle.reiser_volume.proofs.fs_paths.Lists.{from_map, in_map}
-use Rattle.reiser_volume.proofs.reiser_bitmap.Ranges.{contains_range, range_contains}
 
 module _ (width : ℕ) (f : ℕ → List ℕ) (wide : (b : ℕ) → length (f b) ≡ width) where
   abbrev pub row : ℕ → ℕ → List ℕ

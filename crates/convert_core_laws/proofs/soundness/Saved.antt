@@ -1,32 +1,7 @@
 -- The names of the tree of the saved image.
-use Rattle.std.proofs.Common.{◌≡◌, ◌≤◌, ◌<◌, ◌⊎◌, inl, inr, ℕ, ◌+◌, ◌*◌, ◌^◌, Bool, true, false, List, [], ◌∷◌, ◌++◌, map, sum_by, All, AllPairs, Contains, Some, refl, sym, ap, subst, ◌∙◌, ⊎_elim, true≢false, arith}
-use Rattle.std.specs.List.{AllByRecursion}
-use Rattle.std.proofs.lemmas.List.Elements.{All-cons, All-from_recursion, All-nil, filter-append}
-use Rattle.std.proofs.lemmas.List.Sorted.{IsPermutation-refl}
-use Rattle.btrfs_format.specs.declared.key.TheConstants.{INODE_ITEM}
-use Rattle.btrfs_format.specs.declared.object.TheConstants.{CONV_IMAGE_SUBVOL, FIRST_FREE_OBJECTID}
-use Rattle.btr_reader.specs.btr_keys.Inode.{inode_bytes, inode_of}
-use Rattle.btr_reader.specs.btr_keys.InodeRef.{InodeRefValue, inode_ref_head}
-use Rattle.btr_reader.specs.btr_keys.Key.{make_key}
-use Rattle.btr_reader.specs.btr_keys.declared.inode.Inode.{Inode}
-use Rattle.btr_reader.specs.btr_node.Leaf.{Item}
-use Rattle.btr_check_rules.specs.Inodes.{AreInodes, HasKind, IsDirEntry, IsOwned, KeepsInode, SameName, is_orphan}
-use Rattle.btr_check_rules.specs.Names.{AreTreeNames, BackName, IndexEntry, IsInode, IsThere, index_entries, inode_nbytes, names_inode_item, own_name, ref_name_count}
-use Rattle.btr_check_rules.specs.Recount.{TreeOn}
-use Rattle.btr_reader.specs.btr_reader_walk.declared.tree.NodePointer.{NodePointer}
-use Rattle.btr_reader.specs.btr_super.declared.superblock.Super.{Super}
+use Rattle.convert_core_laws.proofs.Imports.{◌≡◌, ◌≤◌, ◌<◌, ◌⊎◌, inl, inr, ℕ, ◌+◌, ◌*◌, ◌^◌, Bool, true, false, List, [], ◌∷◌, ◌++◌, map, Some, refl, sym, ap, subst, ◌∙◌, ⊎_elim, true≢false, arith, AllByRecursion, All-cons, All-from_recursion, All-nil, filter-append, IsPermutation-refl, INODE_ITEM, CONV_IMAGE_SUBVOL, FIRST_FREE_OBJECTID, inode_bytes, inode_of, InodeRefValue, inode_ref_head, make_key, Inode, Item, AreInodes, HasKind, IsDirEntry, IsOwned, KeepsInode, SameName, is_orphan, AreTreeNames, BackName, IndexEntry, IsInode, IsThere, index_entries, inode_nbytes, names_inode_item, own_name, ref_name_count, TreeOn, NodePointer, Super, extents_at, piece_bytes, pieces_of_volume, source_block, entry_items, entry_to, root_ref, image_entries, image_head, image_items, image_name, root_directory_items, all_append, all_mapped, all_true, sum_mapped, Directory, File, extent_item, regular_extent, inode_item, ref_item, at_head, head_or_tail, all_in, Piece}
+use Rattle.std.proofs.Common.{sum_by, All, AllPairs, Contains}
 use Rattle.convert_core_laws.proofs.ByteReading.{filter_all, filter_none, is_extent, regular_read}
-use Rattle.convert_core.specs.file_items.Extents.{extents_at, piece_bytes, pieces_of_volume, source_block}
-use Rattle.convert_core.specs.file_items.Names.{entry_items, entry_to, root_ref}
-use Rattle.convert_core.specs.file_items.Small.{image_entries, image_head, image_items, image_name, root_directory_items}
-use Rattle.convert_trees_laws.proofs.Rising.{all_append, all_mapped, all_true}
-use Rattle.convert_trees_laws.proofs.Short.{sum_mapped}
-use Rattle.reiser_volume.specs.fs_rows.declared.row.Kind.TheVariants.{Directory, File}
-use Rattle.convert_core.specs.btr_item_list.Extents.{extent_item, regular_extent}
-use Rattle.convert_core.specs.btr_item_list.Inodes.{inode_item, ref_item}
-use Rattle.reiser_volume.proofs.fs_paths.Lists.{at_head, head_or_tail}
-use Rattle.convert_trees_laws.proofs.Lists.{all_in}
-use Rattle.convert_core.specs.unit_plan.declared.piece.Piece.{Piece}
 use Rattle.convert_core_laws.proofs.soundness.Flags.{image_inode, image_inode_reads, image_inode_there}
 use Rattle.convert_core_laws.proofs.soundness.Assembling.{Tells, count_is, entries_are, have_names, tells_of}
 use Rattle.convert_core_laws.proofs.soundness.Fits.{entry_fits}

@@ -1,26 +1,6 @@
 -- The names of the image's tree and of the relocation tree.
-use Rattle.std.proofs.Common.{◌≡◌, ◌<◌, ℕ, ◌-◌, ◌*◌, ◌^◌, ◌==◌, Bool, true, false, List, [], ◌∷◌, length, map, filter, count_by, sum_by, All, AllPairs, Contains, Some, refl, sym, ap, subst, ◌∙◌, ⊎_elim, arith}
-use Rattle.std.specs.List.{AllByRecursion}
-use Rattle.std.proofs.lemmas.List.Elements.{All-from_recursion, All-nil}
-use Rattle.std.proofs.lemmas.List.Sorted.{IsPermutation-refl}
-use Rattle.btrfs_format.specs.declared.key.TheConstants.{INODE_ITEM}
-use Rattle.btrfs_format.specs.declared.object.TheConstants.{DATA_RELOC_TREE, FIRST_FREE_OBJECTID}
-use Rattle.vol_block.specs.declared.mode.TheConstants.{DIRECTORY_MODE}
-use Rattle.btr_reader.specs.btr_keys.Inode.{inode_bytes, inode_layout, inode_of}
-use Rattle.btr_reader.specs.btr_keys.Key.{make_key}
-use Rattle.btr_reader.specs.btr_keys.declared.inode.Inode.{Inode}
-use Rattle.btr_reader.proofs.btr_keys.Records.{inodes_read_back}
-use Rattle.btr_reader.specs.btr_node.Leaf.{Item}
-use Rattle.btr_check_rules.specs.Names.{AreTreeNames, BackName, IndexEntry, IsInode, IsThere, index_entries, inode_nbytes, own_name, ref_name_count}
-use Rattle.btr_check_rules.specs.Inodes.{AreInodes, IsDirEntry, IsOwned, KeepsInode, SameName, is_orphan}
-use Rattle.btr_check_rules.specs.Recount.{TreeOn}
-use Rattle.btr_reader.specs.btr_reader_walk.declared.tree.NodePointer.{NodePointer}
-use Rattle.btr_reader.specs.btr_super.declared.superblock.Super.{Super}
-use Rattle.convert_core.specs.file_items.Names.{Indexed, entry_items, letters, root_ref}
-use Rattle.convert_core.specs.file_items.Small.{relocation_items, root_directory_items}
-use Rattle.convert_trees_laws.proofs.Short.{sum_mapped}
-use Rattle.convert_core.specs.btr_item_list.Inodes.{inode_item, inode_made}
-use Rattle.reiser_volume.proofs.fs_paths.Lists.{at_head, from_map, head_or_tail}
+use Rattle.convert_core_laws.proofs.Imports.{◌≡◌, ◌<◌, ℕ, ◌-◌, ◌*◌, ◌^◌, ◌==◌, Bool, true, false, List, [], ◌∷◌, length, map, filter, count_by, Some, refl, sym, ap, subst, ◌∙◌, ⊎_elim, arith, AllByRecursion, All-from_recursion, All-nil, IsPermutation-refl, INODE_ITEM, DATA_RELOC_TREE, FIRST_FREE_OBJECTID, DIRECTORY_MODE, inode_bytes, inode_layout, inode_of, make_key, Inode, inodes_read_back, Item, AreTreeNames, BackName, IndexEntry, IsInode, IsThere, index_entries, inode_nbytes, own_name, ref_name_count, AreInodes, IsDirEntry, IsOwned, KeepsInode, SameName, is_orphan, TreeOn, NodePointer, Super, Indexed, entry_items, letters, root_ref, relocation_items, root_directory_items, sum_mapped, inode_item, inode_made, at_head, from_map, head_or_tail}
+use Rattle.std.proofs.Common.{sum_by, All, AllPairs, Contains}
 use Rattle.convert_core_laws.proofs.soundness.Flags.{stamp_fits}
 use Rattle.convert_core_laws.proofs.soundness.Assembling.{Tells, count_is, entries_are, have_names, size_is, tells_of}
 use Rattle.convert_core_laws.proofs.soundness.Inodes.{bytes_are}

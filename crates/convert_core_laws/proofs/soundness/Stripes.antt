@@ -1,39 +1,7 @@
 -- The chunks of a converted volume lie apart, and its device extents are their stripes.
-use Rattle.std.proofs.Common.{◌≡◌, ◌≤◌, ℕ, ◌+◌, ◌*◌, ◌^◌, inl, inr, Bool, true, false, not, List, map, filter, get_or, refl, sym, ap, subst, ◌∙◌, ⊎_elim, arith, eqb}
-use Rattle.std.specs.Prelude.{All, AllPairs, Contains}
-use Rattle.std.proofs.lemmas.Bool.{cases_Bool, not_from_false}
-use Rattle.std.proofs.lemmas.List.{append-nil}
-use Rattle.std.proofs.lemmas.List.Elements.{All-map, Contains-append_cases, Contains-append_left, Contains-append_right}
-use Rattle.std.proofs.lemmas.List.Kept.{AllPairs-filter}
-use Rattle.btrfs_format.specs.declared.key.TheConstants.{DEV_EXTENT}
-use Rattle.reiser_volume.specs.outside.History.{Image}
-use Rattle.reiser_volume.specs.vol_block.declared.ids.Ids.{Ids}
-use Rattle.btr_reader.specs.btr_node.Leaf.{Item}
-use Rattle.btr_check_rules.specs.Groups.{Apart, AreStripes, IsChunkOn, IsExtentOf, dev_extents}
-use Rattle.btr_check_rules.specs.Recount.{Recount}
+use Rattle.convert_core_laws.proofs.Imports.{◌≡◌, ◌≤◌, ℕ, ◌+◌, ◌*◌, ◌^◌, inl, inr, Bool, true, false, not, List, map, filter, get_or, refl, sym, ap, subst, ◌∙◌, ⊎_elim, arith, eqb, All, AllPairs, Contains, cases_Bool, not_from_false, append-nil, All-map, Contains-append_cases, Contains-append_left, Contains-append_right, AllPairs-filter, DEV_EXTENT, Image, Ids, Item, AreStripes, IsChunkOn, IsExtentOf, dev_extents, Recount, dev_extents_read_back, Device, ChunkAt, IsMaking, Making, new_ids, VolumeTrees, blocks_few, is_system_role, NewIdsFit, IsNewVolume, boot_part, chunk_at, other_part, super_for, all_at, pairs_append, pairs_map, two_cases, from_filter, from_map, in_filter, in_map, all_from_contains, dev_extent_body, dev_extent_item, device_items, AreIds, TreeNode, chunk_ends, IsChunk, role_of, usable_end, PlannedChunk, Options, ConvertedChunksAreSound, recount_for}
+use Rattle.btr_check_rules.specs.Groups.{Apart}
 use Rattle.btr_reader.specs.btr_space_items.DevExtent.{dev_extent_layout}
-use Rattle.btr_reader.proofs.btr_space_items.Records.{dev_extents_read_back}
-use Rattle.btr_reader.specs.btr_space_items.declared.device.Device.{Device}
-use Rattle.btr_reader.specs.declared.chunk.ChunkAt.{ChunkAt}
-use Rattle.convert_core.specs.convert_steps.Making.{IsMaking, Making, new_ids}
-use Rattle.convert_core.specs.convert_steps.declared.trees.VolumeTrees.{VolumeTrees}
-use Rattle.convert_core.proofs.Wholeness.{blocks_few}
-use Rattle.convert_core.specs.convert_steps.Superblock.{is_system_role}
-use Rattle.convert_core_laws.specs.reading.Identifiers.{NewIdsFit}
-use Rattle.convert_core_laws.specs.reading.Opened.{IsNewVolume, boot_part, chunk_at, other_part, super_for}
-use Rattle.convert_core.proofs.extent_pieces.Lists.{all_at, pairs_append, pairs_map}
-use Rattle.convert_core.proofs.extent_pieces.Owning.{two_cases}
-use Rattle.reiser_volume.proofs.fs_paths.Lists.{from_filter, from_map, in_filter, in_map}
-use Rattle.reiser_volume.proofs.reiser_bitmap.Ranges.{all_from_contains}
-use Rattle.convert_core.specs.space_items.Chunks.{dev_extent_body, dev_extent_item, device_items}
-use Rattle.convert_core.specs.space_items.Laws.{AreIds}
-use Rattle.convert_core.specs.space_items.declared.node.TreeNode.{TreeNode}
-use Rattle.convert_core.proofs.space_items.ChunkLists.{chunk_ends}
-use Rattle.convert_core.specs.unit_plan.Chunks.{IsChunk, role_of, usable_end}
-use Rattle.convert_core.specs.unit_plan.declared.chunk.PlannedChunk.{PlannedChunk}
-use Rattle.convert_core.specs.convert_options.declared.options.Options.{Options}
-use Rattle.convert_core_laws.specs.soundness.Laws.{ConvertedChunksAreSound}
-use Rattle.convert_core_laws.specs.soundness.Recounted.{recount_for}
 use Rattle.convert_core_laws.proofs.soundness.Lists.{filter_all}
 use Rattle.convert_core_laws.proofs.soundness.Recounting.{device_is, in_parts, total_is, volume_for}
 

@@ -1,16 +1,7 @@
 -- The items of the checksum tree: checksums of the blocks of pieces, each block once.
-use Rattle.std.proofs.Common.{◌≡◌, ◌≤◌, ◌<◌, ℕ, ◌+◌, ◌*◌, ◌/◌, ◌%◌, List, length, take, drop, get_or, refl, sym, subst, arith}
-use Rattle.std.specs.Prelude.{AllPairs, Contains}
-use Rattle.reiser_volume.proofs.fs_paths.Lists.{from_flat_map, in_flat_map}
-use Rattle.reiser_volume.specs.outside.History.{Image, block_at}
-use Rattle.btr_reader.specs.btr_node.Leaf.{Item}
-use Rattle.btr_check_rules.specs.Sums.{IsSumItem, sum_count}
+use Rattle.convert_core_laws.proofs.Imports.{◌≡◌, ◌≤◌, ◌<◌, ℕ, ◌+◌, ◌*◌, ◌/◌, ◌%◌, List, length, take, drop, get_or, refl, sym, subst, arith, AllPairs, Contains, from_flat_map, in_flat_map, Image, block_at, Item, IsSumItem, sum_count, SumKind, Crc32c, Sha256, block_sum, run_items, sum_items, sums_item, Piece}
 use Rattle.btr_reader.specs.csum_kinds.Kind.{kind_width}
-use Rattle.btr_reader.specs.csum_kinds.declared.kind.SumKind.{SumKind}
-use Rattle.btr_reader.specs.csum_kinds.declared.kind.SumKind.TheVariants.{Crc32c, Sha256}
 use Rattle.btr_reader.proofs.csum_kinds.Widths.{length-sum}
-use Rattle.convert_core.specs.space_items.Sums.{block_sum, run_items, sum_items, sums_item}
-use Rattle.convert_core.specs.unit_plan.declared.piece.Piece.{Piece}
 use Rattle.convert_core_laws.proofs.soundness.Distinct.{pairs_flat}
 use Rattle.convert_core_laws.proofs.soundness.Runs.{Covers, IsPart, row_at, row_long, runs_apart, runs_cover, runs_parts}
 

@@ -1,28 +1,7 @@
 -- What lists of items tell of names, by their parts.
-use Rattle.std.proofs.Common.{◌≡◌, ℕ, ◌==◌, Bool, true, false, List, [], ◌∷◌, ◌++◌, map, flat_map, Option, Some, refl, sym, ap, subst, ◌∙◌, if◌then◌else◌, nat_lt, arith}
-use Rattle.std.specs.Prelude.{All, IsTrue, is_some}
-use Rattle.std.specs.List.{AllByRecursion}
-use Rattle.std.proofs.lemmas.Bool.{eqb-true}
-use Rattle.std.proofs.lemmas.List.{append-nil}
-use Rattle.std.proofs.lemmas.List.Elements.{All-from_recursion}
-use Rattle.btrfs_format.specs.declared.key.TheConstants.{DIR_INDEX, DIR_ITEM, EXTENT_DATA, INODE_EXTREF, INODE_ITEM, INODE_REF}
-use Rattle.reiser_volume.specs.castagnoli.Castagnoli.{extref_hash, name_hash}
-use Rattle.btr_reader.specs.btr_keys.DirEntry.{DirEntryValue, dir_entry_bytes, dir_entry_head, dir_items_of}
-use Rattle.btr_reader.specs.btr_keys.Extref.{ExtrefValue, extref_bytes, extref_head, extrefs_of}
-use Rattle.btr_reader.specs.btr_keys.FileExtent.{FileExtentValue, file_extent_bytes, file_extent_of}
-use Rattle.btr_reader.specs.btr_keys.Inode.{inode_of}
-use Rattle.btr_reader.specs.btr_keys.InodeRef.{InodeRefValue, inode_ref_bytes, inode_ref_head, inode_refs_of}
-use Rattle.btr_reader.specs.btr_keys.Key.{make_key}
+use Rattle.convert_core_laws.proofs.Imports.{◌≡◌, ℕ, ◌==◌, Bool, true, false, List, [], ◌∷◌, ◌++◌, map, Option, Some, refl, sym, ap, subst, ◌∙◌, nat_lt, arith, All, IsTrue, is_some, AllByRecursion, eqb-true, append-nil, All-from_recursion, DIR_INDEX, DIR_ITEM, EXTENT_DATA, INODE_EXTREF, INODE_ITEM, INODE_REF, extref_hash, name_hash, DirEntryValue, dir_entry_bytes, dir_entry_head, dir_items_of, ExtrefValue, extref_bytes, extref_head, extrefs_of, FileExtentValue, file_extent_bytes, file_extent_of, inode_of, InodeRefValue, inode_ref_bytes, inode_ref_head, inode_refs_of, make_key, Inode, dir_items_read_back, extrefs_read_back, inode_refs_read_back, Item, BackName, NamedEntry, IndexEntry, entry_of, or_none, Indexed, entry_items, all_append, all_mapped, extent_item, grouped, in_group, inode_item, ref_item}
+use Rattle.std.proofs.Common.{flat_map, if◌then◌else◌}
 use Rattle.btr_reader.specs.btr_keys.Repeated.{RecordsReadBack}
-use Rattle.btr_reader.specs.btr_keys.declared.inode.Inode.{Inode}
-use Rattle.btr_reader.proofs.btr_keys.Records.{dir_items_read_back, extrefs_read_back, inode_refs_read_back}
-use Rattle.btr_reader.specs.btr_node.Leaf.{Item}
-use Rattle.btr_check_rules.specs.Names.{BackName, NamedEntry, IndexEntry, entry_of, or_none}
-use Rattle.convert_core.specs.file_items.Names.{Indexed, entry_items}
-use Rattle.convert_trees_laws.proofs.Rising.{all_append, all_mapped}
-use Rattle.convert_core.specs.btr_item_list.Extents.{extent_item}
-use Rattle.convert_core.specs.btr_item_list.Groups.{grouped, in_group}
-use Rattle.convert_core.specs.btr_item_list.Inodes.{inode_item, ref_item}
 use Rattle.convert_trees_laws.proofs.InodeRead.{inode_read}
 use Rattle.convert_core_laws.proofs.soundness.NameLists.{flat_append, flat_mapped}
 

@@ -1,37 +1,6 @@
 -- Each node that the extent tree tells of is one that a walk meets, and the other way round.
-use Rattle.std.proofs.Common.{◌≡◌, ◌≢◌, ◌≤◌, ℕ, suc, ◌+◌, ◌-◌, ◌^◌, eqb, Bool, cond, List, [], ◌∷◌, ◌++◌, length, map, take, drop, sum, refl, sym, ap, ap₂, subst, ◌∙◌, ⊎_elim, arith}
-use Rattle.std.specs.Prelude.{All, Contains}
-use Rattle.std.specs.List.{flat_map, sum_by}
-use Rattle.std.proofs.lemmas.Bool.{cases_eq, eq-eqb, ne_eqb}
-use Rattle.std.proofs.lemmas.List.{drop-take, take-take}
-use Rattle.std.proofs.lemmas.List.Elements.{All-append, All-contains, All-map}
-use Rattle.std.proofs.lemmas.List.Sorted.{Contains-permutation, IsPermutation-sym}
-use Rattle.std.proofs.lemmas.List.Sums.{sum_by-cons}
-use Rattle.btrfs_format.specs.declared.object.TheConstants.{CONV_IMAGE_SUBVOL, CSUM_TREE, DATA_RELOC_TREE, DEV_TREE, EXTENT_TREE, FS_TREE, ROOT_TREE}
-use Rattle.reiser_volume.specs.outside.History.{Image}
-use Rattle.reiser_volume.specs.vol_block.declared.ids.Ids.{Ids}
-use Rattle.btr_check_rules.specs.Recount.{Recount, TreeOn, all_trees}
-use Rattle.btr_reader.specs.btr_super.declared.superblock.Super.{Super}
-use Rattle.convert_core.specs.btr_tree.Building.{pointer_to}
-use Rattle.convert_core.specs.btr_tree.Packing.{packed_leaves, tree_levels}
-use Rattle.convert_core.specs.btr_tree.Roots.{level_pointers, lengths_of}
-use Rattle.btr_reader.specs.btr_reader_walk.declared.tree.NodePointer.{NodePointer}
-use Rattle.convert_core.specs.convert_steps.Making.{Making, chunk_slots, new_ids, slots}
-use Rattle.convert_core.specs.convert_steps.Standing.{HasTrees, device_from, extents_from, file_tree_items, image_from, image_tree_items, nodes_from, nodes_of_others, relocation_from, root_from, root_tree_items, sum_tree_items, sums_from}
-use Rattle.convert_core.specs.convert_steps.declared.trees.VolumeTrees.{VolumeTrees}
-use Rattle.convert_core_laws.specs.reading.Opened.{IsNewVolume, super_for}
-use Rattle.convert_core.specs.file_items.Small.{relocation_items}
-use Rattle.convert_core.proofs.extent_pieces.Owning.{two_cases}
-use Rattle.reiser_volume.proofs.fs_paths.Lists.{in_flat_map}
-use Rattle.reiser_volume.proofs.reiser_bitmap.Ranges.{all_from_contains, contains_cases, contains_head, contains_tail}
-use Rattle.convert_core.specs.space_items.Chunks.{device_items}
-use Rattle.convert_core.specs.space_items.Extents.{extent_items}
-use Rattle.convert_core.specs.space_items.Nodes.{nodes_of_tree}
-use Rattle.convert_core.specs.space_items.declared.node.TreeNode.{TreeNode}
-use Rattle.convert_core.proofs.space_items.Merges.{all-merge}
-use Rattle.convert_core.proofs.space_items.NodeMerge.{node_cmp}
-use Rattle.convert_core.specs.convert_options.declared.options.Options.{Options}
-use Rattle.convert_core_laws.specs.soundness.Recounted.{recount_for, tree_for}
+use Rattle.convert_core_laws.proofs.Imports.{◌≡◌, ◌≢◌, ◌≤◌, ℕ, suc, ◌+◌, ◌-◌, ◌^◌, eqb, Bool, cond, List, [], ◌∷◌, ◌++◌, length, map, take, drop, refl, sym, ap, ap₂, subst, ◌∙◌, ⊎_elim, arith, All, Contains, flat_map, sum_by, cases_eq, eq-eqb, ne_eqb, drop-take, take-take, All-append, All-contains, All-map, Contains-permutation, IsPermutation-sym, sum_by-cons, CONV_IMAGE_SUBVOL, CSUM_TREE, DATA_RELOC_TREE, DEV_TREE, EXTENT_TREE, FS_TREE, ROOT_TREE, Image, Ids, Recount, TreeOn, all_trees, Super, pointer_to, packed_leaves, tree_levels, level_pointers, lengths_of, NodePointer, Making, chunk_slots, new_ids, slots, HasTrees, device_from, extents_from, file_tree_items, image_from, image_tree_items, nodes_from, nodes_of_others, relocation_from, root_from, root_tree_items, sum_tree_items, sums_from, VolumeTrees, IsNewVolume, super_for, relocation_items, two_cases, in_flat_map, all_from_contains, contains_cases, contains_head, contains_tail, device_items, extent_items, nodes_of_tree, TreeNode, all-merge, node_cmp, Options, recount_for, tree_for}
+use Rattle.std.proofs.Common.{sum}
 use Rattle.convert_core_laws.proofs.soundness.Nodes.{AreAt, chunk_at, device_at, extents_at, files_at, packed_at, relocation_at, root_at, saved_at, sums_at}
 use Rattle.convert_core_laws.proofs.soundness.Apart.{once}
 use Rattle.convert_core_laws.proofs.soundness.Row.{chunked, extended, nodes_sum, row}

@@ -1,46 +1,8 @@
 -- The totals of a converted volume are the sums.
-use Rattle.std.proofs.Common.{◌≡◌, ◌≤◌, ◌<◌, ℕ, ◌*◌, ◌^◌, true, false, List, [], ◌∷◌, map, filter, Option, Some, refl, sym, ap, subst, ◌∙◌, arith, eqb}
-use Rattle.std.specs.List.{sum_by}
-use Rattle.std.specs.Option.{option_map_or}
-use Rattle.std.proofs.lemmas.List.{append-nil}
-use Rattle.std.proofs.lemmas.List.Elements.{All-map}
-use Rattle.std.proofs.lemmas.List.Sums.{sum_by-cons}
-use Rattle.btrfs_format.specs.declared.key.TheConstants.{BLOCK_GROUP_ITEM, DEV_ITEM}
-use Rattle.btrfs_format.specs.declared.object.TheConstants.{DEV_ITEMS_OBJECTID, FIRST_CHUNK_TREE_OBJECTID}
-use Rattle.reiser_volume.specs.outside.History.{Image}
-use Rattle.reiser_volume.specs.vol_block.declared.ids.Ids.{Ids}
-use Rattle.btr_reader.specs.btr_node.Leaf.{Item}
-use Rattle.btr_check_rules.specs.Groups.{AreTotals, TellsDevice, group_used, groups}
-use Rattle.btr_check_rules.specs.Recount.{Recount}
+use Rattle.convert_core_laws.proofs.Imports.{◌≡◌, ◌≤◌, ◌<◌, ℕ, ◌*◌, ◌^◌, true, false, List, [], ◌∷◌, map, filter, Option, Some, refl, sym, ap, subst, ◌∙◌, arith, eqb, sum_by, option_map_or, append-nil, All-map, sum_by-cons, BLOCK_GROUP_ITEM, DEV_ITEM, DEV_ITEMS_OBJECTID, FIRST_CHUNK_TREE_OBJECTID, Image, Ids, Item, AreTotals, TellsDevice, group_used, groups, Recount, device_bytes, device_layout, device_of, BlockGroup, Device, block_groups_read_back, devices_read_back, make_key, ChunkAt, IsMaking, Making, new_ids, VolumeTrees, blocks_few, is_system_role, NewIdsFit, IsNewVolume, chunk_at, sum_mapped, chunk_item, chunk_kind, device_body, extent_items, group_item, node_item, piece_item, used_in, item_cmp, merged, AreIds, TreeNode, chunk_blocks_fit, all-merge, PlannedChunk, Role, System, Metadata, Data, Options, ConvertedTotalsAreSound, recount_for}
 use Rattle.btr_reader.specs.btr_space_items.BlockGroup.{block_group_layout, block_group_of}
-use Rattle.btr_reader.specs.btr_space_items.Device.{device_bytes, device_layout, device_of}
-use Rattle.btr_reader.specs.btr_space_items.declared.block_group.BlockGroup.{BlockGroup}
-use Rattle.btr_reader.specs.btr_space_items.declared.device.Device.{Device}
-use Rattle.btr_reader.proofs.btr_space_items.Records.{block_groups_read_back, devices_read_back}
-use Rattle.btr_reader.specs.btr_keys.Key.{make_key}
-use Rattle.btr_reader.specs.declared.chunk.ChunkAt.{ChunkAt}
-use Rattle.convert_core.specs.convert_steps.Making.{IsMaking, Making, new_ids}
-use Rattle.convert_core.specs.convert_steps.declared.trees.VolumeTrees.{VolumeTrees}
-use Rattle.convert_core.proofs.Wholeness.{blocks_few}
-use Rattle.convert_core.specs.convert_steps.Superblock.{is_system_role}
-use Rattle.convert_core_laws.specs.reading.Identifiers.{NewIdsFit}
-use Rattle.convert_core_laws.specs.reading.Opened.{IsNewVolume, chunk_at}
 use Rattle.convert_core_laws.proofs.reading.Numbers.{used_small}
 use Rattle.convert_core_laws.proofs.reading.Superblock.{size}
-use Rattle.convert_trees_laws.proofs.Short.{sum_mapped}
-use Rattle.convert_core.specs.space_items.Chunks.{chunk_item, chunk_kind, device_body}
-use Rattle.convert_core.specs.space_items.Extents.{extent_items, group_item, node_item, piece_item, used_in}
-use Rattle.convert_core.specs.space_items.Merging.{item_cmp, merged}
-use Rattle.convert_core.specs.space_items.Laws.{AreIds}
-use Rattle.convert_core.specs.space_items.declared.node.TreeNode.{TreeNode}
-use Rattle.convert_core.proofs.space_items.ChunkLists.{chunk_blocks_fit}
-use Rattle.convert_core.proofs.space_items.Merges.{all-merge}
-use Rattle.convert_core.specs.unit_plan.declared.chunk.PlannedChunk.{PlannedChunk}
-use Rattle.convert_core.specs.unit_plan.declared.chunk.Role.{Role}
-use Rattle.convert_core.specs.unit_plan.declared.chunk.Role.TheVariants.{System, Metadata, Data}
-use Rattle.convert_core.specs.convert_options.declared.options.Options.{Options}
-use Rattle.convert_core_laws.specs.soundness.Laws.{ConvertedTotalsAreSound}
-use Rattle.convert_core_laws.specs.soundness.Recounted.{recount_for}
 use Rattle.convert_core_laws.proofs.soundness.Lists.{filter_first, filter_none, filter_on, sum_parts}
 use Rattle.convert_core_laws.proofs.soundness.Recounting.{device_is, fsid_is, in_parts, total_is, used_is, volume_for}
 

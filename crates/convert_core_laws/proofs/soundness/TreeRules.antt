@@ -1,40 +1,6 @@
 -- The root items and the nodes of a converted volume keep the rules of Linux.
-use Rattle.std.proofs.Common.{◌≡◌, ◌≢◌, ◌≤◌, ◌<◌, ℕ, suc, ◌+◌, ◌%◌, ◌^◌, ◌-◌, inl, eqb, Bool, true, List, [], ◌∷◌, length, take, drop, refl, sym, ap, arith, length-drop, if◌then◌else◌}
-use Rattle.std.specs.Prelude.{All, AllPairs, Contains}
-use Rattle.std.specs.List.{AllByRecursion, list_any}
-use Rattle.std.specs.List.Sorted.{IsPermutation}
-use Rattle.std.proofs.lemmas.List.Elements.{All-append, All-cons, All-drop, All-from_recursion, All-map, All-nil}
-use Rattle.std.proofs.lemmas.List.Kept.{AllPairs-cons}
-use Rattle.std.proofs.lemmas.List.Sorted.{All-permutation, IsPermutation-sym}
-use Rattle.btrfs_format.specs.declared.object.TheConstants.{CONV_IMAGE_SUBVOL, CSUM_TREE, DATA_RELOC_TREE, DEV_TREE, EXTENT_TREE, FIRST_FREE_OBJECTID, FS_TREE, TREE_RELOC}
-use Rattle.reiser_volume.proofs.reiser_bitmap.Ranges.{all_from_contains}
-use Rattle.reiser_volume.specs.outside.History.{Image}
-use Rattle.reiser_volume.specs.vol_block.declared.ids.Ids.{Ids}
-use Rattle.btr_reader.specs.btr_node.Leaf.{Item}
-use Rattle.btr_reader.specs.btr_node.NodeSize.{IsNodeSize}
-use Rattle.btr_reader.specs.btr_reader_walk.declared.tree.NodePointer.{NodePointer}
-use Rattle.btr_reader.specs.btr_super.declared.superblock.Super.{Super}
-use Rattle.btr_check_rules.specs.Recount.{Recount, TreeOn, all_trees, holds_files}
-use Rattle.btr_check_rules.specs.Trees.{IsRootItem, KeepTreeRules, needed_trees}
-use Rattle.convert_core.specs.btr_tree.Building.{pointer_to}
-use Rattle.convert_core.specs.btr_tree.Packing.{packed_leaves, tree_levels}
-use Rattle.convert_core.specs.btr_tree.Roots.{level_pointers, lengths_of, pointers_to}
-use Rattle.convert_core.specs.btr_tree.declared.climb.Root.{Root}
-use Rattle.convert_core.specs.btr_tree_writer.Trees.{TreeStands}
-use Rattle.convert_core.specs.convert_steps.Making.{Making, chunk_slots, new_ids, slots}
-use Rattle.convert_core.specs.convert_steps.Standing.{HasTrees, device_from, extents_from, file_tree_items, form, image_from, image_tree_items, relocation_from, root_from, root_tree_items, sum_tree_items, sums_from}
-use Rattle.convert_core.specs.convert_steps.declared.trees.VolumeTrees.{VolumeTrees}
-use Rattle.convert_core.specs.file_items.Small.{relocation_items}
-use Rattle.convert_core.specs.space_items.Chunks.{device_items}
-use Rattle.convert_core.specs.space_items.Extents.{extent_items}
-use Rattle.convert_core.specs.space_items.Roots.{root_body, root_dirid, tree_root_item}
-use Rattle.convert_core.specs.space_items.declared.node.TreeNode.{TreeNode}
-use Rattle.convert_core.specs.space_items.declared.node.TreeRoot.{TreeRoot}
-use Rattle.convert_core.specs.convert_options.declared.options.Options.{Options}
-use Rattle.convert_core_laws.specs.reading.Identifiers.{NewIdsFit}
-use Rattle.convert_core_laws.specs.reading.Opened.{IsNewVolume, super_for}
-use Rattle.convert_core_laws.specs.soundness.Laws.{ConvertedTreesAreSound}
-use Rattle.convert_core_laws.specs.soundness.Recounted.{recount_for, tree_for}
+use Rattle.convert_core_laws.proofs.Imports.{◌≡◌, ◌≢◌, ◌≤◌, ◌<◌, ℕ, suc, ◌+◌, ◌%◌, ◌^◌, ◌-◌, inl, eqb, Bool, true, List, [], ◌∷◌, length, take, drop, refl, sym, ap, arith, length-drop, All, AllPairs, Contains, AllByRecursion, list_any, IsPermutation, All-append, All-cons, All-drop, All-from_recursion, All-map, All-nil, AllPairs-cons, All-permutation, IsPermutation-sym, CONV_IMAGE_SUBVOL, CSUM_TREE, DATA_RELOC_TREE, DEV_TREE, EXTENT_TREE, FIRST_FREE_OBJECTID, FS_TREE, TREE_RELOC, all_from_contains, Image, Ids, Item, IsNodeSize, NodePointer, Super, Recount, TreeOn, all_trees, holds_files, IsRootItem, KeepTreeRules, needed_trees, pointer_to, packed_leaves, tree_levels, level_pointers, lengths_of, pointers_to, Root, TreeStands, Making, chunk_slots, new_ids, slots, HasTrees, device_from, extents_from, file_tree_items, form, image_from, image_tree_items, relocation_from, root_from, root_tree_items, sum_tree_items, sums_from, VolumeTrees, relocation_items, device_items, extent_items, root_body, root_dirid, tree_root_item, TreeNode, TreeRoot, Options, NewIdsFit, IsNewVolume, super_for, ConvertedTreesAreSound, recount_for, tree_for}
+use Rattle.std.proofs.Common.{if◌then◌else◌}
 use Rattle.convert_core_laws.proofs.reading.Mapped.{slot_small}
 use Rattle.convert_core_laws.proofs.reading.Numbers.{size_small, slots_few}
 use Rattle.convert_core_laws.proofs.reading.Rooted.{root_reads}

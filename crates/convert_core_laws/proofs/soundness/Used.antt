@@ -1,42 +1,8 @@
 -- Each piece of data is used by a tree.
-use Rattle.std.proofs.Common.{◌≡◌, ◌<◌, ℕ, ◌*◌, ◌^◌, eqb, Bool, true, false, List, [], ◌∷◌, filter, Option, Some, None, refl, sym, ap, subst, ◌∙◌, arith}
-use Rattle.std.specs.Prelude.{Contains, if◌then◌else◌, is_some}
-use Rattle.std.specs.List.{AllByRecursion}
-use Rattle.std.specs.Option.{option_map_or}
-use Rattle.std.proofs.lemmas.Bool.{eq-eqb}
-use Rattle.std.proofs.lemmas.List.Elements.{Contains-append_right}
-use Rattle.btrfs_format.specs.declared.object.TheConstants.{CONV_IMAGE_SUBVOL, FS_TREE}
-use Rattle.reiser_volume.proofs.fs_paths.Lists.{from_filter, in_filter, in_flat_map, in_map}
-use Rattle.indexmap.specs.IndexMap.{keys}
-use Rattle.reiser_volume.specs.outside.History.{Image}
-use Rattle.btr_reader.specs.btr_keys.FileExtent.{file_extent_bytes, file_extent_of}
-use Rattle.btr_reader.specs.btr_node.Leaf.{Item}
-use Rattle.btr_reader.specs.btr_node.NodeSize.{IsNodeSize}
-use Rattle.btr_check_rules.specs.Recount.{DataUse, IsData, Recount, TreeOn, all_trees, data_uses, use_in, uses_in}
+use Rattle.convert_core_laws.proofs.Imports.{◌≡◌, ◌<◌, ℕ, ◌*◌, ◌^◌, eqb, Bool, true, false, List, [], ◌∷◌, filter, Option, Some, None, refl, sym, ap, subst, ◌∙◌, arith, Contains, if◌then◌else◌, is_some, AllByRecursion, option_map_or, eq-eqb, Contains-append_right, CONV_IMAGE_SUBVOL, FS_TREE, from_filter, in_filter, in_flat_map, in_map, keys, Image, file_extent_bytes, file_extent_of, Item, IsNodeSize, DataUse, IsData, Recount, TreeOn, all_trees, data_uses, use_in, uses_in, IsMaking, Making, HasExtents, HasPieces, made_from, file_tree_items, image_tree_items, VolumeTrees, super_for, numbered, extents_at, file_block, is_owned_by, pieces_of, pieces_of_volume, piece_bytes, source_block, image_head, image_items, Source, file_extent_items, inline_in, ino_of, size_in, fs_tree_items, FilesAreHeld, can_move, has_bytes, extent_item, inline_extent, regular_extent, target_bytes, items_of, ascending_filter, contains_head, contains_tail, ObjectKey, TreeNode, Piece, recount_for, tree_for}
 use Rattle.convert_core_laws.proofs.Owned.{extents_found}
 use Rattle.convert_core_laws.proofs.Pieces.{one_of_inode}
 use Rattle.convert_core_laws.proofs.ByteReading.{is_extent}
-use Rattle.convert_core.specs.convert_steps.Making.{IsMaking, Making}
-use Rattle.convert_core.specs.convert_steps.Source.{HasExtents, HasPieces, made_from}
-use Rattle.convert_core.specs.convert_steps.Standing.{file_tree_items, image_tree_items}
-use Rattle.convert_core.specs.convert_steps.declared.trees.VolumeTrees.{VolumeTrees}
-use Rattle.convert_core_laws.specs.reading.Opened.{super_for}
-use Rattle.convert_core.proofs.extent_pieces.Named.{numbered}
-use Rattle.convert_core.specs.file_items.Extents.{extents_at, file_block, is_owned_by, pieces_of, pieces_of_volume, piece_bytes, source_block}
-use Rattle.convert_core.specs.file_items.Small.{image_head, image_items}
-use Rattle.convert_core.specs.file_items.Tree.{Source, file_extent_items, inline_in, ino_of, size_in, fs_tree_items}
-use Rattle.convert_trees_laws.specs.Held.{FilesAreHeld}
-use Rattle.convert_core.proofs.Moving.{can_move}
-use Rattle.reiser_volume.specs.fs_rows.Kinds.{has_bytes}
-use Rattle.convert_core.specs.btr_item_list.Extents.{extent_item, inline_extent, regular_extent}
-use Rattle.reiser_volume.specs.reiser_volume_files.Bytes.{target_bytes}
-use Rattle.reiser_volume.specs.reiser_volume_objects.Keys.{items_of}
-use Rattle.convert_core.proofs.btr_item_list.Sorting.{ascending_filter}
-use Rattle.reiser_volume.proofs.reiser_bitmap.Ranges.{contains_head, contains_tail}
-use Rattle.reiser_volume.specs.reiser_volume_objects.declared.key.ObjectKey.{ObjectKey}
-use Rattle.convert_core.specs.space_items.declared.node.TreeNode.{TreeNode}
-use Rattle.convert_core.specs.unit_plan.declared.piece.Piece.{Piece}
-use Rattle.convert_core_laws.specs.soundness.Recounted.{recount_for, tree_for}
 use Rattle.convert_core_laws.proofs.soundness.AllUses.{from_is, source_low, span_of}
 use Rattle.convert_core_laws.proofs.soundness.Uses.{owner_low, piece_use, use_at, uses_of}
 

@@ -1,40 +1,10 @@
 -- The uses of data that a recount of a converted volume finds are those of the pieces.
-use Rattle.std.proofs.Common.{◌≡◌, ◌≤◌, ◌<◌, ℕ, ◌+◌, ◌-◌, ◌*◌, ◌%◌, ◌^◌, inl, eqb, Bool, true, false, List, [], ◌∷◌, length, filter, Option, Some, refl, sym, ap, subst, ◌∙◌, ⊎_elim, arith}
-use Rattle.std.specs.Prelude.{Contains, MatchOption, if◌then◌else◌}
-use Rattle.std.specs.List.{AllByRecursion}
-use Rattle.std.proofs.lemmas.Bool.{and_from, cases_lt, eq-eqb, ne_eqb}
-use Rattle.btrfs_format.specs.declared.key.TheConstants.{EXTENT_DATA}
-use Rattle.btrfs_format.specs.declared.object.TheConstants.{CONV_IMAGE_SUBVOL, FS_TREE}
-use Rattle.reiser_volume.proofs.fs_paths.Lists.{from_flat_map, from_map, in_filter, in_flat_map}
-use Rattle.indexmap.specs.IndexMap.{keys}
-use Rattle.reiser_volume.specs.outside.History.{Image}
-use Rattle.btr_reader.specs.btr_keys.FileExtent.{file_extent_bytes, file_extent_of}
-use Rattle.btr_reader.specs.btr_node.Leaf.{Item}
-use Rattle.btr_check_rules.specs.Recount.{DataUse, TreeOn, use_in, uses_in}
+use Rattle.convert_core_laws.proofs.Imports.{◌≡◌, ◌≤◌, ◌<◌, ℕ, ◌+◌, ◌-◌, ◌*◌, ◌%◌, ◌^◌, inl, eqb, Bool, true, false, List, [], ◌∷◌, length, filter, Option, Some, refl, sym, ap, subst, ◌∙◌, ⊎_elim, arith, Contains, MatchOption, if◌then◌else◌, AllByRecursion, and_from, cases_lt, eq-eqb, ne_eqb, EXTENT_DATA, CONV_IMAGE_SUBVOL, FS_TREE, from_flat_map, from_map, in_filter, in_flat_map, keys, Image, file_extent_bytes, file_extent_of, Item, DataUse, TreeOn, use_in, uses_in, IsMaking, Making, HasPieces, made_from, file_tree_items, well, piece_apart, all_at, numbered, extents_at, file_block, is_owned_by, pieces_of, Source, file_extent_items, inline_in, ino_of, size_in, fs_tree_items, length_bytes, extent_item, inline_extent, regular_extent, file_byte, target_bytes, contains_cases, ObjectKey, items_of, IsNamed, used_of, volume_items, used_few, Piece}
 use Rattle.convert_core_laws.proofs.Holding.{StaysInTree, stays}
 use Rattle.convert_core_laws.proofs.Owned.{any_extents}
 use Rattle.convert_core_laws.proofs.Pieces.{all_of_inode}
 use Rattle.convert_core_laws.proofs.ByteReading.{inline_read, is_extent, regular_read}
 use Rattle.convert_core_laws.proofs.Sound.{owner_is}
-use Rattle.convert_core.specs.convert_steps.Making.{IsMaking, Making}
-use Rattle.convert_core.specs.convert_steps.Source.{HasPieces, made_from}
-use Rattle.convert_core.specs.convert_steps.Standing.{file_tree_items}
-use Rattle.convert_core.proofs.Moving.{well}
-use Rattle.convert_core.proofs.Reserved.{piece_apart}
-use Rattle.convert_core.proofs.extent_pieces.Lists.{all_at}
-use Rattle.convert_core.proofs.extent_pieces.Named.{numbered}
-use Rattle.convert_core.specs.file_items.Extents.{extents_at, file_block, is_owned_by, pieces_of}
-use Rattle.convert_core.specs.file_items.Tree.{Source, file_extent_items, inline_in, ino_of, size_in, fs_tree_items}
-use Rattle.reiser_volume.proofs.fs_rows.Functions.{length_bytes}
-use Rattle.convert_core.specs.btr_item_list.Extents.{extent_item, inline_extent, regular_extent}
-use Rattle.reiser_volume.specs.reiser_volume_files.Bytes.{file_byte, target_bytes}
-use Rattle.reiser_volume.proofs.reiser_bitmap.Ranges.{contains_cases}
-use Rattle.reiser_volume.specs.reiser_volume_objects.declared.key.ObjectKey.{ObjectKey}
-use Rattle.reiser_volume.specs.reiser_volume_objects.Keys.{items_of}
-use Rattle.reiser_volume.specs.reiser_volume_objects.Names.{IsNamed}
-use Rattle.reiser_volume.specs.Volume.{used_of, volume_items}
-use Rattle.convert_trees_laws.proofs.Booting.{used_few}
-use Rattle.convert_core.specs.unit_plan.declared.piece.Piece.{Piece}
 
 -- a tree's use of a piece, from a block of a file on
 abbrev pub use_at : ℕ → ℕ → ℕ → Piece → DataUse

@@ -1,7 +1,4 @@
-use Rattle.std.proofs.Common.{◌*◌, drop, refl, sym}
-use Rattle.btrfs_format.specs.declared.size.TheConstants.{ITEM_SIZE}
-use Rattle.btr_node.specs.Areas.{all_apart}
-use Rattle.btr_node.specs.Leaf.{item_layout}
+use Rattle.btr_node.proofs.Imports.{◌*◌, drop, refl, sym, ITEM_SIZE, all_apart, item_layout}
 use Rattle.btr_node.proofs.Rows.{next_row, passed, failed, finished}
 use Rattle.btr_node.proofs.areas.all_apart.Goals as goal
 

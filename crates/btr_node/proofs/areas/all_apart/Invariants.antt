@@ -1,8 +1,4 @@
-use Rattle.std.proofs.Common.{◌≡◌, drop}
-use Rattle.btrfs_format.specs.declared.size.TheConstants.{ITEM_SIZE}
-use Rattle.btr_node.specs.Areas.{all_apart}
-use Rattle.btr_node.specs.Leaf.{item_layout}
-use Rattle.btr_node.specs.Records.{records_in}
+use Rattle.btr_node.proofs.Imports.{◌≡◌, drop, ITEM_SIZE, all_apart, item_layout, records_in}
 use Rattle.btr_node.proofs.areas.all_apart.Given as goal
 
 abbrev pub invariant-loop-i : goal.invariant-loop-i

@@ -1,8 +1,4 @@
-use Rattle.std.proofs.Common.{◌*◌, length, refl, sym}
-use Rattle.std.specs.List.{list_all}
-use Rattle.btrfs_format.specs.declared.size.TheConstants.{ITEM_SIZE}
-use Rattle.btr_node.specs.Areas.{is_within}
-use Rattle.btr_node.specs.Leaf.{item_layout}
+use Rattle.btr_node.proofs.Imports.{◌*◌, length, refl, sym, list_all, ITEM_SIZE, is_within, item_layout}
 use Rattle.btr_node.proofs.Rows.{next_row, passed, failed, finished}
 use Rattle.btr_node.proofs.areas.all_within.Goals as goal
 

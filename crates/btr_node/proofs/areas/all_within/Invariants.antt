@@ -1,9 +1,4 @@
-use Rattle.std.proofs.Common.{◌≡◌, ◌*◌, length, drop}
-use Rattle.std.specs.List.{list_all}
-use Rattle.btrfs_format.specs.declared.size.TheConstants.{ITEM_SIZE}
-use Rattle.btr_node.specs.Areas.{is_within}
-use Rattle.btr_node.specs.Leaf.{item_layout}
-use Rattle.btr_node.specs.Records.{records_in}
+use Rattle.btr_node.proofs.Imports.{◌≡◌, ◌*◌, length, drop, list_all, ITEM_SIZE, is_within, item_layout, records_in}
 use Rattle.btr_node.proofs.areas.all_within.Given as goal
 
 abbrev pub invariant-loop-i : goal.invariant-loop-i

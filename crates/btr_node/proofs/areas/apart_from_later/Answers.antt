@@ -1,10 +1,4 @@
-use Rattle.std.proofs.Common.{◌∙◌, ◌+◌, drop, refl, sym, ap}
-use Rattle.std.specs.List.{list_all}
-use Rattle.btrfs_format.specs.declared.size.TheConstants.{ITEM_SIZE}
-use Rattle.btr_node.specs.Areas.{are_apart}
-use Rattle.btr_node.specs.Leaf.{item_layout}
-use Rattle.btr_node.specs.Records.{records_in}
-use Rattle.btr_node.specs.declared.item.BtrItemHead.{BtrItemHead}
+use Rattle.btr_node.proofs.Imports.{◌∙◌, ◌+◌, drop, refl, sym, ap, list_all, ITEM_SIZE, are_apart, item_layout, records_in, BtrItemHead}
 use Rattle.btr_node.proofs.Rows.{next_row, passed, failed, finished}
 use Rattle.btr_node.proofs.areas.apart_from_later.Goals as goal
 

@@ -1,7 +1,4 @@
-use Rattle.std.proofs.Common.{◌*◌, refl, sym}
-use Rattle.btrfs_format.specs.declared.size.TheConstants.{ITEM_SIZE}
-use Rattle.btr_node.specs.Areas.{descends}
-use Rattle.btr_node.specs.Leaf.{item_layout}
+use Rattle.btr_node.proofs.Imports.{◌*◌, refl, sym, ITEM_SIZE, descends, item_layout}
 use Rattle.btr_node.proofs.Rows.{next_row, passed, failed, finished}
 use Rattle.btr_node.proofs.areas.descends.Goals as goal
 

@@ -1,8 +1,4 @@
-use Rattle.std.proofs.Common.{◌≡◌, ◌*◌, length, drop}
-use Rattle.btrfs_format.specs.declared.size.TheConstants.{ITEM_SIZE}
-use Rattle.btr_node.specs.Areas.{descends}
-use Rattle.btr_node.specs.Leaf.{item_layout}
-use Rattle.btr_node.specs.Records.{records_in}
+use Rattle.btr_node.proofs.Imports.{◌≡◌, ◌*◌, length, drop, ITEM_SIZE, descends, item_layout, records_in}
 use Rattle.btr_node.proofs.areas.descends.Given as goal
 
 abbrev pub invariant-loop-i : goal.invariant-loop-i

@@ -1,7 +1,4 @@
-use Rattle.std.proofs.Common.{◌*◌, length, sym, ◌∙◌}
-use Rattle.btrfs_format.specs.declared.size.TheConstants.{ITEM_SIZE}
-use Rattle.btr_node.specs.Leaf.{item_layout}
-use Rattle.btr_node.specs.Records.{records_in}
+use Rattle.btr_node.proofs.Imports.{◌*◌, length, sym, ◌∙◌, ITEM_SIZE, item_layout, records_in}
 use Rattle.btr_node.proofs.Apart.{descends-has_areas}
 use Rattle.btr_node.proofs.areas.has_areas.Goals as goal
 

@@ -1,7 +1,4 @@
-use Rattle.std.proofs.Common.{◌≡◌, ℕ, ◌-◌, ◌++◌, ◌∷◌, [], List, length, take, drop, sym, ap, ◌∙◌, arith, length-drop}
-use Rattle.btrfs_format.specs.declared.size.TheConstants.{HEADER_SIZE}
-use Rattle.btr_node.specs.Draft.{contents}
-use Rattle.btr_node.specs.Head.{behind_head}
+use Rattle.btr_node.proofs.Imports.{◌≡◌, ℕ, ◌-◌, ◌++◌, ◌∷◌, [], List, length, take, drop, sym, ap, ◌∙◌, arith, length-drop, HEADER_SIZE, contents, behind_head}
 use Rattle.btr_node.proofs.Refilled.{behind_of, written_behind}
 use Rattle.btr_node.proofs.buffer.add_child.Goals as goal
 

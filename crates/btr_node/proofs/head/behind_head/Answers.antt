@@ -1,5 +1,4 @@
-use Rattle.std.proofs.lemmas.List.{take_rest}
-use Rattle.btrfs_format.specs.declared.size.TheConstants.{HEADER_SIZE}
+use Rattle.btr_node.proofs.Imports.{take_rest, HEADER_SIZE}
 use Rattle.btr_node.proofs.head.behind_head.Goals as goal
 
 pub returns : goal.returns

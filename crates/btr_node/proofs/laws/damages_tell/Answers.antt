@@ -1,9 +1,4 @@
-use Rattle.std.proofs.Common.{◌≡◌, ◌↔◌, ℕ, List, []}
-use Rattle.btr_node.specs.Inner.{IsBtrfsInner, has_inner_head, has_inner_layout, has_inner_order}
-use Rattle.btr_node.specs.Leaf.{IsBtrfsLeaf, has_leaf_head, has_leaf_layout, has_leaf_order}
-use Rattle.btr_node.specs.Rules.{leaf_damages, inner_damages}
-use Rattle.btr_node.specs.Sum.{has_sum}
-use Rattle.btr_node.specs.declared.expect.Expect.{Expect}
+use Rattle.btr_node.proofs.Imports.{◌≡◌, ◌↔◌, ℕ, List, [], IsBtrfsInner, has_inner_head, has_inner_layout, has_inner_order, IsBtrfsLeaf, has_leaf_head, has_leaf_layout, has_leaf_order, leaf_damages, inner_damages, has_sum, Expect}
 use Rattle.btr_node.proofs.Breaks.{breaks_none, none_broken, sum_decides, leaf_head_decides}
 use Rattle.btr_node.proofs.Inners.{inner_head_decides, inner_layout_decides}
 use Rattle.btr_node.proofs.Leaves.{leaf_layout_decides}

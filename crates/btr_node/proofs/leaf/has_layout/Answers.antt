@@ -1,6 +1,4 @@
-use Rattle.std.proofs.Common.{length, ap, arith, length-drop}
-use Rattle.btrfs_format.specs.declared.size.TheConstants.{HEADER_SIZE}
-use Rattle.btr_node.specs.declared.head.Head.{Head}
+use Rattle.btr_node.proofs.Imports.{length, ap, arith, length-drop, HEADER_SIZE, Head}
 use Rattle.btr_node.proofs.Leaves.{layout_true, layout_false}
 use Rattle.btr_node.proofs.leaf.has_layout.Goals as goal
 

@@ -1,10 +1,4 @@
-use Rattle.std.proofs.Common.{ℕ, List, length, sym, ap, ◌∙◌, arith}
-use Rattle.btrfs_format.specs.declared.size.TheConstants.{ITEM_SIZE}
-use Rattle.btr_keys.specs.Key.{key_layout}
-use Rattle.btr_node.specs.Head.{nritems}
-use Rattle.btr_node.specs.Order.{ascends}
-use Rattle.btr_node.specs.Records.{records_in}
-use Rattle.btr_node.specs.declared.head.Head.{Head}
+use Rattle.btr_node.proofs.Imports.{ℕ, List, length, sym, ap, ◌∙◌, arith, ITEM_SIZE, key_layout, nritems, ascends, records_in, Head}
 use Rattle.btr_node.proofs.Leaves.{heads_there, keys_of-items_in}
 use Rattle.btr_node.proofs.leaf.has_order.Goals as goal
 

@@ -1,6 +1,4 @@
-use Rattle.std.proofs.Common.{◌*◌, drop, ap, ◌∙◌}
-use Rattle.btrfs_format.specs.declared.size.TheConstants.{ITEM_SIZE}
-use Rattle.btr_node.specs.Leaf.{item_layout}
+use Rattle.btr_node.proofs.Imports.{◌*◌, drop, ap, ◌∙◌, ITEM_SIZE, item_layout}
 use Rattle.btr_node.proofs.Leaves.{head_there}
 use Rattle.btr_node.proofs.leaf.head_at.Goals as goal
 

@@ -1,8 +1,6 @@
-use Rattle.std.proofs.Common.{◌≡◌, ◌++◌, ℕ, List, length, drop, sym, ap, ◌∙◌, arith, length-take, length-drop}
+use Rattle.btr_node.proofs.Imports.{◌≡◌, ◌++◌, ℕ, List, length, drop, sym, ap, ◌∙◌, arith, length-take, length-drop, CSUM_SIZE, HEADER_REST_SIZE, length-kind_sum}
 use borrow.Rule.Slice.PartMut.{put_mid}
-use Rattle.btrfs_format.specs.declared.size.TheConstants.{CSUM_SIZE, HEADER_REST_SIZE}
 use Rattle.btr_node.proofs.Putting.{put_head_is, sum_place}
-use Rattle.csum_kinds.proofs.Widths.{length-kind_sum}
 use Rattle.btr_node.proofs.put.put_head.Goals as goal
 
 pub slice_bounds-copy_from_slice-end-2 : goal.slice_bounds-copy_from_slice-end-2

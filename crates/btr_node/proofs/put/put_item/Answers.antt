@@ -1,11 +1,5 @@
-use Rattle.std.proofs.Common.{◌≡◌, ℕ, ◌+◌, ◌-◌, ◌*◌, List, [], ◌∷◌, ◌++◌, length, refl, ap, ◌∙◌}
-use Rattle.btrfs_format.specs.declared.size.TheConstants.{ITEM_SIZE}
-use Rattle.refusals.specs.vol_block.Field.{fields_bytes}
-use Rattle.refusals.specs.vol_block.declared.field.Field.TheVariants.{U32}
+use Rattle.btr_node.proofs.Imports.{◌≡◌, ℕ, ◌+◌, ◌-◌, ◌*◌, List, [], ◌∷◌, ◌++◌, length, refl, ap, ◌∙◌, ITEM_SIZE, fields_bytes, U32, spelling, item_layout, BtrItemHead}
 use borrow.Rule.Slice.PartMut.{put_mid}
-use Rattle.btr_keys.specs.Layout.{spelling}
-use Rattle.btr_node.specs.Leaf.{item_layout}
-use Rattle.btr_node.specs.declared.item.BtrItemHead.{BtrItemHead}
 use Rattle.btr_node.proofs.Putting.{put_item_is}
 use Rattle.btr_node.proofs.put.put_item.Goals as goal
 

@@ -1,8 +1,5 @@
-use Rattle.std.proofs.Common.{take, ap, ◌∙◌, arith, length-take}
+use Rattle.btr_node.proofs.Imports.{take, ap, ◌∙◌, arith, length-take, take_rest, CSUM_SIZE, kind_sum}
 use Rattle.std.specs.Str.{bytes_eq}
-use Rattle.std.proofs.lemmas.List.{take_rest}
-use Rattle.btrfs_format.specs.declared.size.TheConstants.{CSUM_SIZE}
-use Rattle.csum_kinds.specs.Kind.{kind_sum}
 use Rattle.btr_node.proofs.sum.has_sum.Goals as goal
 
 pub slice_bounds-eq-end : goal.slice_bounds-eq-end

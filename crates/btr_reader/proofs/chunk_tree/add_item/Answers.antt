@@ -1,8 +1,4 @@
-use Rattle.std.proofs.Common.{◌≡◌, false, Option, IfErr, sym, ◌∙◌, subst}
-use Rattle.std.specs.List.{list_any}
-use Rattle.btr_reader.specs.declared.chunk.ChunkAt.{ChunkAt}
-use Rattle.btr_reader.specs.Chunks.{same_chunk, chunk_item_refusals}
-use Rattle.btr_reader.specs.Opening.{IsAmong}
+use Rattle.btr_reader.proofs.Imports.{◌≡◌, false, Option, IfErr, sym, ◌∙◌, subst, list_any, ChunkAt, same_chunk, chunk_item_refusals, IsAmong}
 use Rattle.btr_reader.proofs.Adding.{chunk_is_new}
 use Rattle.btr_reader.proofs.chunk_tree.add_item.Goals as goal
 

@@ -1,16 +1,4 @@
-use Rattle.std.proofs.Common.{◌≡◌, List, [], ◌∷◌, ◌++◌, refl, sym, ◌∙◌, ap, subst}
-use Rattle.std.proofs.lemmas.Result.{err_from_is_err_and}
-use Rattle.btr_reader_walk.specs.outside.History.{Image}
-use Rattle.btr_reader_walk.specs.declared.map.MapRange.{MapRange}
-use Rattle.btr_reader_walk.specs.declared.tree.Tree.{Tree}
-use Rattle.btr_reader_walk.specs.Events.{TreeItem}
-use Rattle.btr_reader_walk.specs.Walks.{Blames, found, wrong}
-use Rattle.btr_reader_walk.proofs.Events.{none_both}
-use Rattle.btr_reader_walk.proofs.Walking.{blames_among, given_first}
-use Rattle.btr_reader.specs.Image.{first_key, entry_named, is_called, is_root_directory, twice_refusals, index_refusals, root_refusals, entry_refusals}
-use Rattle.btr_reader_names.specs.Links.{own_naming, dir_indexes}
-use Rattle.btr_reader_names.proofs.Seeing.{none_seen}
-use Rattle.btr_reader.specs.Opening.{IsAmong}
+use Rattle.btr_reader.proofs.Imports.{◌≡◌, List, [], ◌∷◌, ◌++◌, refl, sym, ◌∙◌, ap, subst, err_from_is_err_and, Image, MapRange, Tree, TreeItem, Blames, found, wrong, none_both, blames_among, given_first, first_key, entry_named, is_called, is_root_directory, twice_refusals, index_refusals, root_refusals, entry_refusals, own_naming, dir_indexes, none_seen, IsAmong}
 use Rattle.btr_reader.proofs.Among.{among_left, among_right}
 use Rattle.btr_reader.proofs.EntryItems.{entry_push, index_right}
 use Rattle.btr_reader.proofs.RootNames.{none_twice, root_refused}

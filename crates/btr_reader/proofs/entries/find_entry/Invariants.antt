@@ -1,9 +1,4 @@
-use Rattle.std.proofs.Common.{◌≡◌, List, [], false, IsTrue}
-use Rattle.btr_reader_walk.specs.Events.{TreeItem}
-use Rattle.btr_reader_walk.specs.Walks.{Walks, fuel}
-use Rattle.btr_reader.specs.Image.{entry_named, is_called, is_root_directory, index_refusals}
-use Rattle.btr_reader_names.specs.Links.{dir_indexes}
-use Rattle.btr_reader_names.specs.Passes.{HasSeen}
+use Rattle.btr_reader.proofs.Imports.{◌≡◌, List, [], false, IsTrue, TreeItem, Walks, fuel, entry_named, is_called, is_root_directory, index_refusals, dir_indexes, HasSeen}
 use Rattle.btr_reader.proofs.entries.find_entry.Given as goal
 
 abbrev pub invariant-loop-walker : goal.invariant-loop-walker

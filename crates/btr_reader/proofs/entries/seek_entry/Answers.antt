@@ -1,16 +1,5 @@
-use Rattle.std.proofs.Common.{◌≡◌, ◌==◌, ◌&&◌, Bool, true, false, List, Some, option_map, sym, ◌∙◌, ap, subst, arith}
-use Rattle.std.proofs.lemmas.Bool.Decides.{nat_tests}
-use Rattle.std.proofs.lemmas.Result.{err_from_is_err_and}
-use Rattle.btrfs_format.specs.declared.key.TheConstants.{DIR_INDEX}
-use Rattle.btrfs_format.specs.declared.object.TheConstants.{FIRST_FREE_OBJECTID}
-use Rattle.btr_reader_walk.specs.refusals.declared.refusal.BtrRefusal.{BtrRefusal}
-use Rattle.btr_reader_walk.specs.btr_keys.declared.key.Key.{Key}
-use Rattle.btr_reader_walk.specs.btr_keys.DirEntry.{DirEntryValue, dir_entry_value}
-use Rattle.btr_reader_names.specs.declared.dir_index.DirIndex.{DirIndex}
-use Rattle.btr_reader_names.specs.Links.{is_index, index_entry, naming_of, dir_indexes}
-use Rattle.btr_reader_names.specs.Passes.{HasSeen}
-use Rattle.btr_reader.specs.Image.{is_root_directory}
-use Rattle.btr_reader.specs.Opening.{IsAmong}
+use Rattle.btr_reader.proofs.Imports.{◌≡◌, ◌==◌, ◌&&◌, Bool, true, false, List, Some, sym, ◌∙◌, ap, subst, arith, nat_tests, err_from_is_err_and, DIR_INDEX, FIRST_FREE_OBJECTID, BtrRefusal, Key, DirEntryValue, dir_entry_value, DirIndex, is_index, index_entry, naming_of, dir_indexes, HasSeen, is_root_directory, IsAmong}
+use Rattle.std.proofs.Common.{option_map}
 use Rattle.btr_reader.proofs.RootNames.{passed_over, right_entry, in_root, with_entry, refused_entry}
 use Rattle.btr_reader.proofs.entries.seek_entry.Goals.{then-key-ne-DIR_INDEX-via-then-key-ne-DIR_INDEX, then-key-ne-DIR_INDEX-via-else-key-ne-DIR_INDEX+then-key-ne-FIRST_FREE_OBJECTID}
 use Rattle.btr_reader.proofs.entries.seek_entry.Goals as goal

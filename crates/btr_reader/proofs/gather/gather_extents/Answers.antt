@@ -1,15 +1,4 @@
-use Rattle.std.proofs.Common.{◌≡◌, ℕ, ◌<◌, ◌^◌, List, [], ◌∷◌, ◌++◌, sym, ◌∙◌, ap, subst, arith, refl}
-use Rattle.std.proofs.lemmas.Result.{err_from_is_err_and}
-use Rattle.btr_reader_walk.specs.outside.History.{Image}
-use Rattle.btr_reader_walk.specs.refusals.declared.refusal.BtrRefusal.{BtrRefusal}
-use Rattle.btr_reader_walk.specs.declared.map.MapRange.{MapRange}
-use Rattle.btr_reader_walk.specs.declared.tree.Tree.{Tree}
-use Rattle.btr_reader_walk.specs.Events.{TreeItem}
-use Rattle.btr_reader_walk.specs.Walks.{Blames, found, wrong}
-use Rattle.btr_reader_walk.proofs.Walking.{blames_among, given_first}
-use Rattle.btr_reader_contents.specs.Extents.{extents_of, extents_refusals}
-use Rattle.btr_reader.specs.Opening.{IsAmong}
-use Rattle.btr_reader.specs.Pieces.{GathersExtents}
+use Rattle.btr_reader.proofs.Imports.{◌≡◌, ℕ, ◌<◌, ◌^◌, List, [], ◌∷◌, ◌++◌, sym, ◌∙◌, ap, subst, arith, refl, err_from_is_err_and, Image, BtrRefusal, MapRange, Tree, TreeItem, Blames, found, wrong, blames_among, given_first, extents_of, extents_refusals, IsAmong, GathersExtents}
 use Rattle.btr_reader.proofs.Among.{among_left, among_right}
 use Rattle.btr_reader.proofs.OneExtent.{extents_first}
 use Rattle.btr_reader.proofs.gather.gather_extents.Goals as goal

@@ -1,8 +1,4 @@
-use Rattle.std.proofs.Common.{◌≡◌, ◌<◌, ◌^◌, List, false, IsTrue}
-use Rattle.btr_reader_walk.specs.Events.{TreeItem}
-use Rattle.btr_reader_walk.specs.Walks.{Walks, fuel}
-use Rattle.btr_reader_contents.specs.Extents.{extents_of}
-use Rattle.btr_reader.specs.Pieces.{GathersExtents, AreGatheredInOrder}
+use Rattle.btr_reader.proofs.Imports.{◌≡◌, ◌<◌, ◌^◌, List, false, IsTrue, TreeItem, Walks, fuel, extents_of, GathersExtents, AreGatheredInOrder}
 use Rattle.btr_reader.proofs.gather.gather_extents.Given as goal
 
 abbrev pub invariant-loop-walker : goal.invariant-loop-walker

@@ -1,6 +1,4 @@
-use Rattle.std.proofs.Common.{leb, rules}
-use Rattle.std.proofs.lemmas.List.Sorted.{IsPartitionPoint-from_clause}
-use Rattle.btr_reader.specs.declared.mapped_extent.MappedExtent.{MappedExtent}
+use Rattle.btr_reader.proofs.Imports.{leb, rules, IsPartitionPoint-from_clause, MappedExtent}
 use Rattle.btr_reader.proofs.Searching.{begun_first}
 use Rattle.btr_reader.proofs.image_place.begun.Goals as goal
 

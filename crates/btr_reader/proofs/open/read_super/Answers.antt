@@ -1,8 +1,4 @@
-use Rattle.std.proofs.Common.{◌≡◌, length, sym, subst, ◌∙◌, ap, arith}
-use Rattle.btrfs_format.specs.declared.block.TheConstants.{SUPER_BLOCK}
-use Rattle.btr_reader_walk.specs.outside.History.{block_at}
-use Rattle.btr_super.specs.Rules.{super_of}
-use Rattle.btr_reader.specs.Opening.{IsSuperAnswer, super_on}
+use Rattle.btr_reader.proofs.Imports.{◌≡◌, length, sym, subst, ◌∙◌, ap, arith, SUPER_BLOCK, block_at, super_of, IsSuperAnswer, super_on}
 use Rattle.btr_reader.proofs.Supers.{no_super}
 use Rattle.btr_reader.proofs.open.read_super.Goals as goal
 

@@ -1,13 +1,4 @@
-use Rattle.std.proofs.Common.{◌<◌, ◌≤◌, List, map, length, sym, subst, refl, arith}
-use Rattle.std.proofs.lemmas.Option.{slice_get_read}
-use Rattle.std.proofs.lemmas.Result.{err_from_is_err_and}
-use Rattle.btrfs_format.specs.declared.object.TheConstants.{FIRST_FREE_OBJECTID}
-use Rattle.indexmap.specs.IndexSet.{contains}
-use Rattle.fs_rows.specs.Rows.{row_of}
-use Rattle.fs_paths.specs.declared.node_link.PathTo.{PathTo}
-use Rattle.fs_paths.specs.Links.{same_node}
-use Rattle.btr_reader_names.specs.Steps.{inode_node, links_of}
-use Rattle.btr_reader.specs.Made.{IsMemory, made_row}
+use Rattle.btr_reader.proofs.Imports.{◌<◌, ◌≤◌, List, map, length, sym, subst, refl, arith, slice_get_read, err_from_is_err_and, FIRST_FREE_OBJECTID, contains, row_of, PathTo, same_node, inode_node, links_of, IsMemory, made_row}
 use Rattle.btr_reader.proofs.Rowed.{rows_are, rows_more, all_rows, are_paths}
 use Rattle.btr_reader.proofs.rows.rows_of.Goals as goal
 

@@ -1,6 +1,4 @@
-use Rattle.std.proofs.Common.{ℕ, false, ap, ◌∙◌}
-use Rattle.fs_rows.specs.Mark.{mark_of_bytes}
-use Rattle.btr_reader_contents.specs.Extents.{bytes_of_inode}
+use Rattle.btr_reader_contents.proofs.Imports.{ℕ, false, ap, ◌∙◌, mark_of_bytes, bytes_of_inode}
 use Rattle.btr_reader_contents.proofs.Gathered.{content_made, bytes_length}
 use Rattle.btr_reader_contents.proofs.content.file_content.Goals as goal
 

@@ -1,5 +1,4 @@
-use Rattle.std.proofs.Common.{ℕ, true, ap, refl, ◌∙◌}
-use Rattle.btr_reader_contents.specs.Extents.{bytes_of_inode}
+use Rattle.btr_reader_contents.proofs.Imports.{ℕ, true, ap, refl, ◌∙◌, bytes_of_inode}
 use Rattle.btr_reader_contents.proofs.Gathered.{content_made, bytes_length}
 use Rattle.btr_reader_contents.proofs.content.link_content.Goals as goal
 

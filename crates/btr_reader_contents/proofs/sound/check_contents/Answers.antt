@@ -1,18 +1,4 @@
-use Rattle.std.proofs.Common.{◌≡◌, ℕ, List, [], ◌∷◌, ◌++◌, Option, sym, ◌∙◌, ap, subst, refl}
-use Rattle.std.proofs.lemmas.Result.{err_from_is_err_and}
-use Rattle.btr_reader_walk.specs.outside.History.{Image}
-use Rattle.indexmap.specs.IndexSet.{contains}
-use Rattle.fs_paths.specs.Links.{same_node}
-use Rattle.btr_reader_walk.specs.declared.map.MapRange.{MapRange}
-use Rattle.btr_reader_walk.specs.declared.tree.Tree.{Tree}
-use Rattle.btr_reader_walk.specs.Events.{TreeItem}
-use Rattle.btr_reader_walk.specs.Walks.{Blames, found, wrong}
-use Rattle.btr_reader_walk.proofs.Walking.{given_first}
-use Rattle.btr_reader_names.specs.Table.{HasNotedNames}
-use Rattle.btr_reader_contents.specs.declared.wanted.Wanted.{Wanted}
-use Rattle.btr_reader_contents.specs.Checked.{AreSound, HasChecked}
-use Rattle.btr_reader_contents.specs.Contents.{wanted_at, RefusesContents}
-use Rattle.btr_reader_contents.specs.Gathering.{last_inode}
+use Rattle.btr_reader_contents.proofs.Imports.{◌≡◌, ℕ, List, [], ◌∷◌, ◌++◌, Option, sym, ◌∙◌, ap, subst, refl, err_from_is_err_and, Image, contains, same_node, MapRange, Tree, TreeItem, Blames, found, wrong, given_first, HasNotedNames, Wanted, AreSound, HasChecked, wanted_at, RefusesContents, last_inode}
 use Rattle.btr_reader_contents.proofs.SoundExtents.{all_sound, none_checked, up_to}
 use Rattle.btr_reader_contents.proofs.Gathered.{refuses_all, refuses_tree}
 use Rattle.btr_reader_contents.proofs.Orders.{next_inode, now_last}

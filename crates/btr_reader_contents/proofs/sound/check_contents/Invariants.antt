@@ -1,12 +1,4 @@
-use Rattle.std.proofs.Common.{◌≡◌, List, false, IsTrue}
-use Rattle.indexmap.specs.IndexSet.{contains}
-use Rattle.fs_paths.specs.Links.{same_node}
-use Rattle.btr_reader_walk.specs.Events.{TreeItem}
-use Rattle.btr_reader_walk.specs.Walks.{Walks, fuel, found}
-use Rattle.btr_reader_names.specs.Table.{HasNotedNames}
-use Rattle.btr_reader_contents.specs.Checked.{HasChecked}
-use Rattle.btr_reader_contents.specs.Contents.{wanted_at}
-use Rattle.btr_reader_contents.specs.Gathering.{last_inode}
+use Rattle.btr_reader_contents.proofs.Imports.{◌≡◌, List, false, IsTrue, contains, same_node, TreeItem, Walks, fuel, found, HasNotedNames, HasChecked, wanted_at, last_inode}
 use Rattle.btr_reader_contents.proofs.sound.check_contents.Given as goal
 
 abbrev pub invariant-loop-walker : goal.invariant-loop-walker

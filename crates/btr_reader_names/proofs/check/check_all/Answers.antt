@@ -1,9 +1,4 @@
-use Rattle.std.proofs.Common.{nat_eq, sym, subst}
-use Rattle.std.proofs.lemmas.Result.{err_from_is_err_and}
-use Rattle.indexmap.specs.IndexSet.{contains}
-use Rattle.fs_paths.specs.Links.{same_node}
-use Rattle.btr_reader_names.specs.declared.table.NameTable.{NameTable}
-use Rattle.btr_reader_names.specs.Refuses.{RefusesNames, IsNoFault}
+use Rattle.btr_reader_names.proofs.Imports.{nat_eq, sym, subst, err_from_is_err_and, contains, same_node, NameTable, RefusesNames, IsNoFault}
 use Rattle.btr_reader_names.proofs.Checking.{one_refused, refused_twice, refused_again, all_kept, twice_no_fault, again_no_fault}
 use Rattle.btr_reader_names.proofs.Leading.{tree_links}
 use Rattle.btr_reader_names.proofs.check.check_all.Goals as goal

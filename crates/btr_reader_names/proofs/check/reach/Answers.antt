@@ -1,11 +1,4 @@
-use Rattle.std.proofs.Common.{List, subst}
-use Rattle.btrfs_format.specs.declared.object.TheConstants.{FIRST_FREE_OBJECTID}
-use Rattle.indexmap.specs.IndexSet.{contains}
-use Rattle.fs_paths.specs.declared.node_link.NodeLink.{NodeLink}
-use Rattle.fs_paths.specs.declared.node.NodeId.{NodeId}
-use Rattle.fs_paths.specs.Links.{same_node}
-use Rattle.fs_paths.specs.Reached.{AreReached}
-use Rattle.btr_reader_names.specs.Steps.{inode_node}
+use Rattle.btr_reader_names.proofs.Imports.{List, subst, FIRST_FREE_OBJECTID, contains, NodeLink, NodeId, same_node, AreReached, inode_node}
 use Rattle.btr_reader_names.proofs.Reaching.{named_are}
 use Rattle.btr_reader_names.proofs.check.reach.Goals as goal
 

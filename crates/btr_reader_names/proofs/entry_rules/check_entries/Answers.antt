@@ -1,11 +1,4 @@
-use Rattle.std.proofs.Common.{◌<◌, ◌≤◌, ◌∙◌, nat_eq, List, length, get_or, sym, ap, subst, arith}
-use Rattle.std.proofs.lemmas.Result.{err_from_is_err_and}
-use Rattle.btr_reader_walk.specs.refusals.declared.refusal.BtrRefusal.{BtrRefusal}
-use Rattle.btr_reader_names.specs.declared.dir_index.DirIndex.{DirIndex}
-use Rattle.indexmap.specs.IndexSet.{contains}
-use Rattle.fs_paths.specs.Links.{same_node}
-use Rattle.btr_reader_names.specs.Passes.{IsGoodEntry, BlamesEntry}
-use Rattle.btr_reader_names.specs.Steps.{is_open}
+use Rattle.btr_reader_names.proofs.Imports.{◌<◌, ◌≤◌, ◌∙◌, nat_eq, List, length, get_or, sym, ap, subst, arith, err_from_is_err_and, BtrRefusal, DirIndex, contains, same_node, IsGoodEntry, BlamesEntry, is_open}
 use Rattle.btr_reader_names.proofs.Members.{each_more, each_among, indexed}
 use Rattle.btr_reader_names.proofs.entry_rules.check_entries.Goals as goal
 

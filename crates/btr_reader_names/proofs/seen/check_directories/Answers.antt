@@ -1,11 +1,4 @@
-use Rattle.std.proofs.Common.{◌<◌, ◌≤◌, ◌+◌, ◌∙◌, List, length, get_or, drop, AllPairs, sym, ap, subst, arith}
-use Rattle.std.proofs.lemmas.List.{take_all}
-use Rattle.std.proofs.lemmas.Result.{err_from_is_err_and}
-use Rattle.btr_reader_walk.specs.refusals.declared.answer.BtrAnswer.{BtrAnswer}
-use Rattle.indexmap.specs.IndexSet.{contains}
-use Rattle.fs_paths.specs.Links.{same_node}
-use Rattle.btr_reader_names.specs.declared.dir_index.DirIndex.{DirIndex}
-use Rattle.btr_reader_names.specs.Passes.{HasDirectories, BlamesAgain, LeadApart}
+use Rattle.btr_reader_names.proofs.Imports.{◌<◌, ◌≤◌, ◌+◌, ◌∙◌, List, length, get_or, drop, AllPairs, sym, ap, subst, arith, take_all, err_from_is_err_and, BtrAnswer, contains, same_node, DirIndex, HasDirectories, BlamesAgain, LeadApart}
 use Rattle.btr_reader_names.proofs.Members.{one_more, with_rest}
 use Rattle.btr_reader_names.proofs.Seeing.{again_of_part, no_directories}
 use Rattle.btr_reader_names.proofs.seen.check_directories.Goals as goal

@@ -1,12 +1,4 @@
-use Rattle.std.proofs.Common.{◌<◌, ◌≤◌, ◌+◌, ◌∙◌, ℕ, Bool, List, length, get_or, drop, AllPairs, sym, ap, subst, arith}
-use Rattle.std.proofs.lemmas.List.{take_all}
-use Rattle.std.proofs.lemmas.Result.{err_from_is_err_and}
-use Rattle.btr_reader_walk.specs.refusals.declared.answer.BtrAnswer.{BtrAnswer}
-use Rattle.indexmap.specs.IndexSet.{contains}
-use Rattle.fs_paths.specs.Links.{same_node}
-use Rattle.btr_reader_names.specs.declared.dir_index.DirIndex.{DirIndex}
-use Rattle.btr_reader_names.specs.Passes.{HasSeen, BlamesTwice, DifferInName}
-use Rattle.btr_reader_names.specs.Steps.{is_open}
+use Rattle.btr_reader_names.proofs.Imports.{◌<◌, ◌≤◌, ◌+◌, ◌∙◌, ℕ, Bool, List, length, get_or, drop, AllPairs, sym, ap, subst, arith, take_all, err_from_is_err_and, BtrAnswer, contains, same_node, DirIndex, HasSeen, BlamesTwice, DifferInName, is_open}
 use Rattle.btr_reader_names.proofs.Members.{one_more, with_rest}
 use Rattle.btr_reader_names.proofs.Seeing.{twice_of_part, none_seen}
 use Rattle.btr_reader_names.proofs.seen.check_once.Goals as goal

@@ -1,5 +1,4 @@
-use Rattle.std.proofs.Common.{[], ◌∷◌, ◌++◌, ap, ◌∙◌}
-use Rattle.btr_reader_names.specs.declared.dir_index.DirIndex.{DirIndex}
+use Rattle.btr_reader_names.proofs.Imports.{[], ◌∷◌, ◌++◌, ap, ◌∙◌, DirIndex}
 use Rattle.btr_reader_names.proofs.table.note_entry.Goals as goal
 
 pub returns : goal.returns

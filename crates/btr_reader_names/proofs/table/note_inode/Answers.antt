@@ -1,9 +1,6 @@
-use Rattle.std.proofs.Common.{◌≡◌, ◌==◌, ◌&&◌, ◌∙◌, Bool, true, false, nat_eq, sym, ap, arith}
-use Rattle.std.proofs.lemmas.Bool.Decides.{nat_tests}
-use Rattle.btrfs_format.specs.declared.key.TheConstants.{INODE_ITEM}
+use Rattle.btr_reader_names.proofs.Imports.{◌≡◌, ◌==◌, ◌&&◌, ◌∙◌, Bool, true, false, nat_eq, sym, ap, arith, nat_tests, INODE_ITEM, inode_of}
 use Rattle.indexmap.specs.IndexMap.{get}
 use Rattle.btr_reader_walk.specs.btr_keys.declared.key.Key.{Key}
-use Rattle.btr_reader_walk.specs.btr_keys.Inode.{inode_of}
 use Rattle.btr_reader_names.proofs.Tables.{passed_over, noted_first}
 use Rattle.btr_reader_names.proofs.table.note_inode.Goals as goal
 

@@ -1,5 +1,4 @@
-use Rattle.std.proofs.Common.{◌-◌, length, ap, arith, length-take, drop, take}
-use Rattle.csum_kinds.proofs.Widths.{length-kind_sum}
+use Rattle.btr_super.proofs.Imports.{◌-◌, length, ap, arith, length-take, drop, take, length-kind_sum}
 use Rattle.btr_super.proofs.sums.put_sum.Goals as goal
 
 pub copy_from_slice-requires : goal.copy_from_slice-requires

@@ -1,18 +1,5 @@
-use Rattle.std.proofs.Common.{◌≡◌, ℕ, ◌*◌, ◌++◌, ◌∷◌, [], List, Err, length, refl, sym, ◌∙◌, ap, subst}
-use Rattle.std.specs.Prelude.{IsTrue}
-use Rattle.btr_tree.specs.outside.History.{History, Image, reads, WritesOnly}
-use Rattle.btr_tree.proofs.outside.Crash.{writes_none, writes_then}
+use Rattle.btr_tree_writer.proofs.Imports.{◌≡◌, ℕ, ◌*◌, ◌++◌, ◌∷◌, [], List, Err, length, refl, sym, ◌∙◌, ap, subst, IsTrue, History, Image, reads, WritesOnly, writes_none, writes_then, Item, Counted, capacity, lengths_of, IsWholeTree, IsInSlots, identity, AreWritable, TreeStands, pointer_to_root, read_form, StandsOn, WriteAnswer}
 use Rattle.btr_tree.specs.outside.declared.disk.Access.TheVariants.{Write}
-use Rattle.btr_tree.specs.btr_node.Leaf.{Item}
-use Rattle.btr_tree.specs.Counting.{Counted}
-use Rattle.btr_tree.specs.Packing.{capacity}
-use Rattle.btr_tree.specs.Roots.{lengths_of}
-use Rattle.btr_tree.specs.Whole.{IsWholeTree}
-use Rattle.btr_tree.specs.Writing.{IsInSlots}
-use Rattle.btr_tree.specs.btr_reader_walk.Map.{identity}
-use Rattle.btr_tree_writer.specs.Trees.{AreWritable, TreeStands, pointer_to_root, read_form}
-use Rattle.btr_tree_writer.specs.Writer.{StandsOn}
-use Rattle.btr_tree_writer.specs.declared.answer.WriteAnswer.{WriteAnswer}
 use Rattle.btr_tree_writer.proofs.Steps.{source_cause, source_fails, answer_fails, same_where, only_of, range_of, falls, next_of, pushed_of, last_of, answer_cause, ok_cause}
 use Rattle.btr_tree_writer.proofs.write.write_tree.Goals as goal
 

@@ -1,12 +1,4 @@
-use Rattle.std.proofs.Common.{◌≡◌, ◌*◌, ◌-◌, ◌++◌, ℕ, List, length}
-use Rattle.std.specs.Prelude.{IsTrue}
-use Rattle.btr_tree.specs.outside.History.{Image, reads, WritesOnly}
-use Rattle.btr_tree.specs.btr_node.Leaf.{Item}
-use Rattle.btr_tree.specs.Packing.{capacity}
-use Rattle.btr_tree.specs.Writing.{IsInSlots}
-use Rattle.btr_tree_writer.specs.Source.{LieApart}
-use Rattle.btr_tree_writer.specs.Trees.{read_form}
-use Rattle.btr_tree_writer.specs.Writer.{WritesTree, StandsOn}
+use Rattle.btr_tree_writer.proofs.Imports.{◌≡◌, ◌*◌, ◌-◌, ◌++◌, ℕ, List, length, IsTrue, Image, reads, WritesOnly, Item, capacity, IsInSlots, LieApart, read_form, WritesTree, StandsOn}
 use Rattle.btr_tree_writer.proofs.write.write_tree.Given as goal
 
 abbrev pub invariant-loop-writer : goal.invariant-loop-writer

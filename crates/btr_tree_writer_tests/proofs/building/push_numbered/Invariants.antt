@@ -1,8 +1,5 @@
-use Rattle.std.proofs.Common.{◌≡◌, ◌≤◌, false, map, IsTrue}
-use Rattle.std.specs.List.{range_with_len}
+use Rattle.btr_tree_writer_tests.proofs.Imports.{◌≡◌, ◌≤◌, false, map, IsTrue, range_with_len, Holds, IsSameBuilding, Stands, numbered_item}
 use Rattle.outside.specs.History.{reads}
-use Rattle.btr_tree.specs.Builder.{Holds, IsSameBuilding, Stands}
-use Rattle.btr_tree.proofs.Numbered.{numbered_item}
 use Rattle.btr_tree_writer_tests.proofs.building.push_numbered.Given as goal
 
 abbrev pub invariant-loop-number : goal.invariant-loop-number

@@ -1,6 +1,4 @@
-use Rattle.std.proofs.Common.{◌≡◌, take}
-use Rattle.btrfs_format.specs.declared.object.TheConstants.{FS_TREE}
-use Rattle.space_items.specs.Nodes.{nodes_at}
+use Rattle.btr_tree_writer_tests.proofs.Imports.{◌≡◌, take, FS_TREE, nodes_at}
 use Rattle.btr_tree_writer_tests.proofs.own_nodes.leaves.Given as goal
 
 abbrev pub invariant-loop-address : goal.invariant-loop-address

@@ -1,14 +1,10 @@
-use Rattle.std.proofs.Common.{◌≡◌, inl, ℕ, List, ◌≤◌, length, map, refl, arith, subst, sym, ◌∙◌, ap, map-id}
+use Rattle.btr_tree_writer_tests.proofs.Imports.{◌≡◌, inl, ℕ, List, ◌≤◌, length, map, refl, arith, subst, sym, ◌∙◌, ap, map-id, FS_TREE, AreChunks, FitsVolume, AreNodes, nodes_at, TreeNode}
 use Rattle.std.proofs.lemmas.List.{length-map}
-use Rattle.btrfs_format.specs.declared.object.TheConstants.{FS_TREE}
 use Rattle.btr_tree.specs.Counting.{node_bound}
-use Rattle.unit_plan.specs.Chunks.{AreChunks, FitsVolume}
 use Rattle.unit_plan.specs.declared.chunk.PlannedChunk.{PlannedChunk}
 use Rattle.unit_plan.specs.declared.piece.Piece.{Piece}
 use Rattle.unit_plan.specs.declared.plan.Plan.{Plan}
-use Rattle.space_items.specs.Nodes.{AreNodes, nodes_at}
 use Rattle.space_items.specs.Own.{extent_bytes, own_bound}
-use Rattle.space_items.specs.declared.node.TreeNode.{TreeNode}
 use Rattle.space_items.proofs.Ascending.{Ascend, nodes_ascend}
 use Rattle.space_items.proofs.Levels.{map-map}
 use Rattle.space_items.proofs.OwnBound.{bound_up}

@@ -1,9 +1,5 @@
-use Rattle.std.proofs.Common.{◌≢◌, ◌≡◌, ◌∙◌, ap, subst}
-use Rattle.std.specs.Prelude.{IfErr}
+use Rattle.convert_core.proofs.Imports.{◌≢◌, ◌≡◌, ◌∙◌, ap, subst, IfErr, History, reads, synced_then, uncalled, DiffersInFree, IsEither}
 use Rattle.convert_steps.specs.command_answers.declared.answer.Answer.TheVariants as answer
-use Rattle.reiser_volume.specs.outside.History.{History, reads}
-use Rattle.first_sync.proofs.Synced.{synced_then, uncalled}
-use Rattle.convert_core.specs.Converted.{DiffersInFree, IsEither}
 use Rattle.convert_core.proofs.in_place.convert.Goals as goal
 
 pub returns-in_err-sync-clause-crash : goal.returns-in_err-sync-clause-crash

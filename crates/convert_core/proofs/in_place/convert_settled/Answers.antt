@@ -1,15 +1,4 @@
-use Rattle.std.proofs.Common.{◌≡◌, ◌≢◌, ◌∙◌, inl, refl, sym, ap, subst}
-use Rattle.std.proofs.lemmas.Bool.{both_ways}
-use Rattle.std.proofs.lemmas.Result.{err_from_is_err_and}
-use Rattle.reiser_volume.specs.vol_block.declared.format.Format.TheVariants.{Btrfs}
-use Rattle.reiser_volume.specs.outside.Format.{format_in}
-use Rattle.reiser_volume.specs.outside.History.{History, reads}
-use Rattle.reiser_volume.proofs.outside.Crash.{reads_only}
-use Rattle.reiser_volume.proofs.outside.Phases.{left_unwritten}
-use Rattle.convert_steps.specs.Switch.{IsSwitchPart}
-use Rattle.first_sync.specs.Synced.{GoesOn}
-use Rattle.first_sync.proofs.Synced.{goes_on, stays_on, then_goes_on}
-use Rattle.convert_core.specs.Answers.{RefusesConvert}
+use Rattle.convert_core.proofs.Imports.{◌≡◌, ◌≢◌, ◌∙◌, inl, refl, sym, ap, subst, both_ways, err_from_is_err_and, Btrfs, format_in, History, reads, reads_only, left_unwritten, IsSwitchPart, GoesOn, goes_on, stays_on, then_goes_on, RefusesConvert}
 use Rattle.convert_core.proofs.Crashing.{MayWrite, behind_for, converted, early_crash, keeps_behind, may_go_on, may_keep, switch_crash}
 use Rattle.convert_core.proofs.Ending.{refuses}
 use Rattle.convert_core.proofs.in_place.convert_settled.Goals as goal

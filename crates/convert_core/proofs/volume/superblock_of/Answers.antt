@@ -1,10 +1,4 @@
-use Rattle.std.proofs.Common.{◌∙◌, ℕ, refl, sym, ap, subst}
-use Rattle.reiser_volume.specs.reiser_super.declared.superblock.Super.{Super}
-use Rattle.convert_steps.specs.space_items.Chunks.{chunk_item}
-use Rattle.convert_trees_laws.proofs.Booting.{boot_fits_by}
-use Rattle.unit_plan.specs.Chunks.{AreChunks, FitsVolume}
-use Rattle.unit_plan.specs.declared.chunk.PlannedChunk.{PlannedChunk}
-use Rattle.convert_steps.specs.Superblock.{is_system_role, record_bytes}
+use Rattle.convert_core.proofs.Imports.{◌∙◌, ℕ, refl, sym, ap, subst, Super, chunk_item, boot_fits_by, AreChunks, FitsVolume, PlannedChunk, is_system_role, record_bytes}
 use Rattle.convert_steps.proofs.Booting.{length_record}
 use Rattle.convert_core.proofs.Nodes.{units_fit}
 use Rattle.convert_core.proofs.volume.superblock_of.Goals as goal

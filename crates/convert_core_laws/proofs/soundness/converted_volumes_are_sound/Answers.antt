@@ -1,4 +1,4 @@
-use Rattle.convert_core_laws.specs.soundness.Recounted.{recount_for}
+use Rattle.convert_core_laws.proofs.Imports.{recount_for}
 use Rattle.convert_core_laws.proofs.soundness.converted_volumes_are_sound.Goals as goal
 
 pub returns : goal.returns

@@ -1,7 +1,5 @@
-use Rattle.std.proofs.Common.{arith, refl, ◌≡◌, ◌≤◌, ◌+◌, ◌-◌, ◌++◌, ℕ, List, length, replicate, sym, ◌∙◌, ap, subst, get_or}
-use Rattle.std.proofs.lemmas.Option.{slice_get_within, get_or_from_slice_get}
+use Rattle.convert_steps.proofs.Imports.{arith, refl, ◌≡◌, ◌≤◌, ◌+◌, ◌-◌, ◌++◌, ℕ, List, length, replicate, sym, ◌∙◌, ap, subst, get_or, slice_get_within, get_or_from_slice_get, PlannedChunk}
 use borrow.Rule.Slice.PartMut.{put_mid}
-use Rattle.unit_plan.specs.declared.chunk.PlannedChunk.{PlannedChunk}
 use Rattle.convert_steps.proofs.Booting.{boot_longer, boot_put, boot_room, boot_same, boot_all}
 use Rattle.convert_steps.proofs.fields.boot_array.Goals as goal
 use Rattle.convert_steps.proofs.fields.boot_array.Goals.{then-is_system, else-is_system}

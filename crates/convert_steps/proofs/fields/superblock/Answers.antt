@@ -1,5 +1,4 @@
-use Rattle.std.proofs.Common.{arith, ◌∙◌, ap}
-use Rattle.btr_super.specs.Super.{super_bytes}
+use Rattle.convert_steps.proofs.Imports.{arith, ◌∙◌, ap, super_bytes}
 use Rattle.space_items.proofs.ChunkLists.{chunk_blocks_fit}
 use Rattle.space_items.proofs.OneList.{chunks_one}
 use Rattle.convert_steps.proofs.NewSuper.{fields_are}

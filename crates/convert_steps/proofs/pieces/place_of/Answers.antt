@@ -1,8 +1,4 @@
-use Rattle.std.proofs.Common.{◌≡◌, ◌-◌, ℕ, refl, ap, ◌∙◌, arith}
-use Rattle.std.specs.Prelude.{slice_get}
-use Rattle.indexmap.specs.IndexMap.{keys}
-use Rattle.reiser_volume.specs.reiser_volume_names.Names.{ino_of_key}
-use Rattle.reiser_volume.specs.Numbers.{by_inode}
+use Rattle.convert_steps.proofs.Imports.{◌≡◌, ◌-◌, ℕ, refl, ap, ◌∙◌, arith, slice_get, keys, ino_of_key, by_inode}
 use Rattle.convert_steps.proofs.Placed.{named_number}
 use Rattle.convert_steps.proofs.pieces.place_of.Goals as goal
 

@@ -1,10 +1,4 @@
-use Rattle.std.proofs.Common.{◌≡◌, length, refl, sym, ap, subst, ◌∙◌, arith}
-use Rattle.std.proofs.lemmas.Result.{err_from_is_err_and}
-use Rattle.reiser_volume.specs.reiser_volume_contents.Answers.{IsFault}
-use Rattle.command_answers.specs.outside.History.{reads}
-use Rattle.command_answers.proofs.outside.Phases.{reads_outside}
-use Rattle.command_answers.proofs.outside.Crash.{writes_then}
-use Rattle.convert_steps.specs.Moved.{IsMovedTo, IsMovedPlace}
+use Rattle.convert_steps.proofs.Imports.{◌≡◌, length, refl, sym, ap, subst, ◌∙◌, arith, err_from_is_err_and, IsFault, reads, reads_outside, writes_then, IsMovedTo, IsMovedPlace}
 use Rattle.convert_steps.proofs.Moving.{place_only}
 use Rattle.convert_steps.proofs.Turning.{can_write, held_all, held_more, kept_by, opened_at, same_at}
 use Rattle.convert_steps.proofs.pieces.write_moved.Goals as goal

@@ -1,6 +1,4 @@
-use Rattle.std.proofs.Common.{◌≡◌, IsTrue}
-use Rattle.command_answers.specs.outside.History.{Image, reads, WritesOnly}
-use Rattle.convert_steps.specs.Moved.{CanMove, IsMovedPlace}
+use Rattle.convert_steps.proofs.Imports.{◌≡◌, IsTrue, Image, reads, WritesOnly, CanMove, IsMovedPlace}
 use Rattle.convert_steps.proofs.Turning.{Held}
 use Rattle.convert_steps.proofs.pieces.write_moved.Given as goal
 

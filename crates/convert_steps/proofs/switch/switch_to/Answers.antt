@@ -1,7 +1,4 @@
-use Rattle.std.proofs.Common.{◌≡◌, ◌<◌, inr, ⊎_elim, length, arith}
-use Rattle.command_answers.specs.outside.History.{reads, IsBlock}
-use Rattle.command_answers.proofs.outside.Phases.{left_then, on_ok}
-use Rattle.convert_steps.specs.Switch.{IsCopy}
+use Rattle.convert_steps.proofs.Imports.{◌≡◌, ◌<◌, inr, ⊎_elim, length, arith, reads, IsBlock, left_then, on_ok, IsCopy}
 use Rattle.convert_steps.proofs.Phases.{superblock_crash, superblock_stands, copies_crash, copies_stand, superblock_part, copies_part}
 use Rattle.convert_steps.proofs.switch.switch_to.Goals as goal
 

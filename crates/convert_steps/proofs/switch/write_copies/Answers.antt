@@ -1,8 +1,4 @@
-use Rattle.std.proofs.Common.{sym, subst}
-use Rattle.btrfs_format.specs.declared.block.TheConstants.{FIRST_MIRROR, SECOND_MIRROR}
-use Rattle.command_answers.proofs.outside.Crash.{sync_only, writes_then}
-use Rattle.command_answers.proofs.outside.Phases.{on_ok, sync_reads}
-use Rattle.convert_steps.specs.Switch.{IsCopy, HasCopies}
+use Rattle.convert_steps.proofs.Imports.{sym, subst, FIRST_MIRROR, SECOND_MIRROR, sync_only, writes_then, on_ok, sync_reads, IsCopy, HasCopies}
 use Rattle.convert_steps.proofs.Phases.{copy_part, both_stand}
 use Rattle.convert_steps.proofs.switch.write_copies.Goals as goal
 

@@ -1,12 +1,7 @@
-use Rattle.std.proofs.Common.{◌≡◌, ◌∙◌, ◌+◌, ◌*◌, ℕ, List, length, ap, subst, arith}
+use Rattle.convert_trees.proofs.Imports.{◌≡◌, ◌∙◌, ◌+◌, ◌*◌, ℕ, List, length, ap, subst, arith, node_bound, Super, extent_bytes, AreChunks, PlannedChunk}
 use Rattle.unit_plan.specs.declared.item_bytes.TheConstants.{BLOCK_GROUP_BYTES, EXTENT_BYTES, NODE_BYTES}
-use Rattle.btr_tree.specs.Counting.{node_bound}
-use Rattle.reiser_volume.specs.reiser_super.declared.superblock.Super.{Super}
 use Rattle.space_items.proofs.OneList.{chunks_one}
 use Rattle.space_items.proofs.Tallying.{few_chunks}
-use Rattle.space_items.specs.Own.{extent_bytes}
-use Rattle.unit_plan.specs.Chunks.{AreChunks}
-use Rattle.unit_plan.specs.declared.chunk.PlannedChunk.{PlannedChunk}
 use Rattle.convert_trees.proofs.Few.{few_pieces}
 use Rattle.convert_trees.proofs.last.extent_bound.Goals as goal
 

@@ -1,18 +1,6 @@
-use Rattle.std.proofs.Common.{◌≡◌, ◌∙◌, ℕ, ◌+◌, ◌-◌, ◌≤◌, ◌++◌, List, length, take, drop, refl, sym, ap, subst, arith}
-use Rattle.std.specs.List.{All}
-use Rattle.std.proofs.lemmas.List.{length-drop, length-take}
-use Rattle.btrfs_format.specs.declared.object.TheConstants.{ROOT_TREE}
-use Rattle.btr_tree.specs.btr_node.Leaf.{Item}
-use Rattle.btr_tree.specs.btr_node.NodeSize.{IsNodeSize}
-use Rattle.btr_tree.specs.Counting.{tree_nodes}
-use Rattle.btr_tree.specs.Roots.{lengths_of}
-use Rattle.btr_tree_writer.specs.declared.form.NodeForm.{NodeForm}
-use Rattle.space_items.proofs.Ordered.{root_items_fit}
-use Rattle.space_items.proofs.OwnBound.{roomy}
-use Rattle.space_items.specs.Nodes.{nodes_of_tree}
+use Rattle.convert_trees.proofs.Imports.{◌≡◌, ◌∙◌, ℕ, ◌+◌, ◌-◌, ◌≤◌, ◌++◌, List, length, take, drop, refl, sym, ap, subst, arith, All, length-drop, length-take, ROOT_TREE, Item, IsNodeSize, tree_nodes, lengths_of, NodeForm, root_items_fit, roomy, nodes_of_tree, listed}
 use Rattle.convert_trees.proofs.Adding.{handed}
 use Rattle.convert_trees.proofs.Rooted.{ascends, root_lengths}
-use Rattle.convert_trees.specs.Roots.{listed}
 use Rattle.convert_trees.proofs.root_tree.keep_roots.Goals as goal
 
 pub root_list-requires-clause-few : goal.root_list-requires-clause-few

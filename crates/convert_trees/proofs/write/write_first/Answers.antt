@@ -1,12 +1,4 @@
-use Rattle.std.proofs.Common.{◌∙◌, refl, ◌+◌, ◌-◌, ◌^◌, List, drop, sym, subst, arith}
-use Rattle.btrfs_format.specs.declared.object.TheConstants.{CONV_IMAGE_SUBVOL, CSUM_TREE, DATA_RELOC_TREE, DEV_TREE, FS_TREE}
-use Rattle.btr_tree.specs.outside.History.{reads, WritesOnly}
-use Rattle.btr_tree.proofs.outside.Crash.{writes_none}
-use Rattle.btr_tree.specs.btr_node.Leaf.{Item}
-use Rattle.btr_tree_writer.specs.Trees.{AreWritable}
-use Rattle.convert_trees.specs.Adding.{Adds}
-use Rattle.convert_trees.specs.First.{FirstItems, first_items}
-use Rattle.convert_trees.specs.declared.roots.FirstRoots.{FirstRoots}
+use Rattle.convert_trees.proofs.Imports.{◌∙◌, refl, ◌+◌, ◌-◌, ◌^◌, List, drop, sym, subst, arith, CONV_IMAGE_SUBVOL, CSUM_TREE, DATA_RELOC_TREE, DEV_TREE, FS_TREE, reads, WritesOnly, writes_none, Item, AreWritable, Adds, FirstItems, first_items, FirstRoots}
 use Rattle.convert_trees.proofs.Adding.{failed}
 use Rattle.convert_trees.proofs.Behind.{IsInRest, later_by, later_then, writes_behind}
 use Rattle.convert_trees.proofs.Opening.{Begins, adds_first, goes_none, stepped, writable}

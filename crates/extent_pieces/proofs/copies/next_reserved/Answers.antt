@@ -1,8 +1,4 @@
-use Rattle.std.proofs.Common.{◌-◌, ◌%◌, ◌<◌, ◌≤◌, not, refl, arith, ⊎_elim}
-use Rattle.std.proofs.lemmas.Bool.{cases_lt}
-use Rattle.btrfs_format.specs.declared.block.TheConstants.{FIRST_MIRROR, SECOND_MIRROR}
-use Rattle.reiser_bitmap.specs.vol_block.Volume.{IsReserved, is_reserved}
-use Rattle.reiser_bitmap.proofs.Ends.{end_is}
+use Rattle.extent_pieces.proofs.Imports.{◌-◌, ◌%◌, ◌<◌, ◌≤◌, not, refl, arith, ⊎_elim, cases_lt, FIRST_MIRROR, SECOND_MIRROR, IsReserved, is_reserved, end_is}
 use Rattle.extent_pieces.proofs.Reserving.{at_last, at_second, at_third, last_order, next_here, next_is}
 use Rattle.extent_pieces.proofs.copies.next_reserved.Goals as goal
 use Rattle.extent_pieces.proofs.copies.next_reserved.Goals.{then-b-blocks-via-then-b-blocks, then-b-blocks-via-else-b-blocks+then-is_reserved}

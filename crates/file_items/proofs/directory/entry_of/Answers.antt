@@ -1,10 +1,4 @@
-use Rattle.std.proofs.Common.{◌<◌, ◌∙◌, length, ap, arith}
-use Rattle.indexmap.specs.IndexMap.{keys}
-use Rattle.reiser_volume.specs.reiser_volume_names.Names.{ino_of_key}
-use Rattle.reiser_volume.specs.Made.{stat_at, kind_by}
-use Rattle.reiser_volume.specs.Volume.{volume_items}
-use Rattle.unit_plan.specs.btr_keys.DirEntry.{dir_entry_value}
-use Rattle.file_items.specs.Names.{entry_kind}
+use Rattle.file_items.proofs.Imports.{◌<◌, ◌∙◌, length, ap, arith, keys, ino_of_key, stat_at, kind_by, volume_items, dir_entry_value, entry_kind}
 use Rattle.file_items.proofs.Named.{name_short, entry_made}
 use Rattle.file_items.proofs.directory.entry_of.Goals as goal
 

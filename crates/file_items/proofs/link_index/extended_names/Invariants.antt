@@ -1,9 +1,4 @@
-use Rattle.std.proofs.Common.{◌≡◌, length, map, take}
-use Rattle.indexmap.specs.IndexMap.{keys}
-use Rattle.reiser_volume.specs.outside.History.{Image}
-use Rattle.reiser_volume.specs.Opened.{IsOpened, links_in}
-use Rattle.file_items.specs.Names.{indexed_links}
-use Rattle.file_items.specs.Sizes.{AreSizes}
+use Rattle.file_items.proofs.Imports.{◌≡◌, length, map, take, keys, Image, IsOpened, links_in, indexed_links, AreSizes}
 use Rattle.file_items.proofs.link_index.extended_names.Given as goal
 
 abbrev pub invariant-loop-n : goal.invariant-loop-n

@@ -1,9 +1,4 @@
-use Rattle.std.proofs.Common.{◌+◌, Bool, List, filter, is_some, take, ap, sym, subst, arith}
-use Rattle.std.proofs.lemmas.List.{take_all}
-use Rattle.btr_item_list.specs.declared.spot.Spot.{Spot}
-use Rattle.unit_plan.specs.declared.piece.Piece.{Piece}
-use Rattle.file_items.specs.Extents.{file_block}
-use Rattle.file_items.specs.Orders.{TellsPieces}
+use Rattle.file_items.proofs.Imports.{◌+◌, Bool, List, filter, is_some, take, ap, sym, subst, arith, take_all, Spot, Piece, file_block, TellsPieces}
 use Rattle.file_items.proofs.Ordering.{tells_more, tells_same, owner_block}
 use Rattle.file_items.proofs.order.block_spots.Goals.{in-Some+in_ok-push, in_default}
 use Rattle.file_items.proofs.order.block_spots.Goals as goal

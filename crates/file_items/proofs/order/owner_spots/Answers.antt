@@ -1,12 +1,4 @@
-use Rattle.std.proofs.Common.{◌∙◌, List, ap, sym, subst, arith}
-use Rattle.std.specs.Prelude.{slice_get}
-use Rattle.std.proofs.lemmas.List.{take_all}
-use Rattle.std.proofs.lemmas.Option.{slice_get_within}
-use Rattle.btr_item_list.specs.declared.spot.Spot.{Spot}
-use Rattle.btr_item_list.proofs.Placing.{told_long}
-use Rattle.unit_plan.specs.declared.piece.Piece.{Piece}
-use Rattle.file_items.specs.Orders.{TellsPieces}
-use Rattle.file_items.specs.Extents.{file_block, owner_inode, by_block}
+use Rattle.file_items.proofs.Imports.{◌∙◌, List, ap, sym, subst, arith, slice_get, take_all, slice_get_within, Spot, told_long, Piece, TellsPieces, file_block, owner_inode, by_block}
 use Rattle.file_items.proofs.Ordering.{tells_there, piece_at, piece_same, owner_more, unwrapped}
 use Rattle.file_items.proofs.order.owner_spots.Goals as goal
 

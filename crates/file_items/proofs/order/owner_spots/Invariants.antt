@@ -1,6 +1,4 @@
-use Rattle.std.proofs.Common.{take}
-use Rattle.file_items.specs.Extents.{owner_inode, by_block}
-use Rattle.file_items.specs.Orders.{TellsPieces}
+use Rattle.file_items.proofs.Imports.{take, owner_inode, by_block, TellsPieces}
 use Rattle.file_items.proofs.order.owner_spots.Given as goal
 
 abbrev pub invariant-loop-i : goal.invariant-loop-i

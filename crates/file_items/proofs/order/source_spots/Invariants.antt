@@ -1,6 +1,4 @@
-use Rattle.std.proofs.Common.{filter, is_some, take}
-use Rattle.file_items.specs.Extents.{source_block}
-use Rattle.file_items.specs.Orders.{TellsPieces}
+use Rattle.file_items.proofs.Imports.{filter, is_some, take, source_block, TellsPieces}
 use Rattle.file_items.proofs.order.source_spots.Given as goal
 
 abbrev pub invariant-loop-number : goal.invariant-loop-number

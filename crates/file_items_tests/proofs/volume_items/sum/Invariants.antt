@@ -1,5 +1,4 @@
-use Rattle.std.proofs.Common.{◌≡◌, false}
-use Rattle.file_items.specs.Stream.{FitsStream}
+use Rattle.file_items_tests.proofs.Imports.{◌≡◌, false, FitsStream}
 use Rattle.file_items_tests.proofs.volume_items.sum.Given as goal
 
 abbrev pub invariant-loop : goal.invariant-loop

@@ -1,10 +1,4 @@
-use Rattle.std.proofs.Common.{◌≡◌, ◌∙◌, ◌++◌, ◌∷◌, [], ℕ, ◌<◌, List, length, take, IfSome, Option, sym, ap, subst, arith}
-use Rattle.std.proofs.lemmas.List.{take_more, length-take}
-use Rattle.indexmap.specs.IndexMap.{get}
-use Rattle.fs_paths.specs.declared.path_found.PathFound.{PathFound}
-use Rattle.fs_paths.specs.declared.first_path.FirstPath.{FirstPath}
-use Rattle.fs_paths.specs.Links.{same_node}
-use Rattle.fs_paths.specs.Places.{HasFirstPaths, with_one_more}
+use Rattle.fs_paths.proofs.Imports.{◌≡◌, ◌∙◌, ◌++◌, ◌∷◌, [], ℕ, ◌<◌, List, length, take, IfSome, Option, sym, ap, subst, arith, take_more, length-take, get, PathFound, FirstPath, same_node, HasFirstPaths, with_one_more}
 use Rattle.fs_paths.proofs.Placing.{few_names, placed}
 use Rattle.fs_paths.proofs.first_path.note_all.Goals as goal
 

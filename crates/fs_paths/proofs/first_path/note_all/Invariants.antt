@@ -1,5 +1,4 @@
-use Rattle.std.proofs.Common.{take}
-use Rattle.fs_paths.specs.Places.{HasFirstPaths}
+use Rattle.fs_paths.proofs.Imports.{take, HasFirstPaths}
 use Rattle.fs_paths.proofs.first_path.note_all.Given as goal
 
 abbrev pub invariant-loop-i : goal.invariant-loop-i

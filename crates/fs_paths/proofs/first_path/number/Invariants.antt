@@ -1,5 +1,4 @@
-use Rattle.std.proofs.Common.{◌≡◌, map}
-use Rattle.fs_paths.specs.Places.{numbered}
+use Rattle.fs_paths.proofs.Imports.{◌≡◌, map, numbered}
 use Rattle.fs_paths.proofs.first_path.number.Given as goal
 
 abbrev pub invariant-loop-each : goal.invariant-loop-each

@@ -1,12 +1,4 @@
-use Rattle.std.proofs.Common.{List, is_lt, sym, subst, rules}
-use Rattle.std.proofs.lemmas.List.Sorted.{answers_always, ranks_by}
-use Rattle.std.proofs.lemmas.Result.{IfOk-weaker}
-use Rattle.fs_rows.specs.Rows.{path_cmp}
-use Rattle.fs_paths.specs.declared.path_found.PathFound.{PathFound}
-use Rattle.fs_paths.specs.declared.node_link.NodeLink.{NodeLink}
-use Rattle.fs_paths.specs.declared.node_link.PathTo.{PathTo}
-use Rattle.fs_paths.specs.Paths.{ArePaths}
-use Rattle.fs_paths.specs.Spread.{AscendByDirectory, FormTree, Reaches}
+use Rattle.fs_paths.proofs.Imports.{List, is_lt, sym, subst, rules, answers_always, ranks_by, IfOk-weaker, path_cmp, PathFound, NodeLink, PathTo, ArePaths, AscendByDirectory, FormTree, Reaches}
 use Rattle.fs_paths.proofs.Arranging.{tree_from_named, tree_sorted, reaches_sorted, path_total, listed}
 use Rattle.fs_paths.proofs.list.paths.Goals as goal
 

@@ -1,5 +1,4 @@
-use Rattle.std.proofs.Common.{◌≡◌, ◌∙◌, length, nat_cmp, sym, arith}
-use Rattle.std.specs.Cmp.Lexicographic.{slice_cmp}
+use Rattle.fs_paths.proofs.Imports.{◌≡◌, ◌∙◌, length, nat_cmp, sym, arith, slice_cmp}
 use Rattle.fs_paths.proofs.Comparing.{names_differ, names_agree, cmp_end}
 use Rattle.fs_paths.proofs.path_found.compare.Goals as goal
 

@@ -1,5 +1,4 @@
-use Rattle.std.proofs.Common.{◌≡◌, drop}
-use Rattle.fs_rows.specs.Rows.{path_cmp}
+use Rattle.fs_paths.proofs.Imports.{◌≡◌, drop, path_cmp}
 use Rattle.fs_paths.proofs.path_found.compare.Given as goal
 
 abbrev pub invariant-loop-i : goal.invariant-loop-i

@@ -1,10 +1,4 @@
-use Rattle.std.proofs.Common.{◌≤◌, ◌+◌, ◌∙◌, List, length, map, sym, ap, subst}
-use Rattle.std.proofs.lemmas.List.{take_all}
-use Rattle.indexmap.specs.IndexSet.{insert_all}
-use Rattle.fs_paths.specs.declared.node_link.NodeLink.{NodeLink}
-use Rattle.fs_paths.specs.declared.node.NodeId.{NodeId}
-use Rattle.fs_paths.specs.Links.{same_node}
-use Rattle.fs_paths.specs.Queue.{waiting}
+use Rattle.fs_paths.proofs.Imports.{◌≤◌, ◌+◌, ◌∙◌, List, length, map, sym, ap, subst, take_all, insert_all, NodeLink, NodeId, same_node, waiting}
 use Rattle.fs_paths.proofs.Queues.{follow_fewer}
 use Rattle.fs_paths.proofs.reach.follow.Goals as goal
 

@@ -1,11 +1,4 @@
-use Rattle.std.proofs.Common.{List, sym, subst, rules}
-use Rattle.std.proofs.lemmas.List.Sorted.{answers_always}
-use Rattle.std.proofs.lemmas.Result.{IfOk-weaker}
-use Rattle.indexmap.specs.IndexSet.{contains}
-use Rattle.fs_paths.specs.declared.node_link.NodeLink.{NodeLink}
-use Rattle.fs_paths.specs.Links.{same_node}
-use Rattle.fs_paths.specs.Reached.{AreReached}
-use Rattle.fs_paths.specs.Spread.{AscendByDirectory}
+use Rattle.fs_paths.proofs.Imports.{List, sym, subst, rules, answers_always, IfOk-weaker, contains, NodeLink, same_node, AreReached, AscendByDirectory}
 use Rattle.fs_paths.proofs.Queues.{reached_sorted}
 use Rattle.fs_paths.proofs.reach.reached.Goals as goal
 

@@ -1,8 +1,4 @@
-use Rattle.std.proofs.Common.{◌∙◌, ◌++◌, List, length, get_or, map, take, filter, ap, arith}
-use Rattle.std.proofs.lemmas.List.{take_all, get_or_default, length-append}
-use Rattle.fs_paths.specs.declared.path_found.PathFound.{PathFound}
-use Rattle.fs_paths.specs.declared.node_link.NodeLink.{NodeLink}
-use Rattle.fs_paths.specs.Spread.{is_of, child}
+use Rattle.fs_paths.proofs.Imports.{◌∙◌, ◌++◌, List, length, get_or, map, take, filter, ap, arith, take_all, get_or_default, length-append, PathFound, NodeLink, is_of, child}
 use Rattle.fs_paths.proofs.spread.follow.Goals as goal
 
 pub index-requires-in-loop-link : goal.index-requires-in-loop-link

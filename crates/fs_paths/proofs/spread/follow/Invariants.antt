@@ -1,7 +1,4 @@
-use Rattle.std.proofs.Common.{◌≡◌, ◌++◌, map, take}
-use Rattle.fs_paths.specs.declared.path_found.PathFound.{PathFound}
-use Rattle.fs_paths.specs.Spread.{child}
-use Rattle.std.proofs.Common.{get_or}
+use Rattle.fs_paths.proofs.Imports.{◌≡◌, ◌++◌, map, take, get_or, PathFound, child}
 use Rattle.fs_paths.proofs.spread.follow.Given as goal
 
 abbrev pub invariant-loop-link : goal.invariant-loop-link

@@ -1,7 +1,4 @@
-use Rattle.std.proofs.Common.{◌<◌, ◌+◌, ◌∙◌, ◌++◌, ◌∷◌, [], List, length, get_or, sym, ap, subst, arith}
-use Rattle.std.proofs.lemmas.List.{get_or_default}
-use Rattle.fs_rows.specs.Rows.{NameList}
-use Rattle.fs_paths.specs.declared.path_found.PathFound.{PathFound}
+use Rattle.fs_paths.proofs.Imports.{◌<◌, ◌+◌, ◌∙◌, ◌++◌, ◌∷◌, [], List, length, get_or, sym, ap, subst, arith, get_or_default, NameList, PathFound}
 use Rattle.fs_paths.proofs.Walks.{Walk, start, step, first, reaches}
 use Rattle.fs_paths.proofs.spread.spread.Goals as goal
 use Rattle.fs_paths.proofs.spread.spread.Goals.{then-loop-i-test+else-len-links, else-loop-i-test}

@@ -1,7 +1,4 @@
-use Rattle.std.proofs.Common.{◌≡◌, ℕ, List, length, refl, ◌∷◌, [], sym, ap, ◌∙◌, codes}
-use Rattle.std.proofs.lemmas.List.Elements.{All-nil, All-cons}
-use Rattle.reiser_items.specs.Entries.{EntryValue}
-use Rattle.reiser_make.specs.Directory.{entry, padded, entries_so_far, AreShortNames}
+use Rattle.reiser_make.proofs.Imports.{◌≡◌, ℕ, List, length, refl, ◌∷◌, [], sym, ap, ◌∙◌, codes, All-nil, All-cons, EntryValue, entry, padded, entries_so_far, AreShortNames}
 use Rattle.reiser_make.proofs.Entering.{so_far_first}
 use Rattle.reiser_make.proofs.directory.put_dots.Goals as goal
 

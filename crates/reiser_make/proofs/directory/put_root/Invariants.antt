@@ -1,7 +1,4 @@
-use Rattle.std.proofs.Common.{◌≡◌, length, map}
-use Rattle.std.specs.List.{range_with_len}
-use Rattle.reiser_make.specs.Directory.{with_dots, directory_entry, entries_so_far, AreShortNames}
-use Rattle.reiser_make.specs.Shape.{root_id, above_root}
+use Rattle.reiser_make.proofs.Imports.{◌≡◌, length, map, range_with_len, with_dots, directory_entry, entries_so_far, AreShortNames, root_id, above_root}
 use Rattle.reiser_make.proofs.directory.put_root.Given as goal
 
 abbrev pub invariant-loop-k : goal.invariant-loop-k

@@ -1,9 +1,4 @@
-use Rattle.std.proofs.Common.{◌≡◌, ◌≤◌, ◌<◌, ◌+◌, ◌-◌, ◌*◌, ℕ, map, ap, ◌∙◌, arith}
-use Rattle.std.specs.Int.{div_ceil}
-use Rattle.std.specs.List.{range_with_len}
-use Rattle.reiserfs_format.specs.declared.block.TheConstants.{BITS_IN_BLOCK}
-use Rattle.fs_rows.specs.outside.History.{reads}
-use Rattle.reiser_make.specs.Layout.{IsUsed, laid_over, bitmap_placed}
+use Rattle.reiser_make.proofs.Imports.{◌≡◌, ◌≤◌, ◌<◌, ◌+◌, ◌-◌, ◌*◌, ℕ, map, ap, ◌∙◌, arith, div_ceil, range_with_len, BITS_IN_BLOCK, reads, IsUsed, laid_over, bitmap_placed}
 use Rattle.reiser_make.proofs.Laying.{goes_more_to, only_more}
 use Rattle.reiser_make.proofs.Placed.{used_bitmap}
 use Rattle.reiser_make.proofs.layout.write_bitmaps.Goals as goal

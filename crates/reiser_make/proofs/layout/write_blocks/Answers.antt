@@ -1,9 +1,4 @@
-use Rattle.std.proofs.Common.{◌*◌, ◌+◌, map, ap, ◌∙◌, arith}
-use Rattle.std.specs.List.{range_with_len}
-use Rattle.reiser_make.specs.Inner.{needed}
-use Rattle.reiser_make.specs.Layout.{IsUsed, data_placed}
-use Rattle.reiser_make.specs.Places.{place}
-use Rattle.reiser_make.specs.Shape.{stored_before, stored_of, sample_bytes}
+use Rattle.reiser_make.proofs.Imports.{◌*◌, ◌+◌, map, ap, ◌∙◌, arith, range_with_len, needed, IsUsed, data_placed, place, stored_before, stored_of, sample_bytes}
 use Rattle.reiser_make.proofs.Laying.{goes_more, only_more, in_range}
 use Rattle.reiser_make.proofs.Placed.{used_below, data_at}
 use Rattle.reiser_make.proofs.layout.write_blocks.Goals as goal

@@ -1,7 +1,4 @@
-use Rattle.std.proofs.Common.{IsTrue, map}
-use Rattle.std.specs.List.{range_with_len}
-use Rattle.reiser_make.specs.Finding.{BeginsAtPlace}
-use Rattle.reiser_make.specs.Layout.{IsUsed, inner_placed}
+use Rattle.reiser_make.proofs.Imports.{IsTrue, map, range_with_len, BeginsAtPlace, IsUsed, inner_placed}
 use Rattle.reiser_make.proofs.Laying.{Goes}
 use Rattle.reiser_make.proofs.layout.write_level.Given as goal
 

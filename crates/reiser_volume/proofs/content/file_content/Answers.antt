@@ -1,7 +1,4 @@
-use Rattle.std.proofs.Common.{sym, subst}
-use Rattle.std.proofs.lemmas.Result.{err_from_is_err_and}
-use Rattle.reiser_volume_contents.specs.Answers.{IsFaultOrMemory}
-use Rattle.reiser_volume.specs.Volume.{superblock, used_of, reiser_tree_of}
+use Rattle.reiser_volume.proofs.Imports.{sym, subst, err_from_is_err_and, IsFaultOrMemory, superblock, used_of, reiser_tree_of}
 use Rattle.reiser_volume.proofs.Holding.{fault_or, holds, file_read}
 use Rattle.reiser_volume.proofs.content.file_content.Goals as goal
 

@@ -1,7 +1,4 @@
-use Rattle.std.proofs.Common.{sym, subst, refl}
-use Rattle.std.proofs.lemmas.Result.{err_from_is_err_and}
-use Rattle.reiser_volume_contents.specs.Answers.{IsFaultOrMemory}
-use Rattle.reiser_volume.specs.Volume.{superblock, used_of, reiser_tree_of}
+use Rattle.reiser_volume.proofs.Imports.{sym, subst, refl, err_from_is_err_and, IsFaultOrMemory, superblock, used_of, reiser_tree_of}
 use Rattle.reiser_volume.proofs.Holding.{holds_link, link_read}
 use Rattle.reiser_volume.proofs.content.link_content.Goals as goal
 

@@ -1,9 +1,4 @@
-use Rattle.std.proofs.Common.{◌∙◌, length, sym, ap, subst, refl, arith}
-use Rattle.std.proofs.lemmas.Result.{err_from_is_err_and}
-use Rattle.reiserfs_format.specs.declared.block.TheConstants.{SUPER_BLOCK}
-use Rattle.reiser_bitmap.specs.outside.History.{Image, block_at}
-use Rattle.reiser_bitmap.specs.refusals.declared.answer.VolAnswer.{VolAnswer}
-use Rattle.reiser_volume.specs.Front.{IsFrontAnswer, RefusesFront}
+use Rattle.reiser_volume.proofs.Imports.{◌∙◌, length, sym, ap, subst, refl, arith, err_from_is_err_and, SUPER_BLOCK, Image, block_at, VolAnswer, IsFrontAnswer, RefusesFront}
 use Rattle.reiser_volume.proofs.Refusals.{short_refused, super_found, super_refused, super_known}
 use Rattle.reiser_volume.proofs.front.read_super.Goals as goal
 

@@ -1,10 +1,4 @@
-use Rattle.std.proofs.Common.{sym, ap, subst}
-use Rattle.std.proofs.lemmas.Result.{err_from_is_err_and}
-use Rattle.reiser_volume_contents.specs.Answers.{IsFaultOrMemory}
-use Rattle.reiser_volume_objects.specs.declared.key.ObjectKey.{ObjectKey}
-use Rattle.reiser_super.specs.declared.superblock.Super.{Super}
-use Rattle.reiser_volume.specs.Made.{IsKnownAt, IsOfVolume, bytes_at}
-use Rattle.reiser_volume.specs.Volume.{volume_items}
+use Rattle.reiser_volume.proofs.Imports.{sym, ap, subst, err_from_is_err_and, IsFaultOrMemory, ObjectKey, Super, IsKnownAt, IsOfVolume, bytes_at, volume_items}
 use Rattle.reiser_volume.proofs.Rowed.{is_of, content_there, least_there, row_made}
 use Rattle.reiser_volume.proofs.rows.row_at.Goals as goal
 

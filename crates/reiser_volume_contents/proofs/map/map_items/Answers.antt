@@ -1,10 +1,5 @@
-use Rattle.std.proofs.Common.{◌∙◌, ◌++◌, ◌∷◌, ℕ, List, [], sym, ap, subst, arith}
-use Rattle.std.proofs.lemmas.Result.{err_from_is_err_and}
-use Rattle.reiser_volume_objects.specs.reiser_walk.Items.{ReiserItem}
+use Rattle.reiser_volume_contents.proofs.Imports.{◌∙◌, ◌++◌, ◌∷◌, ℕ, List, [], sym, ap, subst, arith, err_from_is_err_and, ReiserItem, items_of, IsFaultOrMemory, NamesLeaf, items_ahead, standing}
 use Rattle.reiser_volume_files.specs.Runs.{file_runs}
-use Rattle.reiser_volume_objects.specs.Keys.{items_of}
-use Rattle.reiser_volume_contents.specs.Answers.{IsFaultOrMemory, NamesLeaf}
-use Rattle.reiser_volume_contents.specs.Reads.{items_ahead, standing}
 use Rattle.reiser_volume_contents.proofs.Files.{next_follows, stands_head, stands_body, fault_of}
 use Rattle.reiser_volume_contents.proofs.map.map_items.Goals as goal
 

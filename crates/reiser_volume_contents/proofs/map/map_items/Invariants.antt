@@ -1,9 +1,4 @@
-use Rattle.std.proofs.Common.{◌≡◌, ℕ, List, [], IsTrue}
-use Rattle.reiser_volume_objects.specs.outside.History.{Image}
-use Rattle.reiser_volume_objects.specs.reiser_walk.Items.{ReiserItem}
-use Rattle.reiser_volume_files.specs.States.{MapsFile}
-use Rattle.reiser_volume_contents.specs.Holds.{AreFileItems}
-use Rattle.reiser_volume_contents.specs.Reads.{Reads, StandsFrom, fuel}
+use Rattle.reiser_volume_contents.proofs.Imports.{◌≡◌, ℕ, List, [], IsTrue, Image, ReiserItem, MapsFile, AreFileItems, Reads, StandsFrom, fuel}
 use Rattle.reiser_volume_contents.proofs.map.map_items.Given as goal
 
 abbrev pub invariant-loop-mapper : goal.invariant-loop-mapper

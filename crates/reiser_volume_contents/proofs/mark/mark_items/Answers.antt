@@ -1,12 +1,5 @@
-use Rattle.std.proofs.Common.{◌≡◌, ◌∙◌, ◌++◌, ◌∷◌, ℕ, List, [], refl, true, sym, ap, subst, arith}
-use Rattle.std.proofs.lemmas.Result.{err_from_is_err_and}
+use Rattle.reiser_volume_contents.proofs.Imports.{◌≡◌, ◌∙◌, ◌++◌, ◌∷◌, ℕ, List, [], refl, true, sym, ap, subst, arith, err_from_is_err_and, ReiserItem, file_bytes, are_inside, items_of, IsFault, NamesLeaf, items_ahead}
 use Rattle.fs_rows.specs.Mark.{mark_of_bytes}
-use Rattle.reiser_volume_objects.specs.reiser_walk.Items.{ReiserItem}
-use Rattle.reiser_volume_files.specs.Bytes.{file_bytes}
-use Rattle.reiser_volume_files.specs.Pieces.{are_inside}
-use Rattle.reiser_volume_objects.specs.Keys.{items_of}
-use Rattle.reiser_volume_contents.specs.Answers.{IsFault, NamesLeaf}
-use Rattle.reiser_volume_contents.specs.Reads.{items_ahead}
 use Rattle.reiser_volume_contents.proofs.Files.{next_follows, next_inside}
 use Rattle.reiser_volume_contents.proofs.mark.mark_items.Goals as goal
 

@@ -1,10 +1,4 @@
-use Rattle.std.proofs.Common.{◌∙◌, ◌++◌, ◌∷◌, List, [], refl, sym, ap, subst, arith}
-use Rattle.std.proofs.lemmas.Result.{err_from_is_err_and}
-use Rattle.reiser_volume_objects.specs.reiser_walk.Items.{ReiserItem}
-use Rattle.reiser_volume_files.specs.Bytes.{tail_block}
-use Rattle.reiser_volume_objects.specs.Keys.{items_of}
-use Rattle.reiser_volume_contents.specs.Answers.{IsFault, NamesLeaf}
-use Rattle.reiser_volume_contents.specs.Reads.{items_ahead, standing}
+use Rattle.reiser_volume_contents.proofs.Imports.{◌∙◌, ◌++◌, ◌∷◌, List, [], refl, sym, ap, subst, arith, err_from_is_err_and, ReiserItem, tail_block, items_of, IsFault, NamesLeaf, items_ahead, standing}
 use Rattle.reiser_volume_contents.proofs.Files.{next_follows, stands_head, stands_body, empty_tail}
 use Rattle.reiser_volume_contents.proofs.tail.gather_items.Goals as goal
 

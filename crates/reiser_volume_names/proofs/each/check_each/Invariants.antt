@@ -1,8 +1,4 @@
-use Rattle.std.proofs.Common.{ℕ, ◌<◌, List, get_or}
-use Rattle.reiser_volume_objects.specs.reiser_walk.Items.{ReiserItem}
-use Rattle.reiser_volume_objects.specs.declared.key.ObjectKey.{ObjectKey}
-use Rattle.reiser_volume_objects.specs.Table.{HasNoted}
-use Rattle.reiser_volume_names.specs.Passes.{HasForms}
+use Rattle.reiser_volume_names.proofs.Imports.{ℕ, ◌<◌, List, get_or, ReiserItem, ObjectKey, HasNoted, HasForms}
 use Rattle.reiser_volume_names.proofs.each.check_each.Given as goal
 
 abbrev pub invariant-loop-key : goal.invariant-loop-key

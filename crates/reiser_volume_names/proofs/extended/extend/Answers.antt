@@ -1,7 +1,4 @@
-use Rattle.std.proofs.Common.{◌≡◌, ℕ, ◌+◌, ◌∙◌, length, ap, List, arith}
-use Rattle.castagnoli.specs.Castagnoli.{extref_hash}
-use Rattle.reiser_volume_names.specs.Names.{ino_of_key}
-use Rattle.reiser_volume_names.specs.Tally.{capped}
+use Rattle.reiser_volume_names.proofs.Imports.{◌≡◌, ℕ, ◌+◌, ◌∙◌, length, ap, List, arith, extref_hash, ino_of_key, capped}
 use Rattle.reiser_volume_names.proofs.Extending.{joined_at, crowded_at}
 use Rattle.reiser_volume_names.proofs.extended.extend.Goals as goal
 

@@ -1,7 +1,4 @@
-use Rattle.std.proofs.Common.{take, filter}
-use Rattle.indexmap.specs.IndexSet.{contains}
-use Rattle.reiser_volume_objects.specs.Keys.{same_key}
-use Rattle.reiser_volume_names.specs.Once.{HasSeenLinks}
+use Rattle.reiser_volume_names.proofs.Imports.{take, filter, contains, same_key, HasSeenLinks}
 use Rattle.reiser_volume_names.proofs.once.check_once.Given as goal
 
 abbrev pub invariant-loop-naming : goal.invariant-loop-naming

@@ -1,8 +1,4 @@
-use Rattle.std.proofs.Common.{◌≡◌, ◌∙◌, ◌++◌, ◌∷◌, [], Bool, true, sym, subst, if◌then◌else◌}
-use Rattle.std.specs.Result.{MatchResult}
-use Rattle.indexmap.specs.IndexSet.{contains}
-use Rattle.reiser_volume_objects.specs.Keys.{same_key}
-use Rattle.reiser_volume_names.specs.Once.{HasSeenLinks, BlamesTwice}
+use Rattle.reiser_volume_names.proofs.Imports.{◌≡◌, ◌∙◌, ◌++◌, ◌∷◌, [], Bool, true, sym, subst, if◌then◌else◌, MatchResult, contains, same_key, HasSeenLinks, BlamesTwice}
 use Rattle.reiser_volume_names.proofs.once.see_named.Goals as goal
 
 pub returns-then-contains : goal.returns-then-contains

@@ -1,9 +1,4 @@
-use Rattle.std.proofs.Common.{List, take, filter}
-use Rattle.indexmap.specs.IndexSet.{contains}
-use Rattle.reiser_volume_objects.specs.reiser_walk.Items.{ReiserItem}
-use Rattle.reiser_volume_objects.specs.Keys.{same_key}
-use Rattle.reiser_volume_objects.specs.Table.{HasNoted}
-use Rattle.reiser_volume_names.specs.Private.{AreTargets}
+use Rattle.reiser_volume_names.proofs.Imports.{List, take, filter, contains, ReiserItem, same_key, HasNoted, AreTargets}
 use Rattle.reiser_volume_names.proofs.private.targets.Given as goal
 
 abbrev pub invariant-loop-naming : goal.invariant-loop-naming

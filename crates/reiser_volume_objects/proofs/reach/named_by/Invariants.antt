@@ -1,12 +1,4 @@
-use Rattle.std.proofs.Common.{◌≡◌, List, true, take, Contains}
-use Rattle.indexmap.specs.IndexSet.{contains}
-use Rattle.fs_paths.specs.Links.{same_node}
-use Rattle.reiser_walk.specs.Items.{ReiserItem}
-use Rattle.reiser_volume_objects.specs.declared.naming.Naming.{Naming}
-use Rattle.reiser_volume_objects.specs.Keys.{same_key, root}
-use Rattle.reiser_volume_objects.specs.Reach.{AreSeen, Closes, TellsReached}
-use Rattle.reiser_volume_objects.specs.Rules.{IsDirectory}
-use Rattle.reiser_volume_objects.specs.Table.{HasNoted}
+use Rattle.reiser_volume_objects.proofs.Imports.{◌≡◌, List, true, take, Contains, contains, same_node, ReiserItem, Naming, same_key, root, AreSeen, Closes, TellsReached, IsDirectory, HasNoted}
 use Rattle.reiser_volume_objects.proofs.reach.named_by.Given as goal
 
 abbrev pub invariant-loop-i : goal.invariant-loop-i

@@ -1,13 +1,4 @@
-use Rattle.std.proofs.Common.{◌≡◌, List, ap, subst, ◌∙◌}
-use Rattle.indexmap.specs.IndexSet.{contains}
-use Rattle.fs_paths.specs.declared.node_link.NodeLink.{NodeLink}
-use Rattle.fs_paths.specs.declared.node.NodeId.{NodeId}
-use Rattle.fs_paths.specs.Links.{same_node}
-use Rattle.fs_paths.specs.Reached.{AreReached}
-use Rattle.reiser_volume_objects.specs.Keys.{root, same_key}
-use Rattle.reiser_volume_objects.specs.Names.{namings}
-use Rattle.reiser_volume_objects.specs.Nodes.{node_of, steps}
-use Rattle.reiser_volume_objects.specs.Reach.{IsReach}
+use Rattle.reiser_volume_objects.proofs.Imports.{◌≡◌, List, ap, subst, ◌∙◌, contains, NodeLink, NodeId, same_node, AreReached, root, same_key, namings, node_of, steps, IsReach}
 use Rattle.reiser_volume_objects.proofs.Nodes.{nodes_tell}
 use Rattle.reiser_volume_objects.proofs.Reaching.{any_root}
 use Rattle.reiser_volume_objects.proofs.reach.reach.Goals as goal

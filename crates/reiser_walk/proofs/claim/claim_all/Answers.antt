@@ -1,9 +1,4 @@
-use Rattle.std.proofs.Common.{◌≡◌, ℕ, ◌+◌, ◌∷◌, [], List, ◌++◌, filter, drop, Contains, refl, sym, ◌∙◌, ap, subst, arith}
-use Rattle.std.proofs.lemmas.List.Elements.{Contains-append_left}
-use Rattle.reiser_bitmap.specs.refusals.declared.refusal.VolumeRefusal.{VolumeRefusal}
-use Rattle.reiser_walk.specs.Items.{held_by, is_no_hole}
-use Rattle.reiser_walk.specs.Marks.{MarksSeen, seen_after}
-use Rattle.reiser_walk.specs.Rules.{reach_damages}
+use Rattle.reiser_walk.proofs.Imports.{◌≡◌, ℕ, ◌+◌, ◌∷◌, [], List, ◌++◌, filter, drop, Contains, refl, sym, ◌∙◌, ap, subst, arith, Contains-append_left, VolumeRefusal, held_by, is_no_hole, MarksSeen, seen_after, reach_damages}
 use Rattle.reiser_walk.proofs.Claims.{damages_step, seen_step, drop_end}
 use Rattle.reiser_walk.proofs.claim.claim_all.Goals as goal
 

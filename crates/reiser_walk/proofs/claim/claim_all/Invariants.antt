@@ -1,7 +1,4 @@
-use Rattle.std.proofs.Common.{◌≡◌, ◌≤◌, ℕ, List, length, filter, drop}
-use Rattle.reiser_walk.specs.Items.{held_by, is_no_hole}
-use Rattle.reiser_walk.specs.Rules.{reach_damages}
-use Rattle.reiser_walk.specs.Marks.{MarksSeen, seen_after, unmarked}
+use Rattle.reiser_walk.proofs.Imports.{◌≡◌, ◌≤◌, ℕ, List, length, filter, drop, held_by, is_no_hole, reach_damages, MarksSeen, seen_after, unmarked}
 use Rattle.reiser_walk.proofs.claim.claim_all.Given as goal
 
 -- what is left is marked after what was seen so far as all is after what was seen before

@@ -1,11 +1,5 @@
-use Rattle.std.proofs.Common.{◌≡◌, ◌++◌, ◌∷◌, [], List, length, sym, ◌∙◌, ap, subst, arith, count_by}
+use Rattle.reiser_walk.proofs.Imports.{◌≡◌, ◌++◌, ◌∷◌, [], List, length, sym, ◌∙◌, ap, subst, arith, count_by, ReiserTree, BlamesDamage, ReiserItem, tree_damages, is_stat, stat_count, standing}
 use Rattle.std.proofs.lemmas.Result.{err_from_is_err_and}
-use Rattle.reiser_walk.specs.declared.reiser_tree.ReiserTree.{ReiserTree}
-use Rattle.reiser_walk.specs.Answers.{BlamesDamage}
-use Rattle.reiser_walk.specs.Items.{ReiserItem}
-use Rattle.reiser_walk.specs.Rules.{tree_damages}
-use Rattle.reiser_walk.specs.Stats.{is_stat, stat_count}
-use Rattle.reiser_walk.specs.Walks.{standing}
 use Rattle.reiser_walk.proofs.Counting.{counted, passed_by, same_kind, few_items}
 use Rattle.reiser_walk.proofs.stats.count_stats.Goals as goal
 

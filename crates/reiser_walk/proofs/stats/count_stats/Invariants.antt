@@ -1,8 +1,4 @@
-use Rattle.std.proofs.Common.{◌≡◌, ◌≤◌, ◌+◌, [], false, List, length, count_by, IsTrue}
-use Rattle.reiser_bitmap.specs.outside.History.{Image}
-use Rattle.reiser_walk.specs.Items.{ReiserItem}
-use Rattle.reiser_walk.specs.Stats.{is_stat}
-use Rattle.reiser_walk.specs.Walks.{Walks, block_count, fuel}
+use Rattle.reiser_walk.proofs.Imports.{◌≡◌, ◌≤◌, ◌+◌, [], false, List, length, count_by, IsTrue, Image, ReiserItem, is_stat, Walks, block_count, fuel}
 use Rattle.reiser_walk.proofs.stats.count_stats.Given as goal
 
 abbrev pub invariant-loop-walker : goal.invariant-loop-walker

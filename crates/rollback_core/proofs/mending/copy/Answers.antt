@@ -1,8 +1,4 @@
-use Rattle.std.proofs.Common.{◌≡◌, ◌≢◌, ◌∙◌, ◌+◌, nat_lt, true, false, sym, ap, arith, true≢false}
-use Rattle.std.proofs.lemmas.Bool.Decides.{nat_tests}
-use Rattle.std.proofs.lemmas.Slice.Eq.{bytes_eq-Decides}
-use Rattle.reiser_bitmap.specs.outside.History.{Image, block_at}
-use Rattle.rollback_core.specs.Mending.{copied}
+use Rattle.rollback_core.proofs.Imports.{◌≡◌, ◌≢◌, ◌∙◌, ◌+◌, nat_lt, true, false, sym, ap, arith, true≢false, nat_tests, bytes_eq-Decides, Image, block_at, copied}
 use Rattle.rollback_core.proofs.Mended.{copy_beyond, copy_wanted, gives_other, gives_same}
 use Rattle.rollback_core.proofs.mending.copy.Goals as goal
 

@@ -1,7 +1,4 @@
-use Rattle.std.proofs.Common.{◌≡◌, ◌∙◌, ◌≤◌, ◌/◌, ℕ, List, length, Ok, sym, ap, subst}
-use Rattle.btrfs_format.specs.declared.block.TheConstants.{SUPER_BLOCK}
-use Rattle.reiser_bitmap.specs.outside.History.{Image, block_at}
-use Rattle.btr_super.specs.Rules.{super_of}
+use Rattle.rollback_core.proofs.Imports.{◌≡◌, ◌∙◌, ◌≤◌, ◌/◌, ℕ, List, length, Ok, sym, ap, subst, SUPER_BLOCK, Image, block_at, super_of}
 use Rattle.rollback_core.proofs.Plans.{btrfs_planned}
 use Rattle.rollback_core.proofs.Supers.{super_fits}
 use Rattle.rollback_core.proofs.mending.plan_btrfs.Goals as goal

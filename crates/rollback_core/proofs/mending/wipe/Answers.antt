@@ -1,10 +1,5 @@
-use Rattle.std.proofs.Common.{◌≡◌, ◌∙◌, ℕ, ◌+◌, List, nat_lt, true, false, sym, ap, arith}
+use Rattle.rollback_core.proofs.Imports.{◌≡◌, ◌∙◌, ℕ, ◌+◌, List, nat_lt, true, false, sym, ap, arith, nat_tests, SUPER_MAGIC_OFFSET, Image, block_at, has, has_bytes_at}
 use Rattle.std.specs.Prelude.{codes}
-use Rattle.std.proofs.lemmas.Bool.Decides.{nat_tests}
-use Rattle.btrfs_format.specs.declared.block.TheConstants.{SUPER_MAGIC_OFFSET}
-use Rattle.reiser_bitmap.specs.outside.History.{Image, block_at}
-use Rattle.reiser_bitmap.specs.Bits.{has}
-use Rattle.reiser_bitmap.specs.vol_block.Format.{has_bytes_at}
 use Rattle.rollback_core.proofs.Mended.{beyond_stays, gives_other, gives_same, not_zeros, other_stays, stale_wiped, used_stays}
 use Rattle.rollback_core.proofs.mending.wipe.Goals as goal
 use Rattle.rollback_core.proofs.mending.wipe.Goals.{then-place-front-via-then-place-front, then-place-front-via-else-place-front+then-is_used}

@@ -1,6 +1,4 @@
-use Rattle.std.proofs.Common.{ℕ, refl, subst}
-use Rattle.volume_state.specs.Using.{IsReservedFree}
-use Rattle.convert_steps.proofs.command_answers.Handed.{btrfs_cause, handed_on}
+use Rattle.rollback_core.proofs.Imports.{ℕ, refl, subst, IsReservedFree, btrfs_cause, handed_on}
 use Rattle.rollback_core.proofs.Imaged.{can_go_back}
 use Rattle.rollback_core.proofs.Reading.{use_refuses}
 use Rattle.rollback_core.proofs.prepared.check_reserved.Goals as goal

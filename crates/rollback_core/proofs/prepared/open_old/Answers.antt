@@ -1,8 +1,4 @@
-use Rattle.std.proofs.Common.{◌<◌, ℕ, length, sym, ◌∙◌, ap, subst}
-use Rattle.convert_steps.specs.command_answers.declared.answer.Answer.{Answer}
-use Rattle.btr_reader.specs.declared.image_map.ImageMap.{ImageMap}
-use Rattle.volume_state.specs.Saved.{blocks_by_map, image_blocks}
-use Rattle.rollback_core.specs.RollbackAnswers.{RefusesRollback}
+use Rattle.rollback_core.proofs.Imports.{◌<◌, ℕ, length, sym, ◌∙◌, ap, subst, Answer, ImageMap, blocks_by_map, image_blocks, RefusesRollback}
 use Rattle.rollback_core.proofs.Imaged.{image_refuses, not_high, not_low, told_blocks}
 use Rattle.rollback_core.proofs.prepared.open_old.Goals as goal
 use Rattle.rollback_core.proofs.prepared.open_old.Goals.{then-blocks-le-SUPER_BLOCK-via-then-blocks-le-SUPER_BLOCK, then-blocks-le-SUPER_BLOCK-via-else-blocks-le-SUPER_BLOCK+then-blocks-len}

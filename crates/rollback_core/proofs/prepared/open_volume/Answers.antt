@@ -1,6 +1,4 @@
-use Rattle.std.proofs.Common.{◌∙◌, Ok, Err, length, refl, sym, ap}
-use Rattle.btr_reader.proofs.PartsRead.{no_log, read_here}
-use Rattle.convert_steps.proofs.command_answers.Handed.{btrfs_cause, handed_on}
+use Rattle.rollback_core.proofs.Imports.{◌∙◌, Ok, Err, length, refl, sym, ap, no_log, read_here, btrfs_cause, handed_on}
 use Rattle.rollback_core.proofs.Reading.{log_refuses, opening_refuses, super_refuses}
 use Rattle.rollback_core.proofs.prepared.open_volume.Goals as goal
 

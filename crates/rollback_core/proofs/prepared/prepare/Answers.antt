@@ -1,9 +1,4 @@
-use Rattle.std.proofs.Common.{ℕ, sym, ◌∙◌, subst}
-use Rattle.std.specs.Prelude.{IfOk}
-use Rattle.std.proofs.lemmas.Result.{err_from_is_err_and}
-use Rattle.convert_steps.specs.command_answers.declared.answer.Answer.{Answer}
-use Rattle.rollback_core.specs.Writing.{HasRoom}
-use Rattle.rollback_core.specs.RollbackAnswers.{RefusesRollback}
+use Rattle.rollback_core.proofs.Imports.{ℕ, sym, ◌∙◌, subst, IfOk, err_from_is_err_and, Answer, HasRoom, RefusesRollback}
 use Rattle.rollback_core.proofs.prepared.prepare.Goals as goal
 
 pub returns-in_err-block-clause-prepared : goal.returns-in_err-block-clause-prepared

@@ -1,9 +1,4 @@
-use Rattle.std.proofs.Common.{None, Ok, refl}
-use Rattle.btr_reader.specs.Image.{image_refusals}
-use Rattle.btr_reader.specs.Opening.{IsAmong}
-use Rattle.btr_reader.proofs.PartsRead.{of_disk}
-use Rattle.volume_state.proofs.Mapped.{none_read, read_of_disk, way_sound}
-use Rattle.convert_steps.proofs.command_answers.Handed.{btrfs_cause, handed_on}
+use Rattle.rollback_core.proofs.Imports.{None, Ok, refl, image_refusals, IsAmong, of_disk, none_read, read_of_disk, way_sound, btrfs_cause, handed_on}
 use Rattle.rollback_core.proofs.Imaged.{map_on, leads_with}
 use Rattle.rollback_core.proofs.Reading.{way_refuses}
 use Rattle.rollback_core.proofs.prepared.read_map.Goals as goal

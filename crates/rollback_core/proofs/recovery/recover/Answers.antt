@@ -1,10 +1,5 @@
-use Rattle.std.proofs.Common.{◌≢◌, ◌≡◌, ◌∙◌, inl, inr, ap, subst}
-use Rattle.std.specs.Prelude.{IfErr, IfOk}
+use Rattle.rollback_core.proofs.Imports.{◌≢◌, ◌≡◌, ◌∙◌, inl, inr, ap, subst, IfErr, IfOk, History, reads, synced_then, uncalled, IsLeftByRecover, IsMend, RewritesFirst, RecoverSummary}
 use Rattle.convert_steps.specs.command_answers.declared.answer.Answer.TheVariants as answer
-use Rattle.reiser_bitmap.specs.outside.History.{History, reads}
-use Rattle.first_sync.proofs.Synced.{synced_then, uncalled}
-use Rattle.rollback_core.specs.Recovered.{IsLeftByRecover, IsMend, RewritesFirst}
-use Rattle.rollback_core.specs.declared.recovery.RecoverSummary.{RecoverSummary}
 use Rattle.rollback_core.proofs.Rewriting.{called_only, first_goes_on, settled_told, uncalled_only}
 use Rattle.rollback_core.proofs.recovery.recover.Goals as goal
 

@@ -1,11 +1,4 @@
-use Rattle.std.proofs.Common.{◌≡◌, ◌∙◌, inl, inr, refl, sym, subst}
-use Rattle.std.proofs.lemmas.Result.{err_from_is_err_and}
-use Rattle.reiser_bitmap.specs.outside.History.{History, Image, WritesOnly, reads}
-use Rattle.convert_steps.specs.command_answers.declared.answer.Answer.{Answer}
-use Rattle.reiser_bitmap.proofs.outside.Phases.{left_unwritten}
-use Rattle.rollback_core.specs.RecoveryAnswers.{RefusesRecover}
-use Rattle.rollback_core.specs.Planned.{IsGiven, IsGivenOrRewrite, MendingStands}
-use Rattle.rollback_core.specs.Recovered.{IsMend, RewritesFirst}
+use Rattle.rollback_core.proofs.Imports.{◌≡◌, ◌∙◌, inl, inr, refl, sym, subst, err_from_is_err_and, History, Image, WritesOnly, reads, Answer, left_unwritten, RefusesRecover, IsGiven, IsGivenOrRewrite, MendingStands, IsMend, RewritesFirst}
 use Rattle.rollback_core.proofs.Rewriting.{first_none, first_only, first_weaker}
 use Rattle.rollback_core.proofs.Standing.{crash_partly, given_mend, recovers, summary_is}
 use Rattle.rollback_core.proofs.recovery.recover_settled.Goals as goal

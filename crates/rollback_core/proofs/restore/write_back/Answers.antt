@@ -1,11 +1,4 @@
-use Rattle.std.proofs.Common.{◌≡◌, ◌<◌, List, inl, inr, ⊎_elim, length, ◌∙◌, arith}
-use Rattle.reiser_bitmap.specs.outside.History.{IsBlock, reads}
-use Rattle.reiser_bitmap.specs.outside.Writes.{View, Writes, view}
-use Rattle.reiser_bitmap.proofs.outside.Phases.{left_then, on_ok}
-use Rattle.reiser_bitmap.proofs.outside.Writes.{then_writes, weaker_writes}
-use Rattle.rollback_core.specs.declared.way.Saved.{Saved}
-use Rattle.rollback_core.specs.declared.way.WayBack.{WayBack}
-use Rattle.rollback_core.specs.Writing.{IsWayBackPart, IsSavedPlace, IsWiping}
+use Rattle.rollback_core.proofs.Imports.{◌≡◌, ◌<◌, List, inl, inr, ⊎_elim, length, ◌∙◌, arith, IsBlock, reads, View, Writes, view, left_then, on_ok, then_writes, weaker_writes, Saved, WayBack, IsWayBackPart, IsSavedPlace, IsWiping}
 use Rattle.rollback_core.proofs.Phases.{saved_crash, superblock_crash, superblock_stands, wiping_crash, wiping_stands, saved_here, saved_part, superblock_part, wiping_part, written_here}
 use Rattle.rollback_core.proofs.restore.write_back.Goals as goal
 

@@ -1,7 +1,4 @@
-use Rattle.std.proofs.Common.{◌≡◌, take, IsTrue}
-use Rattle.reiser_bitmap.specs.outside.History.{reads}
-use Rattle.reiser_bitmap.specs.outside.Writes.{Writes, view}
-use Rattle.rollback_core.specs.Writing.{IsSavedPlace, AreWrittenBack}
+use Rattle.rollback_core.proofs.Imports.{◌≡◌, take, IsTrue, reads, Writes, view, IsSavedPlace, AreWrittenBack}
 use Rattle.rollback_core.proofs.restore.write_reserved.Given as goal
 
 abbrev pub invariant-loop-block : goal.invariant-loop-block

@@ -1,9 +1,5 @@
-use Rattle.std.proofs.Common.{◌≢◌, ◌≡◌, ◌∙◌, ap, subst}
-use Rattle.std.specs.Prelude.{IfErr}
+use Rattle.rollback_core.proofs.Imports.{◌≢◌, ◌≡◌, ◌∙◌, ap, subst, IfErr, History, reads, synced_then, uncalled, IsLeftByRollback}
 use Rattle.convert_steps.specs.command_answers.declared.answer.Answer.TheVariants as answer
-use Rattle.reiser_bitmap.specs.outside.History.{History, reads}
-use Rattle.first_sync.proofs.Synced.{synced_then, uncalled}
-use Rattle.rollback_core.specs.RolledBack.{IsLeftByRollback}
 use Rattle.rollback_core.proofs.rolling.rollback.Goals as goal
 
 pub returns-in_err-sync-clause-crash : goal.returns-in_err-sync-clause-crash

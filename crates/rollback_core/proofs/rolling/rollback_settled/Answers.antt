@@ -1,12 +1,4 @@
-use Rattle.std.proofs.Common.{◌≡◌, ◌∙◌, inl, sym, ap, subst}
-use Rattle.std.proofs.lemmas.Result.{err_from_is_err_and}
-use Rattle.reiser_bitmap.specs.outside.History.{History, Image, reads}
-use Rattle.convert_steps.specs.command_answers.declared.answer.Answer.{Answer}
-use Rattle.reiser_bitmap.proofs.outside.Phases.{left_unwritten}
-use Rattle.first_sync.specs.Synced.{GoesOn}
-use Rattle.first_sync.proofs.Synced.{goes_on, stays_on}
-use Rattle.rollback_core.specs.RollbackAnswers.{RefusesRollback}
-use Rattle.rollback_core.specs.Writing.{IsTurned}
+use Rattle.rollback_core.proofs.Imports.{◌≡◌, ◌∙◌, inl, sym, ap, subst, err_from_is_err_and, History, Image, reads, Answer, left_unwritten, GoesOn, goes_on, stays_on, RefusesRollback, IsTurned}
 use Rattle.rollback_core.proofs.Back.{rolled_back}
 use Rattle.rollback_core.proofs.Leaving.{writing_crash}
 use Rattle.rollback_core.proofs.rolling.rollback_settled.Goals as goal

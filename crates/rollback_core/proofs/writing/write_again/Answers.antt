@@ -1,7 +1,4 @@
-use Rattle.std.proofs.Common.{◌≡◌, sym, subst}
-use Rattle.reiser_bitmap.specs.outside.History.{History, WritesOnly, reads}
-use Rattle.reiser_bitmap.proofs.outside.Crash.{writes_none}
-use Rattle.rollback_core.specs.Recovered.{IsRewrite}
+use Rattle.rollback_core.proofs.Imports.{◌≡◌, sym, subst, History, WritesOnly, reads, writes_none, IsRewrite}
 use Rattle.rollback_core.proofs.Rewriting.{sync_again_only, write_again_only, written_again}
 use Rattle.rollback_core.proofs.writing.write_again.Goals as goal
 

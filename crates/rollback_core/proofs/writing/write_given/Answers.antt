@@ -1,7 +1,4 @@
-use Rattle.std.proofs.Common.{sym, subst, Option}
-use Rattle.reiser_bitmap.specs.outside.History.{WritesOnly}
-use Rattle.reiser_bitmap.specs.vol_block.declared.block.Block.{Block}
-use Rattle.rollback_core.specs.Planned.{IsGivenAt}
+use Rattle.rollback_core.proofs.Imports.{sym, subst, Option, WritesOnly, Block, IsGivenAt}
 use Rattle.rollback_core.proofs.Standing.{some_only}
 use Rattle.rollback_core.proofs.writing.write_given.Goals as goal
 

@@ -1,8 +1,4 @@
-use Rattle.std.proofs.Common.{◌≡◌, inl, refl, sym, subst}
-use Rattle.reiser_bitmap.specs.outside.History.{Image, reads}
-use Rattle.reiser_bitmap.proofs.outside.Crash.{sync_only, writes_then}
-use Rattle.reiser_bitmap.proofs.outside.Phases.{sync_reads}
-use Rattle.rollback_core.specs.Planned.{IsGiven, MendingStands}
+use Rattle.rollback_core.proofs.Imports.{◌≡◌, inl, refl, sym, subst, Image, reads, sync_only, writes_then, sync_reads, IsGiven, MendingStands}
 use Rattle.rollback_core.proofs.Rewriting.{first_none, first_then, rewrite_reads}
 use Rattle.rollback_core.proofs.Standing.{both_parts, both_stand, first_part}
 use Rattle.rollback_core.proofs.writing.write_mending.Goals as goal

@@ -1,17 +1,5 @@
-use Rattle.std.proofs.Common.{◌≡◌, ◌<◌, ◌≤◌, ◌∙◌, ℕ, ◌+◌, ◌^◌, List, [], ◌∷◌, map, refl, sym, ap, subst, sum_by, arith}
-use Rattle.std.specs.Prelude.{All}
-use Rattle.std.proofs.lemmas.List.Elements.{All-map}
+use Rattle.space_items.proofs.Imports.{◌≡◌, ◌<◌, ◌≤◌, ◌∙◌, ℕ, ◌+◌, ◌^◌, List, [], ◌∷◌, map, refl, sym, ap, subst, sum_by, arith, All, All-map, AreChunks, PlannedChunk, Piece, Plan, Item, group_item, node_item, piece_item, used_in, merged, IsSmallGroup, group_of, item_of_group, Group, TreeNode}
 use Rattle.btr_tree.proofs.btr_node.NodeBack.{size_within}
-use Rattle.unit_plan.specs.Chunks.{AreChunks}
-use Rattle.unit_plan.specs.declared.chunk.PlannedChunk.{PlannedChunk}
-use Rattle.unit_plan.specs.declared.piece.Piece.{Piece}
-use Rattle.unit_plan.specs.declared.plan.Plan.{Plan}
-use Rattle.btr_tree.specs.btr_node.Leaf.{Item}
-use Rattle.space_items.specs.Extents.{group_item, node_item, piece_item, used_in}
-use Rattle.space_items.specs.Merging.{merged}
-use Rattle.space_items.specs.Stream.{IsSmallGroup, group_of, item_of_group}
-use Rattle.space_items.specs.declared.groups.Group.{Group}
-use Rattle.space_items.specs.declared.node.TreeNode.{TreeNode}
 use Rattle.space_items.proofs.Counting.{used_within}
 use Rattle.space_items.proofs.OneList.{chunks_one}
 use Rattle.space_items.proofs.extent_stream.extents.Goals as goal

@@ -1,7 +1,4 @@
-use Rattle.std.proofs.Common.{◌≡◌, ◌≤◌, ◌<◌, ℕ, ◌+◌, ◌*◌, ◌∙◌, List, Some, refl, sym, ap, arith}
-use Rattle.unit_plan.specs.declared.chunk.PlannedChunk.{PlannedChunk}
-use Rattle.space_items.specs.declared.node.TreeNode.{TreeNode}
-use Rattle.space_items.specs.declared.groups.Group.{Group}
+use Rattle.space_items.proofs.Imports.{◌≡◌, ◌≤◌, ◌<◌, ℕ, ◌+◌, ◌*◌, ◌∙◌, List, Some, refl, sym, ap, arith, PlannedChunk, TreeNode, Group}
 use Rattle.space_items.proofs.Counting.{counted_none, counted_in, counted_out, counted_stop, counted_within, lies_more, lies_weaker, node_place, nodes_fit, nodes_rise}
 use Rattle.space_items.proofs.groups.count_nodes.Goals.{then-get-group, else-get-group}
 use Rattle.space_items.proofs.groups.count_nodes.Goals as goal

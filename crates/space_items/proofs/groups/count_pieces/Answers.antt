@@ -1,8 +1,4 @@
-use Rattle.std.proofs.Common.{◌≡◌, ◌≤◌, ◌<◌, ℕ, ◌+◌, ◌*◌, ◌∙◌, List, Some, refl, sym, ap, arith}
-use Rattle.unit_plan.specs.declared.chunk.PlannedChunk.{PlannedChunk}
-use Rattle.unit_plan.specs.declared.piece.Piece.{Piece}
-use Rattle.space_items.specs.Stream.{IsSmallPiece}
-use Rattle.space_items.specs.declared.groups.Group.{Group}
+use Rattle.space_items.proofs.Imports.{◌≡◌, ◌≤◌, ◌<◌, ℕ, ◌+◌, ◌*◌, ◌∙◌, List, Some, refl, sym, ap, arith, PlannedChunk, Piece, IsSmallPiece, Group}
 use Rattle.space_items.proofs.Counting.{all_at, counted_none, counted_in, counted_out, counted_stop, counted_within, lies_more, lies_weaker, piece_bytes, piece_place, pieces_fit, pieces_rise}
 use Rattle.space_items.proofs.groups.count_pieces.Goals.{then-piece-group, else-piece-group}
 use Rattle.space_items.proofs.groups.count_pieces.Goals as goal

@@ -1,10 +1,4 @@
-use Rattle.std.proofs.Common.{◌≡◌, ◌≤◌, ℕ, ◌+◌, ◌*◌, ◌∙◌, List, ap, arith}
-use Rattle.unit_plan.specs.declared.chunk.PlannedChunk.{PlannedChunk}
-use Rattle.unit_plan.specs.declared.piece.Piece.{Piece}
-use Rattle.space_items.specs.Extents.{bytes_of_pieces, bytes_of_nodes, used_in}
-use Rattle.space_items.specs.Stream.{group_of}
-use Rattle.space_items.specs.declared.groups.Group.{Group}
-use Rattle.space_items.specs.declared.node.TreeNode.{TreeNode}
+use Rattle.space_items.proofs.Imports.{◌≡◌, ◌≤◌, ℕ, ◌+◌, ◌*◌, ◌∙◌, List, ap, arith, PlannedChunk, Piece, bytes_of_pieces, bytes_of_nodes, used_in, group_of, Group, TreeNode}
 use Rattle.space_items.proofs.Counting.{groups_more, lies_weaker, node_place, pairs_next, piece_place}
 use Rattle.space_items.proofs.groups.groups_of.Goals as goal
 

@@ -1,7 +1,4 @@
-use Rattle.std.proofs.Common.{◌≡◌, ◌*◌, Some, map, take}
-use Rattle.std.specs.Prelude.{slice_get}
-use Rattle.unit_plan.specs.declared.chunk.PlannedChunk.{PlannedChunk}
-use Rattle.space_items.specs.Stream.{LieBefore, group_of}
+use Rattle.space_items.proofs.Imports.{◌≡◌, ◌*◌, Some, map, take, slice_get, PlannedChunk, LieBefore, group_of}
 use Rattle.space_items.proofs.groups.groups_of.Given as goal
 
 abbrev pub invariant-loop-i : goal.invariant-loop-i

@@ -1,10 +1,4 @@
-use Rattle.std.proofs.Common.{◌≡◌, ⊎_elim, ℕ, List, ◌++◌, ◌+◌, ◌-◌, ◌<◌, ◌≤◌, get_or, length, take, drop, arith, subst₂, sym, ◌∙◌, ap}
-use Rattle.std.proofs.lemmas.Bool.{cases_lt}
-use Rattle.std.proofs.lemmas.List.{get_or_past}
-use Rattle.btr_tree.specs.Counting.{Tally, Counted}
-use Rattle.btr_tree.specs.Packing.{packed_leaves, tree_levels, fan_out}
-use Rattle.space_items.specs.Nodes.{nodes_at}
-use Rattle.space_items.specs.declared.node.TreeNode.{TreeNode}
+use Rattle.space_items.proofs.Imports.{◌≡◌, ⊎_elim, ℕ, List, ◌++◌, ◌+◌, ◌-◌, ◌<◌, ◌≤◌, get_or, length, take, drop, arith, subst₂, sym, ◌∙◌, ap, cases_lt, get_or_past, Tally, Counted, packed_leaves, tree_levels, fan_out, nodes_at, TreeNode}
 use Rattle.space_items.proofs.Levels.{IsAdding, adding_goes_on, adding_ends, adding_stops, has_room, tree_full, few_levels, upper}
 use Rattle.space_items.proofs.own_count.add_nodes.Goals as goal
 

@@ -1,14 +1,4 @@
-use Rattle.std.proofs.Common.{◌≡◌, ℕ, List, ◌++◌, ◌≤◌, Result, Ok, Err, IfOk, length, arith, subst, sym, ◌∙◌, ap}
-use Rattle.btrfs_format.specs.declared.object.TheConstants.{EXTENT_TREE}
-use Rattle.btr_tree.specs.btr_node.NodeSize.{IsNodeSize}
-use Rattle.btr_tree.specs.Counting.{Counted, Tally, tree_nodes}
-use Rattle.btr_tree.specs.Roots.{lengths_of}
-use Rattle.unit_plan.specs.declared.chunk.PlannedChunk.{PlannedChunk}
-use Rattle.unit_plan.specs.declared.piece.Piece.{Piece}
-use Rattle.space_items.specs.Extents.{extent_items}
-use Rattle.space_items.specs.Nodes.{AreNodes, HasSlots, merged_nodes, nodes_of_tree}
-use Rattle.space_items.specs.Own.{IsOwnCount, own_at, own_lengths}
-use Rattle.space_items.specs.declared.node.TreeNode.{TreeNode}
+use Rattle.space_items.proofs.Imports.{◌≡◌, ℕ, List, ◌++◌, ◌≤◌, Result, Ok, Err, IfOk, length, arith, subst, sym, ◌∙◌, ap, EXTENT_TREE, IsNodeSize, Counted, Tally, tree_nodes, lengths_of, PlannedChunk, Piece, extent_items, AreNodes, HasSlots, merged_nodes, nodes_of_tree, IsOwnCount, own_at, own_lengths, TreeNode}
 use Rattle.btr_tree.specs.outside.declared.fault.Memory.{Memory}
 use Rattle.space_items.proofs.Ascending.{addresses, with_leaves, with_others, tree_at}
 use Rattle.space_items.proofs.ChunksExist.{the_chunks, are_the_chunks}

@@ -1,6 +1,4 @@
-use Rattle.std.proofs.Common.{◌≡◌, ◌≤◌, ◌++◌, length, map, drop}
-use Rattle.space_items.specs.Merging.{merged}
-use Rattle.space_items.specs.Roots.{tree_root_item, root_items, other_root_items}
+use Rattle.space_items.proofs.Imports.{◌≡◌, ◌≤◌, ◌++◌, length, map, drop, merged, tree_root_item, root_items, other_root_items}
 use Rattle.space_items.proofs.root_list.roots.Given as goal
 
 abbrev pub invariant-loop-i : goal.invariant-loop-i

@@ -1,5 +1,5 @@
-use Rattle.std.proofs.Common.{◌≡◌, ◌∙◌, ℕ, ◌+◌, ◌-◌, ◌≤◌, List, ◌++◌, length, take, drop, ap, subst, sym, arith, append_assoc, length-append, length-drop}
-use Rattle.std.proofs.lemmas.List.{length-take-le, take-take, take_at}
+use Rattle.space_items.proofs.Imports.{◌≡◌, ◌∙◌, ℕ, ◌+◌, ◌-◌, ◌≤◌, List, ◌++◌, length, take, drop, ap, subst, sym, arith, append_assoc, length-append, length-take-le, take-take, take_at}
+use Rattle.std.proofs.Common.{length-drop}
 use Rattle.space_items.proofs.sum_stream.put_sum.Goals as goal
 
 -- what was put behind the front of a list, and all up to its end

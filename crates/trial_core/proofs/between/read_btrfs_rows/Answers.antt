@@ -1,9 +1,5 @@
-use Rattle.std.proofs.Common.{sym, ◌∙◌, ap, subst}
+use Rattle.trial_core.proofs.Imports.{sym, ◌∙◌, ap, subst, HasBtrfsRows, Image, block_at, Answer, StopsUnless, by_step}
 use Rattle.btrfs_format.specs.declared.block.TheConstants.{SUPER_BLOCK}
-use Rattle.btr_reader.specs.Parts.{HasBtrfsRows}
-use Rattle.reiser_bitmap.specs.outside.History.{Image, block_at}
-use Rattle.convert_core.specs.command_answers.declared.answer.Answer.{Answer}
-use Rattle.trial_core.specs.Answers.{StopsUnless, by_step}
 use Rattle.trial_core.proofs.Refusing.{btrfs_refused}
 use Rattle.trial_core.proofs.between.read_btrfs_rows.Goals as goal
 

@@ -1,5 +1,4 @@
-use Rattle.std.proofs.Common.{◌∙◌, ap, sym, subst}
-use Rattle.trial_core.specs.Answers.{IsStop, by_step}
+use Rattle.trial_core.proofs.Imports.{◌∙◌, ap, sym, subst, IsStop, by_step}
 use Rattle.trial_core.proofs.Refusing.{rows_stopped, volume_refused}
 use Rattle.trial_core.proofs.known_volume.read_rows.Goals as goal
 

@@ -1,7 +1,5 @@
-use Rattle.std.proofs.Common.{◌≡◌, length, arith}
-use Rattle.reiser_bitmap.specs.outside.History.{reads}
+use Rattle.trial_core.proofs.Imports.{◌≡◌, length, arith, reads, goes_on, synced_on, then_goes_on}
 use Rattle.trial_core.proofs.Tried.{made_whole}
-use Rattle.first_sync.proofs.Synced.{goes_on, synced_on, then_goes_on}
 use Rattle.trial_core.proofs.making.make_sample.Goals as goal
 
 pub returns-clause-made : goal.returns-clause-made

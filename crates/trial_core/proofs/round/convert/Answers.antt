@@ -1,13 +1,6 @@
-use Rattle.std.proofs.Common.{sym, subst}
-use Rattle.convert_core.specs.Answers.{RefusesConvert}
-use Rattle.convert_core.specs.Converted.{IsConverted}
-use Rattle.reiser_bitmap.specs.outside.History.{Image, reads}
-use Rattle.convert_core.specs.command_answers.declared.answer.Answer.{Answer}
+use Rattle.trial_core.proofs.Imports.{sym, subst, RefusesConvert, IsConverted, Image, reads, Answer, LeavesRound, RefusesRound, synced_now, first_goes_on}
 use Rattle.convert_options.specs.declared.options.Options.{Options}
-use Rattle.trial_core.specs.Answers.{LeavesRound, RefusesRound}
 use Rattle.trial_core.proofs.Refusing.{convert_leaves, convert_refused}
-use Rattle.first_sync.specs.Synced.{synced_now}
-use Rattle.first_sync.proofs.Synced.{first_goes_on}
 use Rattle.trial_core.proofs.round.convert.Goals as goal
 
 pub returns-in-Ok-clause-told : goal.returns-in-Ok-clause-told

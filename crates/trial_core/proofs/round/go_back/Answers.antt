@@ -1,10 +1,6 @@
-use Rattle.std.proofs.Common.{◌≡◌, sym, ◌∙◌, subst}
-use Rattle.std.proofs.lemmas.Result.{err_from_is_err_and}
-use Rattle.convert_core.specs.command_answers.declared.answer.Answer.{Answer}
-use Rattle.trial_core.specs.Answers.{RefusesRound}
+use Rattle.trial_core.proofs.Imports.{◌≡◌, sym, ◌∙◌, subst, err_from_is_err_and, Answer, RefusesRound, stays_on, then_goes_on}
 use Rattle.trial_core.proofs.Refusing.{unless_refuses}
 use Rattle.trial_core.proofs.Rounds.{back}
-use Rattle.first_sync.proofs.Synced.{stays_on, then_goes_on}
 use Rattle.trial_core.proofs.round.go_back.Goals as goal
 
 pub returns-in_err-roll_back-clause-told : goal.returns-in_err-roll_back-clause-told

@@ -1,12 +1,6 @@
-use Rattle.std.proofs.Common.{◌≡◌, refl, sym, ◌∙◌, ap, subst}
-use Rattle.std.proofs.lemmas.Result.{err_from_is_err_and}
-use Rattle.reiser_bitmap.specs.outside.History.{History, reads}
-use Rattle.convert_core.specs.command_answers.declared.answer.Answer.{Answer}
-use Rattle.trial_core.specs.Answers.{LeavesRound, RefusesRound}
+use Rattle.trial_core.proofs.Imports.{◌≡◌, refl, sym, ◌∙◌, ap, subst, err_from_is_err_and, History, reads, Answer, LeavesRound, RefusesRound, GoesOn, synced_now, stays_on, then_goes_on}
 use Rattle.trial_core.proofs.Refusing.{stop_refuses}
 use Rattle.trial_core.proofs.Rounds.{round}
-use Rattle.first_sync.specs.Synced.{GoesOn, synced_now}
-use Rattle.first_sync.proofs.Synced.{stays_on, then_goes_on}
 use Rattle.trial_core.proofs.round.go_round.Goals as goal
 
 pub returns-in_err-known-clause-told : goal.returns-in_err-known-clause-told

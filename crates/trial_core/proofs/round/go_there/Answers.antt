@@ -1,10 +1,5 @@
-use Rattle.std.proofs.Common.{◌≡◌, sym, ◌∙◌, subst}
-use Rattle.std.proofs.lemmas.Result.{err_from_is_err_and}
-use Rattle.convert_core.specs.command_answers.declared.answer.Answer.{Answer}
-use Rattle.trial_core.specs.Answers.{LeavesRound, RefusesRound}
+use Rattle.trial_core.proofs.Imports.{◌≡◌, sym, ◌∙◌, subst, err_from_is_err_and, Answer, LeavesRound, RefusesRound, synced_now, stays_on, then_goes_on}
 use Rattle.trial_core.proofs.Rounds.{reading_leaves, there}
-use Rattle.first_sync.specs.Synced.{synced_now}
-use Rattle.first_sync.proofs.Synced.{stays_on, then_goes_on}
 use Rattle.trial_core.proofs.round.go_there.Goals as goal
 
 pub returns-in_err-convert-clause-told : goal.returns-in_err-convert-clause-told

@@ -1,9 +1,5 @@
-use Rattle.std.proofs.Common.{sym, subst}
-use Rattle.convert_core.specs.command_answers.declared.answer.Answer.{Answer}
-use Rattle.rollback_core.specs.volume_state.GoingBack.{CanGoBack}
-use Rattle.trial_core.specs.Answers.{IsTrialReadAnswer, StopsUnless}
+use Rattle.trial_core.proofs.Imports.{sym, subst, Answer, CanGoBack, IsTrialReadAnswer, StopsUnless, first_goes_on}
 use Rattle.trial_core.proofs.Refusing.{rollback_known, rollback_refused}
-use Rattle.first_sync.proofs.Synced.{first_goes_on}
 use Rattle.trial_core.proofs.round.roll_back.Goals as goal
 
 pub returns-in-Ok-clause-told : goal.returns-in-Ok-clause-told

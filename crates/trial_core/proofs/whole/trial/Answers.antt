@@ -1,8 +1,4 @@
-use Rattle.std.proofs.Common.{◌∙◌, inl, ap, subst}
-use Rattle.std.specs.Prelude.{IfErr}
-use Rattle.reiser_bitmap.specs.outside.History.{History, reads}
-use Rattle.first_sync.proofs.Synced.{synced_first}
-use Rattle.trial_core.specs.Answers.{LeavesRefused}
+use Rattle.trial_core.proofs.Imports.{◌∙◌, inl, ap, subst, IfErr, History, reads, synced_first, LeavesRefused}
 use Rattle.trial_core.proofs.whole.trial.Goals as goal
 
 pub returns-in_err-sync-clause-first : goal.returns-in_err-sync-clause-first

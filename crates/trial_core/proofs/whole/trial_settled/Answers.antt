@@ -1,13 +1,5 @@
-use Rattle.std.proofs.Common.{◌≡◌, refl, sym, ◌∙◌, subst}
-use Rattle.std.specs.Result.{MatchResult}
-use Rattle.std.proofs.lemmas.Result.{err_from_is_err_and}
-use Rattle.reiser_bitmap.specs.outside.History.{History, Image, reads}
-use Rattle.convert_core.specs.command_answers.declared.answer.Answer.{Answer}
-use Rattle.trial_core.specs.Answers.{RefusesTrial}
-use Rattle.trial_core.specs.Trial.{IsSampleMade, IsTried, trial_summary}
+use Rattle.trial_core.proofs.Imports.{◌≡◌, refl, sym, ◌∙◌, subst, MatchResult, err_from_is_err_and, History, Image, reads, Answer, RefusesTrial, IsSampleMade, IsTried, trial_summary, GoesOn, stays_on, then_goes_on}
 use Rattle.trial_core.proofs.Tried.{leaves_result, make_refuses, scratch_refuses, tried_result}
-use Rattle.first_sync.specs.Synced.{GoesOn}
-use Rattle.first_sync.proofs.Synced.{stays_on, then_goes_on}
 use Rattle.trial_core.proofs.whole.trial_settled.Goals as goal
 
 pub returns-in_err-check_scratch-clause-tried : goal.returns-in_err-check_scratch-clause-tried

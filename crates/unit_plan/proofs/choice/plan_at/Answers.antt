@@ -1,7 +1,4 @@
-use Rattle.std.proofs.Common.{◌<◌, sym, ap, subst, arith}
-use Rattle.std.specs.Prelude.{All, AllPairs}
-use Rattle.unit_plan.specs.Choice.{usable_units}
-use Rattle.unit_plan.specs.Staying.{units_in}
+use Rattle.unit_plan.proofs.Imports.{◌<◌, sym, ap, subst, arith, All, AllPairs, usable_units, units_in}
 use Rattle.unit_plan.proofs.Enough.{range_below, others_below}
 use Rattle.unit_plan.proofs.Sound.{spare_ascend, spare_few}
 use Rattle.unit_plan.proofs.choice.plan_at.Goals as goal

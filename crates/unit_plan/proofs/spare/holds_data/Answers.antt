@@ -1,10 +1,4 @@
-use Rattle.std.proofs.Common.{◌≡◌, ℕ, ◌+◌, ◌-◌, ◌*◌, ◌≤◌, false, length, sym, ◌∙◌, ap, arith, not, ◌<◌, ⊎_elim}
-use Rattle.std.specs.List.{list_any, range_with_len}
-use Rattle.std.proofs.lemmas.Bool.{and_left, cases_lt}
-use Rattle.std.proofs.lemmas.List.{get_or_past}
-use Rattle.reiser_bitmap.specs.vol_block.Volume.{is_reserved}
-use Rattle.reiser_bitmap.specs.Bits.{has}
-use Rattle.unit_plan.specs.Choice.{is_data, holds_data}
+use Rattle.unit_plan.proofs.Imports.{◌≡◌, ℕ, ◌+◌, ◌-◌, ◌*◌, ◌≤◌, false, length, sym, ◌∙◌, ap, arith, not, ◌<◌, ⊎_elim, list_any, range_with_len, and_left, cases_lt, get_or_past, is_reserved, has, is_data, holds_data}
 use Rattle.unit_plan.proofs.Lists.{any_range_more, any_range_passes, any_range_past}
 use Rattle.unit_plan.proofs.spare.holds_data.Goals as goal
 

@@ -1,6 +1,4 @@
-use Rattle.std.proofs.Common.{◌≡◌, ◌-◌, false}
-use Rattle.std.specs.List.{list_any, range_with_len}
-use Rattle.unit_plan.specs.Choice.{is_data}
+use Rattle.unit_plan.proofs.Imports.{◌≡◌, ◌-◌, false, list_any, range_with_len, is_data}
 use Rattle.unit_plan.proofs.spare.holds_data.Given as goal
 
 abbrev pub invariant-loop-block : goal.invariant-loop-block

@@ -1,7 +1,4 @@
-use Rattle.std.proofs.Common.{◌≡◌, ℕ, ◌<◌, true, length, get_or, ◌∙◌, ap, arith, subst}
-use Rattle.std.proofs.lemmas.List.{length-set}
-use Rattle.std.proofs.lemmas.Option.{get_or_from_slice_get}
-use Rattle.reiser_bitmap.specs.Bits.{has}
+use Rattle.unit_plan.proofs.Imports.{◌≡◌, ℕ, ◌<◌, true, length, get_or, ◌∙◌, ap, arith, subst, length-set, get_or_from_slice_get, has}
 use Rattle.unit_plan.proofs.Sets.{marks_more}
 use Rattle.unit_plan.proofs.spare.mark.Goals as goal
 

@@ -1,7 +1,4 @@
-use Rattle.std.proofs.Common.{◌≡◌, ℕ, ◌+◌, ◌≤◌, ◌&&◌, ◌||◌, false, not, ltb, sym, ◌∙◌, ap, arith}
-use Rattle.std.proofs.lemmas.Bool.{and_left, and_right, le-ltb}
-use Rattle.reiser_bitmap.proofs.RunLemmas.{found_start, found_more, found_ended, found_all}
-use Rattle.unit_plan.specs.Choice.{holds_data, is_spare, spare_runs, usable_units}
+use Rattle.unit_plan.proofs.Imports.{◌≡◌, ℕ, ◌+◌, ◌≤◌, ◌&&◌, ◌||◌, false, not, ltb, sym, ◌∙◌, ap, arith, and_left, and_right, le-ltb, found_start, found_more, found_ended, found_all, holds_data, is_spare, spare_runs, usable_units}
 use Rattle.unit_plan.proofs.Sets.{chosen_is}
 use Rattle.unit_plan.proofs.spare.spare_runs.Goals as goal
 

@@ -1,5 +1,4 @@
-use Rattle.reiser_bitmap.proofs.RunLemmas.{AreFound}
-use Rattle.unit_plan.specs.Choice.{is_spare, usable_units}
+use Rattle.unit_plan.proofs.Imports.{AreFound, is_spare, usable_units}
 use Rattle.unit_plan.proofs.spare.spare_runs.Given as goal
 
 abbrev pub invariant-loop-u : goal.invariant-loop-u

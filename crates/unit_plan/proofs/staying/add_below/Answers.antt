@@ -1,6 +1,4 @@
-use Rattle.std.proofs.Common.{◌≡◌, ℕ, ◌+◌, ◌<◌, ◌≤◌, ltb, Bool, length, min, cond, refl, sym, ◌∙◌, ap, arith, ⊎_elim, slice_index}
-use Rattle.std.proofs.lemmas.Bool.{cases_lt, lt-ltb, le-ltb}
-use Rattle.std.proofs.lemmas.List.{length-set}
+use Rattle.unit_plan.proofs.Imports.{◌≡◌, ℕ, ◌+◌, ◌<◌, ◌≤◌, ltb, Bool, length, min, cond, refl, sym, ◌∙◌, ap, arith, ⊎_elim, slice_index, cases_lt, lt-ltb, le-ltb, length-set}
 use Rattle.unit_plan.proofs.Tables.{put, one_more, none_below}
 use Rattle.unit_plan.proofs.staying.add_below.Goals as goal
 

@@ -1,4 +1,4 @@
-use Rattle.std.proofs.Common.{◌≡◌, ℕ, ◌+◌, ◌<◌, ltb, length, cond, slice_index}
+use Rattle.unit_plan.proofs.Imports.{◌≡◌, ℕ, ◌+◌, ◌<◌, ltb, length, cond, slice_index}
 use Rattle.unit_plan.proofs.staying.add_below.Given as goal
 
 abbrev pub invariant-loop-c : goal.invariant-loop-c

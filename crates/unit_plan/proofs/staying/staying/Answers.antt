@@ -1,9 +1,4 @@
-use Rattle.std.proofs.Common.{◌≡◌, ◌<◌, ◌++◌, ◌∷◌, [], Bool, true, false, List, length, take, get_or, cond, sym, ◌∙◌, ap, arith}
-use Rattle.std.specs.List.{filter}
-use Rattle.std.proofs.lemmas.List.{append-nil, take_all}
-use Rattle.std.proofs.lemmas.Option.{get_or_from_slice_get}
-use Rattle.reiser_bitmap.specs.declared.runs.Run.{Run}
-use Rattle.unit_plan.specs.Staying.{is_longer, is_as_long, stays, staying}
+use Rattle.unit_plan.proofs.Imports.{◌≡◌, ◌<◌, ◌++◌, ◌∷◌, [], Bool, true, false, List, length, take, get_or, cond, sym, ◌∙◌, ap, arith, filter, append-nil, take_all, get_or_from_slice_get, Run, is_longer, is_as_long, stays, staying}
 use Rattle.unit_plan.proofs.RunSums.{units_in-nil, part_more, counted_small, kept_more, stays_is}
 use Rattle.unit_plan.proofs.staying.staying.Goals as goal
 

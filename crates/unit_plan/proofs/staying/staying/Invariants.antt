@@ -1,6 +1,4 @@
-use Rattle.std.proofs.Common.{◌≡◌, ℕ, ◌+◌, ◌<◌, take, slice_index}
-use Rattle.std.specs.List.{filter}
-use Rattle.unit_plan.specs.Staying.{is_longer, is_as_long, stays}
+use Rattle.unit_plan.proofs.Imports.{◌≡◌, ℕ, ◌+◌, ◌<◌, take, slice_index, filter, is_longer, is_as_long, stays}
 use Rattle.unit_plan.proofs.RunSums.{part}
 use Rattle.unit_plan.proofs.staying.staying.Given as goal
 

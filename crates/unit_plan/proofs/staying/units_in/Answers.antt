@@ -1,8 +1,4 @@
-use Rattle.std.proofs.Common.{◌≡◌, ◌<◌, length, get_or, sym, ◌∙◌, ap, arith}
-use Rattle.std.proofs.lemmas.List.{take_all}
-use Rattle.std.proofs.lemmas.Option.{get_or_from_slice_get}
-use Rattle.reiser_bitmap.specs.declared.runs.Run.{Run}
-use Rattle.unit_plan.specs.Staying.{units_in}
+use Rattle.unit_plan.proofs.Imports.{◌≡◌, ◌<◌, length, get_or, sym, ◌∙◌, ap, arith, take_all, get_or_from_slice_get, Run, units_in}
 use Rattle.unit_plan.proofs.RunSums.{units_in-nil, units_more, sum_small}
 use Rattle.unit_plan.proofs.staying.units_in.Goals as goal
 

@@ -1,5 +1,4 @@
-use Rattle.std.proofs.Common.{◌≡◌, take}
-use Rattle.unit_plan.specs.Staying.{units_in}
+use Rattle.unit_plan.proofs.Imports.{◌≡◌, take, units_in}
 use Rattle.unit_plan.proofs.staying.units_in.Given as goal
 
 abbrev pub invariant-loop-i : goal.invariant-loop-i

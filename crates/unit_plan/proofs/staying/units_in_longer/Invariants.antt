@@ -1,5 +1,4 @@
-use Rattle.std.proofs.Common.{◌≡◌, ℕ, ◌<◌, take, slice_index}
-use Rattle.unit_plan.specs.Staying.{is_longer}
+use Rattle.unit_plan.proofs.Imports.{◌≡◌, ℕ, ◌<◌, take, slice_index, is_longer}
 use Rattle.unit_plan.proofs.RunSums.{part}
 use Rattle.unit_plan.proofs.staying.units_in_longer.Given as goal
 

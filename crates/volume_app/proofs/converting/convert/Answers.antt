@@ -1,10 +1,5 @@
-use Rattle.std.proofs.Common.{◌≢◌, ◌≡◌, subst}
-use Rattle.std.specs.Prelude.{IfErr}
-use Rattle.convert_core.specs.Converted.{IsEither}
-use Rattle.convert_core.specs.command_answers.declared.answer.Answer.TheVariants.{Fault, Memory}
-use Rattle.first_sync.specs.Synced.{CrashesSynced, synced_now}
-use Rattle.first_sync.proofs.Synced.{uncalled}
-use Rattle.reiser_volume.specs.outside.History.{History, reads}
+use Rattle.volume_app.proofs.Imports.{◌≡◌, subst, IfErr, IsEither, Fault, Memory, CrashesSynced, synced_now, uncalled, History, reads}
+use Rattle.std.proofs.Common.{◌≢◌}
 use Rattle.volume_app.proofs.converting.convert.Goals as goal
 
 pub returns-clause-crash : goal.returns-clause-crash

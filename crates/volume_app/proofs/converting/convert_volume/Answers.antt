@@ -1,6 +1,4 @@
-use Rattle.std.proofs.Common.{inr, refl}
-use Rattle.first_sync.proofs.Synced.{turned}
-use Rattle.volume_app.specs.Converting.{convert_meaning, convert_text}
+use Rattle.volume_app.proofs.Imports.{inr, refl, turned, convert_meaning, convert_text}
 use Rattle.volume_app.proofs.Convertible.{converted_was}
 use Rattle.volume_app.proofs.Outcomes.{memory_by, refusal_by}
 use Rattle.volume_app.proofs.Performing.{failed, ok_kept, performed, printed_keeps, printed_lacks, printed_starves, only_synced}

@@ -1,7 +1,4 @@
-use Rattle.std.proofs.Common.{ap, inr}
-use Rattle.first_sync.proofs.Synced.{turned}
-use Rattle.reiser_volume.specs.outside.History.{reads}
-use Rattle.volume_app.specs.Recovering.{recover_meaning, recover_text}
+use Rattle.volume_app.proofs.Imports.{ap, inr, turned, reads, recover_meaning, recover_text}
 use Rattle.volume_app.proofs.Outcomes.{no_fault_by, refusal_by}
 use Rattle.volume_app.proofs.Performing.{failed, ok_kept, performed, printed_lacks, printed_starves, recovered_keeps, only_synced}
 use Rattle.volume_app.proofs.Trees.{recovered_whole, recovery_left_whole}

@@ -1,10 +1,5 @@
-use Rattle.std.proofs.Common.{◌≢◌, ◌≡◌, ap, subst}
-use Rattle.std.specs.Prelude.{IfErr}
-use Rattle.convert_core.specs.command_answers.declared.answer.Answer.TheVariants.{Fault}
-use Rattle.first_sync.specs.Synced.{CrashesSynced, synced_now}
-use Rattle.first_sync.proofs.Synced.{uncalled}
-use Rattle.reiser_volume.specs.outside.History.{History, reads}
-use Rattle.rollback_core.specs.RolledBack.{IsLeftByRollback}
+use Rattle.volume_app.proofs.Imports.{◌≡◌, ap, subst, IfErr, Fault, CrashesSynced, synced_now, uncalled, History, reads, IsLeftByRollback}
+use Rattle.std.proofs.Common.{◌≢◌}
 use Rattle.volume_app.proofs.rolling_back.roll_back.Goals as goal
 
 pub returns-clause-right : goal.returns-clause-right

@@ -1,10 +1,7 @@
-use Rattle.std.proofs.Common.{ap, inr}
-use Rattle.volume_app.specs.RollingBack.{rollback_meaning, rollback_text}
+use Rattle.volume_app.proofs.Imports.{ap, inr, rollback_meaning, rollback_text, turned, reads}
 use Rattle.volume_app.proofs.Outcomes.{no_fault_by, refusal_by}
 use Rattle.volume_app.proofs.Performing.{failed, ok_kept, performed, printed_lacks, printed_starves, recovered_keeps, only_synced}
 use Rattle.volume_app.proofs.Trees.{rollback_left_whole, rolled_back_whole}
-use Rattle.first_sync.proofs.Synced.{turned}
-use Rattle.reiser_volume.specs.outside.History.{reads}
 use Rattle.volume_app.proofs.rolling_back.roll_back_volume.Goals as goal
 
 pub returns-in-Ok : goal.returns-in-Ok

@@ -1,7 +1,4 @@
-use Rattle.std.proofs.Common.{◌≡◌, ◌⊎◌, ℕ, map, string_bytes, subst}
-use Rattle.reiser_volume.specs.outside.History.{reads}
-use Rattle.volume_app.specs.Command.{command}
-use Rattle.volume_app.specs.Outcome.{meaning}
+use Rattle.volume_app.proofs.Imports.{◌≡◌, ◌⊎◌, ℕ, map, string_bytes, subst, reads, command, meaning}
 use Rattle.volume_app.proofs.Outcomes.{done_by, done_or_memory, reported_by}
 use Rattle.volume_app.proofs.Promise.{keeps_promise}
 use Rattle.volume_app.proofs.top.run.Goals as goal

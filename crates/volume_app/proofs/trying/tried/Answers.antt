@@ -1,7 +1,5 @@
-use Rattle.std.proofs.Common.{inl, ap, subst, IfErr}
-use Rattle.first_sync.specs.Synced.{SyncsFirst, synced_now}
-use Rattle.reiser_volume.specs.outside.History.{History, reads}
-use Rattle.trial_core.specs.Answers.{LeavesRefused}
+use Rattle.volume_app.proofs.Imports.{inl, ap, subst, SyncsFirst, synced_now, History, reads, LeavesRefused}
+use Rattle.std.proofs.Common.{IfErr}
 use Rattle.volume_app.proofs.trying.tried.Goals as goal
 
 pub returns-clause-right : goal.returns-clause-right

@@ -1,7 +1,5 @@
-use Rattle.std.proofs.Common.{ap}
+use Rattle.volume_app.proofs.Imports.{ap, synced_now, trial_meaning, trial_text}
 use Rattle.trial_core.specs.declared.summary.TrialSummary.{TrialSummary}
-use Rattle.first_sync.specs.Synced.{synced_now}
-use Rattle.volume_app.specs.Trying.{trial_meaning, trial_text}
 use Rattle.volume_app.proofs.Performing.{failed, ok_kept, performed, printed_lacks}
 use Rattle.volume_app.proofs.Trials.{refused_keeps, refused_lacks, triable_was, tried_keeps, tried_whole}
 use Rattle.volume_app.proofs.trying.try_on_path.Goals as goal

@@ -1,12 +1,4 @@
-use Rattle.std.proofs.Common.{◌≡◌, ◌≤◌, ◌<◌, ⊎_elim, ℕ, List, ◌∷◌, None, Some, Contains, length, get_or, sym, ◌∙◌, subst, arith, rules}
-use Rattle.std.specs.List.{flat_map}
-use Rattle.std.proofs.lemmas.Bool.{cases_lt}
-use Rattle.std.proofs.lemmas.List.{get_or_default}
-use Rattle.std.proofs.lemmas.Result.{err_from_is_err_and}
-use Rattle.btr_reader_walk.specs.Walks.{IsAmong}
-use Rattle.btr_reader_walk.specs.declared.tree.NodePointer.{NodePointer}
-use Rattle.volume_state.specs.Nodes.{below_faults, below_nodes}
-use Rattle.volume_state.specs.Using.{HoldsNode, TellsReserved}
+use Rattle.volume_state.proofs.Imports.{◌≡◌, ◌≤◌, ◌<◌, ⊎_elim, ℕ, List, ◌∷◌, None, Some, Contains, length, get_or, sym, ◌∙◌, subst, arith, rules, flat_map, cases_lt, get_or_default, err_from_is_err_and, IsAmong, NodePointer, below_faults, below_nodes, HoldsNode, TellsReserved}
 use Rattle.volume_state.proofs.Faults.{child_is, inner_nodes, kid_among, kid_holds, leaf_none, node_among, none_below, own_among}
 use Rattle.volume_state.proofs.nodes.+reserved_below.Goals as goal
 

@@ -1,9 +1,4 @@
-use Rattle.std.proofs.Common.{◌≡◌, ◌<◌, ℕ, None, get_or, IsTrue}
-use Rattle.reiser_bitmap.specs.outside.History.{Image}
-use Rattle.btr_reader_walk.specs.declared.tree.NodePointer.{NodePointer}
-use Rattle.volume_state.specs.Nodes.{below_nodes}
-use Rattle.volume_state.specs.Reserved.{IsMapApart}
-use Rattle.volume_state.specs.Using.{HoldsNode, TellsReserved}
+use Rattle.volume_state.proofs.Imports.{◌≡◌, ◌<◌, ℕ, None, get_or, IsTrue, Image, NodePointer, below_nodes, IsMapApart, HoldsNode, TellsReserved}
 use Rattle.volume_state.proofs.nodes.+reserved_below.Given as goal
 
 abbrev pub decreases-reserved_below : goal.decreases-reserved_below

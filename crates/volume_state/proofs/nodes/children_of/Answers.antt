@@ -1,8 +1,4 @@
-use Rattle.std.proofs.Common.{◌<◌, [], ◌∷◌, ◌++◌, map, take, length, List, sym, ◌∙◌, ap, rules}
-use Rattle.std.proofs.lemmas.List.{map_more}
-use Rattle.btr_node.specs.declared.child.Child.{Child}
-use Rattle.btr_reader_walk.specs.Node.{child_pointer}
-use Rattle.btr_reader_walk.specs.declared.tree.NodePointer.{NodePointer}
+use Rattle.volume_state.proofs.Imports.{◌<◌, [], ◌∷◌, ◌++◌, map, take, length, List, sym, ◌∙◌, ap, rules, map_more, Child, child_pointer, NodePointer}
 use Rattle.volume_state.proofs.nodes.children_of.Goals as goal
 
 pub loop-i-preserved : goal.loop-i-preserved

@@ -1,12 +1,5 @@
-use Rattle.std.proofs.Common.{◌≡◌, ℕ, true, List, length, Contains, sym, ◌∙◌, ap, subst}
-use Rattle.std.proofs.lemmas.Result.{err_from_is_err_and}
-use Rattle.reiser_bitmap.specs.outside.History.{Image}
-use Rattle.btr_node.specs.Rules.{inner_damages}
+use Rattle.volume_state.proofs.Imports.{◌≡◌, ℕ, true, List, length, Contains, sym, ◌∙◌, ap, subst, err_from_is_err_and, Image, inner_damages, is_mapped, node_at, IsAmong, NodePointer, own_faults}
 use Rattle.btr_node.specs.declared.expect.Expect.{Expect}
-use Rattle.btr_reader_walk.specs.Map.{is_mapped, node_at}
-use Rattle.btr_reader_walk.specs.Walks.{IsAmong}
-use Rattle.btr_reader_walk.specs.declared.tree.NodePointer.{NodePointer}
-use Rattle.volume_state.specs.Nodes.{own_faults}
 use Rattle.volume_state.proofs.Faults.{child_lower, inner_among, inner_sound, unread_among}
 use Rattle.volume_state.proofs.nodes.read_children.Goals as goal
 

@@ -1,4 +1,4 @@
-use Rattle.std.proofs.Common.{arith}
+use Rattle.volume_state.proofs.Imports.{arith}
 use Rattle.volume_state.proofs.Lying.{by_range}
 use Rattle.volume_state.proofs.reserved.reserved_by_copy.Goals as goal
 

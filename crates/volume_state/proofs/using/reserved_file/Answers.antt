@@ -1,17 +1,4 @@
-use Rattle.std.proofs.Common.{◌≡◌, List, Option, None, Some, Ok, sym, ◌∙◌, subst}
-use Rattle.std.proofs.lemmas.Result.{err_from_is_err_and}
-use Rattle.btrfs_format.specs.declared.object.TheConstants.{FS_TREE}
-use Rattle.btr_reader.specs.Image.{entry_refusals}
-use Rattle.btr_reader.specs.Opening.{tree_of}
-use Rattle.btr_reader.specs.Parts.{way_refusals}
-use Rattle.btr_reader.specs.Reading.{FindsSaved}
-use Rattle.btr_reader.specs.Rows.{roots_on}
-use Rattle.btr_reader_walk.specs.Walks.{IsAmong, found, wrong}
-use Rattle.btr_reader_walk.specs.declared.map.MapRange.{MapRange}
-use Rattle.btr_reader_walk.specs.declared.tree.Tree.{Tree}
-use Rattle.volume_state.specs.Reserved.{IsMapApart}
-use Rattle.volume_state.specs.Using.{HoldsPartOf, TellsReserved}
-use Rattle.btr_reader.proofs.Stages.{file_tree_refused, saved_refused}
+use Rattle.volume_state.proofs.Imports.{◌≡◌, List, Option, None, Some, Ok, sym, ◌∙◌, subst, err_from_is_err_and, FS_TREE, entry_refusals, tree_of, way_refusals, FindsSaved, roots_on, IsAmong, found, wrong, MapRange, Tree, IsMapApart, HoldsPartOf, TellsReserved, file_tree_refused, saved_refused}
 use Rattle.volume_state.proofs.Telling.{alone_told, both_told, file_among, file_of, file_told, files_told, match_so, no_file, no_trees, other_among, other_of, way_among}
 use Rattle.volume_state.proofs.using.reserved_file.Goals as goal
 

@@ -1,10 +1,5 @@
-use Rattle.std.proofs.Common.{map, sym, ap, ◌∙◌, rules}
-use Rattle.std.proofs.lemmas.List.Sorted.{All-permutation, answers_always}
-use Rattle.btr_item_list.specs.declared.list.ItemRange.{ItemRange}
-use Rattle.btr_item_list.specs.Groups.{ascending}
-use Rattle.btr_item_list.specs.Lists.{item_by, IsBodyWithin, offset_of}
+use Rattle.btr_item_list.proofs.Imports.{map, sym, ap, ◌∙◌, rules, length, All-permutation, answers_always, ItemRange, ascending, item_by, IsBodyWithin, offset_of}
 use Rattle.btr_item_list.proofs.Runs.{sort_is, ascending_map}
-use Rattle.std.proofs.Common.{length}
 use Rattle.btr_item_list.proofs.list.ItemList.sort.Goals as goal
 
 pub invariant_of-self-2 : goal.invariant_of-self-2

@@ -1,7 +1,4 @@
-use Rattle.std.proofs.Common.{◌∙◌}
-use Rattle.btrfs_format.specs.declared.size.TheConstants.{DIR_ITEM_SIZE}
-use Rattle.btr_keys.specs.DirEntry.{dir_entry_front}
-use Rattle.btr_keys.specs.Repeated.{behind_named, starts}
+use Rattle.btr_keys.proofs.Imports.{◌∙◌, DIR_ITEM_SIZE, dir_entry_front, behind_named, starts}
 use Rattle.btr_keys.proofs.Starts.{records_read}
 use Rattle.btr_keys.proofs.dir_entry.DirItems.read.Goals as goal
 

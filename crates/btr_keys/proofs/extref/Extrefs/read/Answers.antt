@@ -1,7 +1,4 @@
-use Rattle.std.proofs.Common.{◌∙◌}
-use Rattle.btrfs_format.specs.declared.size.TheConstants.{INODE_EXTREF_SIZE}
-use Rattle.btr_keys.specs.Extref.{extref_front}
-use Rattle.btr_keys.specs.Repeated.{behind_named, starts}
+use Rattle.btr_keys.proofs.Imports.{◌∙◌, INODE_EXTREF_SIZE, extref_front, behind_named, starts}
 use Rattle.btr_keys.proofs.Starts.{records_read}
 use Rattle.btr_keys.proofs.extref.Extrefs.read.Goals as goal
 

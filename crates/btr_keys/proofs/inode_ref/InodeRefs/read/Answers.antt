@@ -1,7 +1,4 @@
-use Rattle.std.proofs.Common.{◌∙◌}
-use Rattle.btrfs_format.specs.declared.size.TheConstants.{INODE_REF_SIZE}
-use Rattle.btr_keys.specs.InodeRef.{inode_ref_front}
-use Rattle.btr_keys.specs.Repeated.{behind_named, starts}
+use Rattle.btr_keys.proofs.Imports.{◌∙◌, INODE_REF_SIZE, inode_ref_front, behind_named, starts}
 use Rattle.btr_keys.proofs.Starts.{records_read}
 use Rattle.btr_keys.proofs.inode_ref.InodeRefs.read.Goals as goal
 

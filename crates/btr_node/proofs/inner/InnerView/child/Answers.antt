@@ -1,5 +1,4 @@
-use Rattle.std.proofs.Common.{◌<◌, get_or, length, sym, ap, ◌∙◌, arith}
-use Rattle.btr_node.specs.Head.{nritems}
+use Rattle.btr_node.proofs.Imports.{◌<◌, get_or, length, sym, ap, ◌∙◌, arith, nritems}
 use Rattle.btr_node.proofs.Inners.{length-children_in, child_there}
 use Rattle.btr_node.proofs.inner.InnerView.child.Goals as goal
 

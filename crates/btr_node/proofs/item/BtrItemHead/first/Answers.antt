@@ -1,5 +1,4 @@
-use Rattle.btr_keys.specs.Key.{key_layout}
-use Rattle.btr_node.specs.Leaf.{item_layout}
+use Rattle.btr_node.proofs.Imports.{key_layout, item_layout}
 use Rattle.btr_node.proofs.item.BtrItemHead.first.Goals as goal
 
 pub returns : goal.returns

@@ -1,6 +1,4 @@
-use Rattle.std.proofs.Common.{◌<◌, get_or, length, sym, ap, ◌∙◌, arith}
-use Rattle.btr_node.specs.Head.{nritems}
-use Rattle.btr_node.specs.Leaf.{Item}
+use Rattle.btr_node.proofs.Imports.{◌<◌, get_or, length, sym, ap, ◌∙◌, arith, nritems, Item}
 use Rattle.btr_node.proofs.Leaves.{length-items_in, item_at}
 use Rattle.btr_node.proofs.leaf.LeafView.body.Goals as goal
 

@@ -1,7 +1,4 @@
-use Rattle.std.proofs.Common.{◌<◌, get_or, length, sym, ap, ◌∙◌, arith}
-use Rattle.btr_node.specs.Head.{nritems}
-use Rattle.btr_node.specs.Leaf.{Item}
-use Rattle.btr_node.specs.declared.item.BtrItemHead.{BtrItemHead}
+use Rattle.btr_node.proofs.Imports.{◌<◌, get_or, length, sym, ap, ◌∙◌, arith, nritems, Item, BtrItemHead}
 use Rattle.btr_node.proofs.Leaves.{length-items_in, item_at}
 use Rattle.btr_node.proofs.leaf.LeafView.key.Goals as goal
 

@@ -1,6 +1,4 @@
-use Rattle.std.proofs.Common.{◌≡◌, ℕ, ◌+◌, ◌-◌, length, true, ap, ◌∙◌, arith}
-use Rattle.btrfs_format.specs.declared.size.TheConstants.{HEADER_SIZE}
-use Rattle.btr_node.specs.Draft.{started_for}
+use Rattle.btr_node.proofs.Imports.{◌≡◌, ℕ, ◌+◌, ◌-◌, length, true, ap, ◌∙◌, arith, HEADER_SIZE, started_for}
 use Rattle.btr_node.proofs.Holding.{room_of, start_steps, head_spelled}
 use Rattle.btr_node.proofs.Putting.{length-zeros}
 use Rattle.btr_node.proofs.writer.NodeWriter.begin.Goals as goal

@@ -1,7 +1,5 @@
-use Rattle.std.proofs.Common.{◌-◌, false, ap, refl, arith}
-use Rattle.btrfs_format.specs.declared.size.TheConstants.{HEADER_SIZE}
+use Rattle.btr_node.proofs.Imports.{◌-◌, false, ap, refl, arith, HEADER_SIZE, Expect}
 use Rattle.csum_kinds.specs.declared.kind.SumKind.TheVariants.{Crc32c}
-use Rattle.btr_node.specs.declared.expect.Expect.{Expect}
 use Rattle.btr_node.proofs.Holding.{start_steps, head_spelled}
 use Rattle.btr_node.proofs.NodeBack.{size_within}
 use Rattle.btr_node.proofs.Putting.{zeros}

@@ -1,10 +1,4 @@
-use Rattle.std.proofs.Common.{◌≡◌, ◌≤◌, ◌+◌, ◌-◌, ◌++◌, ◌∷◌, [], length, ap, ◌∙◌, arith}
-use Rattle.btrfs_format.specs.declared.size.TheConstants.{HEADER_SIZE, ITEM_SIZE}
-use Rattle.btr_keys.specs.Key.{key_layout}
-use Rattle.btr_node.specs.Draft.{contents, room}
-use Rattle.btr_node.specs.Leaf.{keys_of}
-use Rattle.btr_node.specs.Order.{ascends, Ascends}
-use Rattle.btr_node.specs.Writer.{held, stored_items, stored_children}
+use Rattle.btr_node.proofs.Imports.{◌≡◌, ◌≤◌, ◌+◌, ◌-◌, ◌++◌, ◌∷◌, [], length, ap, ◌∙◌, arith, HEADER_SIZE, ITEM_SIZE, key_layout, contents, room, keys_of, ascends, Ascends, held, stored_items, stored_children}
 use Rattle.btr_node.proofs.Holding.{room_of, push_steps, with_item, length-stored_items}
 use Rattle.btr_node.proofs.Spelled.{key_spelled}
 use Rattle.btr_node.proofs.writer.NodeWriter.push.Goals as goal

@@ -1,9 +1,4 @@
-use Rattle.std.proofs.Common.{◌≡◌, ◌≤◌, ◌-◌, ◌++◌, ◌∷◌, [], length, ap, ◌∙◌, arith}
-use Rattle.btrfs_format.specs.declared.size.TheConstants.{HEADER_SIZE, KEY_PTR_SIZE}
-use Rattle.btr_node.specs.Draft.{contents, room}
-use Rattle.btr_node.specs.Inner.{child_layout, first_keys}
-use Rattle.btr_node.specs.Order.{ascends, Ascends}
-use Rattle.btr_node.specs.Writer.{held, stored_items, stored_children}
+use Rattle.btr_node.proofs.Imports.{◌≡◌, ◌≤◌, ◌-◌, ◌++◌, ◌∷◌, [], length, ap, ◌∙◌, arith, HEADER_SIZE, KEY_PTR_SIZE, contents, room, child_layout, first_keys, ascends, Ascends, held, stored_items, stored_children}
 use Rattle.btr_node.proofs.Holding.{room_of, push_child_steps, with_child, length-stored_children}
 use Rattle.btr_node.proofs.Spelled.{key_spelled, child_spelled}
 use Rattle.btr_node.proofs.writer.NodeWriter.push_child.Goals as goal

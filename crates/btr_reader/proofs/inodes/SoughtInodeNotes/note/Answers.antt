@@ -1,5 +1,4 @@
-use Rattle.std.proofs.Common.{ℕ, Some, None, if◌then◌else◌, sym, subst}
-use Rattle.btr_reader_names.specs.Inodes.{first_item, find_inode_item, is_inode_of, TellsInode}
+use Rattle.btr_reader.proofs.Imports.{ℕ, Some, None, if◌then◌else◌, sym, subst, first_item, find_inode_item, is_inode_of, TellsInode}
 use Rattle.btr_reader_names.proofs.InodeItems.{inode_item-push}
 use Rattle.btr_reader.proofs.inodes.SoughtInodeNotes.note.Goals as goal
 

@@ -1,4 +1,4 @@
-use Rattle.std.proofs.Common.{◌<◌, ◌*◌, sym, ◌∙◌, arith}
+use Rattle.btr_reader.proofs.Imports.{◌<◌, ◌*◌, sym, ◌∙◌, arith}
 use Rattle.btr_reader_walk.proofs.Mapping.{place_within}
 use Rattle.btr_reader.proofs.mapped_extent.MappedExtent.place.Goals as goal
 

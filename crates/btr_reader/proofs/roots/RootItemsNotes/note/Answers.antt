@@ -1,8 +1,4 @@
-use Rattle.std.proofs.Common.{◌≡◌, ◌==◌, ◌∙◌, true, false, ap, sym, arith}
-use Rattle.std.proofs.lemmas.Bool.Decides.{nat_tests}
-use Rattle.btrfs_format.specs.declared.key.TheConstants.{ROOT_ITEM}
-use Rattle.btr_reader_walk.specs.btr_keys.declared.key.Key.{Key}
-use Rattle.btr_reader.specs.Roots.{pointer_of}
+use Rattle.btr_reader.proofs.Imports.{◌≡◌, ◌==◌, ◌∙◌, true, false, ap, sym, arith, nat_tests, ROOT_ITEM, Key, pointer_of}
 use Rattle.btr_reader.proofs.NotedRoots.{passed_over, noted}
 use Rattle.btr_reader.proofs.roots.RootItemsNotes.note.Goals as goal
 

@@ -1,16 +1,4 @@
-use Rattle.std.proofs.Common.{◌≡◌, ℕ, List, [], sym, subst, ap, ◌∙◌}
-use Rattle.std.proofs.lemmas.Result.{err_from_is_err_and}
-use Rattle.btrfs_format.specs.declared.object.TheConstants.{FS_TREE}
-use Rattle.indexmap.specs.IndexSet.{contains}
-use Rattle.fs_paths.specs.Links.{same_node}
-use Rattle.btr_reader_walk.specs.declared.map.MapRange.{MapRange}
-use Rattle.btr_reader_walk.specs.declared.tree.Tree.{Tree}
-use Rattle.btr_reader_walk.specs.Walks.{LieOn, found, wrong}
-use Rattle.btr_reader_names.specs.Roots.{has_root}
-use Rattle.btr_reader_names.specs.Table.{HasNotedNames}
-use Rattle.btr_reader.specs.Made.{IsChecked, RefusesChecked, RefusesTree}
-use Rattle.btr_reader.specs.Opening.{tree_of}
-use Rattle.btr_reader.specs.Rows.{roots_on}
+use Rattle.btr_reader.proofs.Imports.{◌≡◌, ℕ, List, [], sym, subst, ap, ◌∙◌, err_from_is_err_and, FS_TREE, contains, same_node, MapRange, Tree, LieOn, found, wrong, has_root, HasNotedNames, IsChecked, RefusesChecked, RefusesTree, tree_of, roots_on}
 use Rattle.btr_reader.proofs.Answered.{tree_refused, names_refused, tree_checked, here}
 use Rattle.btr_reader.proofs.volume.Btrfs.check_tree.Goals as goal
 

@@ -1,8 +1,4 @@
-use Rattle.std.proofs.Common.{◌∙◌, sym, subst}
-use Rattle.std.proofs.lemmas.Result.{err_from_is_err_and}
-use Rattle.btr_reader_names.specs.Inodes.{find_inode_item}
-use Rattle.btr_reader.specs.Image.{file_refusals}
-use Rattle.btr_reader.specs.Opening.{IsAmong}
+use Rattle.btr_reader.proofs.Imports.{◌∙◌, sym, subst, err_from_is_err_and, find_inode_item, file_refusals, IsAmong}
 use Rattle.btr_reader.proofs.Stages.{walk_refused, inode_refused, file_refused, file_read}
 use Rattle.btr_reader.proofs.volume.Btrfs.read_file.Goals as goal
 

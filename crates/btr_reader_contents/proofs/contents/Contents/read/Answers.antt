@@ -1,18 +1,4 @@
-use Rattle.std.proofs.Common.{◌≡◌, ℕ, List, [], ◌∷◌, ◌++◌, Option, nat_eq, sym, ◌∙◌, ap, subst, refl}
-use Rattle.std.proofs.lemmas.Result.{err_from_is_err_and}
-use Rattle.btr_reader_walk.specs.outside.History.{Image}
-use Rattle.indexmap.specs.IndexMap.{get}
-use Rattle.indexmap.specs.IndexSet.{contains}
-use Rattle.fs_paths.specs.Links.{same_node}
-use Rattle.btr_reader_walk.specs.declared.map.MapRange.{MapRange}
-use Rattle.btr_reader_walk.specs.declared.tree.Tree.{Tree}
-use Rattle.btr_reader_walk.specs.Events.{TreeItem}
-use Rattle.btr_reader_walk.specs.Walks.{Blames, LieOn, found, wrong}
-use Rattle.btr_reader_walk.proofs.Walking.{given_first}
-use Rattle.btr_reader_names.specs.Table.{HasNotedNames}
-use Rattle.btr_reader_contents.specs.declared.wanted.Wanted.{Wanted}
-use Rattle.btr_reader_contents.specs.Contents.{wanted_at, HasContents, RefusesContents}
-use Rattle.btr_reader_contents.specs.Gathering.{HasGathered, last_inode}
+use Rattle.btr_reader_contents.proofs.Imports.{◌≡◌, ℕ, List, [], ◌∷◌, ◌++◌, Option, nat_eq, sym, ◌∙◌, ap, subst, refl, err_from_is_err_and, Image, get, contains, same_node, MapRange, Tree, TreeItem, Blames, LieOn, found, wrong, given_first, HasNotedNames, Wanted, wanted_at, HasContents, RefusesContents, HasGathered, last_inode}
 use Rattle.btr_reader_contents.proofs.Gathered.{refuses_all, refuses_tree}
 use Rattle.btr_reader_contents.proofs.Orders.{next_inode, now_last}
 use Rattle.btr_reader_contents.proofs.contents.Contents.read.Goals as goal

@@ -1,13 +1,4 @@
-use Rattle.std.proofs.Common.{◌≡◌, List, false, nat_eq, IsTrue}
-use Rattle.indexmap.specs.IndexMap.{get}
-use Rattle.indexmap.specs.IndexSet.{contains}
-use Rattle.fs_paths.specs.Links.{same_node}
-use Rattle.btr_reader_walk.specs.Events.{TreeItem}
-use Rattle.btr_reader_walk.specs.Walks.{Walks, fuel, found}
-use Rattle.btr_reader_contents.specs.Blocks.{AreInBlocks}
-use Rattle.btr_reader_names.specs.Table.{HasNotedNames}
-use Rattle.btr_reader_contents.specs.Contents.{wanted_at}
-use Rattle.btr_reader_contents.specs.Gathering.{HasGathered, last_inode}
+use Rattle.btr_reader_contents.proofs.Imports.{◌≡◌, List, false, nat_eq, IsTrue, get, contains, same_node, TreeItem, Walks, fuel, found, AreInBlocks, HasNotedNames, wanted_at, HasGathered, last_inode}
 use Rattle.btr_reader_contents.proofs.contents.Contents.read.Given as goal
 
 abbrev pub invariant-loop-walker : goal.invariant-loop-walker

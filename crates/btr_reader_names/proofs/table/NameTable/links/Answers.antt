@@ -1,10 +1,4 @@
-use Rattle.std.proofs.Common.{◌<◌, ◌≤◌, ◌∙◌, ◌++◌, ◌∷◌, [], if◌then◌else◌, List, length, get_or, map, filter, sym, ap, arith}
-use Rattle.std.proofs.lemmas.List.{take_all}
-use Rattle.indexmap.specs.IndexSet.{contains}
-use Rattle.fs_paths.specs.Links.{same_node}
-use Rattle.fs_paths.specs.declared.node_link.NodeLink.{NodeLink}
-use Rattle.btr_reader_names.specs.declared.dir_index.DirIndex.{DirIndex}
-use Rattle.btr_reader_names.specs.Steps.{is_link, link_of}
+use Rattle.btr_reader_names.proofs.Imports.{◌<◌, ◌≤◌, ◌∙◌, ◌++◌, ◌∷◌, [], if◌then◌else◌, List, length, get_or, map, filter, sym, ap, arith, take_all, contains, same_node, NodeLink, DirIndex, is_link, link_of}
 use Rattle.btr_reader_names.proofs.Members.{map_kept}
 use Rattle.btr_reader_names.proofs.table.NameTable.links.Goals as goal
 

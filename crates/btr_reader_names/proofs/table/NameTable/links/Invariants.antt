@@ -1,7 +1,4 @@
-use Rattle.std.proofs.Common.{◌≡◌, map, filter, take}
-use Rattle.indexmap.specs.IndexSet.{contains}
-use Rattle.fs_paths.specs.Links.{same_node}
-use Rattle.btr_reader_names.specs.Steps.{is_link, link_of}
+use Rattle.btr_reader_names.proofs.Imports.{◌≡◌, map, filter, take, contains, same_node, is_link, link_of}
 use Rattle.btr_reader_names.proofs.table.NameTable.links.Given as goal
 
 abbrev pub invariant-loop-naming : goal.invariant-loop-naming

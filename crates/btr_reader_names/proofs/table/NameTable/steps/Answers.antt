@@ -1,8 +1,4 @@
-use Rattle.std.proofs.Common.{◌<◌, ◌≤◌, ◌∙◌, ◌++◌, ◌∷◌, [], if◌then◌else◌, List, length, get_or, map, filter, sym, ap, arith}
-use Rattle.std.proofs.lemmas.List.{take_all}
-use Rattle.fs_paths.specs.declared.node_link.NodeLink.{NodeLink}
-use Rattle.btr_reader_names.specs.declared.dir_index.DirIndex.{DirIndex}
-use Rattle.btr_reader_names.specs.Steps.{is_step, step_of}
+use Rattle.btr_reader_names.proofs.Imports.{◌<◌, ◌≤◌, ◌∙◌, ◌++◌, ◌∷◌, [], if◌then◌else◌, List, length, get_or, map, filter, sym, ap, arith, take_all, NodeLink, DirIndex, is_step, step_of}
 use Rattle.btr_reader_names.proofs.Members.{map_kept}
 use Rattle.btr_reader_names.proofs.table.NameTable.steps.Goals as goal
 

@@ -1,5 +1,4 @@
-use Rattle.std.proofs.Common.{◌≡◌, map, filter, take}
-use Rattle.btr_reader_names.specs.Steps.{is_step, step_of}
+use Rattle.btr_reader_names.proofs.Imports.{◌≡◌, map, filter, take, is_step, step_of}
 use Rattle.btr_reader_names.proofs.table.NameTable.steps.Given as goal
 
 abbrev pub invariant-loop-naming : goal.invariant-loop-naming

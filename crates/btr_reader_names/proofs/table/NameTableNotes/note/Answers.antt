@@ -1,8 +1,4 @@
-use Rattle.std.proofs.Common.{◌∙◌, ◌++◌, List, sym, ap}
-use Rattle.btr_reader_names.specs.declared.dir_index.DirIndex.{DirIndex}
-use Rattle.btr_reader_names.specs.declared.dir_index.OffForm.{OffForm}
-use Rattle.btr_reader_names.specs.Links.{own_naming}
-use Rattle.btr_reader_names.specs.Table.{own_off_form}
+use Rattle.btr_reader_names.proofs.Imports.{◌∙◌, ◌++◌, List, sym, ap, DirIndex, OffForm, own_naming, own_off_form}
 use Rattle.btr_reader_names.proofs.Tables.{namings-push, off_forms-push}
 use Rattle.btr_reader_names.proofs.table.NameTableNotes.note.Goals as goal
 

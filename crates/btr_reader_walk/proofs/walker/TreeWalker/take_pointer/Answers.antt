@@ -1,6 +1,4 @@
-use Rattle.std.proofs.Common.{◌*◌, ◌≤◌, ◌+◌, ℕ, List, sym, refl, ◌∙◌, ap, subst, arith}
-use Rattle.btr_reader_walk.specs.declared.tree.NodePointer.{NodePointer}
-use Rattle.btr_reader_walk.specs.Stack.{fan_out, is_stack, stack_weight}
+use Rattle.btr_reader_walk.proofs.Imports.{◌*◌, ◌≤◌, ◌+◌, ℕ, List, sym, refl, ◌∙◌, ap, subst, arith, NodePointer, fan_out, is_stack, stack_weight}
 use Rattle.btr_reader_walk.proofs.Stacks.{stack_top, stack_below, weight_push}
 use Rattle.btr_reader_walk.proofs.Walking.{taken}
 use Rattle.btr_reader_walk.proofs.walker.TreeWalker.take_pointer.Goals as goal

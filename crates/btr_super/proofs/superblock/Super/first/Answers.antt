@@ -1,8 +1,4 @@
-use Rattle.std.proofs.Common.{ℕ, List, ap, sym, ◌∙◌, take, get_or-drop, slice_index}
-use Rattle.std.proofs.lemmas.List.{drop-drop}
-use Rattle.byteorder.specs.Endian.{little_number}
-use Rattle.btr_space_items.specs.Device.{device_layout}
-use Rattle.btr_super.specs.Super.{super_layout}
+use Rattle.btr_super.proofs.Imports.{ℕ, List, ap, sym, ◌∙◌, take, get_or-drop, slice_index, drop-drop, little_number, device_layout, super_layout}
 use Rattle.btr_super.proofs.superblock.Super.first.Goals as goal
 
 pub returns : goal.returns

@@ -1,8 +1,4 @@
-use Rattle.std.proofs.Common.{◌≡◌, ℕ, [], sym, ◌∙◌, ap, subst, refl}
-use Rattle.std.specs.List.{slice_get}
-use Rattle.btr_node.specs.Draft.{node_bytes}
-use Rattle.btr_tree.specs.Building.{Made, with_written, begun_at, with_node, NodeReadsBack}
-use Rattle.btr_tree.specs.Builder.{Building, IsNextTaken, IsNextSlot, all_made}
+use Rattle.btr_tree.proofs.Imports.{◌≡◌, ℕ, [], sym, ◌∙◌, ap, subst, refl, slice_get, node_bytes, Made, with_written, begun_at, with_node, NodeReadsBack, Building, IsNextTaken, IsNextSlot, all_made}
 use Rattle.btr_tree.proofs.Completing.{completed_empty}
 use Rattle.btr_tree.proofs.RaisingFronts.{whole_count}
 use Rattle.btr_tree.proofs.builder.TreeBuilder.complete_empty.Goals as goal

@@ -1,13 +1,4 @@
-use Rattle.std.proofs.Common.{◌≡◌, ℕ, ◌+◌, ◌<◌, ◌≤◌, ◌++◌, ◌∷◌, [], Result, Ok, Err, length, sym, ◌∙◌, ap, subst, arith}
-use Rattle.std.specs.Prelude.{OnOk}
-use Rattle.btrfs_format.specs.declared.size.TheConstants.{ITEM_SIZE}
-use Rattle.btr_node.specs.Draft.{room}
-use Rattle.btr_node.specs.Leaf.{keys_of}
-use Rattle.btr_node.specs.Order.{Ascends}
-use Rattle.btr_node.specs.declared.child.Child.{Child}
-use Rattle.btr_tree.specs.Building.{taken}
-use Rattle.btr_tree.specs.Builder.{Building, HasPut, leaf_closed, leaf_begun, IsNextTaken}
-use Rattle.btr_tree.specs.declared.builder.TreeBuilder.TheInside.{Inside}
+use Rattle.btr_tree.proofs.Imports.{◌≡◌, ℕ, ◌+◌, ◌<◌, ◌≤◌, ◌++◌, ◌∷◌, [], Result, Ok, Err, length, sym, ◌∙◌, ap, subst, arith, OnOk, ITEM_SIZE, room, keys_of, Ascends, Child, taken, Building, HasPut, leaf_closed, leaf_begun, IsNextTaken, Inside}
 use Rattle.btr_tree.proofs.Holding.{put_first, put_fits, put_next, first_short, next_short}
 use Rattle.btr_tree.proofs.builder.TreeBuilder.put.Goals as goal
 

@@ -1,10 +1,4 @@
-use Rattle.std.proofs.Common.{◌≡◌, List, IsTrue, sym, ap, subst}
-use Rattle.btr_node.specs.outside.History.{reads}
-use Rattle.btr_node.specs.Leaf.{Item}
-use Rattle.btr_tree.specs.Building.{Made, Goes, IsLater}
-use Rattle.btr_tree.specs.Builder.{Building, Holds, HasTree, HasWhole, pushed_on}
-use Rattle.btr_tree.specs.Roots.{IsFinished, MeetsNodes}
-use Rattle.btr_tree.specs.declared.builder.TreeBuilder.TheInside.{Inside}
+use Rattle.btr_tree.proofs.Imports.{◌≡◌, List, IsTrue, sym, ap, subst, reads, Item, Made, Goes, IsLater, Building, Holds, HasTree, HasWhole, pushed_on, IsFinished, MeetsNodes, Inside}
 use Rattle.btr_tree.proofs.Finishing.{Makes, makes_goes, finished, finished_tree, finished_nodes, finished_whole}
 use Rattle.btr_tree.proofs.Fronts.{TakenOnly, later_then, taken_then}
 use Rattle.btr_tree.proofs.Going.{HasFront, front_told}

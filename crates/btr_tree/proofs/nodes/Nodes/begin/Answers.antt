@@ -1,7 +1,4 @@
-use Rattle.std.proofs.Common.{sym, ◌∙◌, ap, subst, arith}
-use Rattle.btr_node.specs.Draft.{Draft, IsDraft, started_for}
-use Rattle.btr_node.specs.NodeSize.{IsNodeSize}
-use Rattle.btr_node.specs.declared.expect.Expect.{Expect}
+use Rattle.btr_tree.proofs.Imports.{sym, ◌∙◌, ap, subst, arith, Draft, IsDraft, started_for, IsNodeSize, Expect}
 use Rattle.btr_tree.proofs.Drafting.{begun_right}
 use Rattle.btr_tree.proofs.nodes.Nodes.begin.Goals as goal
 

@@ -1,10 +1,4 @@
-use Rattle.std.proofs.Common.{◌≡◌, ◌≤◌, ◌<◌, ◌++◌, ◌∷◌, [], true, sym, ◌∙◌, ap, subst, arith}
-use Rattle.btrfs_format.specs.declared.size.TheConstants.{KEY_PTR_SIZE}
-use Rattle.btr_node.specs.Draft.{Draft, IsDraft, room}
-use Rattle.btr_node.specs.Inner.{first_keys}
-use Rattle.btr_node.specs.Order.{Ascends}
-use Rattle.btr_node.proofs.Spelled.{key_spelled, child_spelled}
-use Rattle.btr_tree.specs.Building.{Made}
+use Rattle.btr_tree.proofs.Imports.{◌≡◌, ◌≤◌, ◌<◌, ◌++◌, ◌∷◌, [], true, sym, ◌∙◌, ap, subst, arith, KEY_PTR_SIZE, Draft, IsDraft, room, first_keys, Ascends, key_spelled, child_spelled, Made}
 use Rattle.btr_tree.proofs.Drafting.{was_done, child_right}
 use Rattle.btr_tree.proofs.nodes.Nodes.put_child.Goals as goal
 

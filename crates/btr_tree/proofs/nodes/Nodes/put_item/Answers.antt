@@ -1,10 +1,4 @@
-use Rattle.std.proofs.Common.{◌≡◌, ◌≤◌, ◌<◌, ◌+◌, ◌++◌, ◌∷◌, [], true, length, sym, ◌∙◌, ap, subst, arith}
-use Rattle.btrfs_format.specs.declared.size.TheConstants.{ITEM_SIZE}
-use Rattle.btr_node.specs.Draft.{Draft, IsDraft, room}
-use Rattle.btr_node.specs.Leaf.{keys_of}
-use Rattle.btr_node.specs.Order.{Ascends}
-use Rattle.btr_node.proofs.Spelled.{key_spelled}
-use Rattle.btr_tree.specs.Building.{Made}
+use Rattle.btr_tree.proofs.Imports.{◌≡◌, ◌≤◌, ◌<◌, ◌+◌, ◌++◌, ◌∷◌, [], true, length, sym, ◌∙◌, ap, subst, arith, ITEM_SIZE, Draft, IsDraft, room, keys_of, Ascends, key_spelled, Made}
 use Rattle.btr_tree.proofs.Drafting.{was_done, item_right}
 use Rattle.btr_tree.proofs.nodes.Nodes.put_item.Goals as goal
 

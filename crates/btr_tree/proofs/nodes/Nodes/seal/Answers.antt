@@ -1,7 +1,4 @@
-use Rattle.std.proofs.Common.{◌≡◌, ℕ, suc, ◌+◌, ◌*◌, ◌<◌, ◌++◌, ◌∷◌, [], List, length, sym, ◌∙◌, ap, subst, arith, length-append}
-use Rattle.std.proofs.Math.Nat.{mul-suc}
-use Rattle.btr_node.specs.Draft.{Draft, IsDraft, node_bytes}
-use Rattle.btr_tree.specs.Building.{Made, pieces_of, taken, with_node}
+use Rattle.btr_tree.proofs.Imports.{◌≡◌, ℕ, suc, ◌+◌, ◌*◌, ◌<◌, ◌++◌, ◌∷◌, [], List, length, sym, ◌∙◌, ap, subst, arith, length-append, mul-suc, Draft, IsDraft, node_bytes, Made, pieces_of, taken, with_node}
 use Rattle.btr_tree.proofs.PiecesOf.{length-pieces_of, pieces_of-push}
 use Rattle.btr_tree.proofs.nodes.Nodes.seal.Goals as goal
 

@@ -1,9 +1,4 @@
-use Rattle.std.proofs.Common.{ℕ, List, sym, subst}
-use Rattle.btr_tree.specs.outside.History.{reads, WritesOnly}
-use Rattle.btr_tree.specs.Roots.{lengths_of}
-use Rattle.btr_tree.specs.Writing.{IsInSlots}
-use Rattle.btr_tree_writer.specs.Source.{LieApart}
-use Rattle.btr_tree_writer.specs.Trees.{AreWritable, TreeStands, read_form}
+use Rattle.btr_tree_writer.proofs.Imports.{ℕ, List, sym, subst, reads, WritesOnly, lengths_of, IsInSlots, LieApart, AreWritable, TreeStands, read_form}
 use Rattle.btr_tree_writer.proofs.Rows.{apart_left, memory_cause, still_enough}
 use Rattle.btr_tree_writer.proofs.trees.Trees.write.Goals as goal
 

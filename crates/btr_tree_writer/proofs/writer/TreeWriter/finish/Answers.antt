@@ -1,5 +1,4 @@
-use Rattle.std.proofs.Common.{◌≤◌, ℕ, List, length, sym, ◌∙◌, subst}
-use Rattle.btr_tree.specs.Building.{taken}
+use Rattle.btr_tree_writer.proofs.Imports.{◌≤◌, ℕ, List, length, sym, ◌∙◌, subst, taken}
 use Rattle.btr_tree_writer.proofs.Pushing.{only_all}
 use Rattle.btr_tree_writer.proofs.Steps.{stands_by, whole_by}
 use Rattle.btr_tree_writer.proofs.writer.TreeWriter.finish.Goals as goal

@@ -1,19 +1,4 @@
-use Rattle.std.proofs.Common.{◌<◌, ◌+◌, ◌∷◌, [], ◌∙◌, ap, ℕ, List, length, map, take, get_or, subst, arith}
-use Rattle.std.specs.Prelude.{slice_get}
-use Rattle.std.proofs.lemmas.List.{take_all, map-append}
-use Rattle.std.proofs.lemmas.Option.{slice_get-get_or}
-use Rattle.fs_rows.specs.declared.row.Kind.{Kind}
-use Rattle.indexmap.specs.IndexMap.{keys}
-use Rattle.unit_plan.specs.btr_keys.DirEntry.{DirEntryValue, dir_entry_value}
-use Rattle.btr_item_list.specs.declared.spot.Spot.{Spot}
-use Rattle.btr_item_list.proofs.Placing.{told_long}
-use Rattle.reiser_volume_objects.specs.declared.key.ObjectKey.{ObjectKey}
-use Rattle.reiser_volume_objects.specs.declared.naming.Naming.{Naming}
-use Rattle.reiser_volume.specs.Made.{stat_at, kind_by}
-use Rattle.reiser_volume.specs.Opened.{links_in}
-use Rattle.reiser_volume.specs.Volume.{volume_items}
-use Rattle.file_items.specs.Gathered.{HasEntry, HasEntries}
-use Rattle.file_items.specs.Names.{IndexedLink, indexed, indexed_links, names_in}
+use Rattle.file_items.proofs.Imports.{◌<◌, ◌+◌, ◌∷◌, [], ◌∙◌, ap, ℕ, List, length, map, take, get_or, subst, arith, slice_get, take_all, map-append, slice_get-get_or, Kind, keys, DirEntryValue, dir_entry_value, Spot, told_long, ObjectKey, Naming, stat_at, kind_by, links_in, volume_items, HasEntry, HasEntries, IndexedLink, indexed, indexed_links, names_in}
 use Rattle.file_items.proofs.Linked.{entry_at}
 use Rattle.file_items.proofs.Named.{entries_of_dir, told_here, index_is, entries_more, dir_of}
 use Rattle.file_items.proofs.directory.Directory.gather_links.Goals as goal

@@ -1,7 +1,4 @@
-use Rattle.std.proofs.Common.{◌∙◌}
-use Rattle.std.proofs.lemmas.Result.{on_ok_weaker}
-use Rattle.indexmap.specs.IndexMap.{keys}
-use Rattle.reiser_volume.specs.Opened.{links_in}
+use Rattle.file_items.proofs.Imports.{◌∙◌, on_ok_weaker, keys, links_in}
 use Rattle.file_items.proofs.Referring.{refs_added}
 use Rattle.file_items.proofs.object_names.ObjectNames.add_items.Goals as goal
 

@@ -1,14 +1,4 @@
-use Rattle.std.proofs.Common.{◌≡◌, ◌<◌, ◌++◌, ◌∷◌, [], ◌∙◌, Bool, List, ℕ, true, false, length, ap, sym, refl, if◌then◌else◌, arith}
-use Rattle.std.proofs.lemmas.List.{append-nil}
-use Rattle.std.proofs.lemmas.Result.{on_ok_weaker}
-use Rattle.unit_plan.specs.btr_keys.Extref.{extref_bytes}
-use Rattle.unit_plan.specs.btr_keys.InodeRef.{inode_ref_bytes}
-use Rattle.unit_plan.specs.btr_keys.declared.key.Key.{Key}
-use Rattle.indexmap.specs.IndexMap.{keys}
-use Rattle.reiser_volume_objects.specs.declared.key.ObjectKey.{ObjectKey}
-use Rattle.reiser_volume_objects.specs.declared.naming.Naming.{Naming}
-use Rattle.reiser_volume.specs.Opened.{links_in}
-use Rattle.file_items.specs.Names.{ref_record, far_record}
+use Rattle.file_items.proofs.Imports.{◌≡◌, ◌<◌, ◌++◌, ◌∷◌, [], ◌∙◌, Bool, List, ℕ, true, false, length, ap, sym, refl, if◌then◌else◌, arith, append-nil, on_ok_weaker, extref_bytes, inode_ref_bytes, Key, keys, ObjectKey, Naming, links_in, ref_record, far_record}
 use Rattle.file_items.proofs.Linked.{entry_at}
 use Rattle.file_items.proofs.Named.{name_short, index_is, flag_is}
 use Rattle.file_items.proofs.Referring.{far_added, ref_added}

@@ -1,14 +1,4 @@
-use Rattle.std.proofs.Common.{◌<◌, ◌+◌, List, length, take, get_or, subst, arith}
-use Rattle.std.specs.Prelude.{slice_get}
-use Rattle.std.proofs.lemmas.List.{take_all}
-use Rattle.std.proofs.lemmas.Option.{slice_get-get_or}
-use Rattle.indexmap.specs.IndexMap.{keys}
-use Rattle.btr_item_list.specs.declared.spot.Spot.{Spot}
-use Rattle.btr_item_list.proofs.Placing.{told_long}
-use Rattle.reiser_volume_objects.specs.declared.naming.Naming.{Naming}
-use Rattle.reiser_volume.specs.Opened.{links_in}
-use Rattle.file_items.specs.Gathered.{HasNames}
-use Rattle.file_items.specs.Names.{IndexedLink, indexed_links, names_of}
+use Rattle.file_items.proofs.Imports.{◌<◌, ◌+◌, List, length, take, get_or, subst, arith, slice_get, take_all, slice_get-get_or, keys, Spot, told_long, Naming, links_in, HasNames, IndexedLink, indexed_links, names_of}
 use Rattle.file_items.proofs.Named.{names_told, told_here, names_more}
 use Rattle.file_items.proofs.object_names.ObjectNames.gather.Goals as goal
 

@@ -1,7 +1,4 @@
-use Rattle.std.proofs.Common.{◌∙◌, ◌++◌, ◌∷◌, [], length, ap, sym, arith}
-use Rattle.unit_plan.specs.btr_keys.declared.key.Key.{Key}
-use Rattle.btr_item_list.specs.Groups.{ascending}
-use Rattle.btr_item_list.specs.Lists.{offset_of}
+use Rattle.file_items.proofs.Imports.{◌∙◌, ◌++◌, ◌∷◌, [], length, ap, sym, arith, Key, ascending, offset_of}
 use Rattle.file_items.proofs.Referring.{far_moved}
 use Rattle.file_items.proofs.object_names.ObjectNames.order_far.Goals as goal
 

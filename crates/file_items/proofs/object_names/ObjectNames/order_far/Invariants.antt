@@ -1,8 +1,4 @@
-use Rattle.std.proofs.Common.{◌≡◌, map, take}
-use Rattle.btrfs_format.specs.declared.key.TheConstants.{INODE_EXTREF}
-use Rattle.unit_plan.specs.btr_keys.Key.{make_key}
-use Rattle.btr_item_list.specs.Groups.{ascending}
-use Rattle.btr_item_list.specs.Lists.{offset_of}
+use Rattle.file_items.proofs.Imports.{◌≡◌, map, take, INODE_EXTREF, make_key, ascending, offset_of}
 use Rattle.file_items.proofs.object_names.ObjectNames.order_far.Given as goal
 
 abbrev pub invariant-loop-i : goal.invariant-loop-i

@@ -1,9 +1,4 @@
-use Rattle.std.proofs.Common.{◌≡◌, ◌+◌, ◌<◌, ◌≤◌, ◌/◌, ℕ, length, true, sym, ◌∙◌, ap, arith}
-use Rattle.reiserfs_format.specs.declared.block.TheConstants.{BITS_IN_BLOCK, SUPER_BLOCK}
-use Rattle.refusals.specs.declared.refusal.VolumeRefusal.TheVariants.{Damaged}
-use Rattle.refusals.specs.declared.rule.Rule.TheVariants.{SystemFree}
-use Rattle.reiser_bitmap.specs.Bits.{has}
-use Rattle.reiser_bitmap.specs.Layout.{bitmap_block}
+use Rattle.reiser_bitmap.proofs.Imports.{◌≡◌, ◌+◌, ◌<◌, ◌≤◌, ◌/◌, ℕ, length, true, sym, ◌∙◌, ap, arith, BITS_IN_BLOCK, SUPER_BLOCK, Damaged, SystemFree, has, bitmap_block}
 use Rattle.reiser_bitmap.proofs.SystemBlocks.{superblock_in, bitmap_in, journal_in, all_system, names_free}
 use Rattle.reiser_bitmap.proofs.bitmap.Bitmap.system_used.Goals as goal
 

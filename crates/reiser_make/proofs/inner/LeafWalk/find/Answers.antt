@@ -1,5 +1,4 @@
-use Rattle.std.proofs.Common.{◌≡◌, ℕ, subst, arith}
-use Rattle.reiser_make.specs.Finding.{IsToldLeaf}
+use Rattle.reiser_make.proofs.Imports.{◌≡◌, ℕ, subst, arith, IsToldLeaf}
 use Rattle.reiser_make.proofs.Finding.{none_left, stands_more, found_leaf}
 use Rattle.reiser_make.proofs.inner.LeafWalk.find.Goals as goal
 

@@ -1,5 +1,4 @@
-use Rattle.std.proofs.Common.{◌≤◌, ◌-◌}
-use Rattle.reiser_make.specs.Finding.{BeginsAtPlace}
+use Rattle.reiser_make.proofs.Imports.{◌≤◌, ◌-◌, BeginsAtPlace}
 use Rattle.reiser_make.proofs.inner.LeafWalk.find.Given as goal
 
 abbrev pub decreases-loop-self : goal.decreases-loop-self

@@ -1,6 +1,4 @@
-use Rattle.std.proofs.Common.{ℕ, ◌+◌, sym, subst, arith}
-use Rattle.reiser_make.specs.Walk.{MayPackMore}
-use Rattle.reiser_make.specs.declared.leaf.Packed.{Packed}
+use Rattle.reiser_make.proofs.Imports.{ℕ, ◌+◌, sym, subst, arith, MayPackMore, Packed}
 use Rattle.reiser_make.proofs.Packing.{leaf_as, packing_more}
 use Rattle.reiser_make.proofs.sample.Sample.add_next.Goals as goal
 

@@ -1,5 +1,4 @@
-use Rattle.std.proofs.Common.{length}
-use Rattle.reiser_make.specs.Walk.{items_behind, HasLeafRoom, MayPackMore}
+use Rattle.reiser_make.proofs.Imports.{length, items_behind, HasLeafRoom, MayPackMore}
 use Rattle.reiser_make.proofs.sample.Sample.pack.Given as goal
 
 abbrev pub decreases-loop : goal.decreases-loop

@@ -1,4 +1,4 @@
-use Rattle.reiser_make.specs.Walk.{items_behind, HasPutItems}
+use Rattle.reiser_make.proofs.Imports.{items_behind, HasPutItems}
 use Rattle.reiser_make.proofs.sample.Sample.put_items.Given as goal
 
 abbrev pub invariant-loop-i : goal.invariant-loop-i

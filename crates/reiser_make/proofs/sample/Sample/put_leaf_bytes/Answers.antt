@@ -1,7 +1,4 @@
-use Rattle.std.proofs.Common.{◌≡◌, ◌-◌, ◌++◌, ℕ, List, length, take, drop, ap, ◌∙◌, arith, length-take, length-append}
-use Rattle.reiser_make.specs.Leaf.{leaf_bytes, leaf_contents, node_head, node_room}
-use Rattle.reiser_make.specs.Walk.{items_behind}
-use Rattle.reiser_make.specs.declared.sample_item.SampleItem.{SampleItem}
+use Rattle.reiser_make.proofs.Imports.{◌≡◌, ◌-◌, ◌++◌, ℕ, List, length, take, drop, ap, ◌∙◌, arith, length-take, length-append, leaf_bytes, leaf_contents, node_head, node_room, items_behind, SampleItem}
 use Rattle.reiser_make.proofs.Placing.{node_is}
 use Rattle.reiser_make.proofs.sample.Sample.put_leaf_bytes.Goals as goal
 

@@ -1,5 +1,4 @@
-use Rattle.std.proofs.Common.{◌≡◌, ◌≤◌, ◌<◌}
-use Rattle.reiser_make.specs.Inner.{first_leaf, level_nodes}
+use Rattle.reiser_make.proofs.Imports.{◌≡◌, ◌≤◌, ◌<◌, first_leaf, level_nodes}
 use Rattle.reiser_make.proofs.sample_plan.SamplePlan.first_leaf.Given as goal
 
 abbrev pub decreases-loop-level : goal.decreases-loop-level

@@ -1,9 +1,4 @@
-use Rattle.std.proofs.Common.{◌≡◌, ◌≤◌, ◌+◌, ◌-◌, ◌*◌, ◌++◌, ℕ, List, length, take, drop, ap, ◌∙◌, arith, length-append, length-drop}
-use Rattle.std.specs.List.{flat_map, range_with_len}
-use Rattle.std.proofs.lemmas.List.{take_at}
-use Rattle.reiser_make.specs.Inner.{inner_bytes, children_from, child, child_key, child_count, first_child, level_nodes}
-use Rattle.reiser_make.specs.Leaf.{leaves, node_head, node_room}
-use Rattle.reiser_make.specs.declared.level.Level.{Level}
+use Rattle.reiser_make.proofs.Imports.{◌≡◌, ◌≤◌, ◌+◌, ◌-◌, ◌*◌, ◌++◌, ℕ, List, length, take, drop, ap, ◌∙◌, arith, length-append, length-drop, flat_map, range_with_len, take_at, inner_bytes, children_from, child, child_key, child_count, first_child, level_nodes, leaves, node_head, node_room, Level}
 use Rattle.reiser_make.proofs.Nesting.{inner_is}
 use Rattle.reiser_make.proofs.sample_plan.SamplePlan.put_inner_bytes.Goals as goal
 

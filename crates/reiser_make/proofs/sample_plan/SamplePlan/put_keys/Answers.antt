@@ -1,6 +1,4 @@
-use Rattle.std.proofs.Common.{◌≡◌, ◌+◌, ◌-◌, ◌*◌, ◌++◌, ℕ, List, take, sym, ap, ◌∙◌, arith}
-use Rattle.std.specs.List.{flat_map, range_with_len}
-use Rattle.reiser_make.specs.Inner.{child, child_key}
+use Rattle.reiser_make.proofs.Imports.{◌≡◌, ◌+◌, ◌-◌, ◌*◌, ◌++◌, ℕ, List, take, sym, ap, ◌∙◌, arith, flat_map, range_with_len, child, child_key}
 use Rattle.reiser_make.proofs.Lists.{front_more}
 use Rattle.reiser_make.proofs.sample_plan.SamplePlan.put_keys.Goals as goal
 

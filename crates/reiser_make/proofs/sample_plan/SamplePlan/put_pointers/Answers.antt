@@ -1,5 +1,4 @@
-use Rattle.std.proofs.Common.{◌≡◌, ◌+◌, ◌*◌, ℕ, List, take, ap, ◌∙◌, arith, refl}
-use Rattle.reiser_make.specs.Inner.{child, disk_child_bytes}
+use Rattle.reiser_make.proofs.Imports.{◌≡◌, ◌+◌, ◌*◌, ℕ, List, take, ap, ◌∙◌, arith, refl, child, disk_child_bytes}
 use Rattle.reiser_make.proofs.Lists.{front_more}
 use Rattle.reiser_make.proofs.sample_plan.SamplePlan.put_pointers.Goals as goal
 

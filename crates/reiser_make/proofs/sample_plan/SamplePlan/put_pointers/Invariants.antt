@@ -1,7 +1,4 @@
-use Rattle.std.proofs.Common.{◌≡◌, ◌+◌, ◌*◌, ◌++◌, take}
-use Rattle.std.specs.List.{flat_map, range_with_len}
-use Rattle.reiser_make.specs.Finding.{BeginsAtPlace}
-use Rattle.reiser_make.specs.Inner.{child, disk_child_bytes}
+use Rattle.reiser_make.proofs.Imports.{◌≡◌, ◌+◌, ◌*◌, ◌++◌, take, flat_map, range_with_len, BeginsAtPlace, child, disk_child_bytes}
 use Rattle.reiser_make.proofs.sample_plan.SamplePlan.put_pointers.Given as goal
 
 abbrev pub invariant-loop-i : goal.invariant-loop-i

@@ -1,7 +1,4 @@
-use Rattle.std.proofs.Common.{sym, subst}
-use Rattle.sink_text.specs.outside.Fault.{Takes}
-use Rattle.reiser_make_app.specs.declared.make_ending.MakeEnding.{MakeEnding}
-use Rattle.reiser_make_app.specs.Ending.{error_line}
+use Rattle.reiser_make_app.proofs.Imports.{sym, subst, Takes, MakeEnding, error_line}
 use Rattle.reiser_make_app.proofs.make_ending.MakeEnding.write_line.Goals as goal
 
 pub returns-in-Usage-clause-taken : goal.returns-in-Usage-clause-taken

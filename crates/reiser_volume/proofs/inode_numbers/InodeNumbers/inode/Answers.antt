@@ -1,5 +1,4 @@
-use Rattle.std.proofs.Common.{sym, arith}
-use Rattle.std.proofs.lemmas.Option.{slice_get_within}
+use Rattle.reiser_volume.proofs.Imports.{sym, arith, slice_get_within}
 use Rattle.reiser_volume.proofs.Numbered.{inode_before, inode_behind, inode_of_root}
 use Rattle.reiser_volume.proofs.inode_numbers.InodeNumbers.inode.Goals as goal
 

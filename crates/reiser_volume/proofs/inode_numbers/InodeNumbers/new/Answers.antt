@@ -1,6 +1,4 @@
-use Rattle.std.proofs.Common.{arith, Contains, refl}
-use Rattle.indexmap.specs.IndexMap.{keys}
-use Rattle.reiser_volume_objects.specs.Keys.{root}
+use Rattle.reiser_volume.proofs.Imports.{arith, Contains, refl, keys, root}
 use Rattle.reiser_volume.proofs.inode_numbers.InodeNumbers.new.Goals as goal
 
 pub returns-clause-numbered : goal.returns-clause-numbered

@@ -1,4 +1,4 @@
-use Rattle.std.proofs.Common.{arith}
+use Rattle.reiser_volume.proofs.Imports.{arith}
 use Rattle.reiser_volume.proofs.Numbered.{place_before, place_behind}
 use Rattle.reiser_volume.proofs.inode_numbers.InodeNumbers.place.Goals as goal
 

@@ -1,17 +1,4 @@
-use Rattle.std.proofs.Common.{◌≡◌, List, sym, ap, subst, ◌∙◌}
-use Rattle.std.proofs.lemmas.Result.{MatchResult-weaker}
-use Rattle.reiser_volume_contents.specs.Holds.{HoldsObject, object_items}
-use Rattle.reiser_volume_objects.specs.reiser_walk.Items.{ReiserItem}
-use Rattle.reiser_volume_contents.specs.Answers.{IsFaultOrMemory}
-use Rattle.reiser_volume_files.specs.declared.map.FileRun.{FileRun}
-use Rattle.reiser_volume_files.specs.Runs.{file_runs}
-use Rattle.reiser_volume_objects.specs.declared.key.ObjectKey.{ObjectKey}
-use Rattle.reiser_volume_objects.specs.Keys.{items_of}
-use Rattle.reiser_volume_objects.proofs.Broken.{some_same}
-use Rattle.reiser_volume_names.proofs.Eaches.{match_ok}
-use Rattle.reiser_volume.specs.Made.{stat_at}
-use Rattle.reiser_volume.specs.Owners.{TellsOwned}
-use Rattle.reiser_volume.specs.Volume.{superblock, used_of, reiser_tree_of, volume_items}
+use Rattle.reiser_volume.proofs.Imports.{◌≡◌, List, sym, ap, subst, ◌∙◌, MatchResult-weaker, HoldsObject, object_items, ReiserItem, IsFaultOrMemory, FileRun, file_runs, ObjectKey, items_of, some_same, match_ok, stat_at, TellsOwned, superblock, used_of, reiser_tree_of, volume_items}
 use Rattle.reiser_volume.proofs.Filing.{placed, size_there}
 use Rattle.reiser_volume.proofs.Holding.{holds, same_items}
 use Rattle.reiser_volume.proofs.Mapping.{maps_tell_owned}

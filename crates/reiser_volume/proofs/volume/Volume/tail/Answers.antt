@@ -1,12 +1,4 @@
-use Rattle.std.proofs.Common.{◌≡◌, ℕ, List, sym, ap, subst, ◌∙◌}
-use Rattle.std.proofs.lemmas.Result.{MatchResult-weaker}
-use Rattle.reiser_volume_contents.specs.Holds.{HoldsObject, object_items}
-use Rattle.reiser_volume_objects.specs.reiser_walk.Items.{ReiserItem}
-use Rattle.reiser_volume_files.specs.Bytes.{tail_block}
-use Rattle.reiser_volume_objects.specs.declared.key.ObjectKey.{ObjectKey}
-use Rattle.reiser_volume_objects.specs.Keys.{items_of}
-use Rattle.reiser_volume_objects.proofs.Broken.{some_same}
-use Rattle.reiser_volume.specs.Volume.{superblock, used_of, reiser_tree_of, volume_items}
+use Rattle.reiser_volume.proofs.Imports.{◌≡◌, ℕ, List, sym, ap, subst, ◌∙◌, MatchResult-weaker, HoldsObject, object_items, ReiserItem, tail_block, ObjectKey, items_of, some_same, superblock, used_of, reiser_tree_of, volume_items}
 use Rattle.reiser_volume.proofs.Filing.{placed, size_there}
 use Rattle.reiser_volume.proofs.Holding.{holds, same_items}
 use Rattle.reiser_volume.proofs.volume.Volume.tail.Goals as goal

@@ -1,7 +1,4 @@
-use Rattle.std.proofs.Common.{◌≡◌, ℕ, ◌≤◌, List, IsTrue}
-use Rattle.reiser_volume_objects.specs.outside.History.{Image}
-use Rattle.reiser_volume_objects.specs.reiser_walk.Items.{ReiserItem}
-use Rattle.reiser_volume_contents.specs.Reads.{Reads, StandsFrom, fuel}
+use Rattle.reiser_volume_contents.proofs.Imports.{◌≡◌, ℕ, ◌≤◌, List, IsTrue, Image, ReiserItem, Reads, StandsFrom, fuel}
 use Rattle.reiser_volume_contents.proofs.object_items.ObjectItems.advance.Given as goal
 
 abbrev pub invariant-loop-self : goal.invariant-loop-self

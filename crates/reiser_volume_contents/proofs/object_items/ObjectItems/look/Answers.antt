@@ -1,12 +1,5 @@
-use Rattle.std.proofs.Common.{◌≡◌, ◌-◌, ◌++◌, ℕ, suc, List, Some, drop, refl, sym, ap, ◌∙◌, arith}
-use Rattle.std.specs.List.{flat_map}
-use Rattle.reiser_volume_objects.specs.reiser_node.declared.head.ItemHead.{ItemHead}
-use Rattle.reiser_volume_objects.specs.reiser_node.Head.{head_at}
-use Rattle.reiser_volume_objects.specs.reiser_node.Leaf.{head_place, body_at}
-use Rattle.reiser_volume_objects.proofs.reiser_node.Grammar.{heads_within}
-use Rattle.reiser_volume_objects.specs.reiser_walk.Items.{ReiserItem}
+use Rattle.reiser_volume_contents.proofs.Imports.{◌≡◌, ◌-◌, ◌++◌, ℕ, suc, List, Some, drop, refl, sym, ap, ◌∙◌, arith, flat_map, ItemHead, head_at, head_place, body_at, heads_within, ReiserItem, leaf_items}
 use Rattle.reiser_volume_contents.specs.declared.leaf.LeafInHand.{LeafInHand}
-use Rattle.reiser_volume_contents.specs.Reads.{leaf_items}
 use Rattle.reiser_volume_contents.proofs.Looking.{looked, next_item, stands_next}
 use Rattle.reiser_volume_contents.proofs.object_items.ObjectItems.look.Goals as goal
 

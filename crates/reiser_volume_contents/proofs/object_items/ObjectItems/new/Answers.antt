@@ -1,4 +1,4 @@
-use Rattle.std.proofs.Common.{refl, ap, arith}
+use Rattle.reiser_volume_contents.proofs.Imports.{refl, ap, arith}
 use Rattle.reiser_volume_contents.specs.declared.leaf.NodeCursor.{NodeCursor}
 use Rattle.reiser_volume_contents.proofs.Begins.{begun}
 use Rattle.reiser_volume_contents.proofs.object_items.ObjectItems.new.Goals as goal

@@ -1,7 +1,4 @@
-use Rattle.std.proofs.Common.{◌∙◌, ap, subst, Some}
-use Rattle.std.specs.Option.{option_or}
-use Rattle.indexmap.specs.IndexMap.{Updates}
-use Rattle.reiser_volume_objects.specs.Keys.{same_key, object_key_of, items_of}
+use Rattle.reiser_volume_objects.proofs.Imports.{◌∙◌, ap, subst, Some, option_or, Updates, same_key, object_key_of, items_of}
 use Rattle.reiser_volume_objects.proofs.Tables.{noted_push, leaves_noted}
 use Rattle.reiser_volume_objects.proofs.table.Objects.note.Goals as goal
 

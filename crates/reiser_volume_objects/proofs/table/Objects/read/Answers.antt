@@ -1,14 +1,5 @@
-use Rattle.std.proofs.Common.{◌≡◌, ◌++◌, ◌∷◌, [], List, length, sym, ap, subst, ◌∙◌, arith}
-use Rattle.std.proofs.lemmas.Result.{err_from_is_err_and}
-use Rattle.reiser_bitmap.specs.outside.History.{Image}
-use Rattle.reiser_bitmap.specs.refusals.declared.answer.VolAnswer.{VolAnswer}
-use Rattle.reiser_walk.specs.declared.reiser_tree.ReiserTree.{ReiserTree}
-use Rattle.reiser_walk.specs.Items.{ReiserItem}
-use Rattle.reiser_walk.specs.Rules.{tree_damages}
+use Rattle.reiser_volume_objects.proofs.Imports.{◌≡◌, ◌++◌, ◌∷◌, [], List, length, sym, ap, subst, ◌∙◌, arith, err_from_is_err_and, Image, VolAnswer, ReiserTree, ReiserItem, tree_damages, standing, tree_at, BlamesTree, HasNoted}
 use Rattle.reiser_walk.specs.Tree.{items_of_tree}
-use Rattle.reiser_walk.specs.Walks.{standing}
-use Rattle.reiser_volume_objects.specs.Read.{tree_at, BlamesTree}
-use Rattle.reiser_volume_objects.specs.Table.{HasNoted}
 use Rattle.reiser_volume_objects.proofs.Reading.{noted_next, blames_tree}
 use Rattle.reiser_volume_objects.proofs.table.Objects.read.Goals as goal
 

@@ -1,8 +1,4 @@
-use Rattle.std.proofs.Common.{◌≡◌, List, length, IsTrue, false}
-use Rattle.reiser_walk.specs.Items.{ReiserItem}
-use Rattle.reiser_walk.specs.Walks.{Walks, fuel, block_count}
-use Rattle.reiser_volume_objects.specs.Read.{tree_at}
-use Rattle.reiser_volume_objects.specs.Table.{HasNoted}
+use Rattle.reiser_volume_objects.proofs.Imports.{◌≡◌, List, length, IsTrue, false, ReiserItem, Walks, fuel, block_count, tree_at, HasNoted}
 use Rattle.reiser_volume_objects.proofs.table.Objects.read.Given as goal
 
 abbrev pub invariant-loop-objects : goal.invariant-loop-objects

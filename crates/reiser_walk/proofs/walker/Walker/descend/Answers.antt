@@ -1,10 +1,4 @@
-use Rattle.std.proofs.Common.{Contains, refl, ◌∙◌, ap, subst}
-use Rattle.reiser_bitmap.specs.outside.History.{Image, block_at}
-use Rattle.reiser_walk.specs.declared.block_pointer.BlockPointer.{BlockPointer}
-use Rattle.reiser_walk.specs.declared.reiser_tree.ReiserTree.{ReiserTree}
-use Rattle.reiser_walk.specs.declared.walker.Walker.{Walker}
-use Rattle.reiser_walk.specs.Rules.{tree_damages}
-use Rattle.reiser_walk.specs.Walks.{IsAt}
+use Rattle.reiser_walk.proofs.Imports.{Contains, refl, ◌∙◌, ap, subst, Image, block_at, BlockPointer, ReiserTree, Walker, tree_damages, IsAt}
 use Rattle.reiser_walk.proofs.Walking.{node_blamed, at_same}
 use Rattle.reiser_walk.proofs.walker.Walker.descend.Goals as goal
 

@@ -1,7 +1,4 @@
-use Rattle.std.proofs.Common.{◌≡◌, ℕ, ◌-◌, length, ap, ◌∙◌, false, arith}
-use Rattle.reiser_walk.specs.declared.hand.Step.{Step}
-use Rattle.reiser_walk.specs.declared.reiser_tree.ReiserTree.{ReiserTree}
-use Rattle.reiser_walk.specs.Hand.{path_rest}
+use Rattle.reiser_walk.proofs.Imports.{◌≡◌, ℕ, ◌-◌, length, ap, ◌∙◌, false, arith, Step, ReiserTree, path_rest}
 use Rattle.reiser_walk.proofs.Paths.{path_nil}
 use Rattle.reiser_walk.proofs.Walking.{root_next, none_pending}
 use Rattle.reiser_walk.proofs.walker.Walker.next_pointer.Goals as goal

@@ -1,8 +1,4 @@
-use Rattle.std.proofs.Common.{◌≡◌, ◌≢◌, ℕ, true, false, Contains, refl, sym, ◌∙◌, ap, subst, arith}
-use Rattle.reiser_bitmap.specs.outside.History.{block_at}
-use Rattle.reiser_items.specs.reiser_node.Inner.{pointer_count, is_inner}
-use Rattle.reiser_walk.specs.Rules.{node_damage}
-use Rattle.reiser_walk.specs.Walks.{level_of}
+use Rattle.reiser_walk.proofs.Imports.{◌≡◌, ◌≢◌, ℕ, true, false, Contains, refl, sym, ◌∙◌, ap, subst, arith, block_at, pointer_count, is_inner, node_damage, level_of}
 use Rattle.reiser_walk.proofs.Walking.{inner_put, inner_off}
 use Rattle.reiser_walk.proofs.walker.Walker.open_inner.Goals as goal
 

@@ -1,8 +1,5 @@
-use Rattle.std.proofs.Common.{false, ◌∙◌, subst}
+use Rattle.reiser_walk.proofs.Imports.{false, ◌∙◌, subst, ReiserTree, BlamesDamage, Moves}
 use Rattle.reiser_bitmap.specs.refusals.declared.answer.VolAnswer.TheVariants.{Refused}
-use Rattle.reiser_walk.specs.declared.reiser_tree.ReiserTree.{ReiserTree}
-use Rattle.reiser_walk.specs.Answers.{BlamesDamage}
-use Rattle.reiser_walk.specs.Walks.{Moves}
 use Rattle.reiser_walk.proofs.walker.Walker.step.Goals as goal
 
 pub returns-in-Ok-false-clause-comes : goal.returns-in-Ok-false-clause-comes

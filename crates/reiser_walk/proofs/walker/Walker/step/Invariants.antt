@@ -1,7 +1,4 @@
-use Rattle.std.proofs.Common.{◌≡◌, ◌≤◌, List, IsTrue}
-use Rattle.reiser_bitmap.specs.outside.History.{Image}
-use Rattle.reiser_walk.specs.Items.{ReiserItem}
-use Rattle.reiser_walk.specs.Walks.{Walks, IsDone, block_count, fuel}
+use Rattle.reiser_walk.proofs.Imports.{◌≡◌, ◌≤◌, List, IsTrue, Image, ReiserItem, Walks, IsDone, block_count, fuel}
 use Rattle.reiser_walk.proofs.walker.Walker.step.Given as goal
 
 abbrev pub invariant-loop-self : goal.invariant-loop-self

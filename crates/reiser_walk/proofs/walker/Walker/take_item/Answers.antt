@@ -1,13 +1,4 @@
-use Rattle.std.proofs.Common.{◌≡◌, ℕ, suc, ◌-◌, List, [], Contains, refl, ◌∙◌, ap, subst, arith, add-one}
-use Rattle.reiser_items.specs.reiser_node.declared.head.ItemHead.{ItemHead}
-use Rattle.reiser_items.specs.reiser_node.Leaf.{body_at}
-use Rattle.reiser_items.proofs.reiser_node.Grammar.{heads_within}
-use Rattle.reiser_walk.specs.declared.hand.LeafInHand.{LeafInHand}
-use Rattle.reiser_walk.specs.Items.{blocks_named, held_by, leaf_events}
-use Rattle.reiser_walk.specs.Hand.{item_before}
-use Rattle.reiser_walk.specs.Tree.{reached_in}
-use Rattle.reiser_walk.specs.Rules.{reach_damages}
-use Rattle.reiser_walk.specs.Marks.{MarksSeen, seen_after}
+use Rattle.reiser_walk.proofs.Imports.{◌≡◌, ℕ, suc, ◌-◌, List, [], Contains, refl, ◌∙◌, ap, subst, arith, add-one, ItemHead, body_at, heads_within, LeafInHand, blocks_named, held_by, leaf_events, item_before, reached_in, reach_damages, MarksSeen, seen_after}
 use Rattle.reiser_walk.proofs.Taking.{next_item, next_at, item_blamed, named_blamed, item_taken}
 use Rattle.reiser_walk.proofs.walker.Walker.take_item.Goals as goal
 

@@ -1,8 +1,4 @@
-use Rattle.std.proofs.Common.{Contains, sym, subst, List, [], Bool, ℕ}
-use Rattle.reiser_walk.specs.declared.reiser_tree.ReiserTree.{ReiserTree}
-use Rattle.reiser_walk.specs.Marks.{MarksSeen, seen_after}
-use Rattle.reiser_walk.specs.Rules.{reach_damage}
-use Rattle.reiser_walk.specs.Tree.{reached_in}
+use Rattle.reiser_walk.proofs.Imports.{Contains, sym, subst, List, [], Bool, ℕ, ReiserTree, MarksSeen, seen_after, reach_damage, reached_in}
 use Rattle.reiser_walk.proofs.Walking.{claim_blamed}
 use Rattle.reiser_walk.proofs.walker.Walker.take_pointer.Goals as goal
 

@@ -1,9 +1,4 @@
-use Rattle.std.proofs.Common.{◌≡◌, List, Result, Ok, Err, ◌+◌}
-use Rattle.std.specs.Prelude.{OnOk}
-use Rattle.unit_plan.specs.declared.piece.Piece.{Piece}
-use Rattle.space_items.specs.Stream.{IsPieceTaken, sum_standing, blocks_taken}
-use Rattle.space_items.specs.Sums.{sums_item}
-use Rattle.space_items.specs.declared.sum_stream.SumStream.{SumStream}
+use Rattle.space_items.proofs.Imports.{◌≡◌, List, Result, Ok, Err, ◌+◌, OnOk, Piece, IsPieceTaken, sum_standing, blocks_taken, sums_item, SumStream}
 use Rattle.space_items.proofs.Summing.{taken_next}
 use Rattle.space_items.proofs.sum_stream.SumStream.advance.Goals as goal
 

@@ -1,10 +1,4 @@
-use Rattle.std.proofs.Common.{◌≡◌, Bool, true, List, sym, ◌∙◌, ap, subst}
-use Rattle.std.proofs.lemmas.Result.{err_from_is_err_and}
-use Rattle.convert_core.specs.command_answers.declared.answer.Answer.{Answer}
-use Rattle.reiser_bitmap.specs.Bits.{has}
-use Rattle.reiser_volume.specs.Volume.{used_of}
-use Rattle.trial_core.specs.Parts.{used_mark}
-use Rattle.trial_core.specs.Answers.{IsStop}
+use Rattle.trial_core.proofs.Imports.{◌≡◌, Bool, true, List, sym, ◌∙◌, ap, subst, err_from_is_err_and, Answer, has, used_of, used_mark, IsStop}
 use Rattle.trial_core.proofs.known_volume.KnownVolume.read.Goals as goal
 
 pub returns-in_err-used-clause-told : goal.returns-in_err-used-clause-told
