@@ -27,6 +27,6 @@ pub use converted::{Encoding, encode, move_image, remove_image};
 pub use home_volume::home;
 pub use old::Old;
 pub use run::{Ended, Trouble, done, ends, ran};
-pub use sample::{MARKED, empty_root, made, one_file, used_end};
+pub use sample::{MARKED, empty_root, file_behind_copy, made, one_file, used_end};
 pub use script::{End, Step, follow};
 pub use stop::Stops;

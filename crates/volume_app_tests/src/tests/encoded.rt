@@ -2,7 +2,9 @@
 use std::alloc::Global;
 use std::test::Fail;
 use volume_app_test_kit::End::Refused;
-use volume_app_test_kit::{Broken, Encoding, Old, Step, done, encode, follow, made};
+use volume_app_test_kit::{
+    Broken, Encoding, Old, Step, done, encode, file_behind_copy, follow, made,
+};
 
 /// A volume with ten files goes back after each of these changes of its extents, one behind the other.
 fn goes_back(
@@ -45,5 +47,22 @@ fn room_that_is_laid_out_is_in_no_ones_way(rt: HostRuntime) -> Result<(), Fail> 
     let changes = [(1, Encoding::LaidOut), (0, Encoding::Compressed)];
     goes_back(rt.alloc(), &old, &changes[..1], None)?;
     goes_back(rt.alloc(), &old, &changes, Some(COMPRESSED))?;
+    Ok(())
+}
+
+/// Where the disk extent of the file begins in this block, the way back is refused for a reserved block.
+fn is_reserved(alloc: Global, old: &Old, first: u64, line: &'static str) -> Result<(), Broken> {
+    let mut disk = old.converted()?;
+    encode(alloc, &mut disk, 1, Encoding::Elsewhere(first))?;
+    follow(alloc, &mut disk, &[Step("rollback", Refused(1, line))])
+}
+
+/// A disk extent of two blocks is in use in both, though the file has the second one alone.
+#[test]
+fn an_extent_holds_all_of_its_blocks(rt: HostRuntime) -> Result<(), Fail> {
+    let old = Old::new(rt.alloc(), file_behind_copy(rt.alloc())?)?;
+    goes_back(rt.alloc(), &old, &[(1, Encoding::Elsewhere(16400))], None)?;
+    is_reserved(rt.alloc(), &old, 16399, "refused 20 reserved 16399\n")?;
+    is_reserved(rt.alloc(), &old, 16383, "refused 20 reserved 16384\n")?;
     Ok(())
 }
