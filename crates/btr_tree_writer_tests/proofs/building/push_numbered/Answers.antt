@@ -12,7 +12,7 @@ loop-number-init g c = record {
   going = c.requires.going;
   stands = c.requires.stands;
   holds = c.requires.empty;
-  same = record { form = refl; owner = refl; generation = refl; slots = refl };
+  same = record { form = refl; owner = refl; generation = refl; slots = refl; chunk_tree = refl };
   open_ = refl;
   size = refl;
 }
