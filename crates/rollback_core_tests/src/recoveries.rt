@@ -1,5 +1,5 @@
 // Recoveries of small volumes in memory.
-ghost use Rattle.std.specs.Prelude.{◌≤◌, ◌<◌, ◌^◌, ◌≡◌, IfOk, length, None};
+ghost use Rattle.std.specs.Prelude.{◌≤◌, ◌<◌, ◌^◌, ◌≡◌, IfOk, length, None, Some};
 
 use btr_super::{Super, mirror};
 use btrfs_format::block::{FIRST_MIRROR, SECOND_MIRROR_END, SUPER_INFO_OFFSET};
@@ -309,6 +309,17 @@ fn both_copies_are_written(rt: HostRuntime) -> Result<(), Fail> {
     Ok(())
 }
 
+/// Writes block 16 of an open disk, where it has one.
+fn put_superblock(disk: &mut MemDisk, superblock: &Block) -> Result<(), Fail>
+    requires open { disk.old.opened ≡ Some Access.Write }
+    ensures open { disk.new.opened ≡ Some Access.Write }
+{
+    if disk.len() > 16 {
+        disk.write(16, superblock)?;
+    }
+    Ok(())
+}
+
 /// A superblock that waits when a recovery begins has reached the device before its copy is written, so no crash leaves the copy alone.
 #[test]
 fn a_superblock_that_waits_comes_before_its_copy(rt: HostRuntime) -> Result<(), Fail> {
@@ -319,9 +330,7 @@ fn a_superblock_that_waits_comes_before_its_copy(rt: HostRuntime) -> Result<(), 
             let mut disk = MemDisk::new(rt.alloc(), BLOCKS)?;
             disk.set_block(COPY, &filled(3))?;
             disk.open("", Access::Write)?;
-            if disk.len() > 16 {
-                disk.write(16, &superblock)?;
-            }
+            put_superblock(&mut disk, &superblock)?;
             disk.stop_at_write(writes);
             let done = recover(rt.alloc(), &mut disk).is_ok();
             assert_eq!(rt; done, writes == 3);
