@@ -102,7 +102,13 @@ told_btrfs_refusals() {
     truncate -s 128M plain
     mkfs.btrfs -q -f -m single -d single plain >/dev/null 2>&1
     tells 'a volume of the other format' 1 'refused 16 format' 'already has the format that the command makes. Nothing was written.' convert plain
-    tells 'a volume that was never converted' 1 'refused 17 noimage' "nothing to go back to. $nothing If you have" rollback plain
+    ends 'a volume that was never converted, without a terminal' 1 'refused 17 noimage' rollback plain
+    if need python3 python3; then
+        answering '' yes rollback plain
+        same 'a volume that was never converted, on a terminal' '1|yes|yes|yes' "$status|$(has "If 'convert' made it")|$(has 'refused 17 noimage plain: ')|$(has "nothing to go back to. $nothing If you have")"
+    else
+        lacks 'a volume that was never converted, on a terminal' python3
+    fi
     cp --sparse=always plain changed
     put changed $((super + 300)) 'A'
     tells 'a superblock with a changed byte' 1 'refused 13 badbtrfs 65536 1' 'rule 1. The checksum of the superblock is wrong.' list changed
@@ -448,7 +454,7 @@ questions() {
     while IFS='|' read -r typed answer; do
         answering "$typed" "$answer" rollback made
         same "the answer '$answer', behind '$typed'" "1|1|yes|yes|$before" "$status|$(tr -d '\r' <"$work/.out" | grep -cx 'not confirmed')|$(
-            has 'made was mounted for writing after the conversion. A rollback makes it what it was then, and all that was written since is lost')|$(
+            has "made was mounted for writing since it became Btrfs. If 'convert' made it, a rollback makes it the old volume again, and all that was written since is lost")|$(
             has "made: The answer was not 'yes'. Nothing was opened for writing, and the volume stays as it is.")|$(sha256sum <made)"
     done <<'ANSWERS'
 |no

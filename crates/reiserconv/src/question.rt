@@ -13,7 +13,7 @@ use std::time::{Clock, Instant};
 const CONVERTED: u64 = 1;
 
 const LOSES: &str =
-    "{path} was mounted for writing after the conversion. A rollback makes it what it was then, and all that was written since is lost: new files, and what was done to the old ones. To keep some of it, answer 'no', and copy it elsewhere first.";
+    "{path} was mounted for writing since it became Btrfs. If 'convert' made it, a rollback makes it the old volume again, and all that was written since is lost: new files, and what was done to the old ones. To keep some of it, answer 'no', and copy it elsewhere first.";
 
 const QUESTION: &[u8] = b"Roll it back all the same? ('yes' or 'no') ";
 
