@@ -29,7 +29,7 @@ measured() {
     local began
     began=$(date +%s%N)
     "$program" convert "$2" >"$work/text"
-    printf '| %s | %s | %s |\n' "$1" "$(btrfs inspect-internal dump-tree -t chunk "$2" | grep -c CHUNK_ITEM)" \
+    printf '| %s | %s | %s |\n' "$1" "$(btrfs inspect-internal dump-tree -t chunk "$2" | grep -c '^.item [0-9]* key (.* CHUNK_ITEM')" \
         "$((($(date +%s%N) - began) / 1000000000))"
     rm "$2"
 }
